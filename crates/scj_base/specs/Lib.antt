@@ -1,0 +1,3 @@
+pub mod NameShape
+pub mod Rule
+pub mod Status

@@ -1,0 +1,20 @@
+//! Places, rules, statuses, names and tokens: the words that every other crate of the checker speaks.
+#![tactic(auto)]
+
+pub mod errors;
+pub mod file_names;
+pub mod findings;
+pub mod lexemes;
+pub mod numbers;
+pub mod places;
+pub mod statuses;
+pub mod words;
+
+pub use errors::{Failed, Memory};
+pub use file_names::Files;
+pub use findings::{Found, Rule};
+pub use lexemes::{Token, TokenKind, Tokens};
+pub use numbers::NodeId;
+pub use places::Pos;
+pub use statuses::Status;
+pub use words::Name;

@@ -1,0 +1,37 @@
+//! Numbers that name a thing of a program.
+
+ghost use Rattle.std.specs.Prelude.{◌≡◌};
+
+use std::marker::Model;
+
+/// The number of a node of a program, in the order in which the nodes were added.
+#[derive(Clone, Copy, Debug, PartialEq, Eq, PartialOrd, Ord)]
+pub struct NodeId {
+    place: u32,
+}
+
+impl Model for NodeId {
+    ghost use Rattle.std.specs.Prelude.{ℕ};
+
+    ghost Value = { ℕ };
+
+    ghost view = { λ a. a.place };
+
+    ghost inverse = { λ n. record { place = n } };
+}
+
+impl NodeId {
+    /// The node at a place of the program's list of nodes.
+    pub fn at(place: u32) -> NodeId
+        ensures { result ≡ place }
+    {
+        NodeId { place }
+    }
+
+    /// The place of the node in the program's list of nodes.
+    pub fn place(self) -> usize
+        ensures { result ≡ self }
+    {
+        self.place as usize
+    }
+}

@@ -1,0 +1,87 @@
+//! Names as a value that is copied.
+
+ghost use Rattle.std.specs.Prelude.{◌≡◌, ◌≤◌, length};
+
+use std::marker::Model;
+
+/// A name of at most 64 bytes, which is copied like a number.
+#[derive(Clone, Copy, Debug)]
+pub struct Name {
+    bytes: [u8; 64],
+    len: u8,
+}
+
+impl Model for Name {
+    ghost use Rattle.std.specs.Prelude.{List, ℕ, take, drop, replicate, length, ◌≤◌, ◌≡◌, ◌-◌};
+
+    ghost Value = { List ℕ };
+
+    ghost use Rattle.scj_base.specs.NameShape.{IsPadded, padded, padded-undoes};
+
+    ghost view = { λ a. take a.len a.bytes };
+
+    ghost invariant = { λ a. IsPadded a.bytes a.len };
+
+    ghost inverse = { λ w. record { bytes = padded w; len = length w } };
+
+    ghost inverse_ok = { λ a h. padded-undoes a h };
+}
+
+impl Name {
+    /// The name of these bytes.
+    pub fn new(bytes: &[u8]) -> Name
+        requires { length bytes.now ≤ 64 }
+        ensures { result ≡ bytes.now }
+    {
+        let len = bytes.len() as u8;
+        Name {
+            bytes: fill(bytes),
+            len,
+        }
+    }
+
+    /// The bytes of the name.
+    pub fn bytes(&self) -> &[u8]
+        ensures value { result.now ≡ self.now }
+        ensures short { length self.now ≤ 64 }
+    {
+        &self.bytes[..self.len as usize]
+    }
+}
+
+ghost use Rattle.std.specs.Prelude.{◌++◌, ◌-◌, replicate};
+ghost use Rattle.scj_base.specs.NameShape.{padded};
+
+/// The bytes with zero bytes behind them.
+fn fill(bytes: &[u8]) -> [u8; 64]
+    requires { length bytes.now ≤ 64 }
+    ensures { result ≡ padded bytes.now }
+{
+    let mut all = [0; 64];
+    for i in 0..bytes.len() {
+        all[i] = bytes[i];
+    }
+    all
+}
+
+impl PartialEq for Name {
+    ghost use Rattle.std.specs.Prelude.{◌==◌};
+    ghost use Rattle.std.specs.Cmp.Lexicographic.{pointwise};
+    ghost use Rattle.std.proofs.Common.{rules};
+    ghost use Rattle.std.specs.Cmp.Rules.{comparing};
+
+    ghost eq = { pointwise ◌==◌ };
+
+    ghost laws = { Prim.search (comparing, rules) };
+
+    fn eq(&self, other: &Name) -> bool {
+        self.bytes() == other.bytes()
+    }
+}
+
+impl Eq for Name {
+    ghost use Rattle.std.proofs.Common.{rules};
+    ghost use Rattle.std.specs.Cmp.Rules.{comparing};
+
+    ghost laws = { Prim.search (comparing, rules) };
+}
