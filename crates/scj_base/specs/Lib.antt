@@ -1,3 +1,4 @@
 pub mod NameShape
 pub mod Rule
 pub mod Status
+pub mod Vocabulary

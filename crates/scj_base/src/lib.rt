@@ -8,6 +8,7 @@ pub mod lexemes;
 pub mod numbers;
 pub mod places;
 pub mod statuses;
+pub mod vocabulary;
 pub mod words;
 
 pub use errors::{Failed, Memory};
