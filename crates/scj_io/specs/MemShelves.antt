@@ -1,9 +1,11 @@
 -- What a shelf in memory holds and counts.
-use Rattle.std.specs.Prelude.{◌≡◌, ℕ, List, Option, Some, None, Contains, ◌⊎◌}
-use Rattle.std.specs.BTreeMap.{BTreeMap, get_by_text}
+use Rattle.std.specs.Prelude.{◌≡◌, ℕ, List, Option, Some, None, Contains, ◌⊎◌, length}
+use Rattle.std.specs.BTreeMap.{get_by_text}
 use Rattle.scj_io.specs.Counters.{one_more}
 use Rattle.scj_io.specs.Loads.{Held}
 use Rattle.scj_io.specs.Loads.Held.{Told, Absent}
+use Rattle.scj_io.specs.declared.shelves.LoadAnswer.{LoadAnswer}
+use Rattle.scj_io.specs.declared.shelves.LoadAnswer.TheVariants.{Failed, TooLong, Memory}
 use Rattle.scj_io.specs.declared.mem_shelves.Stored.{Stored}
 use Rattle.scj_io.specs.declared.mem_shelves.MemShelf.{MemShelf}
 
@@ -26,7 +28,7 @@ held_of shelf name = told_by (get_by_text shelf.stored name)
 
 -- the faults of a name
 abbrev pub faults_of : MemShelf → List ℕ → ℕ
-faults_of shelf name = counter_of (get_by_text shelf.stored name) shelf.strays
+faults_of shelf name = counter_of (get_by_text shelf.stored name) shelf.absent_faults
 
 -- the most bytes that a load has taken
 abbrev pub most_of : MemShelf → ℕ
@@ -47,3 +49,9 @@ RefusesLoad shelf name = (held_of shelf name ≡ Absent) ⊎ Contains (failing_l
 -- two names have one counter: they are one name, or neither is held
 abbrev pub ShareCounter : MemShelf → List ℕ → List ℕ → Type 0
 ShareCounter shelf name other = (other ≡ name) ⊎ ((held_of shelf name ≡ Absent) × (held_of shelf other ≡ Absent))
+
+-- a load of these bytes that is too long took them all
+abbrev pub TakesWhole : List ℕ → LoadAnswer → Type 0
+TakesWhole bytes Failed = Unit {0}
+TakesWhole bytes (TooLong taken) = taken ≡ length bytes
+TakesWhole bytes Memory = Unit {0}

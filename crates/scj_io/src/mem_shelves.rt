@@ -4,7 +4,7 @@ ghost use Rattle.std.specs.Prelude.{◌≡◌, ◌≢◌, ◌↔◌, ◌≤◌, 
 ghost use Rattle.scj_io.specs.Counters.{one_more};
 ghost use Rattle.scj_io.specs.Loads.{ShelfGoes, shelf_run, LoadHolds, LoadRefuses};
 ghost use Rattle.scj_io.specs.Loads.Held.{Told, Absent};
-ghost use Rattle.scj_io.specs.MemShelves.{held_of, faults_of, most_of, loads_of, failing_loads, RefusesLoad, ShareCounter, counter_of, faulted, told_by};
+ghost use Rattle.scj_io.specs.MemShelves.{held_of, faults_of, most_of, loads_of, failing_loads, RefusesLoad, ShareCounter, counter_of, faulted, told_by, TakesWhole};
 ghost use Rattle.std.specs.BTreeMap.{get_by_text};
 ghost use Rattle.std.specs.Option.{option_map};
 
@@ -21,7 +21,7 @@ use std::collections::BTreeMap;
 #[derive(Drop)]
 pub struct MemShelf {
     stored: BTreeMap<String, Stored>,
-    strays: u64,
+    absent_faults: u64,
     most: u64,
     failing: Vec<u64>,
     calls: u64,
@@ -45,7 +45,7 @@ impl MemShelf {
     {
         MemShelf {
             stored: BTreeMap::new(alloc),
-            strays: 0,
+            absent_faults: 0,
             most: 0,
             failing: Vec::new(alloc),
             calls: 0,
@@ -74,7 +74,7 @@ impl MemShelf {
     {
         match self.stored.get(name) {
             Some(stored) => stored.faults,
-            None => self.strays,
+            None => self.absent_faults,
         }
     }
 
@@ -108,12 +108,25 @@ impl Shelf for MemShelf {
             (shelf_run (held_of self.old) (faults_of self.old) (faults_of self.new) (λ _. most_of self.new))
             name.now limit answer) }
         ensures exact { IsErrOf result LoadAnswer.Failed ↔ RefusesLoad self.old name.now }
+        ensures counted { (other : List ℕ) → IsErrOf result LoadAnswer.Failed → ShareCounter self.old name.now other →
+            faults_of self.new other ≡ one_more (faults_of self.old other) }
+        ensures spared { (other : List ℕ) → ¬ ShareCounter self.old name.now other →
+            faults_of self.new other ≡ faults_of self.old other }
+        ensures calm { (other : List ℕ) → ¬ IsErrOf result LoadAnswer.Failed →
+            faults_of self.new other ≡ faults_of self.old other }
+        ensures told { (bytes : List ℕ) → held_of self.old name.now ≡ Told bytes →
+            IfErr result (λ answer. TakesWhole bytes answer) }
+        ensures most { (bytes : List ℕ) → held_of self.old name.now ≡ Told bytes → ¬ IsErrOf result LoadAnswer.Failed →
+            most_of self.new ≡ max (most_of self.old) (length bytes) }
+        ensures unmeasured { IsErrOf result LoadAnswer.Failed → most_of self.new ≡ most_of self.old }
+        ensures loads { loads_of self.new ≡ one_more (loads_of self.old) }
+        ensures failing { failing_loads self.new ≡ failing_loads self.old }
     {
         self.calls = raised(self.calls);
         let listed = self.failing.contains(&self.calls);
         match self.stored.get(name) {
             None => {
-                self.strays = raised(self.strays);
+                self.absent_faults = raised(self.absent_faults);
                 Err(LoadAnswer::Failed)
             }
             Some(_) if listed => {

@@ -28,11 +28,11 @@ impl Model for MemSink {
     ghost Value = { MemSinkView };
 
     ghost view = { λ sink. record {
-        taken = sink.bytes.items;
-        capacity = sink.capacity;
-        puts = sink.calls;
-        failing = sink.failing.items;
-        faults = sink.faults;
+      taken = sink.bytes.items;
+      capacity = sink.capacity;
+      puts = sink.calls;
+      failing = sink.failing.items;
+      faults = sink.faults;
     } };
 
     ghost invariant = { λ sink. (vec_len sink.bytes ≤ sink.capacity) × (sink.capacity ≤ vec_capacity sink.bytes) };
@@ -82,12 +82,12 @@ impl Sink for MemSink {
             (sink_run (Some self.old.taken) (Some self.new.taken) self.old.faults self.new.faults) bytes.now) }
         ensures exact { IsErr result ↔ RefusesPut self.old bytes.now }
         ensures accepted { OnOk result (self.new ≡ record self.old {
-            taken = self.old.taken ++ bytes.now;
-            puts = one_more self.old.puts;
+          taken = self.old.taken ++ bytes.now;
+          puts = one_more self.old.puts;
         }) }
         ensures refused { OnErr result (self.new ≡ record self.old {
-            puts = one_more self.old.puts;
-            faults = one_more self.old.faults;
+          puts = one_more self.old.puts;
+          faults = one_more self.old.faults;
         }) }
     {
         self.calls = raised(self.calls);
