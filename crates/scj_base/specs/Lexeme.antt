@@ -1,5 +1,6 @@
 -- The lexemes of the language: which rows of bytes are one, and what may not stand behind them.
-use Rattle.std.specs.Prelude.{ℕ, ◌+◌, ◌-◌, ◌*◌, ◌<◌, ◌≤◌, ◌≡◌, ◌≢◌, Bool, true, false, not, ◌&&◌, ◌||◌, ◌==◌, nat_le, List, [], ◌∷◌, ◌++◌, length, slice_get, fold, All, Option, Some, None, ⊤}
+use Rattle.std.specs.Prelude.{ℕ, ◌+◌, ◌-◌, ◌*◌, ◌<◌, ◌≤◌, ◌≡◌, ◌≢◌, Bool, true, false, not, ◌&&◌, ◌||◌, ◌==◌, nat_le, List, [], ◌∷◌, ◌++◌, length, slice_get, fold, Option, Some, None, ⊤}
+use Rattle.std.specs.List.{list_all}
 use Rattle.scj_base.specs.Vocabulary.{words, signs}
 use Rattle.scj_base.specs.declared.lexemes.TokenKind.{TokenKind}
 use Rattle.scj_base.specs.declared.lexemes.TokenKind.TheVariants.{Name, Word, Number, Text, Sign}
@@ -30,7 +31,7 @@ is_text_byte b = nat_le 32 b && (nat_le b 126 && (not (b == 34) && not (b == 92)
 
 -- all bytes are of a class
 abbrev pub AllOf : (ℕ → Bool) → List ℕ → Type 0
-AllOf class bytes = All (λ b. class b ≡ true) bytes
+AllOf class bytes = list_all class bytes ≡ true
 
 -- the bytes are at their end, or go on with one that is not of the class
 abbrev pub EndsHere : (ℕ → Bool) → List ℕ → Type 0

@@ -1,1 +1,5 @@
+pub mod Decided
+pub mod Exact
+pub mod Runs
 pub mod Searches
+pub mod TableChecks

@@ -18,7 +18,7 @@ read_map (r ∷ rs) (suc i) d h = read_map rs i d (omega arith)
 pub read_through : (rs : List (Bor (List ℕ))) (xs : List (List ℕ)) (i : ℕ) (d : Bor (List ℕ)) → map (λ r. r.now) rs ≡ xs → i < length rs → (get_or rs i d).now ≡ get_or xs i []
 read_through rs xs i d e h = rw (← e) (read_map rs i d h)
 
-all_at : {X : Type 0} (p : X → Bool) (xs : List X) (i : ℕ) (d : X) → list_all p xs ≡ true → p d ≡ true → p (get_or xs i d) ≡ true
+pub all_at : {X : Type 0} (p : X → Bool) (xs : List X) (i : ℕ) (d : X) → list_all p xs ≡ true → p d ≡ true → p (get_or xs i d) ≡ true
 all_at p [] i d h e = e
 all_at p (x ∷ xs) zero d h e = (and_parts _ _ h).0
 all_at p (x ∷ xs) (suc i) d h e = all_at p xs i d (and_parts _ _ h).1 e
