@@ -232,3 +232,50 @@ break_sound b s rule e =
       | inl p ↦ told≢bad (sym (first_exact p.piece p.rest p.kind p.is) ∙ ap first_of (sym p.whole) ∙ e)
       | inr p ↦ let same : Bad p.rule ≡ Bad rule = sym p.found ∙ e in let rules_same : p.rule ≡ rule = cc in subst (BreakAt (b ∷ s)) rules_same p.is
     ]
+
+-- where no lexeme begins, none is found
+lexeme_in : (w rest : List ℕ) (found : Option TokenKind) (kind : TokenKind) → Piece w rest found → found ≡ Some kind → ((k : TokenKind) → Lexeme w rest k → ⊥) → ⊥
+lexeme_in _ _ _ kind (blank b rest e) q h = cc
+lexeme_in _ _ _ kind (line_comment inside rest a e) q h = cc
+lexeme_in _ _ _ kind (block_comment inside rest e) q h = cc
+lexeme_in _ _ _ kind (lexeme w rest k is) q h = h k is
+
+not_a_lexeme : (b : ℕ) (s : List ℕ) (kind : TokenKind) (n : ℕ) → NoLexeme (b ∷ s) → first_of (b ∷ s) ≡ Told (Some kind) n → ⊥
+not_a_lexeme b s kind n none e =
+    let p = piece_sound b s (Some kind) n e in
+    lexeme_in (p.0).piece (p.0).rest (p.0).kind kind (p.0).is p.1 (λ k is. none (p.0).piece (p.0).rest k (p.0).whole is)
+
+no_number : (b : ℕ) (s : List ℕ) → is_digit b ≡ true → NoLexeme (b ∷ s) → number_first (b ∷ s) ≡ Bad L2
+unfolding number_first
+no_number b s e none =
+    elim (option_cases (number_of (name_run (b ∷ s)))) [
+      inl o ↦ ap (λ u. number_or_bad u (prefix_len is_name_byte (b ∷ s))) o
+    | inr o ↦ absurd (not_a_lexeme b s (Number o.0) (prefix_len is_name_byte (b ∷ s)) none (digit_first b s e ∙ ap (λ u. number_or_bad u (prefix_len is_name_byte (b ∷ s))) o.1))
+    ]
+
+no_sign : (b : ℕ) (s : List ℕ) → is_blank b ≡ false → is_letter b ≡ false → is_digit b ≡ false → (b == 34) ≡ false → opens_comment (b ∷ s) ≡ false → NoLexeme (b ∷ s) → sign_first (b ∷ s) ≡ Bad L1
+unfolding sign_first
+no_sign b s e1 e2 e3 e4 e5 none =
+    elim (option_cases (sign_of (b ∷ s))) [
+      inl o ↦ ap sign_or_bad o
+    | inr o ↦ absurd (not_a_lexeme b s (Sign o.0) (sign_len o.0) none (other_first b s e1 e2 e3 e4 e5 ∙ ap sign_or_bad o.1))
+    ]
+
+no_text_at : (s d : List ℕ) (n : ℕ) → quote_or_bad d n ≡ text_first s → NoLexeme (34 ∷ s) → quote_or_bad d n ≡ Bad L3
+no_text_at s [] n e none = refl
+no_text_at s (c ∷ t) n e none =
+    elim (cases_Bool (c == 34)) [
+      inl q ↦ absurd (not_a_lexeme 34 s Text (n + 2) none (quote_first s ∙ sym e ∙ cond-true _ _ _ q))
+    | inr q ↦ cond-false _ _ _ q
+    ]
+
+no_text : (s : List ℕ) → NoLexeme (34 ∷ s) → text_first s ≡ Bad L3
+unfolding text_first
+no_text s none = no_text_at s (drop (prefix_len is_text_byte s) s) (prefix_len is_text_byte s) refl none
+
+pub break_exact : (bytes : List ℕ) (rule : Rule) → BreakAt bytes rule → first_of bytes ≡ Bad rule
+break_exact _ _ (bad_byte b s e1 e2 e3 e4 e5 n) = other_first b s e1 e2 e3 (ne_eqb _ _ e4) e5 ∙ no_sign b s e1 e2 e3 (ne_eqb _ _ e4) e5 n
+break_exact _ _ (bad_number b s e n) = digit_first b s e ∙ no_number b s e n
+break_exact _ _ (open_comment s e) = open_comment_first s (close_none_exact s e)
+break_exact _ _ (open_text s n) = quote_first s ∙ no_text s n
+break_exact _ _ (long_name w rest h l e) = exact_long w rest h e l

@@ -3,3 +3,4 @@ pub mod Exact
 pub mod Runs
 pub mod Searches
 pub mod TableChecks
+pub mod Whole
