@@ -1,11 +1,11 @@
 -- Bytes begin with a piece or break a rule, and what they are found to begin with tells which.
-use Rattle.std.proofs.Common.{◌≡◌, ℕ, zero, suc, ◌+◌, ◌-◌, ◌<◌, ◌≤◌, ◌≢◌, List, [], ◌∷◌, ◌++◌, length, take, drop, Bool, true, false, cond, ◌&&◌, ◌||◌, ◌==◌, nat_le, nat_lt, not, Some, None, Option, slice_get, slice_index, refl, ap, sym, subst, ◌∙◌, arith, ◌⊎◌, inl, inr, append_assoc, length-append, get_or}
-use Rattle.std.specs.List.{list_all, prefix_len}
-use Rattle.std.proofs.lemmas.Bool.{and_parts, and_from, and_cases, or_cases, or_left, or_right, eq-eqb, ltb-true, ltb-false, le-ltb, lt-ltb, eqb-true, eqb-false, ne_eqb, cond-true, cond-false, cases_Bool, cases_lt, false≢true}
-use Rattle.std.proofs.lemmas.List.{take-append-drop, take_at, drop_at}
+use Rattle.std.proofs.Common.{◌≡◌, ℕ, suc, ◌+◌, ◌≤◌, List, [], ◌∷◌, ◌++◌, length, take, drop, true, false, ◌&&◌, ◌==◌, nat_lt, Some, None, Option, refl, ap, sym, subst, ◌∙◌, arith, ◌⊎◌, inl, inr, append_assoc, get_or}
+use Rattle.std.specs.List.{prefix_len}
+use Rattle.std.proofs.lemmas.Bool.{and_parts, and_from, or_cases, or_left, or_right, eq-eqb, lt-ltb, eqb-true, eqb-false, ne_eqb, cond-true, cond-false, cases_Bool, cases_lt, false≢true}
+use Rattle.std.proofs.lemmas.List.{take-append-drop}
 use Rattle.std.proofs.lemmas.Option.{get_or_from_slice_get}
-use Rattle.scj_base.specs.Vocabulary.{words, signs}
-use Rattle.scj_base.specs.Lexeme.{is_blank, is_letter, is_digit, is_name_byte, is_text_byte, is_line_byte, AllOf, EndsHere, IsWordLike, IsNumeral, IsReserved, IsLongestSign, value_of, opens_comment, has_close, Lexeme, Piece, NoLexeme, BreakAt}
+use Rattle.scj_base.specs.Vocabulary.{signs}
+use Rattle.scj_base.specs.Lexeme.{is_blank, is_letter, is_digit, is_name_byte, is_text_byte, is_line_byte, AllOf, EndsHere, IsWordLike, IsNumeral, IsLongestSign, value_of, opens_comment, Lexeme, Piece, NoLexeme, BreakAt}
 use Rattle.scj_base.specs.Lexeme.Lexeme.{name, word, number, text, sign}
 use Rattle.scj_base.specs.Lexeme.Piece.{blank, line_comment, block_comment, lexeme}
 use Rattle.scj_base.specs.Lexeme.BreakAt.{bad_byte, bad_number, open_comment, open_text, long_name}
@@ -13,13 +13,12 @@ use Rattle.scj_base.specs.declared.lexemes.TokenKind.{TokenKind}
 use Rattle.scj_base.specs.declared.lexemes.TokenKind.TheVariants.{Name, Word, Number, Text, Sign}
 use Rattle.scj_base.specs.declared.findings.Rule.{Rule}
 use Rattle.scj_base.specs.declared.findings.Rule.TheVariants.{L1, L2, L3, L4}
-use Rattle.scj_lexer.specs.declared.pieces.Front.{Front}
 use Rattle.scj_lexer.specs.declared.pieces.Front.TheVariants.{Piece as Told, Bad}
 use Rattle.scj_lexer.specs.Tries.{word_of, sign_of}
-use Rattle.scj_lexer.specs.First.{first_of, name_first, number_first, text_first, comment_first, sign_first, after_slash, number_of, digits_of, close_of, number_or_bad, quote_or_bad, comment_or_bad, sign_or_bad}
-use Rattle.scj_lexer.proofs.Runs.{prefix_len_all, prefix_len_ends, run_len, digits_sound, AreDigits, close_sound, Closed, close_none_exact, close_none_sound, none≢some}
-use Rattle.scj_lexer.proofs.TableChecks.{WordFacts, word_facts, word_sound, sign_complete, sign_sound, SignFound, sign_len}
-use Rattle.scj_lexer.proofs.Exact.{first_exact, exact_lexeme, exact_long, letter_first, digit_first, quote_first, other_first, none_if}
+use Rattle.scj_lexer.specs.First.{first_of, number_first, text_first, comment_first, sign_first, number_of, close_of, number_or_bad, quote_or_bad, comment_or_bad, sign_or_bad}
+use Rattle.scj_lexer.proofs.Runs.{prefix_len_all, prefix_len_ends, digits_sound, AreDigits, close_sound, Closed, close_none_exact, close_none_sound, none≢some}
+use Rattle.scj_lexer.proofs.TableChecks.{word_facts, word_sound, sign_complete, sign_sound, SignFound, sign_len}
+use Rattle.scj_lexer.proofs.Exact.{first_exact, exact_lexeme, exact_long, digit_first, quote_first, other_first}
 
 pub record Begins (bytes : List ℕ) : Type 0 where
   pub piece : List ℕ
@@ -249,24 +248,24 @@ no_number : (b : ℕ) (s : List ℕ) → is_digit b ≡ true → NoLexeme (b ∷
 unfolding number_first
 no_number b s e none =
     elim (option_cases (number_of (name_run (b ∷ s)))) [
-      inl o ↦ ap (λ u. number_or_bad u (prefix_len is_name_byte (b ∷ s))) o
-    | inr o ↦ absurd (not_a_lexeme b s (Number o.0) (prefix_len is_name_byte (b ∷ s)) none (digit_first b s e ∙ ap (λ u. number_or_bad u (prefix_len is_name_byte (b ∷ s))) o.1))
+      | inl o ↦ ap (λ u. number_or_bad u (prefix_len is_name_byte (b ∷ s))) o
+      | inr o ↦ absurd (not_a_lexeme b s (Number o.0) (prefix_len is_name_byte (b ∷ s)) none (digit_first b s e ∙ ap (λ u. number_or_bad u (prefix_len is_name_byte (b ∷ s))) o.1))
     ]
 
 no_sign : (b : ℕ) (s : List ℕ) → is_blank b ≡ false → is_letter b ≡ false → is_digit b ≡ false → (b == 34) ≡ false → opens_comment (b ∷ s) ≡ false → NoLexeme (b ∷ s) → sign_first (b ∷ s) ≡ Bad L1
 unfolding sign_first
 no_sign b s e1 e2 e3 e4 e5 none =
     elim (option_cases (sign_of (b ∷ s))) [
-      inl o ↦ ap sign_or_bad o
-    | inr o ↦ absurd (not_a_lexeme b s (Sign o.0) (sign_len o.0) none (other_first b s e1 e2 e3 e4 e5 ∙ ap sign_or_bad o.1))
+      | inl o ↦ ap sign_or_bad o
+      | inr o ↦ absurd (not_a_lexeme b s (Sign o.0) (sign_len o.0) none (other_first b s e1 e2 e3 e4 e5 ∙ ap sign_or_bad o.1))
     ]
 
 no_text_at : (s d : List ℕ) (n : ℕ) → quote_or_bad d n ≡ text_first s → NoLexeme (34 ∷ s) → quote_or_bad d n ≡ Bad L3
 no_text_at s [] n e none = refl
 no_text_at s (c ∷ t) n e none =
     elim (cases_Bool (c == 34)) [
-      inl q ↦ absurd (not_a_lexeme 34 s Text (n + 2) none (quote_first s ∙ sym e ∙ cond-true _ _ _ q))
-    | inr q ↦ cond-false _ _ _ q
+      | inl q ↦ absurd (not_a_lexeme 34 s Text (n + 2) none (quote_first s ∙ sym e ∙ cond-true _ _ _ q))
+      | inr q ↦ cond-false _ _ _ q
     ]
 
 no_text : (s : List ℕ) → NoLexeme (34 ∷ s) → text_first s ≡ Bad L3

@@ -1,24 +1,21 @@
 -- A piece, or a break, is what the bytes are found to begin with.
-use Rattle.std.proofs.Common.{◌≡◌, ℕ, zero, suc, ◌+◌, ◌-◌, ◌<◌, ◌≤◌, ◌≢◌, List, [], ◌∷◌, ◌++◌, length, take, drop, Bool, true, false, cond, ◌&&◌, ◌||◌, ◌==◌, nat_le, nat_lt, not, Some, None, Option, slice_get, slice_index, refl, ap, sym, subst, ◌∙◌, arith, ◌⊎◌, inl, inr, append_assoc, length-append, get_or}
-use Rattle.std.specs.List.{list_all, prefix_len}
-use Rattle.std.proofs.lemmas.Bool.{and_parts, and_from, ltb-true, or_left, or_right, le-ltb, lt-ltb, leb-true, leb-false, le-leb, lt-leb, eqb-true, ne_eqb, cond-true, cond-false, cases_Bool, false≢true, false_from_ne_true}
+use Rattle.std.proofs.Common.{◌≡◌, ℕ, suc, ◌+◌, ◌<◌, ◌≤◌, List, [], ◌∷◌, ◌++◌, length, take, true, false, ◌&&◌, ◌==◌, nat_lt, Some, None, Option, slice_get, refl, ap, sym, ◌∙◌, arith, append_assoc, length-append, get_or}
+use Rattle.std.specs.List.{prefix_len}
+use Rattle.std.proofs.lemmas.Bool.{and_parts, and_from, ltb-true, or_left, or_right, le-ltb, lt-ltb, eqb-true, cond-true, cond-false, false_from_ne_true}
 use Rattle.std.proofs.lemmas.Bool.Decides.{nat_tests}
-use Rattle.std.proofs.lemmas.List.{take-append-drop, take_at, drop_at, append_cancel_left}
+use Rattle.std.proofs.lemmas.List.{take_at, drop_at}
 use Rattle.std.proofs.lemmas.Option.{get_or_from_slice_get}
-use Rattle.scj_base.specs.Vocabulary.{words, signs}
-use Rattle.scj_base.specs.Lexeme.{is_blank, is_letter, is_digit, is_name_byte, is_text_byte, is_line_byte, AllOf, EndsHere, IsWordLike, IsNumeral, IsReserved, IsLongestSign, value_of, opens_comment, has_close, Lexeme, Piece, NoLexeme, BreakAt}
+use Rattle.scj_base.specs.Vocabulary.{signs}
+use Rattle.scj_base.specs.Lexeme.{is_blank, is_letter, is_digit, is_name_byte, is_text_byte, is_line_byte, AllOf, EndsHere, IsWordLike, IsNumeral, IsReserved, IsLongestSign, value_of, opens_comment, has_close, Lexeme, Piece}
 use Rattle.scj_base.specs.Lexeme.Lexeme.{name, word, number, text, sign}
 use Rattle.scj_base.specs.Lexeme.Piece.{blank, line_comment, block_comment, lexeme}
-use Rattle.scj_base.specs.Lexeme.BreakAt.{bad_byte, bad_number, open_comment, open_text, long_name}
 use Rattle.scj_base.specs.declared.lexemes.TokenKind.{TokenKind}
-use Rattle.scj_base.specs.declared.lexemes.TokenKind.TheVariants.{Name, Word, Number, Text, Sign}
-use Rattle.scj_base.specs.declared.findings.Rule.{Rule}
-use Rattle.scj_base.specs.declared.findings.Rule.TheVariants.{L1, L2, L3, L4}
-use Rattle.scj_lexer.specs.declared.pieces.Front.{Front}
+use Rattle.scj_base.specs.declared.lexemes.TokenKind.TheVariants.{Number, Text, Sign}
+use Rattle.scj_base.specs.declared.findings.Rule.TheVariants.{L4}
 use Rattle.scj_lexer.specs.declared.pieces.Front.TheVariants.{Piece as Told, Bad}
-use Rattle.scj_lexer.specs.Tries.{word_of, sign_of}
-use Rattle.scj_lexer.specs.First.{first_of, name_first, number_first, text_first, comment_first, sign_first, after_slash, number_of, digits_of, close_of, word_or_name, number_or_bad, quote_or_bad, comment_or_bad, sign_or_bad}
-use Rattle.scj_lexer.proofs.Runs.{prefix_len_exact, digits_exact, close_exact, close_none_exact, none≢some}
+use Rattle.scj_lexer.specs.Tries.{word_of}
+use Rattle.scj_lexer.specs.First.{first_of, name_first, number_first, text_first, comment_first, sign_first, number_of, word_or_name, number_or_bad, comment_or_bad, sign_or_bad}
+use Rattle.scj_lexer.proofs.Runs.{prefix_len_exact, digits_exact, close_exact}
 use Rattle.scj_lexer.proofs.TableChecks.{WordFacts, word_facts, word_sound, SignFacts, sign_facts, sign_not_empty, sign_same, sign_complete, sign_sound, SignFound, sign_len}
 
 pub none_if : (o : Option ℕ) → ((n : ℕ) → o ≡ Some n → ⊥) → o ≡ None

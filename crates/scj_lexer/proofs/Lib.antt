@@ -1,5 +1,6 @@
 pub mod Decided
 pub mod Exact
+pub mod Reached
 pub mod Runs
 pub mod Searches
 pub mod TableChecks

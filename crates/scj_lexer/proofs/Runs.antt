@@ -1,9 +1,9 @@
 -- Rows of bytes of a class, decimal digits, and the first `*/`.
-use Rattle.std.proofs.Common.{◌≡◌, ℕ, zero, suc, ◌+◌, ◌-◌, ◌*◌, ◌<◌, ◌≤◌, List, [], ◌∷◌, ◌++◌, length, take, drop, Bool, true, false, cond, ◌&&◌, ◌||◌, ◌==◌, nat_le, Some, None, Option, refl, ap, sym, ◌∙◌, arith, ◌⊎◌, inl, inr, subst, add-one}
-use Rattle.std.specs.Prelude.{fold, option_map, ⊤}
+use Rattle.std.proofs.Common.{◌≡◌, ℕ, zero, suc, ◌+◌, ◌-◌, ◌*◌, ◌≤◌, List, [], ◌∷◌, ◌++◌, length, take, drop, Bool, true, false, ◌&&◌, ◌==◌, nat_le, Some, None, Option, refl, ap, sym, ◌∙◌, arith, inl, inr}
+use Rattle.std.specs.Prelude.{fold, option_map}
 use Rattle.std.specs.List.{prefix_len, list_all}
-use Rattle.std.proofs.lemmas.Bool.{and_parts, and_from, and_cases, and_left, and_right, or_parts, or_from, or_left, or_right, le-leb, leb-true, cond-true, cond-false, cases_Bool, false≢true, eqb-true}
-use Rattle.scj_base.specs.Lexeme.{AllOf, EndsHere, is_digit, value_of, has_close}
+use Rattle.std.proofs.lemmas.Bool.{and_parts, and_from, and_right, or_parts, or_from, le-leb, leb-true, cond-true, cond-false, cases_Bool, eqb-true}
+use Rattle.scj_base.specs.Lexeme.{AllOf, EndsHere, is_digit, has_close}
 use Rattle.std.proofs.lemmas.List.{length-take-le}
 use Rattle.std.proofs.lemmas.List.Sums.{prefix_len-le-length}
 use Rattle.scj_lexer.specs.First.{digits_of, close_of}

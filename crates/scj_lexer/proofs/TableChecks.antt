@@ -1,14 +1,14 @@
 -- What is computed of the tables of words and signs, and what it tells of each entry.
-use Rattle.std.proofs.Common.{◌≡◌, ℕ, zero, suc, ◌+◌, ◌-◌, ◌<◌, ◌≤◌, List, [], ◌∷◌, ◌++◌, length, take, drop, Bool, true, false, cond, ◌&&◌, ◌||◌, ◌==◌, nat_le, not, Some, None, Option, slice_get, get_or, map, refl, ap, sym, subst, ◌∙◌, arith, ◌⊎◌, inl, inr}
+use Rattle.std.proofs.Common.{◌≡◌, ℕ, zero, suc, ◌+◌, ◌-◌, ◌<◌, ◌≤◌, List, [], ◌∷◌, ◌++◌, length, take, drop, Bool, true, false, ◌&&◌, ◌==◌, nat_le, not, Some, None, Option, slice_get, get_or, map, refl, ap, sym, subst, ◌∙◌, arith, inl, inr}
 use Rattle.std.specs.Prelude.{bytes_eq, find}
 use Rattle.std.specs.List.{list_all, list_any, position_or_len, starts_with}
-use Rattle.std.proofs.lemmas.Bool.{and_parts, and_from, or_cases, or_parts, not-true, leb-true, le-leb, eqb-true, cond-true, cond-false, cases_Bool, false≢true}
+use Rattle.std.proofs.lemmas.Bool.{and_parts, or_cases, not-true, leb-true, eqb-true, cond-true, cond-false, cases_Bool, false≢true}
 use Rattle.std.proofs.lemmas.List.{take-append-drop, take_at}
-use Rattle.std.proofs.lemmas.Option.{get_or_from_slice_get, slice_get-get_or, slice_get_past}
+use Rattle.std.proofs.lemmas.Option.{get_or_from_slice_get, slice_get-get_or}
 use Rattle.std.proofs.lemmas.Slice.Eq.{bytes_eq-Decides}
 use Rattle.scj_base.specs.Vocabulary.{words, signs}
-use Rattle.scj_base.specs.Lexeme.{is_blank, is_letter, is_digit, is_name_byte, IsWordLike, AllOf}
-use Rattle.scj_lexer.specs.declared.tables.TheConstants.{WORDS_FROM, SIGNS_FROM}
+use Rattle.scj_base.specs.Lexeme.{is_blank, is_letter, is_digit, is_name_byte, IsWordLike}
+use Rattle.scj_lexer.specs.declared.tables.TheConstants.{SIGNS_FROM}
 use Rattle.scj_lexer.specs.Tries.{words_from, signs_from, is_word, is_sign_first, word_of, sign_of}
 use Rattle.scj_lexer.proofs.Searches.{all_at, signs_in_range, words_in_range}
 use Rattle.scj_lexer.proofs.Runs.{none≢some}

@@ -1,8 +1,7 @@
 -- Each text has tokens or a break, not both, and one of them.
-use Rattle.std.proofs.Common.{◌≡◌, ℕ, zero, suc, ◌+◌, ◌-◌, ◌<◌, ◌≤◌, ◌≢◌, List, [], ◌∷◌, ◌++◌, length, take, drop, Bool, true, false, Some, None, Option, refl, ap, sym, subst, ◌∙◌, arith, ◌⊎◌, inl, inr, append_assoc, length-append}
-use Rattle.std.proofs.lemmas.List.{take_at, drop_at, append_cancel_left, append-nil}
-use Rattle.std.proofs.lemmas.Bool.{false≢true}
-use Rattle.scj_base.specs.Lexeme.{Lexeme, Piece, NoLexeme, BreakAt, IsWordLike, opens_comment, is_blank, is_letter, is_digit}
+use Rattle.std.proofs.Common.{◌≡◌, ℕ, zero, suc, ◌+◌, ◌<◌, ◌≤◌, List, [], ◌∷◌, ◌++◌, length, take, drop, Some, None, Option, refl, ap, sym, subst, ◌∙◌, arith, ◌⊎◌, inl, inr, length-append}
+use Rattle.std.proofs.lemmas.List.{take_at, drop_at}
+use Rattle.scj_base.specs.Lexeme.{Lexeme, Piece, BreakAt, IsWordLike}
 use Rattle.scj_base.specs.Lexeme.Lexeme.{name, word, number, text, sign}
 use Rattle.scj_base.specs.Lexeme.Piece.{blank, line_comment, block_comment, lexeme}
 use Rattle.scj_base.specs.Lexeme.BreakAt.{bad_byte, bad_number, open_comment, open_text, long_name}
@@ -13,13 +12,11 @@ use Rattle.scj_base.specs.declared.lexemes.Token.{Token}
 use Rattle.scj_base.specs.declared.lexemes.TokenKind.{TokenKind}
 use Rattle.scj_base.specs.declared.lexemes.TokenKind.TheVariants.{End}
 use Rattle.scj_base.specs.declared.findings.Rule.{Rule}
-use Rattle.scj_base.specs.declared.findings.Rule.TheVariants.{L1, L2, L3, L4}
-use Rattle.scj_lexer.specs.declared.pieces.Front.{Front}
 use Rattle.scj_lexer.specs.declared.pieces.Front.TheVariants.{Piece as Told, Bad}
 use Rattle.scj_lexer.specs.First.{first_of}
-use Rattle.scj_lexer.proofs.TableChecks.{sign_not_empty, word_facts, WordFacts}
+use Rattle.scj_lexer.proofs.TableChecks.{sign_not_empty, word_facts}
 use Rattle.scj_lexer.proofs.Exact.{first_exact}
-use Rattle.scj_lexer.proofs.Decided.{Begins, Breaks, decide, break_exact}
+use Rattle.scj_lexer.proofs.Decided.{decide, break_exact}
 
 like_not_empty : (rest : List ℕ) (w : List ℕ) → IsWordLike w → w ++ rest ≡ [] → ⊥
 like_not_empty rest [] h e = h
@@ -187,11 +184,11 @@ either n file before [] h = tokens_are (token_at file before End 0 ∷ []) (ends
 either zero file before (b ∷ s) h = absurd (omega arith)
 either (suc n) file before (b ∷ s) h =
     elim (decide b s) [
-      inl p ↦
-        let positive : 0 < length p.piece = piece_len p.piece p.rest p.kind p.is in
-        let sum : suc (length s) ≡ length p.piece + length p.rest = ap length p.whole ∙ length-append p.piece p.rest in
-        subst (Either file before) (sym p.whole) (either_later file before p.piece p.rest p.kind p.is (either n file (before ++ p.piece) p.rest (omega arith)))
-    | inr p ↦ broken_at p.rule 0 (here (b ∷ s) p.rule p.is)
+      | inl p ↦
+          let positive : 0 < length p.piece = piece_len p.piece p.rest p.kind p.is in
+          let sum : suc (length s) ≡ length p.piece + length p.rest = ap length p.whole ∙ length-append p.piece p.rest in
+          subst (Either file before) (sym p.whole) (either_later file before p.piece p.rest p.kind p.is (either n file (before ++ p.piece) p.rest (omega arith)))
+      | inr p ↦ broken_at p.rule 0 (here (b ∷ s) p.rule p.is)
     ]
 
 pub one_of_two : (file : ℕ) (bytes : List ℕ) → ((tokens : List Token) × Lex file bytes tokens) ⊎ ((rule : Rule) × ((offset : ℕ) × LexBreak bytes rule offset))

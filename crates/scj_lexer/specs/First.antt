@@ -1,5 +1,5 @@
 -- What a row of bytes begins with, as the code finds it.
-use Rattle.std.specs.Prelude.{ℕ, suc, ◌+◌, ◌-◌, ◌*◌, Bool, ◌&&◌, ◌||◌, ◌==◌, nat_le, nat_lt, cond, List, [], ◌∷◌, length, take, drop, slice_index, slice_index_or, Option, Some, None, option_map}
+use Rattle.std.specs.Prelude.{ℕ, suc, ◌+◌, ◌-◌, ◌*◌, ◌&&◌, ◌==◌, nat_le, nat_lt, cond, List, [], ◌∷◌, length, take, drop, slice_index, slice_index_or, Option, Some, None, option_map}
 use Rattle.std.specs.List.{prefix_len}
 use Rattle.scj_base.specs.Vocabulary.{signs}
 use Rattle.scj_base.specs.Lexeme.{is_blank, is_letter, is_digit, is_name_byte, is_text_byte, is_line_byte, opens_comment}

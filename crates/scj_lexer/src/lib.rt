@@ -2,6 +2,10 @@
 #![tactic(auto)]
 
 mod classes;
+pub mod laws;
 mod pieces;
 mod tables;
+pub mod texts;
 mod tries;
+
+pub use texts::{LexAnswer, lex};

@@ -1,4 +1,4 @@
-use Rattle.std.proofs.Common.{◌≡◌, ◌+◌, ◌≤◌, length}
+use Rattle.std.proofs.Common.{◌≡◌, ◌+◌, length}
 use Rattle.std.specs.Prelude.{option_map}
 use Rattle.scj_lexer.specs.First.{close_of}
 use Rattle.scj_lexer.proofs.pieces.close.Given as goal

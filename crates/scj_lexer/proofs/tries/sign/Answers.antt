@@ -1,7 +1,7 @@
-use Rattle.std.proofs.Common.{◌≡◌, Bool, true, false, arith, drop, get_or, ◌∙◌, sym}
-use Rattle.std.specs.Prelude.{find, Some, ◌==◌}
+use Rattle.std.proofs.Common.{◌≡◌, true, false, arith, get_or, ◌∙◌, sym}
+use Rattle.std.specs.Prelude.{◌==◌}
 use Rattle.std.specs.List.{starts_with}
-use Rattle.scj_lexer.specs.Tries.{sign_of, is_sign_first}
+use Rattle.scj_lexer.specs.Tries.{is_sign_first}
 use Rattle.scj_lexer.proofs.Searches.{find_yes, find_no, is_sign_first_at, signs_in_range, sign_of_is}
 use Rattle.scj_lexer.proofs.tries.sign.Goals as goal
 

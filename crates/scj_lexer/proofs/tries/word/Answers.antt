@@ -1,6 +1,6 @@
-use Rattle.std.proofs.Common.{◌≡◌, Bool, true, false, arith, drop, get_or, ◌∙◌, sym}
-use Rattle.std.specs.Prelude.{find, Some, bytes_eq}
-use Rattle.scj_lexer.specs.Tries.{word_of, is_word}
+use Rattle.std.proofs.Common.{◌≡◌, true, false, arith, get_or, ◌∙◌, sym}
+use Rattle.std.specs.Prelude.{bytes_eq}
+use Rattle.scj_lexer.specs.Tries.{is_word}
 use Rattle.scj_lexer.proofs.Searches.{find_yes, find_no, is_word_at, words_in_range, word_of_is}
 use Rattle.scj_lexer.proofs.tries.word.Goals as goal
 
