@@ -1,5 +1,6 @@
 pub mod Decided
 pub mod Exact
+mod Examples
 pub mod Reached
 pub mod Runs
 pub mod Searches
