@@ -23,23 +23,44 @@ o >>= f = option_and_then f o
 abbrev pub Read : Type 0 → Type 0
 Read A = Option (A × List Lexeme)
 
+-- what the first lexeme gives, before the others
+abbrev pub taken : {A : Type 0} → Option A → List Lexeme → Read A
+taken None rest = None
+taken (Some a) rest = Some (a, rest)
+
+abbrev pub word_in : ℕ → Lexeme → Option Pos
+word_in n (Word p m) = if m == n then Some p else None
+word_in n lexeme = None
+
+abbrev pub sign_in : ℕ → Lexeme → Option Pos
+sign_in n (Sign p m) = if m == n then Some p else None
+sign_in n lexeme = None
+
+abbrev pub name_in : Lexeme → Option Identifier
+name_in (Name i) = Some i
+name_in lexeme = None
+
+abbrev pub text_in : Lexeme → Option Identifier
+text_in (Text i) = Some i
+text_in lexeme = None
+
 -- a reserved word; its place
 unfoldable pub word : ℕ → List Lexeme → Read Pos
-word n (Word p m ∷ rest) = if m == n then Some (p, rest) else None
-word n lexemes = None
+word n [] = None
+word n (lexeme ∷ rest) = taken (word_in n lexeme) rest
 
 -- a sign; its place
 unfoldable pub sign : ℕ → List Lexeme → Read Pos
-sign n (Sign p m ∷ rest) = if m == n then Some (p, rest) else None
-sign n lexemes = None
+sign n [] = None
+sign n (lexeme ∷ rest) = taken (sign_in n lexeme) rest
 
 unfoldable pub name : List Lexeme → Read Identifier
-name (Name i ∷ rest) = Some (i, rest)
-name lexemes = None
+name [] = None
+name (lexeme ∷ rest) = taken (name_in lexeme) rest
 
 unfoldable pub text : List Lexeme → Read Identifier
-text (Text i ∷ rest) = Some (i, rest)
-text lexemes = None
+text [] = None
+text (lexeme ∷ rest) = taken (text_in lexeme) rest
 
 -- `w = Text`
 unfoldable pub argument : List ℕ → List Lexeme → Read Identifier

@@ -1,5 +1,5 @@
 -- The lexemes of class headers, with their places.
-use Rattle.std.specs.Prelude.{ℕ, ◌+◌, ◌-◌, zero, suc, Bool, true, false, not, ◌&&◌, ◌||◌, ◌==◌, nat_le, if◌then◌else◌, List, [], ◌∷◌, length, drop, Option, Some, None, bytes_eq}
+use Rattle.std.specs.Prelude.{ℕ, ◌+◌, ◌-◌, ◌^◌, ◌≤◌, ◌≡◌, zero, suc, Bool, true, false, not, ◌&&◌, ◌||◌, ◌==◌, nat_le, if◌then◌else◌, List, [], ◌∷◌, length, drop, Option, Some, None, bytes_eq}
 use Rattle.std.specs.List.{prefix_len, take_while, position}
 use Rattle.scj_base.specs.Vocabulary.{words, sign_left_brace, sign_right_brace, sign_left_parenthesis, sign_right_parenthesis, sign_comma, sign_at, sign_assign}
 use Rattle.scj_base.specs.declared.places.Pos.{Pos}
@@ -73,26 +73,37 @@ sign_lexeme p b =
     if b == 64 then Sign p sign_at else
     if b == 61 then Sign p sign_assign else Other
 
--- the lexeme that begins with the byte b, behind which s stands; no header has two `=` in a row, so `==` is none here
-unfoldable pub lexeme_from : Pos → ℕ → List ℕ → Lexeme
-lexeme_from p b s =
+-- the lexeme that the bytes begin with; no header has two `=` in a row, so `==` is none here
+unfoldable pub lexeme_at : Pos → List ℕ → Lexeme
+lexeme_at p [] = Other
+lexeme_at p (b ∷ s) =
     if is_name_byte b then word_lexeme p (take_while is_name_byte (b ∷ s)) else
     if b == 34 then text_lexeme p s else sign_lexeme p b
 
--- how many bytes of s belong to the lexeme that begins with the byte before s
-unfoldable pub length_behind : ℕ → List ℕ → ℕ
-length_behind b s =
-    if is_name_byte b then prefix_len is_name_byte s else
-    if b == 34 then prefix_len is_name_byte s + 1 else 0
+-- the number of its bytes
+unfoldable pub length_at : List ℕ → ℕ
+length_at [] = 0
+length_at (b ∷ s) =
+    if is_name_byte b then prefix_len is_name_byte (b ∷ s) else
+    if b == 34 then prefix_len is_name_byte s + 2 else 1
 
--- the lexemes of bytes of which the first begins at the place; so many of the first bytes belong to a lexeme before
+-- the lexemes of bytes of which the first stands at the place; so many of the first bytes belong to a lexeme before
 unfoldable pub lexemes_behind : ℕ → Pos → List ℕ → List Lexeme
 lexemes_behind n p [] = []
 lexemes_behind (suc n) p (b ∷ s) = lexemes_behind n (next_column p) s
 lexemes_behind zero p (b ∷ s) =
     if is_blank b then lexemes_behind 0 (behind_blank p b) s
-    else lexeme_from p b s ∷ lexemes_behind (length_behind b s) (next_column p) s
+    else lexeme_at p (b ∷ s) ∷ lexemes_behind (length_at (b ∷ s) - 1) (next_column p) s
 
 -- the lexemes of a file: at each place the longest, and blanks between them
 abbrev pub lexemes_of : ℕ → List ℕ → List Lexeme
 lexemes_of file bytes = lexemes_behind 0 (place_at file 1 1) bytes
+
+-- lines and columns can be counted to the end of so many bytes
+abbrev pub HasRoom : Pos → ℕ → Type 0
+HasRoom p n = (p.line + n ≤ 2 ^ 30) × (p.col + n ≤ 2 ^ 30)
+
+-- the bytes are at their end, or go on with one that is no blank
+abbrev pub BeginsUnblank : List ℕ → Type 0
+BeginsUnblank [] = Unit {0}
+BeginsUnblank (b ∷ s) = is_blank b ≡ false

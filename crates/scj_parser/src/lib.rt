@@ -4,5 +4,8 @@
 pub mod first;
 pub mod headers;
 pub mod lexemes;
+mod readers;
+mod reads;
+mod scans;
 
 pub use first::{FirstAnswer, parse_first};
