@@ -1,3 +1,4 @@
+pub mod Growth
 pub mod HeaderForm
 pub mod Headers
 pub mod Lexemes

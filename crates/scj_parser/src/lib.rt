@@ -4,6 +4,7 @@
 pub mod first;
 pub mod headers;
 pub mod lexemes;
+mod plants;
 mod readers;
 mod reads;
 mod scans;

@@ -4,10 +4,10 @@ ghost use Rattle.std.specs.Prelude.{◌≡◌, ◌+◌, ◌≤◌, ◌<◌, ◌^
 ghost use Rattle.std.specs.List.{prefix_len, position};
 ghost use Rattle.scj_parser.specs.Lexemes.{is_blank as is_blank_byte, is_letter as is_letter_byte, is_name_byte as is_byte_of_name, begins_with_quote as quote_begins, reserved as reserved_word, word_lexeme, text_lexeme, sign_lexeme, lexeme_at, length_at, lexemes_behind, behind_blank as place_behind_blank, HasRoom, BeginsUnblank};
 
+use crate::lexemes::{Identifier, Lexeme};
 use scj_base::vocabulary::{
     ASSIGN, AT, COMMA, LEFT_BRACE, LEFT_PARENTHESIS, RIGHT_BRACE, RIGHT_PARENTHESIS, WORDS,
 };
-use crate::lexemes::{Identifier, Lexeme};
 use scj_base::{Name, Pos};
 
 fn is_blank(byte: u8) -> bool
