@@ -1,0 +1,3 @@
+pub mod Counters
+pub mod Loads
+pub mod Puts
