@@ -1,0 +1,6 @@
+pub mod Answers
+pub mod Endings
+pub mod Jobs
+pub mod Readings
+pub mod Refusals
+pub mod Reports

@@ -1,0 +1,22 @@
+-- The status of a refusal, and its line.
+use Rattle.std.specs.Prelude.{List, ℕ, string_bytes}
+use Rattle.scj_base.specs.declared.statuses.Status.{Status}
+use Rattle.scj_base.specs.declared.statuses.Status.TheVariants as status
+use Rattle.scj_cli.specs.declared.refusals.Refusal.{Refusal}
+use Rattle.scj_cli.specs.declared.refusals.Refusal.TheVariants.{Usage, Unread, Overlong, OtherForm, OutOfMemory}
+use Rattle.scj_cli.specs.Answers.{usage_line, not_built_line}
+use Rattle.scj_cli.specs.Endings.{memory_line}
+
+abbrev pub status_of : Refusal → Status
+status_of Usage = status.Usage
+status_of (Unread line) = status.ReadFault
+status_of (Overlong line) = status.TooLong
+status_of OtherForm = status.NotBuilt
+status_of OutOfMemory = status.NoMemory
+
+abbrev pub line_of : Refusal → List ℕ
+line_of Usage = usage_line
+line_of (Unread line) = string_bytes line
+line_of (Overlong line) = string_bytes line
+line_of OtherForm = not_built_line
+line_of OutOfMemory = memory_line
