@@ -1,0 +1,4 @@
+pub mod Breaks
+pub mod Chains
+pub mod Definitions
+pub mod Report

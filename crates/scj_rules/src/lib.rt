@@ -1,0 +1,6 @@
+//! The rules of the checker, as definitions over the tree of a program.
+#![tactic(auto)]
+
+pub mod scopes;
+
+pub use scopes::{Definition, Written};
