@@ -4,9 +4,11 @@ use Rattle.scj_base.specs.declared.findings.Found.{Found}
 use Rattle.scj_base.specs.declared.statuses.Status.{Status}
 use Rattle.scj_base.specs.declared.statuses.Status.TheVariants.{Done, Refused, Usage, NotBuilt}
 use Rattle.scj_tree.specs.Forest.{Forest}
+use Rattle.scj_rules.specs.Breaks.{Breaks}
+use Rattle.scj_rules.specs.Report.{IsReport}
 use Rattle.scj_cli.specs.Jobs.{Job}
 use Rattle.scj_cli.specs.Jobs.Job.{Check}
-use Rattle.scj_cli.specs.Readings.{ReadsAs, IsReport}
+use Rattle.scj_cli.specs.Readings.{ReadsAs}
 use Rattle.scj_cli.specs.Reports.{report_text}
 
 abbrev pub accepted_line : List ℕ
@@ -26,8 +28,8 @@ pub data Answer : Option Job → List (List ℕ) → Status → List ℕ → Lis
     ((forest : Forest) → ReadsAs contents forest → ⊥) →
     Answer (Some (Check names)) contents NotBuilt [] not_built_line
   refused : {names contents : List (List ℕ)} {forest : Forest} {first : Found} {others : List Found} →
-    ReadsAs contents forest → IsReport forest (first ∷ others) →
+    ReadsAs contents forest → IsReport (Breaks forest) (first ∷ others) →
     Answer (Some (Check names)) contents Refused (report_text names (first ∷ others)) []
   accepted : {names contents : List (List ℕ)} {forest : Forest} →
-    ReadsAs contents forest → IsReport forest [] →
+    ReadsAs contents forest → IsReport (Breaks forest) [] →
     Answer (Some (Check names)) contents Done accepted_line []

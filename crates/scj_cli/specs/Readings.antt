@@ -1,9 +1,6 @@
 -- How the contents of the files are read.
 use Rattle.std.specs.Prelude.{List, ℕ}
-use Rattle.scj_base.specs.declared.findings.Found.{Found}
 use Rattle.scj_tree.specs.Forest.{Forest}
 
 -- PLACEHOLDER
 pub data ReadsAs : List (List ℕ) → Forest → Type 0 where
-
-pub data IsReport : Forest → List Found → Type 0 where

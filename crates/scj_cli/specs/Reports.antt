@@ -1,5 +1,5 @@
 -- The text of a report.
-use Rattle.std.specs.Prelude.{ℕ, List, [], ◌∷◌, ◌++◌, length, codes, decimal, slice_index_or}
+use Rattle.std.specs.Prelude.{ℕ, List, [], ◌∷◌, ◌++◌, length, codes, decimal, slice_index_or, flat_map}
 use Rattle.scj_base.specs.declared.findings.Found.{Found}
 use Rattle.scj_base.specs.Rule.{name_of, text_of}
 
@@ -14,8 +14,7 @@ finding_line names found =
 
 -- the lines of findings, in their order
 abbrev pub finding_lines : List (List ℕ) → List Found → List ℕ
-finding_lines names [] = []
-finding_lines names (found ∷ others) = finding_line names found ++ finding_lines names others
+finding_lines names found = flat_map (finding_line names) found
 
 -- the line that ends a report of so many findings
 abbrev pub count_line : ℕ → List ℕ
