@@ -1,0 +1,4 @@
+pub mod HeaderForm
+pub mod Headers
+pub mod Lexemes
+pub mod Plants

@@ -1,0 +1,8 @@
+//! The parser: reads the sources of a call into a program.
+#![tactic(auto)]
+
+pub mod first;
+pub mod headers;
+pub mod lexemes;
+
+pub use first::{FirstAnswer, parse_first};
