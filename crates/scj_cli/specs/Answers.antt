@@ -1,5 +1,5 @@
 -- What each job answers: its status, and its texts on the two sinks.
-use Rattle.std.specs.Prelude.{ℕ, ◌<◌, List, [], ◌∷◌, ◌++◌, length, codes, Option, Some, None}
+use Rattle.std.specs.Prelude.{◌≡◌, ℕ, List, [], ◌∷◌, codes, Option, Some, None}
 use Rattle.scj_base.specs.declared.findings.Found.{Found}
 use Rattle.scj_base.specs.declared.statuses.Status.{Status}
 use Rattle.scj_base.specs.declared.statuses.Status.TheVariants.{Done, Refused, Usage, NotBuilt}
@@ -8,7 +8,7 @@ use Rattle.scj_rules.specs.Breaks.{Breaks}
 use Rattle.scj_rules.specs.Report.{IsReport}
 use Rattle.scj_cli.specs.Jobs.{Job}
 use Rattle.scj_cli.specs.Jobs.Job.{Check}
-use Rattle.scj_cli.specs.Readings.{ReadsAs}
+use Rattle.scj_cli.specs.Readings.{forest_with}
 use Rattle.scj_cli.specs.Reports.{report_text}
 
 abbrev pub accepted_line : List ℕ
@@ -25,11 +25,20 @@ pub data Answer : Option Job → List (List ℕ) → Status → List ℕ → Lis
   no_job : {contents : List (List ℕ)} →
     Answer None contents Usage [] usage_line
   other_form : {names contents : List (List ℕ)} →
-    ((forest : Forest) → ReadsAs contents forest → ⊥) →
+    forest_with contents ≡ None →
     Answer (Some (Check names)) contents NotBuilt [] not_built_line
   refused : {names contents : List (List ℕ)} {forest : Forest} {first : Found} {others : List Found} →
-    ReadsAs contents forest → IsReport (Breaks forest) (first ∷ others) →
+    forest_with contents ≡ Some forest → IsReport (Breaks forest) (first ∷ others) →
     Answer (Some (Check names)) contents Refused (report_text names (first ∷ others)) []
   accepted : {names contents : List (List ℕ)} {forest : Forest} →
-    ReadsAs contents forest → IsReport (Breaks forest) [] →
+    forest_with contents ≡ Some forest → IsReport (Breaks forest) [] →
     Answer (Some (Check names)) contents Done accepted_line []
+
+-- the status and the text of a check that found these breaks
+abbrev pub status_on : List Found → Status
+status_on [] = Done
+status_on (first ∷ others) = Refused
+
+abbrev pub text_on : List (List ℕ) → List Found → List ℕ
+text_on names [] = accepted_line
+text_on names (first ∷ others) = report_text names (first ∷ others)

@@ -1,13 +1,12 @@
 -- What a mode leaves behind for the end of the call, which tells what is to be told on `err`.
-use Rattle.std.specs.Prelude.{ℕ, List, [], ◌∷◌, Option, Some}
+use Rattle.std.specs.Prelude.{◌≡◌, ℕ, List, [], Option, None}
 use Rattle.scj_base.specs.declared.statuses.Status.{Status}
 use Rattle.scj_base.specs.declared.statuses.Status.TheVariants.{WriteFault}
-use Rattle.scj_tree.specs.Forest.{Forest}
 use Rattle.scj_io.specs.Loads.{ShelfRun}
 use Rattle.scj_io.specs.Puts.{SinkRun, PutWhole, PutFront}
 use Rattle.scj_cli.specs.Jobs.{Job}
 use Rattle.scj_cli.specs.Endings.{Comes}
-use Rattle.scj_cli.specs.Readings.{ReadsAs}
+use Rattle.scj_cli.specs.Readings.{forest_with}
 use Rattle.scj_cli.specs.Refusals.{status_of, line_of}
 use Rattle.scj_cli.specs.declared.refusals.Refusal.{Refusal}
 use Rattle.scj_cli.specs.declared.refusals.Refusal.TheVariants.{Usage, Unread, Overlong, OtherForm, OutOfMemory}
@@ -34,7 +33,7 @@ abbrev pub RefusesForm : List (List ℕ) → Refusal → Type 0
 RefusesForm contents Usage = ⊥
 RefusesForm contents (Unread line) = ⊥
 RefusesForm contents (Overlong line) = ⊥
-RefusesForm contents OtherForm = (forest : Forest) → ReadsAs contents forest → ⊥
+RefusesForm contents OtherForm = forest_with contents ≡ None
 RefusesForm contents OutOfMemory = Unit {0}
 
 -- the refusal's line was put whole and its status is the call's, or the put failed
