@@ -24,6 +24,29 @@ pub fn scj<H: Shelf, K: Sink, E: Sink>(alloc: Global, words: &[String], shelf: &
         (shelf_run (H.held shelf.old) (H.faults shelf.old) (H.faults shelf.new) (H.most shelf.new))
         (sink_run (K.taken out.old) (K.taken out.new) (K.faults out.old) (K.faults out.new))
         (sink_run (E.taken err.old) (E.taken err.new) (E.faults err.old) (E.faults err.new))) result }
+    ensures exact { IsExact (call_of (job_of (map string_bytes words.now))
+        (shelf_run (H.held shelf.old) (H.faults shelf.old) (H.faults shelf.new) (H.most shelf.new))
+        (sink_run (K.taken out.old) (K.taken out.new) (K.faults out.old) (K.faults out.new))
+        (sink_run (E.taken err.old) (E.taken err.new) (E.faults err.old) (E.faults err.new))) result }
+    ensures too_long { IsLongExactly (call_of (job_of (map string_bytes words.now))
+        (shelf_run (H.held shelf.old) (H.faults shelf.old) (H.faults shelf.new) (H.most shelf.new))
+        (sink_run (K.taken out.old) (K.taken out.new) (K.faults out.old) (K.faults out.new))
+        (sink_run (E.taken err.old) (E.taken err.new) (E.faults err.old) (E.faults err.new))) result }
+    ensures absent { IsNeverAbsent (call_of (job_of (map string_bytes words.now))
+        (shelf_run (H.held shelf.old) (H.faults shelf.old) (H.faults shelf.new) (H.most shelf.new))
+        (sink_run (K.taken out.old) (K.taken out.new) (K.faults out.old) (K.faults out.new))
+        (sink_run (E.taken err.old) (E.taken err.new) (E.faults err.old) (E.faults err.new))) result }
+{
+    finish(alloc, words, shelf, out, err)
+}
+
+// Tells what the answer leaves to be told.
+fn finish<H: Shelf, K: Sink, E: Sink>(alloc: Global, words: &[String], shelf: &mut H, out: &mut K, err: &mut E) -> Status
+    ensures goes { ShelfGoes (H.held shelf.old) (H.held shelf.new) (H.faults shelf.old) (H.faults shelf.new) (H.most shelf.old) (H.most shelf.new) }
+    ensures ends { Ends (call_of (job_of (map string_bytes words.now))
+        (shelf_run (H.held shelf.old) (H.faults shelf.old) (H.faults shelf.new) (H.most shelf.new))
+        (sink_run (K.taken out.old) (K.taken out.new) (K.faults out.old) (K.faults out.new))
+        (sink_run (E.taken err.old) (E.taken err.new) (E.faults err.old) (E.faults err.new))) result }
 {
     match answer(alloc, words, shelf, out) {
         Ok(status) => status,

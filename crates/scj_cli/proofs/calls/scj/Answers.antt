@@ -1,12 +1,11 @@
-use Rattle.scj_io.proofs.PutLaws.{PutWhole-nothing}
-use Rattle.scj_cli.proofs.CauseLaws.{Ends-answered, Ends-told, Ends-broken}
+use Rattle.scj_cli.proofs.EndLaws.{exact, long_exactly, never_absent}
 use Rattle.scj_cli.proofs.calls.scj.Goals as goal
 
-pub returns-in-Ok-clause-ends : goal.returns-in-Ok-clause-ends
-returns-in-Ok-clause-ends g c = Ends-answered c.in-Ok.ensures.ok (PutWhole-nothing _ _)
+pub returns-clause-exact : goal.returns-clause-exact
+returns-clause-exact g c = exact _ _ c.finish.ensures.ends
 
-pub returns-in-Err-Told-clause-ends : goal.returns-in-Err-Told-clause-ends
-returns-in-Err-Told-clause-ends g c = Ends-told (rw c.in-Err-Told.field-0-is at c.in-Err-Told.ensures.stop) c.tell.ensures
+pub returns-clause-too_long : goal.returns-clause-too_long
+returns-clause-too_long g c = long_exactly _ _ c.finish.ensures.ends
 
-pub returns-in-Err-Broken-clause-ends : goal.returns-in-Err-Broken-clause-ends
-returns-in-Err-Broken-clause-ends g c = Ends-broken (rw c.in-Err-Broken.field-0-is at c.in-Err-Broken.ensures.stop) (PutWhole-nothing _ _)
+pub returns-clause-absent : goal.returns-clause-absent
+returns-clause-absent g c = never_absent _ _ c.finish.ensures.ends
