@@ -2,10 +2,9 @@
 use Rattle.std.proofs.Common.{◌≡◌, ◌⊎◌, inl, inr, ℕ, ◌<◌, ◌≤◌, List, length, refl, sym, subst, ◌∙◌, Result, Ok, Err, IfOk, IfErr, arith}
 use Rattle.scj_io.specs.Counters.{Rose}
 use Rattle.scj_io.specs.Loads.{Held, ShelfRun, shelf_run, ShelfGoes, MayHold, MayExceed, LoadHolds, LoadExceeds, LoadRefuses, IsTooLongOrMemory}
-use Rattle.scj_io.specs.Loads.Held.{Told, Absent, Untold}
+use Rattle.scj_io.specs.Loads.Held.{Told, Absent}
 use Rattle.scj_io.specs.declared.shelves.LoadAnswer.{LoadAnswer}
 use Rattle.scj_io.specs.declared.shelves.LoadAnswer.TheVariants.{Failed, TooLong, Memory}
-use Rattle.scj_io.proofs.CounterLaws.{Rose-later, Rose-earlier}
 
 pub ShelfGoes-nothing : (h : List ℕ → Held) (f m : List ℕ → ℕ) → ShelfGoes h h f f m m
 ShelfGoes-nothing h f m = record { held = λ _. refl; faults = λ name. omega arith; most = λ name. omega arith }

@@ -1,8 +1,7 @@
 -- Puts one after another.
-use Rattle.std.proofs.Common.{◌≡◌, ℕ, ◌≤◌, List, [], ◌++◌, Option, Some, None, refl, sym, ap, ◌∙◌, append_assoc, append-nil, arith}
-use Rattle.scj_io.specs.Counters.{Rose}
+use Rattle.std.proofs.Common.{◌≡◌, ℕ, List, [], ◌++◌, Option, Some, None, refl, sym, ap, ◌∙◌, append_assoc, append-nil, arith}
 use Rattle.scj_io.specs.Puts.{appended, Took, TookFront, sink_run, SinkRun, PutWhole, PutFront}
-use Rattle.scj_io.proofs.CounterLaws.{Rose-later, Rose-earlier}
+use Rattle.scj_io.proofs.CounterLaws.{Rose-earlier}
 
 pub appended-nil : (taken : Option (List ℕ)) → appended taken [] ≡ taken
 appended-nil (Some taken) = ap (λ (t : List ℕ). Some t) (append-nil taken)

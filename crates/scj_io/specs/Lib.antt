@@ -1,3 +1,5 @@
 pub mod Counters
 pub mod Loads
 pub mod Puts
+pub mod MemSinks
+pub mod MemShelves

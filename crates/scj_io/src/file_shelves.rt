@@ -18,6 +18,7 @@ const CHUNK: usize = 4096;
 ///
 /// It doesn't tell what the files hold. One number counts its failed loads of all names, and one is
 /// the most bytes that any load has taken.
+#[derive(Drop)]
 pub struct FileShelf<'r, R> {
     files: &'r R,
     faults: u64,
