@@ -1,7 +1,5 @@
 -- From what each layer leaves to the causes of the call's status.
-use Rattle.std.proofs.Common.{◌≡◌, ℕ, suc, ◌<◌, ◌≤◌, List, [], ◌∷◌, length, map, string_bytes, slice_index_or, Option, Some, None, refl, sym, subst, Result, Ok, Err, IfErr, IfOk, IsErrAnd, arith}
-use Rattle.std.specs.declared.string.String.{String}
-use Rattle.std.specs.declared.alloc.Global.{Global}
+use Rattle.std.proofs.Common.{◌≡◌, ℕ, List, [], ◌∷◌, Option, Some, None}
 use Rattle.scj_base.specs.declared.statuses.Status.{Status}
 use Rattle.scj_base.specs.declared.statuses.Status.TheVariants.{WriteFault}
 use Rattle.scj_base.specs.declared.findings.Found.{Found}
@@ -9,14 +7,14 @@ use Rattle.scj_tree.specs.Forest.{Forest}
 use Rattle.scj_rules.specs.Breaks.{Breaks}
 use Rattle.scj_rules.specs.Report.{IsReport}
 use Rattle.scj_io.specs.Loads.{ShelfRun, LoadHolds}
-use Rattle.scj_io.specs.Puts.{SinkRun, sink_run, PutWhole, PutFront}
+use Rattle.scj_io.specs.Puts.{SinkRun, sink_run, PutWhole}
 use Rattle.scj_io.proofs.PutLaws.{PutWhole-nothing}
 use Rattle.scj_cli.specs.Jobs.{Job, files_of, file_limit}
 use Rattle.scj_cli.specs.Jobs.Job.{Check}
 use Rattle.scj_cli.specs.Answers.{Answer, status_on, text_on}
 use Rattle.scj_cli.specs.Answers.Answer.{no_job, other_form, refused, accepted}
 use Rattle.scj_cli.specs.Readings.{forest_with}
-use Rattle.scj_cli.specs.Endings.{Call, call_of, IsAmong, MayStand, Comes, Ends}
+use Rattle.scj_cli.specs.Endings.{call_of, IsAmong, MayStand, Comes, Ends}
 use Rattle.scj_cli.specs.Endings.IsAmong.{here}
 use Rattle.scj_cli.specs.Endings.MayStand.{none, next}
 use Rattle.scj_cli.specs.Endings.Comes.{answered, unread, overlong, out_of_memory}
@@ -25,10 +23,8 @@ use Rattle.scj_cli.specs.Refusals.{status_of, line_of, RefusesLoad}
 use Rattle.scj_cli.specs.Modes.{IsAnswered, Stops, RefusesForm, Tells}
 use Rattle.scj_cli.specs.Modes.Stops.{told, broken}
 use Rattle.scj_cli.specs.Modes.Tells.{whole as put_whole, fault as put_fault}
-
 use Rattle.scj_cli.specs.declared.refusals.Refusal.{Refusal}
 use Rattle.scj_cli.specs.declared.refusals.Refusal.TheVariants.{Usage, Unread, Overlong, OtherForm, OutOfMemory}
-use Rattle.scj_cli.specs.declared.refusals.Stop.{Stop}
 use Rattle.scj_cli.specs.declared.refusals.Stop.TheVariants.{Told, Broken}
 
 -- what was found on a forest is the answer on the contents that were read as it

@@ -1,14 +1,10 @@
 -- What follows from how a call ends.
-use Rattle.std.proofs.Common.{◌≡◌, ◌⊎◌, inl, inr, ℕ, ◌<◌, ◌≤◌, List, [], ◌∷◌, length, Option, Some, None, refl, sym, subst, arith}
+use Rattle.std.proofs.Common.{◌≡◌, inl, inr, ℕ, ◌<◌, ◌≤◌, List, length, refl, subst, arith}
 use Rattle.scj_base.specs.declared.statuses.Status.{Status}
-use Rattle.scj_base.specs.declared.statuses.Status.TheVariants.{WriteFault, NoMemory, TooLong}
 use Rattle.scj_io.specs.Loads.{Held, ShelfRun, MayHold, MayExceed}
-use Rattle.scj_io.specs.Loads.Held.{Told, Absent, Untold}
-use Rattle.scj_io.specs.Puts.{PutWhole, PutFront}
-use Rattle.scj_cli.specs.Jobs.{Job, files_of, file_limit}
-use Rattle.scj_cli.specs.Answers.{Answer}
-use Rattle.scj_cli.specs.Answers.Answer.{no_job, other_form, refused, accepted}
-use Rattle.scj_cli.specs.Endings.{Call, IsAmong, MayStand, IsUnread, Comes, Ends, IsCalm, AreTold, EndsBy, IsExact, IsLongExactly, IsUnanswered, IsNeverAbsent}
+use Rattle.scj_io.specs.Loads.Held.{Told}
+use Rattle.scj_cli.specs.Jobs.{file_limit}
+use Rattle.scj_cli.specs.Endings.{Call, IsAmong, MayStand, Ends, AreTold, IsExact, IsLongExactly, IsNeverAbsent}
 use Rattle.scj_cli.specs.Endings.IsAmong.{here, later}
 use Rattle.scj_cli.specs.Endings.MayStand.{none as no_file, next as next_file}
 use Rattle.scj_cli.specs.Endings.AreTold.{none as none_told, next as next_told}

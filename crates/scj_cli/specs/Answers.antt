@@ -23,16 +23,16 @@ not_built_line = codes "scj: form not built\n"
 -- the status and the texts on `out` and on `err` that a job has on these contents of its files
 pub data Answer : Option Job → List (List ℕ) → Status → List ℕ → List ℕ → Type 0 where
   no_job : {contents : List (List ℕ)} →
-    Answer None contents Usage [] usage_line
+      Answer None contents Usage [] usage_line
   other_form : {names contents : List (List ℕ)} →
-    forest_with contents ≡ None →
-    Answer (Some (Check names)) contents NotBuilt [] not_built_line
+      forest_with contents ≡ None →
+      Answer (Some (Check names)) contents NotBuilt [] not_built_line
   refused : {names contents : List (List ℕ)} {forest : Forest} {first : Found} {others : List Found} →
-    forest_with contents ≡ Some forest → IsReport (Breaks forest) (first ∷ others) →
-    Answer (Some (Check names)) contents Refused (report_text names (first ∷ others)) []
+      forest_with contents ≡ Some forest → IsReport (Breaks forest) (first ∷ others) →
+      Answer (Some (Check names)) contents Refused (report_text names (first ∷ others)) []
   accepted : {names contents : List (List ℕ)} {forest : Forest} →
-    forest_with contents ≡ Some forest → IsReport (Breaks forest) [] →
-    Answer (Some (Check names)) contents Done accepted_line []
+      forest_with contents ≡ Some forest → IsReport (Breaks forest) [] →
+      Answer (Some (Check names)) contents Done accepted_line []
 
 -- the status and the text of a check that found these breaks
 abbrev pub status_on : List Found → Status

@@ -28,8 +28,8 @@ pub data IsAmong (name : List ℕ) : List (List ℕ) → Type 0 where
 pub data MayStand (shelf : ShelfRun) : List (List ℕ) → List (List ℕ) → Type 0 where
   none : MayStand shelf [] []
   next : {name content : List ℕ} {names contents : List (List ℕ)} →
-    MayHold (shelf.held name) content → length content ≤ file_limit →
-    MayStand shelf names contents → MayStand shelf (name ∷ names) (content ∷ contents)
+      MayHold (shelf.held name) content → length content ≤ file_limit →
+      MayStand shelf names contents → MayStand shelf (name ∷ names) (content ∷ contents)
 
 -- a load of the name failed
 abbrev pub IsUnread : ShelfRun → List ℕ → Type 0
@@ -48,29 +48,29 @@ memory_line = codes "scj: memory\n"
 -- files may have, or for one of the three other causes
 pub data Comes (job : Option Job) (shelf : ShelfRun) : Status → List ℕ → List ℕ → Type 0 where
   answered : {contents : List (List ℕ)} {status : Status} {out err : List ℕ} →
-    MayStand shelf (files_of job) contents → Answer job contents status out err →
-    Comes job shelf status out err
+      MayStand shelf (files_of job) contents → Answer job contents status out err →
+      Comes job shelf status out err
   unread : {name : List ℕ} →
-    IsAmong name (files_of job) → IsUnread shelf name →
-    Comes job shelf ReadFault [] (read_line name)
+      IsAmong name (files_of job) → IsUnread shelf name →
+      Comes job shelf ReadFault [] (read_line name)
   overlong : {name : List ℕ} →
-    IsAmong name (files_of job) → MayExceed (shelf.held name) file_limit → file_limit < shelf.most name →
-    Comes job shelf TooLong [] (too_long_line name)
+      IsAmong name (files_of job) → MayExceed (shelf.held name) file_limit → file_limit < shelf.most name →
+      Comes job shelf TooLong [] (too_long_line name)
   out_of_memory :
-    Comes job shelf NoMemory [] memory_line
+      Comes job shelf NoMemory [] memory_line
 
 -- a call ends with a status that comes, and has put its texts whole; or a sink took no more than a front
 -- of the text that was put on it, and nothing was put after that
 pub data Ends (call : Call) : Status → Type 0 where
   whole : {status : Status} {out err : List ℕ} →
-    Comes call.job call.shelf status out err → PutWhole call.out out → PutWhole call.err err →
-    Ends call status
+      Comes call.job call.shelf status out err → PutWhole call.out out → PutWhole call.err err →
+      Ends call status
   fault_of_out : {status : Status} {out err : List ℕ} →
-    Comes call.job call.shelf status out err → PutFront call.out out → PutWhole call.err [] →
-    Ends call WriteFault
+      Comes call.job call.shelf status out err → PutFront call.out out → PutWhole call.err [] →
+      Ends call WriteFault
   fault_of_err : {status : Status} {out err : List ℕ} →
-    Comes call.job call.shelf status out err → PutWhole call.out out → PutFront call.err err →
-    Ends call WriteFault
+      Comes call.job call.shelf status out err → PutWhole call.out out → PutFront call.err err →
+      Ends call WriteFault
 
 -- no load of a file of the job failed, and no put
 pub record IsCalm (call : Call) : Type 0 where
@@ -82,14 +82,14 @@ pub record IsCalm (call : Call) : Type 0 where
 pub data AreTold (held : List ℕ → Held) : List (List ℕ) → List (List ℕ) → Type 0 where
   none : AreTold held [] []
   next : {name content : List ℕ} {names contents : List (List ℕ)} →
-    held name ≡ Told content → length content ≤ file_limit →
-    AreTold held names contents → AreTold held (name ∷ names) (content ∷ contents)
+      held name ≡ Told content → length content ≤ file_limit →
+      AreTold held names contents → AreTold held (name ∷ names) (content ∷ contents)
 
 -- the call ends with the answer on these contents
 pub data EndsBy (call : Call) (contents : List (List ℕ)) : Status → Type 0 where
   by_answer : {status : Status} {out err : List ℕ} →
-    Answer call.job contents status out err → PutWhole call.out out → PutWhole call.err err →
-    EndsBy call contents status
+      Answer call.job contents status out err → PutWhole call.out out → PutWhole call.err err →
+      EndsBy call contents status
   by_memory : PutWhole call.out [] → PutWhole call.err memory_line → EndsBy call contents NoMemory
 
 -- where the files are told and within the limit and nothing fails, the call ends with the answer

@@ -22,11 +22,11 @@ pub record IsAnswered (job : Option Job) (shelf : ShelfRun) (out : SinkRun) (sta
 -- nothing stands on `out` and the refusal is to be told on `err`; or the put of the answer failed
 pub data Stops (job : Option Job) (shelf : ShelfRun) (out : SinkRun) : Stop → Type 0 where
   told : {refusal : Refusal} →
-    Comes job shelf (status_of refusal) [] (line_of refusal) → PutWhole out [] →
-    Stops job shelf out (Told refusal)
+      Comes job shelf (status_of refusal) [] (line_of refusal) → PutWhole out [] →
+      Stops job shelf out (Told refusal)
   broken : {status : Status} {text : List ℕ} →
-    Comes job shelf status text [] → PutFront out text →
-    Stops job shelf out Broken
+      Comes job shelf status text [] → PutFront out text →
+      Stops job shelf out Broken
 
 -- the refusals of a judgement over these contents
 abbrev pub RefusesForm : List (List ℕ) → Refusal → Type 0

@@ -18,7 +18,13 @@ use std::alloc::Global;
 ///
 /// The answer is put on `out`, and what is refused is told on `err` by one line. Nothing is put after a
 /// put has failed.
-pub fn scj<H: Shelf, K: Sink, E: Sink>(alloc: Global, words: &[String], shelf: &mut H, out: &mut K, err: &mut E) -> Status
+pub fn scj<H: Shelf, K: Sink, E: Sink>(
+    alloc: Global,
+    words: &[String],
+    shelf: &mut H,
+    out: &mut K,
+    err: &mut E,
+) -> Status
     ensures goes { ShelfGoes (H.held shelf.old) (H.held shelf.new) (H.faults shelf.old) (H.faults shelf.new) (H.most shelf.old) (H.most shelf.new) }
     ensures ends { Ends (call_of (job_of (map string_bytes words.now))
         (shelf_run (H.held shelf.old) (H.faults shelf.old) (H.faults shelf.new) (H.most shelf.new))
@@ -41,7 +47,13 @@ pub fn scj<H: Shelf, K: Sink, E: Sink>(alloc: Global, words: &[String], shelf: &
 }
 
 // Tells what the answer leaves to be told.
-fn finish<H: Shelf, K: Sink, E: Sink>(alloc: Global, words: &[String], shelf: &mut H, out: &mut K, err: &mut E) -> Status
+fn finish<H: Shelf, K: Sink, E: Sink>(
+    alloc: Global,
+    words: &[String],
+    shelf: &mut H,
+    out: &mut K,
+    err: &mut E,
+) -> Status
     ensures goes { ShelfGoes (H.held shelf.old) (H.held shelf.new) (H.faults shelf.old) (H.faults shelf.new) (H.most shelf.old) (H.most shelf.new) }
     ensures ends { Ends (call_of (job_of (map string_bytes words.now))
         (shelf_run (H.held shelf.old) (H.faults shelf.old) (H.faults shelf.new) (H.most shelf.new))
@@ -56,7 +68,12 @@ fn finish<H: Shelf, K: Sink, E: Sink>(alloc: Global, words: &[String], shelf: &m
 }
 
 // The answer on `out`.
-fn answer<H: Shelf, K: Sink>(alloc: Global, words: &[String], shelf: &mut H, out: &mut K) -> Result<Status, Stop>
+fn answer<H: Shelf, K: Sink>(
+    alloc: Global,
+    words: &[String],
+    shelf: &mut H,
+    out: &mut K,
+) -> Result<Status, Stop>
     ensures goes { ShelfGoes (H.held shelf.old) (H.held shelf.new) (H.faults shelf.old) (H.faults shelf.new) (H.most shelf.old) (H.most shelf.new) }
     ensures ok { IfOk result (λ status. IsAnswered (job_of (map string_bytes words.now))
         (shelf_run (H.held shelf.old) (H.faults shelf.old) (H.faults shelf.new) (H.most shelf.new))

@@ -20,7 +20,12 @@ use scope_tree::check_definitions;
 use std::alloc::{AllocError, Global};
 
 /// Checks the one file that is named, and puts `accepted` or the report on `out`.
-pub fn check<H: Shelf, K: Sink>(alloc: Global, names: &[String], shelf: &mut H, out: &mut K) -> Result<Status, Stop>
+pub fn check<H: Shelf, K: Sink>(
+    alloc: Global,
+    names: &[String],
+    shelf: &mut H,
+    out: &mut K,
+) -> Result<Status, Stop>
     requires { length names.now ≡ 1 }
     ensures goes { ShelfGoes (H.held shelf.old) (H.held shelf.new) (H.faults shelf.old) (H.faults shelf.new) (H.most shelf.old) (H.most shelf.new) }
     ensures ok { IfOk result (λ status. IsAnswered (Some (Check (map string_bytes names.now)))
@@ -82,8 +87,14 @@ fn verdict_on(alloc: Global, names: &[String], found: &[Found]) -> Result<Verdic
 {
     if found.is_empty() {
         let text = String::from_str(alloc, "accepted\n")?;
-        return Ok(Verdict { status: Status::Done, text });
+        return Ok(Verdict {
+            status: Status::Done,
+            text,
+        });
     }
     let text = report(alloc, names, found)?;
-    Ok(Verdict { status: Status::Refused, text })
+    Ok(Verdict {
+        status: Status::Refused,
+        text,
+    })
 }

@@ -1,4 +1,3 @@
-use Rattle.scj_io.proofs.PutLaws.{PutWhole-nothing}
 use Rattle.scj_cli.proofs.CauseLaws.{Stops-no_job}
 use Rattle.scj_cli.proofs.calls.answer.Goals as goal
 

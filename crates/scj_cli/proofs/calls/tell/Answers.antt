@@ -1,5 +1,3 @@
-use Rattle.std.proofs.Common.{ℕ, List, subst, ◌∙◌}
-use Rattle.scj_io.specs.Puts.{sink_run, PutWhole, PutFront}
 use Rattle.scj_cli.specs.Modes.Tells.{whole, fault}
 use Rattle.scj_cli.proofs.calls.tell.Goals as goal
 

@@ -20,7 +20,7 @@ returns-in_err-put_all-clause-stop g c =
 
 pub returns-clause-ok : goal.returns-clause-ok
 returns-clause-ok g c = record {
-    text = _;
-    comes = Comes-answer _ _ _ _ _ _ c.only-name.ensures c.in_ok-bytes.ensures.ok (rw c.deref.ensures.value at c.in_ok-verdict.ensures.ok);
-    put = rw c.as_bytes.ensures.value at c.in_ok-put_all.ensures.ok;
-  }
+  text = _;
+  comes = Comes-answer _ _ _ _ _ _ c.only-name.ensures c.in_ok-bytes.ensures.ok (rw c.deref.ensures.value at c.in_ok-verdict.ensures.ok);
+  put = rw c.as_bytes.ensures.value at c.in_ok-put_all.ensures.ok;
+}
