@@ -19,3 +19,6 @@ pub use numbers::NodeId;
 pub use places::Pos;
 pub use statuses::Status;
 pub use words::Name;
+
+#[cfg(test)]
+mod tests;

@@ -1,8 +1,10 @@
 //! A shelf over the files of a runtime.
 
-ghost use Rattle.std.specs.Prelude.{◌≡◌, ◌≤◌, ◌+◌, ℕ, List, [], vec_len, OnOk};
+ghost use Rattle.std.specs.Prelude.{◌≡◌, ◌≤◌, ◌+◌, ℕ, List, [], vec_len, OnOk, IfOk, IfErr, IsErrOf};
 ghost use Rattle.std.specs.Io.KnownBytes.{Consumes, IsAtEnd};
-ghost use Rattle.scj_io.specs.Loads.Held.{Untold};
+ghost use Rattle.scj_io.specs.Counters.{one_more};
+ghost use Rattle.scj_io.specs.Loads.{ShelfGoes, shelf_run, LoadHolds, LoadRefuses};
+ghost use Rattle.scj_io.specs.FileShelves.{nothing_told, faults_of, most_of};
 ghost use Rattle.scj_io.specs.declared.file_shelves.Stop.TheVariants.{Memory};
 
 use crate::counters::raised;
@@ -40,13 +42,26 @@ impl<'r, R: Files> FileShelf<'r, R> {
 }
 
 impl<'r, R: Files> Shelf for FileShelf<'r, R> {
-    ghost held = { λ _ _. Untold };
+    ghost held = { λ _. nothing_told };
 
-    ghost faults = { λ shelf _. shelf.faults };
+    ghost faults = { faults_of };
 
-    ghost most = { λ shelf _. shelf.most };
+    ghost most = { most_of };
 
-    fn load(&mut self, alloc: Global, name: &str, limit: usize) -> Result<Vec<u8>, LoadAnswer> {
+    fn load(&mut self, alloc: Global, name: &str, limit: usize) -> Result<Vec<u8>, LoadAnswer>
+        ensures goes { ShelfGoes nothing_told nothing_told (faults_of self.old) (faults_of self.new)
+            (most_of self.old) (most_of self.new) }
+        ensures ok { IfOk result (λ bytes. LoadHolds
+            (shelf_run nothing_told (faults_of self.old) (faults_of self.new) (most_of self.new))
+            name.now limit bytes.items) }
+        ensures refusal { IfErr result (λ answer. LoadRefuses
+            (shelf_run nothing_told (faults_of self.old) (faults_of self.new) (most_of self.new))
+            name.now limit answer) }
+        ensures counted { (other : List ℕ) → IsErrOf result LoadAnswer.Failed →
+            faults_of self.new other ≡ one_more (faults_of self.old other) }
+        ensures calm { (other : List ℕ) → ¬ IsErrOf result LoadAnswer.Failed →
+            faults_of self.new other ≡ faults_of self.old other }
+    {
         let mut bytes = Vec::new(alloc);
         let ended = read_file(self.files, name, limit, &mut bytes);
         let taken = bytes.len() as u64;

@@ -1,6 +1,9 @@
 //! A sink over a writer of the standard library.
 
-ghost use Rattle.std.specs.Prelude.{◌≡◌, ◌<◌, ℕ, List, ◌++◌, length, None, OnOk, OnErr};
+ghost use Rattle.std.specs.Prelude.{◌≡◌, None, OnOk, OnErr, is_ok, if◌then◌else◌};
+ghost use Rattle.scj_io.specs.Counters.{one_more};
+ghost use Rattle.scj_io.specs.Puts.{sink_run, PutWhole, PutFront};
+ghost use Rattle.scj_io.specs.StdSinks.{AppendsFront, writer_of, faults_of};
 ghost use Rattle.std.specs.Io.KnownBytes.{Appends};
 
 use crate::counters::raised;
@@ -30,9 +33,15 @@ impl<W: Write> StdSink<W> {
 impl<W: Write> Sink for StdSink<W> {
     ghost taken = { λ _. None };
 
-    ghost faults = { λ sink. sink.faults };
+    ghost faults = { faults_of };
 
-    fn put(&mut self, bytes: &[u8]) -> Result<(), Failed> {
+    fn put(&mut self, bytes: &[u8]) -> Result<(), Failed>
+        ensures ok { OnOk result (PutWhole (sink_run None None (faults_of self.old) (faults_of self.new)) bytes.now) }
+        ensures failed { OnErr result (PutFront (sink_run None None (faults_of self.old) (faults_of self.new)) bytes.now) }
+        ensures wrote { OnOk result (Appends (W.contents (writer_of self.old)) (W.contents (writer_of self.new)) bytes.now) }
+        ensures broke_off { OnErr result (AppendsFront (W.contents (writer_of self.old)) (W.contents (writer_of self.new)) bytes.now) }
+        ensures counted { faults_of self.new ≡ (if is_ok result then faults_of self.old else one_more (faults_of self.old)) }
+    {
         match write_whole(&mut self.writer, bytes) {
             Ok(()) => Ok(()),
             Err(Failed) => {
@@ -46,7 +55,7 @@ impl<W: Write> Sink for StdSink<W> {
 // A write that takes no byte fails, so that each turn takes one.
 fn write_whole<W: Write>(writer: &mut W, bytes: &[u8]) -> Result<(), Failed>
     ensures ok { OnOk result (Appends (W.contents writer.old) (W.contents writer.new) bytes.now) }
-    ensures failed { OnErr result ((front : List ℕ) × (rest : List ℕ) × (bytes.now ≡ front ++ rest) × Appends (W.contents writer.old) (W.contents writer.new) front) }
+    ensures failed { OnErr result (AppendsFront (W.contents writer.old) (W.contents writer.new) bytes.now) }
 {
     let mut rest = bytes;
     while !rest.is_empty() {

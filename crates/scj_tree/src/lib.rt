@@ -8,3 +8,6 @@ pub mod programs;
 pub use lists::{NodeList, TextBytes};
 pub use nodes::Node;
 pub use programs::Program;
+
+#[cfg(test)]
+mod tests;

@@ -1,5 +1,7 @@
 //! The nodes of a tree: one variant for each production of the grammar that makes a node.
 
+ghost use Rattle.std.specs.Prelude.{◌≡◌};
+
 use crate::lists::{NodeList, TextBytes};
 use scj_base::{Name, NodeId, Pos};
 use std::mem::size_of;
@@ -282,6 +284,63 @@ pub enum Node {
     This {
         place: Pos,
     },
+}
+
+impl Node {
+    ghost use Rattle.scj_tree.specs.Shape.{place_of};
+
+    /// Where reports name the node.
+    #[tactic(auto, unfolding(crate::specs::Shape::place_of))]
+    pub fn place(&self) -> Pos
+        ensures { result ≡ place_of self.now }
+    {
+        match self {
+            Node::Class { place, .. } => *place,
+            Node::Flags { place, .. } => *place,
+            Node::DefineScope { place, .. } => *place,
+            Node::ScopeName { place, .. } => *place,
+            Node::Supers { place, .. } => *place,
+            Node::SuperType { place, .. } => *place,
+            Node::TypeArgument { place, .. } => *place,
+            Node::IntType { place, .. } => *place,
+            Node::BooleanType { place, .. } => *place,
+            Node::ClassType { place, .. } => *place,
+            Node::VoidType { place, .. } => *place,
+            Node::LongType { place, .. } => *place,
+            Node::Field { place, .. } => *place,
+            Node::Method { place, .. } => *place,
+            Node::Constructor { place, .. } => *place,
+            Node::Parameters { place, .. } => *place,
+            Node::Parameter { place, .. } => *place,
+            Node::SuperCall { place, .. } => *place,
+            Node::Block { place, .. } => *place,
+            Node::Empty { place, .. } => *place,
+            Node::Local { place, .. } => *place,
+            Node::LocalWithValue { place, .. } => *place,
+            Node::Assign { place, .. } => *place,
+            Node::ExpressionStatement { place, .. } => *place,
+            Node::If { place, .. } => *place,
+            Node::While { place, .. } => *place,
+            Node::For { place, .. } => *place,
+            Node::Return { place, .. } => *place,
+            Node::Binary { place, .. } => *place,
+            Node::Unary { place, .. } => *place,
+            Node::Cast { place, .. } => *place,
+            Node::Parenthesized { place, .. } => *place,
+            Node::SimpleName { place, .. } => *place,
+            Node::FieldAccess { place, .. } => *place,
+            Node::Call { place, .. } => *place,
+            Node::Element { place, .. } => *place,
+            Node::New { place, .. } => *place,
+            Node::NewArray { place, .. } => *place,
+            Node::Text { place, .. } => *place,
+            Node::Number { place, .. } => *place,
+            Node::True { place, .. } => *place,
+            Node::False { place, .. } => *place,
+            Node::Null { place, .. } => *place,
+            Node::This { place, .. } => *place,
+        }
+    }
 }
 
 const _: () = prove!(size_of::<Node>() <= 128);

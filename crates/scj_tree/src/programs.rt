@@ -1,6 +1,6 @@
 //! Programs: the trees of the sources of a call.
 
-ghost use Rattle.std.specs.Prelude.{◌≡◌, ◌<◌, ◌≤◌, [], ◌∷◌, ◌++◌, length, take, IfOk, OnOk, OnErr, slice_get, Some, option_copied, map};
+ghost use Rattle.std.specs.Prelude.{◌≡◌, ◌<◌, ◌≤◌, [], ◌∷◌, ◌++◌, length, take, IfOk, OnOk, OnErr, slice_get, Some, option_copied, option_map, map};
 ghost use Rattle.scj_tree.specs.Shape.{place_of};
 
 use crate::nodes::Node;
@@ -97,6 +97,14 @@ impl Program {
         ensures { slice_get self.now.nodes id ≡ Some result.now }
     {
         &self.nodes[id.place()]
+    }
+
+    /// Where reports name the node of a number.
+    pub fn place(&self, id: NodeId) -> Pos
+        requires { id < length self.now.nodes }
+        ensures { option_map place_of (slice_get self.now.nodes id) ≡ Some result }
+    {
+        self.node(id).place()
     }
 
     /// Ends a file with these classes.

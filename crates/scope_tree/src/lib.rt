@@ -1,6 +1,10 @@
 //! The checks on the tree of scopes.
 #![tactic(auto)]
 
-pub mod definitions;
+mod cycles;
+mod definitions;
+mod headers;
+mod names;
+mod reports;
 
 pub use definitions::check_definitions;

@@ -1,0 +1,4 @@
+public @interface DefineScope {
+    String name();
+    String parent();
+}

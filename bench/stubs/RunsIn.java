@@ -1,0 +1,3 @@
+public @interface RunsIn {
+    String value();
+}

@@ -1,0 +1,3 @@
+public @interface Scope {
+    String value();
+}
