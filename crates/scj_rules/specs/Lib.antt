@@ -1,5 +1,8 @@
 pub mod Breaks
 pub mod Chains
+pub mod ClassRules
+pub mod Classes
+pub mod Contexts
 pub mod Definitions
 pub mod Report
 pub mod Views
