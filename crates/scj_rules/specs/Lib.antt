@@ -4,6 +4,8 @@ pub mod ClassRules
 pub mod Classes
 pub mod Contexts
 pub mod Definitions
+pub mod LimitRules
 pub mod Report
+pub mod Types
 pub mod Views
 pub mod Words
