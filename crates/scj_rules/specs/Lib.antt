@@ -6,6 +6,7 @@ pub mod Contexts
 pub mod Definitions
 pub mod LimitRules
 pub mod Report
+pub mod TypeRules
 pub mod Types
 pub mod Views
 pub mod Words
