@@ -1,3 +1,4 @@
+pub mod Bindings
 pub mod Breaks
 pub mod Chains
 pub mod ClassRules
