@@ -7,6 +7,8 @@ pub mod Contexts
 pub mod Definitions
 pub mod LimitRules
 pub mod Report
+pub mod ScopeRules
+pub mod StaticScopes
 pub mod TypeRules
 pub mod Types
 pub mod Views
