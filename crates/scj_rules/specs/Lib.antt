@@ -1,3 +1,4 @@
+pub mod AnnotationRules
 pub mod Bindings
 pub mod Breaks
 pub mod Chains
@@ -11,5 +12,6 @@ pub mod ScopeRules
 pub mod StaticScopes
 pub mod TypeRules
 pub mod Types
+pub mod UseRules
 pub mod Views
 pub mod Words

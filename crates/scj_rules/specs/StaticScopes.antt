@@ -15,7 +15,7 @@ use Rattle.scj_rules.specs.Views.{WrittenType, int_type, boolean_type, void_type
 use Rattle.scj_rules.specs.Classes.{ClassRow, FoundField, FoundMethod, is_user_class, class_number, superclasses, all_interfaces, superclass_in, framework_row_named}
 use Rattle.scj_rules.specs.ClassRules.{class_written, inherits_as, numbers_from}
 use Rattle.scj_rules.specs.Contexts.{Program, Context, context}
-use Rattle.scj_rules.specs.ScopeRules.{immortal_scope, scope_number, defined_by_chain, is_outer, user_class_in}
+use Rattle.scj_rules.specs.ScopeRules.{immortal_scope, scope_number, defined_by_chain, is_outer, scope_written_in}
 
 unfoldable pub are_same_scope : Scope → Scope → Bool
 are_same_scope Any Any = true
@@ -77,14 +77,11 @@ scope_of_right_class p (Some w) above implied = elim (scope_number p w.name) [ N
 scope_of_right_class p None unannotated implied = if implied then annotated immortal_scope else unannotated
 scope_of_right_class p None above implied = above
 
-abbrev pub scope_written : Program → ℕ → Option Written
-scope_written p class = option_and_then (λ (c : WrittenClass). c.modifiers.scope) (user_class_in p.classes class)
-
 -- the scope of a class, from that of its superclass
 unfoldable pub class_scope_under : Program → ClassScope → ℕ → ClassScope
 class_scope_under p above class =
-    if has_unknown_scope p (scope_written p class) || differs_from_above p (scope_written p class) above (is_implied_immortal p class) then unknown
-    else scope_of_right_class p (scope_written p class) above (is_implied_immortal p class)
+    if has_unknown_scope p (scope_written_in p class) || differs_from_above p (scope_written_in p class) above (is_implied_immortal p class) then unknown
+    else scope_of_right_class p (scope_written_in p class) above (is_implied_immortal p class)
 
 -- the scope of the first class of a chain
 unfoldable pub class_scope_on : Program → List ℕ → ClassScope
