@@ -7,6 +7,7 @@ pub mod Classes
 pub mod Contexts
 pub mod Definitions
 pub mod LimitRules
+pub mod Phases
 pub mod Report
 pub mod ScopeRules
 pub mod StaticScopes
