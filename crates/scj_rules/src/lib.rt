@@ -3,5 +3,7 @@
 
 pub mod laws;
 pub mod scopes;
+pub mod typing;
 
 pub use scopes::{Definition, Written};
+pub use typing::{Binding, Scope, Target, Ty};

@@ -1,3 +1,4 @@
 pub mod Counts
 pub mod Forest
 pub mod Shape
+pub mod Recursion
