@@ -1,4 +1,11 @@
 pub mod Counts
+pub mod Expressions
 pub mod Forest
-pub mod Shape
+pub mod Grammar
+pub mod Headers
+pub mod Heights
+pub mod Lexemes
 pub mod Recursion
+pub mod Shape
+pub mod Statements
+pub mod Terminals
