@@ -1,3 +1,4 @@
+pub mod AcceptedLemmas
 pub mod Computing
 pub mod ReportLemmas
 pub mod RowOfUse

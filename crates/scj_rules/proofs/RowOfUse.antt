@@ -7,8 +7,9 @@ use Rattle.scj_tree.specs.declared.nodes.Node.{Node}
 use Rattle.scj_tree.specs.declared.nodes.Node.TheVariants.{Assign, Binary, Block, Call, Class, ClassType, Constructor, DefineScope, ExpressionStatement, Field, FieldAccess, Flags, If, IntType, LocalWithValue, LongType, Method, New, Null, Number, Parameter, Parameters, Return, ScopeName, SimpleName, SuperCall, SuperType, Supers, Text, VoidType}
 use Rattle.scj_tree.specs.Forest.{Forest}
 use Rattle.scj_rules.specs.Contexts.{program_of}
-use Rattle.scj_rules.specs.Phases.{class_phase, type_phase, scope_phase, use_phase}
+use Rattle.scj_rules.specs.Phases.{class_phase, type_phase, scope_phase, use_phase, IsAccepted}
 use Rattle.scj_rules.proofs.Computing.{computing}
+use Rattle.scj_rules.proofs.AcceptedLemmas.{are_fresh, have_parents, accepted}
 
 abbrev at : ℕ → ℕ → ℕ → Pos
 at file line col = record { file = file; line = line; col = col }
@@ -16,7 +17,7 @@ at file line col = record { file = file; line = line; col = col }
 abbrev found : Rule → Pos → Found
 found rule place = record { pos = place; rule = rule }
 
-abbrev controller : Forest
+abbrev pub controller : Forest
 controller =
     record {
       nodes =
@@ -295,3 +296,7 @@ controller_scope = refl
 controller_use : use_phase (program_of controller) ≡ []
 unfolding computing
 controller_use = refl
+
+pub controller_accepted : IsAccepted controller
+unfolding computing are_fresh have_parents
+controller_accepted = accepted controller controller_class controller_type controller_scope controller_use refl refl

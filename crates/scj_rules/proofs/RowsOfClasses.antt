@@ -8,8 +8,9 @@ use Rattle.scj_tree.specs.declared.nodes.Node.{Node}
 use Rattle.scj_tree.specs.declared.nodes.Node.TheVariants.{Binary, Block, BooleanType, Call, Class, ClassType, DefineScope, ExpressionStatement, Flags, IntType, LocalWithValue, LongType, Method, Null, Number, Return, ScopeName, SimpleName, SuperType, Supers, Text, True, Unary, VoidType}
 use Rattle.scj_tree.specs.Forest.{Forest}
 use Rattle.scj_rules.specs.Contexts.{program_of}
-use Rattle.scj_rules.specs.Phases.{class_phase, type_phase, scope_phase, use_phase}
+use Rattle.scj_rules.specs.Phases.{class_phase, type_phase, scope_phase, use_phase, IsAccepted}
 use Rattle.scj_rules.proofs.Computing.{computing}
+use Rattle.scj_rules.proofs.AcceptedLemmas.{are_fresh, have_parents, accepted}
 
 abbrev at : ℕ → ℕ → ℕ → Pos
 at file line col = record { file = file; line = line; col = col }
@@ -17,7 +18,7 @@ at file line col = record { file = file; line = line; col = col }
 abbrev found : Rule → Pos → Found
 found rule place = record { pos = place; rule = rule }
 
-abbrev nothing_written : Forest
+abbrev pub nothing_written : Forest
 nothing_written =
     record {
       nodes =
@@ -29,7 +30,7 @@ no_safelet : class_phase (program_of nothing_written) ≡ found C8 (at 0 1 1) �
 unfolding computing
 no_safelet = refl
 
-abbrev one_safelet : Forest
+abbrev pub one_safelet : Forest
 one_safelet =
     record {
       nodes =
@@ -95,7 +96,7 @@ safelet_use : use_phase (program_of one_safelet) ≡ []
 unfolding computing
 safelet_use = refl
 
-abbrev unknown_super : Forest
+abbrev pub unknown_super : Forest
 unknown_super =
     record {
       nodes =
@@ -157,7 +158,7 @@ unknown_super_broken : class_phase (program_of unknown_super) ≡ found C2 (at 1
 unfolding computing
 unknown_super_broken = refl
 
-abbrev three_breaks : Forest
+abbrev pub three_breaks : Forest
 three_breaks =
     record {
       nodes =
@@ -233,3 +234,7 @@ three_classes_right = refl
 three_broken : type_phase (program_of three_breaks) ≡ found T1 (at 1 1 28) ∷ found T9 (at 1 1 47) ∷ found T10 (at 1 1 63) ∷ []
 unfolding computing
 three_broken = refl
+
+pub safelet_accepted : IsAccepted one_safelet
+unfolding computing are_fresh have_parents
+safelet_accepted = accepted one_safelet safelet_class safelet_type safelet_scope safelet_use refl refl

@@ -8,8 +8,9 @@ use Rattle.scj_tree.specs.declared.nodes.Node.{Node}
 use Rattle.scj_tree.specs.declared.nodes.Node.TheVariants.{Assign, Binary, Block, Call, Class, ClassType, Constructor, DefineScope, ExpressionStatement, Field, FieldAccess, Flags, IntType, LocalWithValue, LongType, Method, New, Null, Number, Return, ScopeName, SimpleName, SuperType, Supers, Text, This, Unary, VoidType}
 use Rattle.scj_tree.specs.Forest.{Forest}
 use Rattle.scj_rules.specs.Contexts.{program_of}
-use Rattle.scj_rules.specs.Phases.{class_phase, type_phase, scope_phase, use_phase}
+use Rattle.scj_rules.specs.Phases.{class_phase, type_phase, scope_phase, use_phase, IsAccepted}
 use Rattle.scj_rules.proofs.Computing.{computing}
+use Rattle.scj_rules.proofs.AcceptedLemmas.{are_fresh, have_parents, accepted}
 
 abbrev at : ℕ → ℕ → ℕ → Pos
 at file line col = record { file = file; line = line; col = col }
@@ -17,7 +18,7 @@ at file line col = record { file = file; line = line; col = col }
 abbrev found : Rule → Pos → Found
 found rule place = record { pos = place; rule = rule }
 
-abbrev own_field : Forest
+abbrev pub own_field : Forest
 own_field =
     record {
       nodes =
@@ -100,7 +101,7 @@ own_field_broken : use_phase (program_of own_field) ≡ found E5 (at 1 5 21) ∷
 unfolding computing
 own_field_broken = refl
 
-abbrev own_field_in_constructor : Forest
+abbrev pub own_field_in_constructor : Forest
 own_field_in_constructor =
     record {
       nodes =
@@ -176,7 +177,7 @@ in_constructor_use : use_phase (program_of own_field_in_constructor) ≡ []
 unfolding computing
 in_constructor_use = refl
 
-abbrev other_runs_in : Forest
+abbrev pub other_runs_in : Forest
 other_runs_in =
     record {
       nodes =
@@ -261,7 +262,7 @@ other_runs_in_broken : use_phase (program_of other_runs_in) ≡ found A6 (at 1 3
 unfolding computing
 other_runs_in_broken = refl
 
-abbrev same_runs_in : Forest
+abbrev pub same_runs_in : Forest
 same_runs_in =
     record {
       nodes =
@@ -348,7 +349,7 @@ same_runs_in_use : use_phase (program_of same_runs_in) ≡ []
 unfolding computing
 same_runs_in_use = refl
 
-abbrev defined_twice : Forest
+abbrev pub defined_twice : Forest
 defined_twice =
     record {
       nodes =
@@ -424,7 +425,7 @@ defined_twice_scope : scope_phase (program_of defined_twice) ≡ []
 unfolding computing
 defined_twice_scope = refl
 
-abbrev scope_cycle : Forest
+abbrev pub scope_cycle : Forest
 scope_cycle =
     record {
       nodes =
@@ -506,3 +507,11 @@ scope_cycle_type = refl
 scope_cycle_scope : scope_phase (program_of scope_cycle) ≡ []
 unfolding computing
 scope_cycle_scope = refl
+
+pub in_constructor_accepted : IsAccepted own_field_in_constructor
+unfolding computing are_fresh have_parents
+in_constructor_accepted = accepted own_field_in_constructor in_constructor_class in_constructor_type in_constructor_scope in_constructor_use refl refl
+
+pub same_runs_in_accepted : IsAccepted same_runs_in
+unfolding computing are_fresh have_parents
+same_runs_in_accepted = accepted same_runs_in same_runs_in_class same_runs_in_type same_runs_in_scope same_runs_in_use refl refl
