@@ -1,5 +1,6 @@
 pub mod AcceptedLemmas
 pub mod Computing
+pub mod ForestTests
 pub mod ReportLemmas
 pub mod RowOfUse
 pub mod RowsOfClasses

@@ -5,7 +5,10 @@ use Rattle.scj_base.specs.declared.findings.Rule.{Rule}
 use Rattle.scj_base.specs.declared.places.Pos.{Pos}
 use Rattle.scj_tree.specs.declared.nodes.Node.{Node}
 use Rattle.scj_tree.specs.declared.nodes.Node.TheVariants.{Assign, Binary, Block, Call, Class, ClassType, Constructor, DefineScope, ExpressionStatement, Field, FieldAccess, Flags, If, IntType, LocalWithValue, LongType, Method, New, Null, Number, Parameter, Parameters, Return, ScopeName, SimpleName, SuperCall, SuperType, Supers, Text, VoidType}
-use Rattle.scj_tree.specs.Forest.{Forest}
+use Rattle.std.proofs.Common.{arith}
+use Rattle.scj_tree.specs.Counts.{times}
+use Rattle.scj_tree.specs.Forest.{Forest, IsForest, is_class, all_children, AllClasses}
+use Rattle.scj_rules.proofs.ForestTests.{children_first, all_below, are_distinct, forest_passes}
 use Rattle.scj_rules.specs.Contexts.{program_of}
 use Rattle.scj_rules.specs.Phases.{class_phase, type_phase, scope_phase, use_phase, IsAccepted}
 use Rattle.scj_rules.proofs.Computing.{computing}
@@ -300,3 +303,7 @@ controller_use = refl
 pub controller_accepted : IsAccepted controller
 unfolding computing are_fresh have_parents
 controller_accepted = accepted controller controller_class controller_type controller_scope controller_use refl refl
+
+pub controller_is_forest : IsForest controller
+unfolding computing times all_children children_first all_below are_distinct AllClasses
+controller_is_forest = forest_passes controller refl refl ((Class (at 0 1 7) (codes "App") None (Some 1) (6 ∷ 11 ∷ 14 ∷ []), refl, is_class), ((Class (at 0 6 7) (codes "Seq") None (Some 17) (19 ∷ 26 ∷ 42 ∷ []), refl, is_class), ((Class (at 1 2 7) (codes "Main") (Some 47) (Some 49) (54 ∷ 89 ∷ []), refl, is_class), ((Class (at 1 15 19) (codes "Tank") (Some 92) None (94 ∷ 105 ∷ 112 ∷ []), refl, is_class), ((Class (at 1 20 7) (codes "Box") None None (115 ∷ 123 ∷ []), refl, is_class), ((Class (at 1 21 55) (codes "Alarm") (Some 129) (Some 131) (133 ∷ 147 ∷ 156 ∷ []), refl, is_class), ((Class (at 1 26 55) (codes "Sensor") (Some 162) (Some 164) (166 ∷ 168 ∷ 193 ∷ 215 ∷ []), refl, is_class), ((Class (at 1 35 55) (codes "Pump") (Some 221) (Some 223) (225 ∷ 245 ∷ 254 ∷ []), refl, is_class), tt)))))))) (omega arith) (omega arith)
