@@ -2,6 +2,7 @@ pub mod AcceptedLemmas
 pub mod Computing
 pub mod ForestTests
 pub mod ReportLemmas
+pub mod ReportsLemmas
 pub mod RowOfUse
 pub mod RowsOfClasses
 pub mod RowsOfScopes
