@@ -1,16 +1,14 @@
 -- A program is accepted where its phases compute to empty lists and its scopes are defined once, each behind its parent.
-use Rattle.std.proofs.Common.{◌≡◌, ℕ, ◌+◌, ◌<◌, zero, suc, List, [], ◌∷◌, length, map, refl, sym, ap, ◌∙◌, subst, arith, slice_get, Option, Some, None, Bool, true, false, not, ◌&&◌, ◌||◌, true≢false, ◌⊎◌, inl, inr, ⊎_elim, IsTrue, nat_lt, is_some, option_and_then}
+use Rattle.std.proofs.Common.{◌≡◌, ℕ, ◌+◌, ◌<◌, zero, suc, List, [], ◌∷◌, refl, sym, ap, ◌∙◌, subst, arith, slice_get, Option, Some, None, Bool, true, false, not, ◌&&◌, ◌||◌, true≢false, ◌⊎◌, inl, inr, ⊎_elim, nat_lt, is_some, option_and_then}
 use Rattle.std.proofs.lemmas.Bool.Decides.{nat_tests}
-use Rattle.std.specs.List.{list_any, list_all, Contains}
+use Rattle.std.specs.List.{list_any}
 use Rattle.std.specs.Cmp.Lexicographic.{bytes_decides}
 use Rattle.scj_base.specs.declared.findings.Found.{Found}
-use Rattle.scj_base.specs.declared.findings.Rule.{Rule}
-use Rattle.scj_base.specs.declared.places.Pos.{Pos}
 use Rattle.scj_tree.specs.Forest.{Forest}
 use Rattle.scj_rules.specs.declared.scopes.Definition.{Definition}
-use Rattle.scj_rules.specs.Breaks.{Breaks, BreaksTwice, BreaksUnknownParent, BreaksCycle, IsDefinedBefore, twice, unknown_parent, cycle}
-use Rattle.scj_rules.specs.Chains.{Follows, ComesBack, one, more}
-use Rattle.scj_rules.specs.Contexts.{program_of}
+use Rattle.scj_rules.specs.Breaks.{Breaks, IsDefinedBefore, twice, unknown_parent, cycle}
+use Rattle.scj_rules.specs.Chains.{Follows, one, more}
+use Rattle.scj_rules.specs.Contexts.{declarations_of}
 use Rattle.scj_rules.specs.Definitions.{definitions, immortal, is_reserved, scope_named, parent_of, is_same}
 use Rattle.scj_rules.specs.Phases.{IsFound, NothingBreaks, IsAccepted, class_phase, type_phase, scope_phase, use_phase}
 use Rattle.scj_rules.specs.Words.{holds}
@@ -54,6 +52,7 @@ any_at test (y ∷ xs) zero x h k = or_first (test y) (list_any test xs) (subst 
   where
     some_is : {X : Type 0} {a b : X} → Some a ≡ Some b → a ≡ b
     some_is e = cc
+
     or_first : (a b : Bool) → a ≡ true → (a || b) ≡ true
     or_first true b h = refl
     or_first false b h = absurd (true≢false (sym h))
@@ -140,7 +139,7 @@ pub scopes_right : (forest : Forest) → are_fresh (definitions forest) ≡ true
 scopes_right forest f h rule place (twice b) =
     ⊎_elim (λ (r : is_reserved b.definition.scope.name ≡ true). fresh_at (definitions forest) b.number b.definition f b.stands_there r)
     (λ (d : IsDefinedBefore (definitions forest) b.number b.definition.scope.name).
-        new_at (definitions forest) d.earlier b.number b.definition d.definition f d.is_before d.stands_there b.stands_there d.has_name)
+    new_at (definitions forest) d.earlier b.number b.definition d.definition f d.is_before d.stands_there b.stands_there d.has_name)
     b.is_taken
 scopes_right forest f h rule place (unknown_parent b) =
     ⊎_elim (λ (e : is_same b.definition.parent.name immortal ≡ true). b.is_not_root ((bytes_decides b.definition.parent.name immortal).0 e))
@@ -151,12 +150,12 @@ scopes_right forest f h rule place (cycle b) =
     omega (arith, l)
 
 -- all tests together
-pub accepted : (forest : Forest) → class_phase (program_of forest) ≡ [] → type_phase (program_of forest) ≡ [] → scope_phase (program_of forest) ≡ [] → use_phase (program_of forest) ≡ []
+pub accepted : (forest : Forest) → class_phase (declarations_of forest) ≡ [] → type_phase (declarations_of forest) ≡ [] → scope_phase (declarations_of forest) ≡ [] → use_phase (declarations_of forest) ≡ []
     → are_fresh (definitions forest) ≡ true → have_parents (definitions forest) 0 (definitions forest) ≡ true → IsAccepted forest
 accepted forest c t s u f h =
     record {
-      classes = nothing_in (class_phase (program_of forest)) c;
-      types = nothing_in (type_phase (program_of forest)) t;
-      scopes = λ rule place. ⊎_elim (scopes_right forest f h rule place) (nothing_in (scope_phase (program_of forest)) s rule place);
-      uses = nothing_in (use_phase (program_of forest)) u;
+      classes = nothing_in (class_phase (declarations_of forest)) c;
+      types = nothing_in (type_phase (declarations_of forest)) t;
+      scopes = λ rule place. ⊎_elim (scopes_right forest f h rule place) (nothing_in (scope_phase (declarations_of forest)) s rule place);
+      uses = nothing_in (use_phase (declarations_of forest)) u;
     }

@@ -1,12 +1,10 @@
 -- A list of nodes is a forest where these tests pass.
-use Rattle.std.proofs.Common.{◌≡◌, ℕ, ◌+◌, ◌<◌, ◌≤◌, ◌^◌, zero, suc, List, [], ◌∷◌, ◌++◌, length, refl, sym, ap, ◌∙◌, subst, arith, slice_get, Option, Some, None, Bool, true, false, not, ◌&&◌, ◌||◌, true≢false, nat_lt, ◌==◌, if◌then◌else◌}
+use Rattle.std.proofs.Common.{◌≡◌, ℕ, ◌+◌, ◌<◌, ◌≤◌, ◌^◌, List, [], ◌∷◌, length, refl, sym, ap, ◌∙◌, arith, Bool, true, false, not, ◌&&◌, ◌||◌, true≢false, nat_lt, ◌==◌}
 use Rattle.std.proofs.lemmas.Bool.Decides.{nat_tests}
-use Rattle.std.specs.List.{list_any}
 use Rattle.scj_tree.specs.declared.nodes.Node.{Node}
-use Rattle.scj_tree.specs.declared.nodes.Node.TheVariants.{Class}
 use Rattle.scj_tree.specs.Counts.{times}
 use Rattle.scj_tree.specs.Shape.{children}
-use Rattle.scj_tree.specs.Forest.{Forest, IsForest, IsClass, is_class, AllBelow, AllClasses, ChildrenFirst, joined, placed}
+use Rattle.scj_tree.specs.Forest.{Forest, IsForest, AllBelow, AllClasses, ChildrenFirst, joined, placed}
 use Rattle.scj_rules.specs.Words.{is_among}
 
 unfoldable pub all_below : ℕ → List ℕ → Bool

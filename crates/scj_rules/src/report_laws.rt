@@ -5,7 +5,7 @@ ghost use Rattle.std.specs.Prelude.{◌≡◌, ◌<◌, ℕ, List, Option, None,
 ghost use Rattle.scj_base.specs.declared.findings.Found.{Found as Finding};
 ghost use Rattle.scj_tree.specs.Forest.{Forest, IsForest};
 ghost use Rattle.scj_tree.specs.Recursion.{told, below, above};
-ghost use Rattle.scj_rules.specs.Contexts.{Program, outermost, contexts_in, context_of};
+ghost use Rattle.scj_rules.specs.Contexts.{Declarations, outermost, contexts_in, context_of};
 ghost use Rattle.scj_tree.specs.Forest.{joined};
 ghost use Rattle.scj_rules.specs.TypeRules.{Types, types_in, type_of_next};
 ghost use Rattle.scj_rules.specs.UseRules.{scopes_in, scope_of_next};
@@ -23,12 +23,12 @@ pub fn one_report_of_a_program()
 
 /// The type of a node is told by those of the nodes before it.
 pub fn types_come_from_below()
-    ensures { (p : Program) (id : ℕ) → id < length p.nodes → told None (types_in p) id ≡ type_of_next p id (below None id (told None (types_in p))) }
+    ensures { (p : Declarations) (id : ℕ) → id < length p.nodes → told None (types_in p) id ≡ type_of_next p id (below None id (told None (types_in p))) }
 {}
 
 /// The static scope of a node is told by those of the nodes before it.
 pub fn scopes_come_from_below()
-    ensures { (p : Program) (types : Types) (id : ℕ) → id < length p.nodes → told None (scopes_in p types) id ≡ scope_of_next p types id (below None id (told None (scopes_in p types))) }
+    ensures { (p : Declarations) (types : Types) (id : ℕ) → id < length p.nodes → told None (scopes_in p types) id ≡ scope_of_next p types id (below None id (told None (scopes_in p types))) }
 {}
 
 /// The context of a node is told by those of the nodes behind it.
