@@ -1,4 +1,0 @@
-mod Lexing
-mod Printing
-mod Unfolding
-mod WorkedRows

@@ -1,4 +1,0 @@
-pub mod Parts
-pub mod Symbols
-pub mod Works
-pub mod Placed
