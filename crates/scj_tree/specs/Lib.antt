@@ -1,3 +1,9 @@
 pub mod Counts
+pub mod Expressions
 pub mod Forest
+pub mod Grammar
+pub mod Headers
+pub mod Lexemes
 pub mod Shape
+pub mod Statements
+pub mod Terminals

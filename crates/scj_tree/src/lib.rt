@@ -4,10 +4,12 @@
 pub mod lists;
 pub mod nodes;
 pub mod programs;
+pub mod readings;
 
 pub use lists::{NodeList, TextBytes};
 pub use nodes::Node;
 pub use programs::Program;
+pub use readings::{FlagSet, PostKind};
 
 #[cfg(test)]
 mod tests;
