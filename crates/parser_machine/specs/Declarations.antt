@@ -116,10 +116,10 @@ define_scope_named p is_local flags N s = elim flags.define_scope [ None ↦ Som
 
 unfoldable pub annotation_named : Pos → List ℕ → Bool → FlagSet → List Node → List Entry → Option State
 annotation_named p w is_local flags N s =
+    if is_effectless w then Some (at PlainOpen (AnnotationOpen is_local flags ∷ s) N) else
     if same w (codes "Scope") then scope_named is_local flags N s else
     if same w (codes "RunsIn") then runs_in_named is_local flags N s else
     if same w (codes "DefineScope") then define_scope_named p is_local flags N s else
-    if is_effectless w then Some (at PlainOpen (AnnotationOpen is_local flags ∷ s) N) else
     None
 
 unfoldable pub at_step : Pos → List Node → List Entry → Lexeme → Option State

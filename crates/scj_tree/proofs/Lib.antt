@@ -1,1 +1,2 @@
 pub mod ForestLemmas
+pub mod Smaller

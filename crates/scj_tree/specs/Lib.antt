@@ -3,6 +3,7 @@ pub mod Expressions
 pub mod Forest
 pub mod Grammar
 pub mod Headers
+pub mod Heights
 pub mod Lexemes
 pub mod Shape
 pub mod Statements

@@ -1,0 +1,84 @@
+-- How deep the statements and expressions of a body nest, and which body is too deep.
+use Rattle.std.specs.Prelude.{◌≡◌, ℕ, zero, suc, ◌+◌, ◌<◌, max, Bool, true, false, List, [], ◌∷◌, length, drop, Option, Some, None, slice_get, nat_lt, if◌then◌else◌}
+use Rattle.scj_base.specs.declared.places.Pos.{Pos}
+use Rattle.scj_tree.specs.declared.nodes.Node.{Node}
+use Rattle.scj_tree.specs.declared.nodes.Node.TheVariants.{Class, Flags, DefineScope, ScopeName, Supers, SuperType, TypeArgument, IntType, BooleanType, ClassType, VoidType, LongType, Field, Method, Constructor, Parameters, Parameter, SuperCall, Block, Empty, Local, LocalWithValue, Assign, ExpressionStatement, If, While, For, Return, Binary, Unary, Cast, Parenthesized, SimpleName, FieldAccess, Call, Element, New, NewArray, Text, Number, True, False, Null, This}
+use Rattle.scj_tree.specs.Shape.{place_of, children}
+
+-- ---- recursion on numbers by all that are smaller
+
+-- what is known of the numbers below n
+unfoldable pub below : {A : Type 0} → A → ℕ → (ℕ → A) → ℕ → A
+below d n g c = if nat_lt c n then g c else d
+
+unfoldable pub by_fuel : {A : Type 0} → A → (ℕ → (ℕ → A) → A) → ℕ → ℕ → A
+by_fuel d step zero n = d
+by_fuel d step (suc k) n = step n (below d n (by_fuel d step k))
+
+-- a step at n that knows its value at all smaller numbers
+unfoldable pub by_smaller : {A : Type 0} → A → (ℕ → (ℕ → A) → A) → ℕ → A
+by_smaller d step n = by_fuel d step (suc n) n
+
+-- ---- heights
+
+-- statements and expressions count, a text does not; nor do flags, types and the call of a superclass's constructor
+unfoldable pub weight : Node → ℕ
+weight (Block place statements) = 1
+weight (Empty place) = 1
+weight (Local place name flags declared_type) = 1
+weight (LocalWithValue place name_place name flags declared_type value) = 1
+weight (Assign place target value) = 1
+weight (ExpressionStatement place expression) = 1
+weight (If place condition then_part else_part) = 1
+weight (While place condition body) = 1
+weight (For place first condition step body) = 1
+weight (Return place value) = 1
+weight (Binary place operator left right) = 1
+weight (Unary place operator operand) = 1
+weight (Cast place name_place name operand) = 1
+weight (Parenthesized place inner) = 1
+weight (SimpleName place name) = 1
+weight (FieldAccess place name object) = 1
+weight (Call place name object arguments) = 1
+weight (Element place array index) = 1
+weight (New place name_place name arguments) = 1
+weight (NewArray place element length) = 1
+weight (Number place value is_negative) = 1
+weight (True place) = 1
+weight (False place) = 1
+weight (Null place) = 1
+weight (This place) = 1
+weight _ = 0
+
+-- the greatest of what a list of nodes gives
+unfoldable pub highest : (ℕ → ℕ) → List ℕ → ℕ
+highest g [] = 0
+highest g (x ∷ xs) = max (g x) (highest g xs)
+
+-- of a node, from what its children give
+unfoldable pub node_height : Option Node → (ℕ → ℕ) → ℕ
+node_height None sub = 0
+node_height (Some node) sub = weight node + highest sub (children node)
+
+-- how many counted nodes stand one under the other, from a node down
+unfoldable pub height : List Node → ℕ → ℕ
+height nodes = by_smaller 0 (λ n sub. node_height (slice_get nodes n) sub)
+
+-- of a body; the arguments of a superclass's constructor stand directly under its block
+unfoldable pub super_height : List Node → Option ℕ → ℕ
+super_height nodes None = 0
+super_height nodes (Some id) = 1 + height nodes id
+
+unfoldable pub body_height : List Node → Node → ℕ
+body_height nodes (Method place name flags result_type parameters (Some body)) = height nodes body
+body_height nodes (Constructor place name flags parameters super_call body) = max (height nodes body) (super_height nodes super_call)
+body_height nodes _ = 0
+
+-- the name of the first method or constructor among some of the nodes whose body is higher than 64
+unfoldable pub first_too_deep : List Node → List Node → Option Pos
+first_too_deep nodes [] = None
+first_too_deep nodes (node ∷ more) = if nat_lt 64 (body_height nodes node) then Some (place_of node) else first_too_deep nodes more
+
+-- in a file that was read from the first n nodes on
+unfoldable pub too_deep : ℕ → List Node → Option Pos
+too_deep n nodes = first_too_deep nodes (drop n nodes)
