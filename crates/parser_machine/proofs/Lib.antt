@@ -1,2 +1,4 @@
+pub mod Begins
+pub mod ExpressionsRun
 pub mod HeadersRun
 pub mod Tools
