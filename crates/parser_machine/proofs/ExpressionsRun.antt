@@ -180,7 +180,7 @@ shift_run l N (e ∷ s) op p i h = holds _ _ _ i h
 no_less : (n : ℕ) → nat_lt n 0 ≡ false
 no_less n = le-ltb n 0 (omega arith)
 
-below_level : (n m : ℕ) → nat_le m n ≡ true → nat_lt n m ≡ false
+pub below_level : (n m : ℕ) → nat_le m n ≡ true → nat_lt n m ≡ false
 below_level n m h = le-ltb _ _ (leb-true _ _ h)
 
 reduce_run : (r : ℕ) (N : List Node) (s : List Entry) (l op : ℕ) (p : Pos) (o : List Lexeme) → ends (level op) o ≡ true → next (closed r N (BinaryLeft p op l ∷ s)) o ≡ next (closed (length N) (put N (Binary p op l r)) s) o
