@@ -9,3 +9,6 @@ pub mod sources;
 pub use forms::is_header_form;
 pub use readings::{Reading, read};
 pub use sources::Sources;
+
+#[cfg(test)]
+mod tests;
