@@ -1,7 +1,0 @@
-//! The canonical source of a file of a program.
-#![tactic(auto)]
-
-pub mod parts;
-pub mod shows;
-
-pub use shows::show;
