@@ -1,0 +1,12 @@
+//! The canonical source of a file of a program.
+#![tactic(auto)]
+
+pub mod nodes;
+pub mod parts;
+pub mod shows;
+pub mod symbols;
+
+pub use shows::show;
+
+#[cfg(test)]
+mod tests;
