@@ -1,3 +1,4 @@
+mod Lexing
 mod Printing
 mod Unfolding
 mod WorkedRows

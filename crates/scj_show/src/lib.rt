@@ -1,6 +1,7 @@
 //! The canonical source of a file of a program.
 #![tactic(auto)]
 
+pub mod laws;
 pub mod nodes;
 pub mod parts;
 pub mod shows;
