@@ -2,4 +2,5 @@ pub mod Growth
 pub mod HeaderForm
 pub mod Headers
 pub mod Lexemes
+pub mod Parses
 pub mod Plants

@@ -1,0 +1,36 @@
+-- How the values of the code are seen, and what an answer must be.
+use Rattle.std.specs.Prelude.{◌≡◌, ◌≤◌, length, Result, MatchResult, Option, Some, None, List, map, option_map, string_bytes}
+use Rattle.command_line.specs.Job.{Given as GivenTexts, Job as JobOfWords, Check, Show}
+use Rattle.command_line.specs.declared.jobs.Job.{Job}
+use Rattle.command_line.specs.declared.jobs.Job.TheVariants as job
+use Rattle.command_line.specs.declared.jobs.WordsAnswer.{WordsAnswer}
+use Rattle.command_line.specs.declared.jobs.WordsAnswer.TheVariants as answer
+use Rattle.command_line.specs.declared.modes.Given.{Given}
+
+-- the job that a value of the code is
+abbrev pub job_seen : Job → JobOfWords
+job_seen (job.Check sources) = Check (map string_bytes sources.items)
+job_seen (job.Show sources) = Show (map string_bytes sources.items)
+
+-- the job that is wanted is answered, and `Usage` only where none is; memory may run out in both
+abbrev pub AnswersJob : Option JobOfWords → Result Job WordsAnswer → Type 0
+AnswersJob wanted r =
+    MatchResult r (λ j. wanted ≡ Some (job_seen j)) (λ e. e ≡ answer.Usage → wanted ≡ None)
+
+-- 1 to 16 names
+abbrev pub IsFew : {X : Type 0} → List X → Type 0
+IsFew names = (1 ≤ length names) × (length names ≤ 16)
+
+-- the job has 1 to 16 sources
+abbrev pub HasFewSources : Job → Type 0
+HasFewSources (job.Check sources) = IsFew sources.items
+HasFewSources (job.Show sources) = IsFew sources.items
+
+-- what the command found, as texts
+abbrev pub texts_of : Given → GivenTexts
+texts_of g = record {
+  mode = g.mode.now;
+  plan = option_map (λ s. s.now) g.plan;
+  size = option_map (λ s. s.now) g.size;
+  sources = option_map (λ names. map (λ s. s.now) names.now) g.sources;
+}

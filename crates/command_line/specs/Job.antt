@@ -1,0 +1,74 @@
+-- What the words of a call ask for.
+use Rattle.std.specs.Prelude.{ℕ, Bool, not, ◌==◌, ◌&&◌, ◌||◌, List, Option, Some, None, is_some, nat_le, length, codes, if◌then◌else◌, option_map}
+use Rattle.std.specs.List.{list_all}
+use Rattle.std.specs.Option.{option_and_then}
+use Rattle.std.specs.Str.{bytes_eq}
+use Rattle.clap.specs.Walk.{is_empty}
+use Rattle.clap.specs.Words.{Row, Text, all_of, fault_of, first_of, matches_of}
+use Rattle.command_line.specs.Command.{command}
+
+-- check the files of these names, or show them
+pub data Job : Type 0 where
+  Check : List Text → Job
+  Show : List Text → Job
+
+-- what the command finds in the words: MODE, FILE of `--plan`, N of `--size` and each SOURCE
+pub record Given : Type 0 where
+  pub mode : Text
+  pub plan : Option Text
+  pub size : Option Text
+  pub sources : Option (List Text)
+
+-- ---- the rules of the modes
+
+-- a byte that may stand in a line that is printed: no control byte
+abbrev pub is_printable : ℕ → Bool
+is_printable b = nat_le 32 b && not (b == 127)
+
+-- the name of a file is not empty, and has no control byte
+unfoldable pub is_file_name : Text → Bool
+is_file_name name = not (is_empty name) && list_all is_printable name
+
+-- the names of 1 to 16 files
+unfoldable pub are_sources : List Text → Bool
+are_sources names =
+    not (is_empty names) && (nat_le (length names) 16 && list_all is_file_name names)
+
+-- the sources, where there is no option
+unfoldable pub sources_alone : Given → Option (List Text)
+sources_alone g = if is_some g.plan || is_some g.size then None
+    else option_and_then (λ names. if are_sources names then Some names else None) g.sources
+
+unfoldable pub check_job : Given → Option Job
+check_job g = option_map Check (sources_alone g)
+
+unfoldable pub show_job : Given → Option Job
+show_job g = option_map Show (sources_alone g)
+
+-- the job of each mode; there are no other modes
+unfoldable pub job_by_mode : Given → Option Job
+job_by_mode g = if bytes_eq g.mode (codes "check") then check_job g
+    else (if bytes_eq g.mode (codes "show") then show_job g else None)
+
+-- ---- the job of the words
+
+abbrev pub given_with : List Row → Text → Given
+given_with rows mode = record {
+  mode = mode;
+  plan = first_of (codes "plan") rows;
+  size = first_of (codes "size") rows;
+  sources = all_of (codes "source") rows;
+}
+
+-- what the matches hold
+unfoldable pub given_in : List Row → Option Given
+given_in rows = option_map (given_with rows) (first_of (codes "mode") rows)
+
+-- the job that the matches of the command ask for
+unfoldable pub job_in : List Row → Option Job
+job_in rows = option_and_then job_by_mode (given_in rows)
+
+-- the command takes the words, and what they hold keeps the rules of the mode
+unfoldable pub job_of : List Text → Option Job
+job_of words =
+    if is_empty (fault_of command words) then job_in (matches_of command words) else None

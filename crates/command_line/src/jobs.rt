@@ -1,0 +1,33 @@
+//! What the words of a call ask for.
+
+ghost use Rattle.std.specs.Prelude.{◌≡◌};
+
+use std::alloc::AllocError;
+
+/// What the words of a call ask for.
+#[derive(Debug, PartialEq, Eq, Drop)]
+pub enum Job {
+    /// Check the files of these names, 1 to 16, as one program.
+    Check { sources: Vec<String> },
+    /// Print the files of these names, 1 to 16, in canonical form.
+    Show { sources: Vec<String> },
+}
+
+/// Why words give no job.
+#[derive(Clone, Copy, Debug, PartialEq, Eq)]
+pub enum WordsAnswer {
+    /// The words are not those of a command.
+    Usage,
+    /// There was no memory for a growth.
+    Memory,
+}
+
+impl From<AllocError> for WordsAnswer {
+    ghost use Rattle.command_line.specs.declared.jobs.WordsAnswer.TheVariants.{Memory};
+
+    ghost from_gives = { λ _ e. e ≡ Memory };
+
+    fn from(_error: AllocError) -> WordsAnswer {
+        WordsAnswer::Memory
+    }
+}

@@ -1,0 +1,13 @@
+//! The words of a call of the program, read as one command.
+//!
+//! The command is MODE, `--plan FILE`, `--size N` and each SOURCE. `clap` reads the words, and the rules
+//! of the mode judge what it finds.
+#![tactic(auto)]
+
+mod arguments;
+pub mod jobs;
+mod modes;
+pub mod words;
+
+pub use jobs::{Job, WordsAnswer};
+pub use words::read_words;

@@ -1,0 +1,98 @@
+//! The words of a call, read.
+
+ghost use Rattle.std.specs.Prelude.{◌≡◌, IfOk, map, string_bytes};
+ghost use Rattle.clap.specs.Words.{found_of, rows_of};
+ghost use Rattle.command_line.specs.Answers.{AnswersJob, HasFewSources};
+ghost use Rattle.command_line.specs.Job.{job_in, job_of};
+
+use crate::arguments::matches_in;
+use crate::jobs::{Job, WordsAnswer};
+use crate::modes::{given_by, job_by_mode};
+use clap::ArgMatches;
+use std::alloc::Global;
+
+/// What the words after the program's name ask for.
+///
+/// # Errors
+///
+/// `Usage` where the command refuses the words, or what they hold breaks a rule of the mode. `Memory`
+/// may come at any words.
+#[tactic(auto, unfolding(crate::specs::Job::job_of))]
+pub fn read_words(alloc: Global, words: &[String]) -> Result<Job, WordsAnswer>
+    ensures job { AnswersJob (job_of (map string_bytes words.now)) result }
+    ensures few { IfOk result HasFewSources }
+{
+    let matches = matches_in(alloc, words)?;
+    job_in(alloc, &matches)
+}
+
+/// The job that the matches ask for.
+#[tactic(auto, unfolding(crate::specs::Job::job_in))]
+fn job_in(alloc: Global, matches: &ArgMatches<'_>) -> Result<Job, WordsAnswer>
+    ensures job { AnswersJob (job_in (rows_of (found_of matches.now))) result }
+    ensures few { IfOk result HasFewSources }
+{
+    match given_by(matches) {
+        Some(given) => job_by_mode(alloc, &given),
+        None => Err(WordsAnswer::Usage),
+    }
+}
+
+#[cfg(test)]
+mod tests {
+    use super::*;
+    use std::alloc::AllocError;
+    use std::test::Fail;
+
+    static REFUSED: [&str; 14] = [
+        "",
+        "check",
+        "walk A",
+        "A check",
+        "help",
+        "check A -B",
+        "check -h A",
+        "--help",
+        "check --pla p A",
+        "check A --plan p",
+        "check A --size 5",
+        "check A ",
+        "check A\u{7f}",
+        "run --plan p A",
+    ];
+
+    /// The words of a line, parted by single spaces.
+    fn words_of(alloc: Global, line: &str) -> Result<Vec<String>, AllocError> {
+        let mut words = Vec::new(alloc);
+        for word in line.split(' ') {
+            words.push(String::from_str(alloc, word)?)?;
+        }
+        Ok(words)
+    }
+
+    #[test]
+    fn checks(rt: HostRuntime) -> Result<(), Fail> {
+        let words = words_of(rt.alloc(), "check -- A -B")?;
+        let sources = words_of(rt.alloc(), "A -B")?;
+        assert!(rt; read_words(rt.alloc(), words.as_slice()) == Ok(Job::Check { sources }));
+        Ok(())
+    }
+
+    #[test]
+    fn shows(rt: HostRuntime) -> Result<(), Fail> {
+        let words = words_of(rt.alloc(), "show A B")?;
+        let sources = words_of(rt.alloc(), "A B")?;
+        assert!(rt; read_words(rt.alloc(), words.as_slice()) == Ok(Job::Show { sources }));
+        Ok(())
+    }
+
+    #[test]
+    fn refuses(rt: HostRuntime) -> Result<(), Fail> {
+        for line in REFUSED {
+            let words = words_of(rt.alloc(), line)?;
+            let job = read_words(rt.alloc(), words.as_slice());
+            assert!(rt; job == Err(WordsAnswer::Usage), "{line}");
+        }
+        Ok(())
+    }
+}

@@ -1,0 +1,4 @@
+pub mod GrammarLaws
+pub mod SourceLaws
+pub mod StandLaws
+pub mod SyntaxLaws
