@@ -2,6 +2,8 @@ mod Examples
 pub mod Begins
 pub mod BlocksRun
 pub mod ClassesRun
+pub mod ClosingNeeds
+pub mod ClosingSteps
 pub mod ExpressionsRun
 pub mod HeadersRun
 pub mod StatementsRun
