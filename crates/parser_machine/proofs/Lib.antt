@@ -2,7 +2,10 @@ mod Examples
 pub mod Begins
 pub mod BlocksRun
 pub mod ClassesRun
+pub mod ClosingModes
 pub mod ClosingNeeds
+pub mod ClosingPlaces
+pub mod ClosingRuns
 pub mod ClosingSteps
 pub mod ExpressionsRun
 pub mod HeadersRun
