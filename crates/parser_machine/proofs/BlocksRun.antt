@@ -116,7 +116,7 @@ local_is_statement : {N N1 : List Node} {i o : List Lexeme} {flags : Option ℕ}
 local_is_statement (plain_local d) = type_is_statement d
 local_is_statement {i = i} (flagged_local h f d) = flags_are_statement i h
 
-statement_begins : {N N1 : List Node} {i o : List Lexeme} {id : ℕ} → StatementRead N i N1 o id → begins_statement i ≡ true
+pub statement_begins : {N N1 : List Node} {i o : List Lexeme} {id : ℕ} → StatementRead N i N1 o id → begins_statement i ≡ true
 unfolding begins_statement
 statement_begins (block b) = refl
 statement_begins empty = refl
@@ -131,6 +131,16 @@ statement_begins (for_local t e c u d) = refl
 statement_begins (for_assignment f c u d) = refl
 statement_begins return_alone = refl
 statement_begins (return_value v) = refl
+
+pub no_super : (i : List Lexeme) → begins_statement i ≡ true → begins_with_word word_super i ≡ false
+unfolding begins_statement begins_with_word
+no_super [] e = refl
+no_super (a_name w p ∷ o) e = refl
+no_super (a_word n p ∷ o) e = not_true _ e
+no_super (a_number n p ∷ o) e = refl
+no_super (a_text w p ∷ o) e = refl
+no_super (a_sign n p ∷ o) e = refl
+no_super (the_end p ∷ o) e = refl
 
 pub in_statements_run : (N : List Node) (s : List Entry) (i : List Lexeme) → begins_statement i ≡ true → answer (at InStatements s N) i ≡ answer (at StatementStart s N) i
 unfolding machine begins_statement
