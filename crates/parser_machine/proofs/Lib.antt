@@ -1,8 +1,10 @@
-mod Examples
 pub mod Begins
 pub mod BlocksRun
 pub mod ClassesRun
+mod Examples
 pub mod ExpressionsRun
+pub mod Growth
+pub mod GrowthOfFiles
 pub mod HeadersRun
 pub mod StatementsRun
 pub mod Tools
