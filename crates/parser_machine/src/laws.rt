@@ -27,3 +27,8 @@ pub fn refused_begin_no_file()
 pub fn each_tree_keeps_a_forest()
     ensures { (before after : List Node) (lexemes : List Lexeme) (classes : List ℕ) (files : List (List ℕ)) → Tree before lexemes after classes → IsForest (forest_of before files) → length files < 16 → length after < 2 ^ 32 → IsForest (forest_of after (files ++ classes ∷ [])) }
 {}
+
+/// What the machine gives is a tree of the lexemes that it read.
+pub fn each_answer_is_a_tree()
+    ensures { (before after : List Node) (lexemes : List Lexeme) (classes : List ℕ) → answer (start before) lexemes ≡ Some (parsed after classes) → Tree before lexemes after classes }
+{}
