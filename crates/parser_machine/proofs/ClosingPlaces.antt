@@ -1,15 +1,15 @@
 -- The machine refuses a lexeme only where no file goes on with it.
 use Rattle.std.proofs.Common.{ap, refl, subst, sym, ◌∙◌}
-use Rattle.std.specs.Prelude.{List, None, Option, Some, [], ℕ, ◌++◌, ◌∷◌, ◌≡◌}
+use Rattle.std.specs.Prelude.{List, None, Option, Some, [], ◌++◌, ◌∷◌, ◌≡◌}
 use Rattle.parser_machine.proofs.ClosingModes.{kept_closes}
 use Rattle.parser_machine.proofs.ClosingNeeds.{Kept}
 use Rattle.parser_machine.proofs.ClosingSteps.{run_kept, start_kept}
+use Rattle.parser_machine.proofs.Soundness.{answer_is_tree}
 use Rattle.parser_machine.proofs.Tools.{after}
 use Rattle.parser_machine.proofs.Whole.{no_file_behind}
-use Rattle.parser_machine.specs.ClosingLists.{CanClose}
-use Rattle.parser_machine.specs.Machine.{answer, parsed, run, start, step}
+use Rattle.parser_machine.specs.Machine.{answer, run, start, step}
 use Rattle.parser_machine.specs.States.{State}
-use Rattle.scj_tree.specs.Grammar.{RefusedAt, Tree}
+use Rattle.scj_tree.specs.Grammar.{BeginsFile, RefusedAt}
 use Rattle.scj_tree.specs.Lexemes.{Lexeme, place_of_lexeme}
 use Rattle.scj_tree.specs.declared.nodes.Node.{Node}
 
@@ -37,26 +37,24 @@ unfolding run running_on
 run_over [] st o = refl
 run_over (t ∷ i) st o = ran_on (step st t) i o (λ last. run_over i last o)
 
--- behind each row that the machine takes some lexemes lead to the end
-pub can_close : (N : List Node) (i : List Lexeme) (st : State) → run (start N) i ≡ Some st → CanClose N i
+-- what the machine takes begins a file
+pub run_begins : (N : List Node) (i : List Lexeme) (st : State) → run (start N) i ≡ Some st → BeginsFile N i
 unfolding after
-can_close N i st e =
+run_begins N i st e =
     let c = kept_closes (subst Kept e (run_kept i (start N) (start_kept N))) in
-    record { rest = c.rest; nodes = c.nodes; classes = c.classes; reached = sym (answer_over i (start N) c.rest) ∙ (ap (λ r. after r c.rest) e ∙ c.reached) }
+    record { rest = c.rest; nodes = c.nodes; classes = c.classes; tree = answer_is_tree N (i ++ c.rest) (sym (answer_over i (start N) c.rest) ∙ (ap (λ r. after r c.rest) e ∙ c.reached)) }
 
-stops : (i : List Lexeme) (t : Lexeme) (start_state st : State) → run start_state i ≡ Some st → step st t ≡ None → run start_state (i ++ t ∷ []) ≡ None
+stops : (i : List Lexeme) (t : Lexeme) (first last : State) → run first i ≡ Some last → step last t ≡ None → run first (i ++ t ∷ []) ≡ None
 unfolding run running_on
-stops i t start_state st e f = run_over i start_state (t ∷ []) ∙ (ap (λ r. running_on r (t ∷ [])) e ∙ ap (λ r. running_on r []) f)
+stops i t first last e f = run_over i first (t ∷ []) ∙ (ap (λ r. running_on r (t ∷ [])) e ∙ ap (λ r. running_on r []) f)
 
-pub refused_at : ((N N1 : List Node) (i : List Lexeme) (ids : List ℕ) → answer (start N) i ≡ Some (parsed N1 ids) → Tree N i N1 ids) → (N : List Node) (before behind : List Lexeme) (t : Lexeme) (st : State) → run (start N) before ≡ Some st → step st t ≡ None → RefusedAt N (before ++ t ∷ behind) (place_of_lexeme t)
-refused_at sound N before behind t st e f =
-    let c = can_close N before st e in
-    record {
-      before = before;
-      refused = t;
-      behind = behind;
-      whole = refl;
-      begins = record { rest = c.rest; nodes = c.nodes; classes = c.classes; tree = sound N c.nodes (before ++ c.rest) c.classes c.reached };
-      ends = no_file_behind N (before ++ t ∷ []) (stops before t (start N) st e f);
-      place = refl;
-    }
+pub refused_at : (N : List Node) (before behind : List Lexeme) (t : Lexeme) (st : State) → run (start N) before ≡ Some st → step st t ≡ None → RefusedAt N (before ++ t ∷ behind) (place_of_lexeme t)
+refused_at N before behind t st e f = record {
+  before = before;
+  refused = t;
+  behind = behind;
+  whole = refl;
+  begins = run_begins N before st e;
+  ends = no_file_behind N (before ++ t ∷ []) (stops before t (start N) st e f);
+  place = refl;
+}
