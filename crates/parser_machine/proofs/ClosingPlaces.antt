@@ -14,7 +14,7 @@ use Rattle.scj_tree.specs.Lexemes.{Lexeme, place_of_lexeme}
 use Rattle.scj_tree.specs.declared.nodes.Node.{Node}
 
 -- an answer and a run go over a run
-running_on : Option State → List Lexeme → Option State
+unfoldable pub running_on : Option State → List Lexeme → Option State
 running_on r i = elim r [ Some last ↦ run last i | None ↦ None ]
 
 answered_on : (r : Option State) (i o : List Lexeme) → ((last : State) → after (run last i) o ≡ answer last (i ++ o)) → after (running_on r i) o ≡ after r (i ++ o)
@@ -22,7 +22,7 @@ unfolding after running_on
 answered_on None i o f = refl
 answered_on (Some last) i o f = f last
 
-answer_over : (i : List Lexeme) (st : State) (o : List Lexeme) → after (run st i) o ≡ answer st (i ++ o)
+pub answer_over : (i : List Lexeme) (st : State) (o : List Lexeme) → after (run st i) o ≡ answer st (i ++ o)
 unfolding after run answer running_on
 answer_over [] st o = refl
 answer_over (t ∷ i) st o = answered_on (step st t) i o (λ last. answer_over i last o)
@@ -32,7 +32,7 @@ unfolding running_on
 ran_on None i o f = refl
 ran_on (Some last) i o f = f last
 
-run_over : (i : List Lexeme) (st : State) (o : List Lexeme) → run st (i ++ o) ≡ running_on (run st i) o
+pub run_over : (i : List Lexeme) (st : State) (o : List Lexeme) → run st (i ++ o) ≡ running_on (run st i) o
 unfolding run running_on
 run_over [] st o = refl
 run_over (t ∷ i) st o = ran_on (step st t) i o (λ last. run_over i last o)

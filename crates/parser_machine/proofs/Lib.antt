@@ -1,6 +1,7 @@
 pub mod Begins
 pub mod BlocksRun
 pub mod ClassesRun
+pub mod ClosingEnds
 pub mod ClosingModes
 pub mod ClosingNeeds
 pub mod ClosingPlaces

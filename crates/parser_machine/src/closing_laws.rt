@@ -1,9 +1,11 @@
 //! Where the machine stops. These functions do nothing: each stands for a law.
 
-ghost use Rattle.std.specs.Prelude.{◌≡◌, ◌++◌, ◌∷◌, List, Some, None};
+ghost use Rattle.std.specs.Prelude.{◌≡◌, ◌++◌, ◌∷◌, [], List, Some, None};
 ghost use Rattle.scj_tree.specs.declared.nodes.Node.{Node};
-ghost use Rattle.scj_tree.specs.Lexemes.{Lexeme, place_of_lexeme};
+ghost use Rattle.scj_tree.specs.Lexemes.{Lexeme, the_end, place_of_lexeme};
 ghost use Rattle.scj_tree.specs.Grammar.{BeginsFile, RefusedAt};
+ghost use Rattle.parser_machine.specs.ClosingEnds.{ReadWhole};
+ghost use Rattle.scj_base.specs.declared.places.Pos.{Pos};
 ghost use Rattle.parser_machine.specs.Machine.{run, step, start};
 ghost use Rattle.parser_machine.specs.States.{State};
 
@@ -15,4 +17,9 @@ pub fn each_run_begins_a_file()
 /// The machine refuses the first lexeme that no file has behind those before it.
 pub fn each_refusal_is_exact()
     ensures { (before : List Node) (taken behind : List Lexeme) (refused : Lexeme) (last : State) → run (start before) taken ≡ Some last → step last refused ≡ None → RefusedAt before (taken ++ refused ∷ behind) (place_of_lexeme refused) }
+{}
+
+/// Where the machine takes a row with the end behind it, the row is a file, and nothing but its classes is put aside.
+pub fn each_end_is_of_a_file()
+    ensures { (before : List Node) (lexemes : List Lexeme) (place : Pos) (last : State) → run (start before) (lexemes ++ the_end place ∷ []) ≡ Some last → ReadWhole before (lexemes ++ the_end place ∷ []) last }
 {}
