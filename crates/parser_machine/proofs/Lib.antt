@@ -4,6 +4,7 @@ pub mod ClassesRun
 pub mod ClosingEnds
 pub mod ClosingModes
 pub mod ClosingNeeds
+pub mod ClosingOnce
 pub mod ClosingPlaces
 pub mod ClosingRuns
 pub mod ClosingSteps
