@@ -2,5 +2,4 @@ pub mod Growth
 pub mod HeaderForm
 pub mod Headers
 pub mod Lexemes
-pub mod Parses
 pub mod Plants

@@ -4,11 +4,9 @@
 pub mod first;
 pub mod headers;
 pub mod lexemes;
-pub mod parses;
 mod plants;
 mod readers;
 mod reads;
 mod scans;
 
 pub use first::{FirstAnswer, parse_first};
-pub use parses::{ParseAnswer, parse};
