@@ -1,1 +1,2 @@
 mod NamedPlaces
+pub mod ReadThrough

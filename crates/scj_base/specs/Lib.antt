@@ -1,3 +1,5 @@
+pub mod Lex
+pub mod Lexeme
 pub mod NameShape
 pub mod Rule
 pub mod Status

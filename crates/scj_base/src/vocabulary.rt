@@ -1,5 +1,24 @@
 //! The reserved words and the signs, each told by its place in its list.
 
+ghost use Rattle.std.specs.Prelude.{◌≡◌, ◌<◌, slice_get, Some};
+ghost use Rattle.scj_base.specs.Vocabulary.{words, signs};
+
+/// The bytes of a reserved word.
+pub fn word_text(place: u8) -> &'static str
+    requires { place < 53 }
+    ensures { slice_get words place ≡ Some result.now }
+{
+    WORDS[place as usize]
+}
+
+/// The bytes of a sign.
+pub fn sign_text(place: u8) -> &'static str
+    requires { place < 50 }
+    ensures { slice_get signs place ≡ Some result.now }
+{
+    SIGNS[place as usize]
+}
+
 /// The reserved words.
 pub const WORDS: [&str; 53] = [
     "abstract",

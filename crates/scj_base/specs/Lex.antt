@@ -1,0 +1,42 @@
+-- The tokens of a source text, and the first place at which it breaks a rule of the lexemes.
+use Rattle.std.specs.Prelude.{ℕ, ◌+◌, List, [], ◌∷◌, ◌++◌, length, take, fold, cond, ◌==◌, Option, Some, None}
+use Rattle.scj_base.specs.declared.places.Pos.{Pos}
+use Rattle.scj_base.specs.declared.lexemes.Token.{Token}
+use Rattle.scj_base.specs.declared.lexemes.TokenKind.{TokenKind}
+use Rattle.scj_base.specs.declared.lexemes.TokenKind.TheVariants.{End}
+use Rattle.scj_base.specs.declared.findings.Rule.{Rule}
+use Rattle.scj_base.specs.Lexeme.{Piece, BreakAt}
+
+abbrev pub place_at : ℕ → ℕ → ℕ → Pos
+place_at file line col = record { file = file; line = line; col = col }
+
+-- the place behind a byte: a new line behind a line feed, else one column further
+unfoldable pub place_behind_byte : Pos → ℕ → Pos
+place_behind_byte p b = cond (b == 10) (place_at p.file (p.line + 1) 1) (place_at p.file p.line (p.col + 1))
+
+-- the place behind bytes that begin a file
+unfoldable pub place_behind : ℕ → List ℕ → Pos
+place_behind file before = fold place_behind_byte (place_at file 1 1) before
+
+-- the place of the byte that has so many bytes of the file before it
+unfoldable pub place_of : ℕ → List ℕ → ℕ → Pos
+place_of file bytes offset = place_behind file (take offset bytes)
+
+abbrev pub token_at : ℕ → List ℕ → TokenKind → ℕ → Token
+token_at file before kind len = record { kind = kind; pos = place_behind file before; start = length before; len = len }
+
+-- behind the bytes `before` of a file, the bytes that are left are a row of pieces, and these are the lexemes
+-- among them with their places, and the end
+pub data Lexes : ℕ → List ℕ → List ℕ → List Token → Type 0 where
+  ends : (file : ℕ) (before : List ℕ) → Lexes file before [] (token_at file before End 0 ∷ [])
+  skips : (file : ℕ) (before w rest : List ℕ) (tokens : List Token) → Piece w rest None → Lexes file (before ++ w) rest tokens → Lexes file before (w ++ rest) tokens
+  takes : (file : ℕ) (before w rest : List ℕ) (kind : TokenKind) (tokens : List Token) → Piece w rest (Some kind) → Lexes file (before ++ w) rest tokens → Lexes file before (w ++ rest) (token_at file before kind (length w) ∷ tokens)
+
+-- the tokens of a file
+abbrev pub Lex : ℕ → List ℕ → List Token → Type 0
+Lex file bytes tokens = Lexes file [] bytes tokens
+
+-- the bytes before the offset are a row of pieces, and the one at the offset breaks the rule
+pub data LexBreak : List ℕ → Rule → ℕ → Type 0 where
+  here : (bytes : List ℕ) (rule : Rule) → BreakAt bytes rule → LexBreak bytes rule 0
+  later : (w rest : List ℕ) (kind : Option TokenKind) (rule : Rule) (offset : ℕ) → Piece w rest kind → LexBreak rest rule offset → LexBreak (w ++ rest) rule (length w + offset)

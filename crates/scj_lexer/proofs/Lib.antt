@@ -1,0 +1,8 @@
+pub mod Decided
+pub mod Exact
+mod Examples
+pub mod Reached
+pub mod Runs
+pub mod Searches
+pub mod TableChecks
+pub mod Whole

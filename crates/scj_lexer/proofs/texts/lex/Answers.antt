@@ -1,0 +1,50 @@
+use Rattle.std.proofs.Common.{◌≡◌, ◌<◌, ◌≤◌, length, arith, ◌∙◌, sym, refl, eqb-true}
+use Rattle.scj_lexer.proofs.Reached.{reached_start, reached_step, reached_end, reached_break, PieceFits, piece_fits, not_at_end, told_memory}
+use Rattle.scj_lexer.proofs.texts.lex.Goals as goal
+
+pub loop-rest-init : goal.loop-rest-init
+loop-rest-init c = rw c.new-tokens.ensures (record { reached = reached_start c.args.file c.args.bytes.now })
+
+pub returns-in-Bad-clause-bad : goal.returns-in-Bad-clause-bad
+returns-in-Bad-clause-bad c = reached_break c.args.file c.args.bytes.now c.loop-rest.rest.now c.loop-rest.pos c.loop-rest.tokens c.in-Bad.rule _ (not_at_end _ _ c.is_empty.ensures c.loop-rest-test.true) (sym c.first.ensures ∙ c.in-Bad.is) refl refl c.loop-rest.invariant.reached
+
+pub returns-in_err-put-in-Piece-clause-bad : goal.returns-in_err-put-in-Piece-clause-bad
+returns-in_err-put-in-Piece-clause-bad c = told_memory c.args.file c.args.bytes.now c.from_residual.result c.from_residual.ensures.1
+
+pub returns-in_err-put-clause-bad : goal.returns-in_err-put-clause-bad
+returns-in_err-put-clause-bad c = told_memory c.args.file c.args.bytes.now c.from_residual-in_err-put.result c.from_residual-in_err-put.ensures.1
+
+pub put-requires-clause-len_fits : goal.put-requires-clause-len_fits
+put-requires-clause-len_fits c =
+    let f : PieceFits c.args.bytes.now c.loop-rest.rest.now c.loop-rest.pos c.in-Piece.len = (piece_fits c.args.file c.args.bytes.now c.loop-rest.rest.now c.in-Piece.kind c.in-Piece.len c.loop-rest.pos c.loop-rest.tokens c.requires (not_at_end _ _ c.is_empty.ensures c.loop-rest-test.true) (sym c.first.ensures ∙ c.in-Piece.is) c.loop-rest.invariant.reached) in
+    f.len_fits
+
+pub split_at-requires : goal.split_at-requires
+split_at-requires c =
+    let f : PieceFits c.args.bytes.now c.loop-rest.rest.now c.loop-rest.pos c.in-Piece.len = (piece_fits c.args.file c.args.bytes.now c.loop-rest.rest.now c.in-Piece.kind c.in-Piece.len c.loop-rest.pos c.loop-rest.tokens c.requires (not_at_end _ _ c.is_empty.ensures c.loop-rest-test.true) (sym c.first.ensures ∙ c.in-Piece.is) c.loop-rest.invariant.reached) in
+    f.within
+
+pub behind-pos-requires-clause-lines_fit : goal.behind-pos-requires-clause-lines_fit
+behind-pos-requires-clause-lines_fit c =
+    let f : PieceFits c.args.bytes.now c.loop-rest.rest.now c.loop-rest.pos c.in-Piece.len = (piece_fits c.args.file c.args.bytes.now c.loop-rest.rest.now c.in-Piece.kind c.in-Piece.len c.loop-rest.pos c.loop-rest.tokens c.requires (not_at_end _ _ c.is_empty.ensures c.loop-rest-test.true) (sym c.first.ensures ∙ c.in-Piece.is) c.loop-rest.invariant.reached) in
+    rw c.split_at.ensures.front f.line_fits
+
+pub behind-pos-requires-clause-columns_fit : goal.behind-pos-requires-clause-columns_fit
+behind-pos-requires-clause-columns_fit c =
+    let f : PieceFits c.args.bytes.now c.loop-rest.rest.now c.loop-rest.pos c.in-Piece.len = (piece_fits c.args.file c.args.bytes.now c.loop-rest.rest.now c.in-Piece.kind c.in-Piece.len c.loop-rest.pos c.loop-rest.tokens c.requires (not_at_end _ _ c.is_empty.ensures c.loop-rest-test.true) (sym c.first.ensures ∙ c.in-Piece.is) c.loop-rest.invariant.reached) in
+    rw c.split_at.ensures.front f.col_fits
+
+pub loop-rest-smaller : goal.loop-rest-smaller
+loop-rest-smaller c =
+    let f : PieceFits c.args.bytes.now c.loop-rest.rest.now c.loop-rest.pos c.in-Piece.len = (piece_fits c.args.file c.args.bytes.now c.loop-rest.rest.now c.in-Piece.kind c.in-Piece.len c.loop-rest.pos c.loop-rest.tokens c.requires (not_at_end _ _ c.is_empty.ensures c.loop-rest-test.true) (sym c.first.ensures ∙ c.in-Piece.is) c.loop-rest.invariant.reached) in
+    let p : 0 < c.in-Piece.len = f.positive in let w : c.in-Piece.len ≤ length c.loop-rest.rest.now = f.within in omega arith
+
+pub loop-rest-preserved : goal.loop-rest-preserved
+loop-rest-preserved c =
+    rw (c.split_at.ensures.back, c.behind-pos.ensures, c.split_at.ensures.front, c.in_ok-put-in-Piece.ensures)
+    (record { reached = reached_step c.args.file c.args.bytes.now c.loop-rest.rest.now c.in-Piece.kind c.in-Piece.len c.loop-rest.pos c.loop-rest.tokens (not_at_end _ _ c.is_empty.ensures c.loop-rest-test.true) (sym c.first.ensures ∙ c.in-Piece.is) c.loop-rest.invariant.reached })
+
+pub returns-clause-ok : goal.returns-clause-ok
+returns-clause-ok c =
+    let empty : length c.loop-rest.rest.now ≡ 0 = eqb-true _ _ (sym c.is_empty.ensures ∙ c.loop-rest-test.false) in
+    rw c.in_ok-put.ensures (reached_end c.args.file c.args.bytes.now c.loop-rest.rest.now c.loop-rest.pos c.loop-rest.tokens empty c.loop-rest.invariant.reached)

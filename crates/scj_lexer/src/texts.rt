@@ -1,0 +1,116 @@
+//! The tokens of a whole text.
+
+ghost use Rattle.std.specs.Prelude.{◌≡◌, ◌<◌, ◌≤◌, ◌+◌, ◌++◌, ◌^◌, length, fold, IfOk, IfErr, OnOk};
+ghost use Rattle.scj_base.specs.Lex.{Lex, place_behind_byte};
+ghost use Rattle.scj_lexer.specs.Answer.{Tells, token_of};
+
+use crate::pieces::{Front, first};
+use scj_base::{Found, Memory, Pos, Token, TokenKind, Tokens};
+use std::alloc::Global;
+
+/// Why a text has no tokens.
+#[derive(Clone, Copy, Debug)]
+pub enum LexAnswer {
+    /// It breaks a rule, here for the first time.
+    Bad(Found),
+    /// There was no memory for the tokens.
+    Memory,
+}
+
+impl From<Memory> for LexAnswer {
+    ghost use Rattle.std.specs.Prelude.{◌≡◌};
+    ghost use Rattle.scj_lexer.specs.declared.texts.LexAnswer.TheVariants.{Memory as NoMemory};
+
+    ghost from_gives = { λ _ answer. answer ≡ NoMemory };
+
+    fn from(_memory: Memory) -> LexAnswer {
+        LexAnswer::Memory
+    }
+}
+
+/// The tokens of a text of at most 1 MiB, in time that grows with its length alone.
+pub fn lex(alloc: Global, file: u8, bytes: &[u8]) -> Result<Tokens, LexAnswer>
+    requires { length bytes.now ≤ 1048576 }
+    ensures ok { IfOk result (λ tokens. Lex file bytes.now tokens) }
+    ensures bad { IfErr result (λ answer. Tells file bytes.now answer) }
+{
+    let mut tokens = Tokens::new(alloc);
+    let mut pos = Pos {
+        file,
+        line: 1,
+        col: 1,
+    };
+    let mut rest = bytes;
+    while !rest.is_empty() {
+        match first(rest) {
+            Front::Bad(rule) => return Err(LexAnswer::Bad(Found { pos, rule })),
+            Front::Piece(kind, len) => {
+                put(&mut tokens, kind, pos, bytes.len() - rest.len(), len)?;
+                let (piece, others) = rest.split_at(len);
+                pos = behind(pos, piece);
+                rest = others;
+            }
+        }
+    }
+    put(&mut tokens, Some(TokenKind::End), pos, bytes.len(), 0)?;
+    Ok(tokens)
+}
+
+/// Puts the token of a piece last, if the piece has a kind.
+fn put(
+    tokens: &mut Tokens,
+    kind: Option<TokenKind>,
+    pos: Pos,
+    start: usize,
+    len: usize,
+) -> Result<(), Memory>
+    requires start_fits { start < 2 ^ 32 }
+    requires len_fits { len < 2 ^ 32 }
+    ensures { OnOk result (tokens.new ≡ tokens.old ++ token_of kind pos start len) }
+{
+    match kind {
+        Some(kind) => tokens.add(Token {
+            kind,
+            pos,
+            start: start as u32,
+            len: len as u32,
+        }),
+        None => Ok(()),
+    }
+}
+
+/// The place behind the bytes.
+fn behind(pos: Pos, bytes: &[u8]) -> Pos
+    requires lines_fit { pos.line + length bytes.now < 2 ^ 32 }
+    requires columns_fit { pos.col + length bytes.now + 1 < 2 ^ 32 }
+    ensures { result ≡ fold place_behind_byte pos bytes.now }
+{
+    let mut place = pos;
+    for byte in bytes {
+        place = behind_byte(place, *byte);
+    }
+    place
+}
+
+/// The place behind a byte.
+#[tactic(auto, unfolding(scj_base::specs::Lex::place_behind_byte))]
+fn behind_byte(pos: Pos, byte: u8) -> Pos
+    requires line_fits { pos.line + 1 < 2 ^ 32 }
+    requires column_fits { pos.col + 1 < 2 ^ 32 }
+    ensures value { result ≡ place_behind_byte pos byte }
+    ensures line { result.line ≤ pos.line + 1 }
+    ensures column { result.col ≤ pos.col + 1 }
+{
+    if byte == b'\n' {
+        return Pos {
+            file: pos.file,
+            line: pos.line + 1,
+            col: 1,
+        };
+    }
+    Pos {
+        file: pos.file,
+        line: pos.line,
+        col: pos.col + 1,
+    }
+}
