@@ -10,7 +10,7 @@ use Rattle.parser_machine.specs.States.{State, at}
 use Rattle.parser_machine.specs.declared.entries.Entry.{Entry}
 use Rattle.parser_machine.specs.declared.entries.Entry.TheVariants.{FileOpen, ForHead, IfTest, WhileTest}
 use Rattle.parser_machine.specs.declared.modes.Mode.{Mode}
-use Rattle.parser_machine.specs.declared.modes.Mode.TheVariants.{ArgumentFirst, ArgumentNext, Assigned, At, ClassName, ClassNamed, ClosedName, ConstructorStart, DefineAssign, DefineName, DefineOpen, DefineOther, DefineOtherAssign, Dot, DotName, FileStart, Finished, FlagsRead, ForFirst, ForOpen, ForStepStart, IfOpen, ImportDot, ImportEnd, ImportName, ImportStar, ImportStart, InClasses, InImports, InMembers, InStatements, LiteralMinus, LiteralRead, LiteralStart, LocalNamed, MemberNamed, MethodNamed, Minus, NameBracket, NameFirst, NameRead, NewElement, NewName, NewStart, Opened, OpenedName, Operand, PackageEnd, PackageName, ParameterDone, ParametersDone, ParametersFirst, PlainAssigned, PlainDot, PlainEnd, PlainFirst, PlainName, PlainNext, PlainOpen, PlainPath, PostDone, ResultDone, ReturnStart, StatementEnd, StatementStart, SuperArgumentEnd, SuperArgumentName, SuperDone, SuperEnd, SuperName, SuperNamed, SuperOpen, TextRead, TypeArgumentEnd, TypeArgumentName, TypeBracket, TypeDone, TypeEnd, TypeName, ValueDot, ValueOpen, ValueRead, ValueScope, ValueStart, WhileOpen}
+use Rattle.parser_machine.specs.declared.modes.Mode.TheVariants.{ArgumentFirst, ArgumentNext, Assigned, At, ClassName, ClassNamed, ClosedName, ConstructorStart, DefineAssign, DefineName, DefineOpen, DefineOther, DefineOtherAssign, Dot, DotName, FileStart, Finished, FlagsRead, ForFirst, ForOpen, ForStepStart, IfOpen, ImportDot, ImportEnd, ImportName, ImportStar, ImportStart, InClasses, InImports, InMembers, InStatements, LiteralDone, LiteralMinus, LiteralStart, LocalNamed, MemberNamed, MethodNamed, Minus, NameBracket, NameFirst, NameRead, NewElement, NewName, NewStart, Opened, OpenedName, Operand, PackageEnd, PackageName, ParameterDone, ParametersDone, ParametersFirst, PlainAssigned, PlainDot, PlainEnd, PlainFirst, PlainName, PlainNext, PlainOpen, PlainPath, PostDone, ResultDone, ReturnStart, StatementEnd, StatementStart, SuperArgumentEnd, SuperArgumentName, SuperDone, SuperEnd, SuperName, SuperNamed, SuperOpen, TextRead, TypeArgumentEnd, TypeArgumentName, TypeBracket, TypeDone, TypeEnd, TypeName, ValueDot, ValueOpen, ValueRead, ValueScope, ValueStart, WhileOpen}
 use Rattle.scj_tree.specs.Lexemes.{Lexeme}
 use Rattle.scj_tree.specs.declared.nodes.Node.{Node}
 
@@ -65,7 +65,7 @@ step_mode (ResultDone flags result) N s t = result_step flags result N s t
 step_mode (MethodNamed flags result p w) N s t = method_named_step flags result p w N s t
 step_mode LiteralStart N s t = literal_step N s t
 step_mode (LiteralMinus p) N s t = literal_minus_step p N s t
-step_mode (LiteralRead id) N s t = literal_end_step id N s t
+step_mode (LiteralDone id) N s t = literal_end_step id N s t
 step_mode (ParametersFirst p) N s t = parameters_first_step p N s t
 step_mode (ParameterDone id) N s t = parameter_end_step id N s t
 step_mode (ParametersDone parameters) N s t = parameters_end_step parameters N s t
@@ -119,8 +119,11 @@ pub record Parsed : Type 0 where
   pub nodes : List Node
   pub classes : List ℕ
 
+abbrev pub parsed : List Node → List ℕ → Parsed
+parsed N ids = record { nodes = N; classes = ids }
+
 unfoldable pub finished : State → Option Parsed
-finished (at Finished (FileOpen ids ∷ s) N) = Some (record { nodes = N; classes = ids })
+finished (at Finished (FileOpen ids ∷ s) N) = Some (parsed N ids)
 finished _ = None
 
 -- what the rest of a file gives

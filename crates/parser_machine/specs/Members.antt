@@ -5,7 +5,7 @@ use Rattle.parser_machine.specs.Declarations.{flags_step}
 use Rattle.parser_machine.specs.States.{State, at}
 use Rattle.parser_machine.specs.declared.entries.Entry.{Entry}
 use Rattle.parser_machine.specs.declared.entries.Entry.TheVariants.{ArgumentsOpen, BlockOpen, ClassBody, ConstructorBody, ConstructorOpen, FieldOpen, FileOpen, ForBody, IfElse, IfThen, MethodBody, MethodOpen, ParametersOpen, SuperCallOpen, WhileBody}
-use Rattle.parser_machine.specs.declared.modes.Mode.TheVariants.{ArgumentFirst, ConstructorStart, FlagsRead, InClasses, InMembers, InStatements, LiteralMinus, LiteralRead, LiteralStart, MethodNamed, ParametersDone, ParametersFirst, StatementStart, SuperOpen}
+use Rattle.parser_machine.specs.declared.modes.Mode.TheVariants.{ArgumentFirst, ConstructorStart, FlagsRead, InClasses, InMembers, InStatements, LiteralDone, LiteralMinus, LiteralStart, MethodNamed, ParametersDone, ParametersFirst, StatementStart, SuperOpen}
 use Rattle.scj_base.specs.Vocabulary.{sign_assign, sign_comma, sign_left_brace, sign_left_parenthesis, sign_minus, sign_right_brace, sign_right_parenthesis, sign_semicolon, word_else, word_false, word_null, word_super, word_true}
 use Rattle.scj_base.specs.declared.places.Pos.{Pos}
 use Rattle.scj_tree.specs.Headers.{put}
@@ -31,19 +31,19 @@ member_named_step flags t p w N s _ = None
 
 unfoldable pub literal_word : ℕ → Pos → List Node → List Entry → Option State
 literal_word n p N s =
-    if n == word_true then Some (at (LiteralRead (length N)) s (put N (True p))) else
-    if n == word_false then Some (at (LiteralRead (length N)) s (put N (False p))) else
-    if n == word_null then Some (at (LiteralRead (length N)) s (put N (Null p))) else
+    if n == word_true then Some (at (LiteralDone (length N)) s (put N (True p))) else
+    if n == word_false then Some (at (LiteralDone (length N)) s (put N (False p))) else
+    if n == word_null then Some (at (LiteralDone (length N)) s (put N (Null p))) else
     None
 
 unfoldable pub literal_step : List Node → List Entry → Lexeme → Option State
 literal_step N s (a_word n p) = literal_word n p N s
-literal_step N s (a_number n p) = if is_minimum n then None else Some (at (LiteralRead (length N)) s (put N (Number p n false)))
+literal_step N s (a_number n p) = if is_minimum n then None else Some (at (LiteralDone (length N)) s (put N (Number p n false)))
 literal_step N s (a_sign n p) = if n == sign_minus then Some (at (LiteralMinus p) s N) else None
 literal_step N s _ = None
 
 unfoldable pub literal_minus_step : Pos → List Node → List Entry → Lexeme → Option State
-literal_minus_step p N s (a_number n q) = Some (at (LiteralRead (length N)) s (put N (Number p n true)))
+literal_minus_step p N s (a_number n q) = Some (at (LiteralDone (length N)) s (put N (Number p n true)))
 literal_minus_step p N s _ = None
 
 unfoldable pub field_ended : ℕ → List Node → List Entry → Option State

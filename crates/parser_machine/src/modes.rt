@@ -194,7 +194,7 @@ pub enum Mode {
         place: Pos,
     },
     /// The literal: `;`.
-    LiteralRead {
+    LiteralDone {
         id: NodeId,
     },
     /// The `(` of a method or constructor: a parameter or `)`.

@@ -4,6 +4,7 @@
 pub mod errors;
 pub mod file_names;
 pub mod findings;
+pub mod ids;
 pub mod lexemes;
 pub mod numbers;
 pub mod places;
@@ -14,6 +15,7 @@ pub mod words;
 pub use errors::{Failed, Memory};
 pub use file_names::Files;
 pub use findings::{Found, Rule};
+pub use ids::{ClassId, FieldId, MethodId, ScopeId};
 pub use lexemes::{Token, TokenKind, Tokens};
 pub use numbers::NodeId;
 pub use places::Pos;

@@ -38,7 +38,6 @@ map_is : {A : Type 0} (f : A → A) (o : Option A) (v : A) → option_map f o �
 map_is f None v e = absurd (cc)
 map_is f (Some u) v e = (u, refl, cc)
 
-
 one_piece : (file : ℕ) (before bytes : List ℕ) (p : Begins bytes) (kind : Option TokenKind) (len : ℕ) (more : List Token) → p.kind ≡ kind → length p.piece ≡ len → Lexes file (before ++ take len bytes) (drop len bytes) more → Lexes file before bytes (joined file before (take len bytes) kind more)
 one_piece file before bytes p kind len more k l go =
     let front : take len bytes ≡ p.piece = ap (take len) p.whole ∙ take_at p.piece p.rest len l in
@@ -53,12 +52,12 @@ sound zero file before bytes tokens e = absurd (cc)
 sound (suc n) file before [] tokens e = let same : token_at file before End 0 ∷ [] ≡ tokens = cc in rw (← same) (ends file before)
 sound (suc n) file before (b ∷ s) tokens e =
     elim (front_cases (first_of (b ∷ s))) [
-      inl t ↦
-        let told = sym (ap (after (λ rest piece. tokens_from n file (before ++ piece) rest) file before (b ∷ s)) t.1.1) ∙ e in
-        let m = map_is (joined file before (take t.1.0 (b ∷ s)) t.0) _ tokens told in
-        let found = piece_sound b s t.0 t.1.0 t.1.1 in
-        rw m.2 (one_piece file before (b ∷ s) found.0 t.0 t.1.0 m.0 found.1 found.2 (sound n file (before ++ take t.1.0 (b ∷ s)) (drop t.1.0 (b ∷ s)) m.0 m.1))
-    | inr f ↦ let none = sym (ap (after (λ rest piece. tokens_from n file (before ++ piece) rest) file before (b ∷ s)) f.1) ∙ e in absurd (cc)
+      | inl t ↦
+          let told = sym (ap (after (λ rest piece. tokens_from n file (before ++ piece) rest) file before (b ∷ s)) t.1.1) ∙ e in
+          let m = map_is (joined file before (take t.1.0 (b ∷ s)) t.0) _ tokens told in
+          let found = piece_sound b s t.0 t.1.0 t.1.1 in
+          rw m.2 (one_piece file before (b ∷ s) found.0 t.0 t.1.0 m.0 found.1 found.2 (sound n file (before ++ take t.1.0 (b ∷ s)) (drop t.1.0 (b ∷ s)) m.0 m.1))
+      | inr f ↦ let none = sym (ap (after (λ rest piece. tokens_from n file (before ++ piece) rest) file before (b ∷ s)) f.1) ∙ e in absurd (cc)
     ]
 
 -- one name to unfold where a text is read that is written out

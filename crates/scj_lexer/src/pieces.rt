@@ -18,7 +18,10 @@ pub enum Front {
     Bad(Rule),
 }
 
-/// The number 2^31, which is the greatest.
+/// The most bytes of a name.
+const LONGEST: usize = 64;
+
+/// The greatest number, 2^31.
 const GREATEST: u64 = 2_147_483_648;
 
 /// What the bytes begin with.
@@ -72,7 +75,7 @@ fn first_name(bytes: &[u8]) -> Front
     ensures { result ≡ name_first bytes.now }
 {
     let len = name_len(bytes);
-    if len > 64 {
+    if len > LONGEST {
         return Front::Bad(Rule::L4);
     }
     match word(&bytes[..len]) {

@@ -4,12 +4,16 @@ ghost use Rattle.std.specs.Prelude.{◌≡◌, ◌<◌, ◌≤◌, ◌+◌, ◌+
 ghost use Rattle.scj_base.specs.Lex.{Lex, place_behind_byte};
 ghost use Rattle.scj_lexer.specs.Answer.{Tells, token_of};
 
+use crate::classes::is_line_byte;
 use crate::pieces::{Front, first};
 use scj_base::{Found, Memory, Pos, Token, TokenKind, Tokens};
 use std::alloc::Global;
 
+/// The column of the first byte of a line.
+const FIRST_COLUMN: u32 = 1;
+
 /// Why a text has no tokens.
-#[derive(Clone, Copy, Debug)]
+#[derive(Clone, Copy, Debug, PartialEq, Eq)]
 pub enum LexAnswer {
     /// It breaks a rule, here for the first time.
     Bad(Found),
@@ -38,7 +42,7 @@ pub fn lex(alloc: Global, file: u8, bytes: &[u8]) -> Result<Tokens, LexAnswer>
     let mut pos = Pos {
         file,
         line: 1,
-        col: 1,
+        col: FIRST_COLUMN,
     };
     let mut rest = bytes;
     while !rest.is_empty() {
@@ -93,7 +97,7 @@ fn behind(pos: Pos, bytes: &[u8]) -> Pos
 }
 
 /// The place behind a byte.
-#[tactic(auto, unfolding(scj_base::specs::Lex::place_behind_byte))]
+#[tactic(auto, unfolding(scj_base::specs::Lex::place_behind_byte, scj_base::specs::Lexeme::is_line_byte))]
 fn behind_byte(pos: Pos, byte: u8) -> Pos
     requires line_fits { pos.line + 1 < 2 ^ 32 }
     requires column_fits { pos.col + 1 < 2 ^ 32 }
@@ -101,16 +105,59 @@ fn behind_byte(pos: Pos, byte: u8) -> Pos
     ensures line { result.line ≤ pos.line + 1 }
     ensures column { result.col ≤ pos.col + 1 }
 {
-    if byte == b'\n' {
+    if is_line_byte(byte) {
         return Pos {
             file: pos.file,
-            line: pos.line + 1,
-            col: 1,
+            line: pos.line,
+            col: pos.col + 1,
         };
     }
     Pos {
         file: pos.file,
-        line: pos.line,
-        col: pos.col + 1,
+        line: pos.line + 1,
+        col: FIRST_COLUMN,
+    }
+}
+
+#[cfg(test)]
+mod tests {
+    use super::*;
+    use scj_base::Rule;
+    use scj_base::vocabulary::CLASS;
+    use std::test::Fail;
+
+    #[test]
+    fn tells_tokens_and_their_places(rt: HostRuntime) -> Result<(), Fail> {
+        let tokens = lex(rt.alloc(), 3, b"class\n 7")?;
+        let items = tokens.items();
+        assert_eq!(rt; items.len(), 3);
+        assert_eq!(rt; items[0].kind, TokenKind::Word(CLASS));
+        assert_eq!(rt; items[1].kind, TokenKind::Number(7));
+        assert_eq!(rt;
+            items[1].pos,
+            Pos {
+                file: 3,
+                line: 2,
+                col: 2
+            }
+        );
+        assert_eq!(rt; items[2].kind, TokenKind::End);
+        Ok(())
+    }
+
+    #[test]
+    fn tells_the_first_break(rt: HostRuntime) {
+        let found = Found {
+            pos: Pos {
+                file: 0,
+                line: 1,
+                col: 3,
+            },
+            rule: Rule::L3,
+        };
+        match lex(rt.alloc(), 0, b"a /*/ #") {
+            Ok(_) => assert!(rt; false),
+            Err(answer) => assert_eq!(rt; answer, LexAnswer::Bad(found)),
+        }
     }
 }

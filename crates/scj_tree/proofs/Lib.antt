@@ -1,2 +1,2 @@
 pub mod ForestLemmas
-pub mod Smaller
+pub mod RecursionLemmas

@@ -5,6 +5,7 @@ pub mod Grammar
 pub mod Headers
 pub mod Heights
 pub mod Lexemes
+pub mod Recursion
 pub mod Shape
 pub mod Statements
 pub mod Terminals

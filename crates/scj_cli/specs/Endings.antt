@@ -1,0 +1,118 @@
+-- How a call may end: which status it tells, and what stands on the two sinks.
+use Rattle.std.specs.Prelude.{◌≡◌, ◌⊎◌, ℕ, ◌<◌, ◌≤◌, List, [], ◌∷◌, ◌++◌, length, codes, Option}
+use Rattle.scj_base.specs.declared.statuses.Status.{Status}
+use Rattle.scj_base.specs.declared.statuses.Status.TheVariants.{Done, Refused, Usage, Halted, PlanRefused, ReadFault, WriteFault, NoMemory, TooLong, NotBuilt}
+use Rattle.scj_io.specs.Counters.{Rose}
+use Rattle.scj_io.specs.Loads.{Held, ShelfRun, MayHold, MayExceed}
+use Rattle.scj_io.specs.Loads.Held.{Told, Absent}
+use Rattle.scj_io.specs.Puts.{SinkRun, PutWhole, PutFront}
+use Rattle.scj_cli.specs.Jobs.{Job, files_of, file_limit}
+use Rattle.scj_cli.specs.Answers.{Answer}
+
+-- a call: its job, and what became of its shelf and its two sinks from its begin to its end
+pub record Call : Type 0 where
+  pub job : Option Job
+  pub shelf : ShelfRun
+  pub out : SinkRun
+  pub err : SinkRun
+
+abbrev pub call_of : Option Job → ShelfRun → SinkRun → SinkRun → Call
+call_of job shelf out err = record { job = job; shelf = shelf; out = out; err = err }
+
+-- the name is one of the names
+pub data IsAmong (name : List ℕ) : List (List ℕ) → Type 0 where
+  here : {names : List (List ℕ)} → IsAmong name (name ∷ names)
+  later : {other : List ℕ} {names : List (List ℕ)} → IsAmong name names → IsAmong name (other ∷ names)
+
+-- the contents, each within the limit, may be what stands under the names
+pub data MayStand (shelf : ShelfRun) : List (List ℕ) → List (List ℕ) → Type 0 where
+  none : MayStand shelf [] []
+  next : {name content : List ℕ} {names contents : List (List ℕ)} →
+      MayHold (shelf.held name) content → length content ≤ file_limit →
+      MayStand shelf names contents → MayStand shelf (name ∷ names) (content ∷ contents)
+
+-- a load of the name failed
+abbrev pub IsUnread : ShelfRun → List ℕ → Type 0
+IsUnread shelf name = Rose (shelf.faults_before name) (shelf.faults_after name)
+
+abbrev pub read_line : List ℕ → List ℕ
+read_line name = codes "scj: read " ++ (name ++ codes "\n")
+
+abbrev pub too_long_line : List ℕ → List ℕ
+too_long_line name = codes "scj: too long " ++ (name ++ codes "\n")
+
+abbrev pub memory_line : List ℕ
+memory_line = codes "scj: memory\n"
+
+-- a status comes with its texts on `out` and on `err`: as the answer of the job on contents that the
+-- files may have, or for one of the three other causes
+pub data Comes (job : Option Job) (shelf : ShelfRun) : Status → List ℕ → List ℕ → Type 0 where
+  answered : {contents : List (List ℕ)} {status : Status} {out err : List ℕ} →
+      MayStand shelf (files_of job) contents → Answer job contents status out err →
+      Comes job shelf status out err
+  unread : {name : List ℕ} →
+      IsAmong name (files_of job) → IsUnread shelf name →
+      Comes job shelf ReadFault [] (read_line name)
+  overlong : {name : List ℕ} →
+      IsAmong name (files_of job) → MayExceed (shelf.held name) file_limit → file_limit < shelf.most name →
+      Comes job shelf TooLong [] (too_long_line name)
+  out_of_memory :
+      Comes job shelf NoMemory [] memory_line
+
+-- a call ends with a status that comes, and has put its texts whole; or a sink took no more than a front
+-- of the text that was put on it, and nothing was put after that
+pub data Ends (call : Call) : Status → Type 0 where
+  whole : {status : Status} {out err : List ℕ} →
+      Comes call.job call.shelf status out err → PutWhole call.out out → PutWhole call.err err →
+      Ends call status
+  fault_of_out : {status : Status} {out err : List ℕ} →
+      Comes call.job call.shelf status out err → PutFront call.out out → PutWhole call.err [] →
+      Ends call WriteFault
+  fault_of_err : {status : Status} {out err : List ℕ} →
+      Comes call.job call.shelf status out err → PutWhole call.out out → PutFront call.err err →
+      Ends call WriteFault
+
+-- no load of a file of the job failed, and no put
+pub record IsCalm (call : Call) : Type 0 where
+  pub files : (name : List ℕ) → IsAmong name (files_of call.job) → IsUnread call.shelf name → ⊥
+  pub out : Rose call.out.faults_before call.out.faults_after → ⊥
+  pub err : Rose call.err.faults_before call.err.faults_after → ⊥
+
+-- the contents, each within the limit, are what is told of the names
+pub data AreTold (held : List ℕ → Held) : List (List ℕ) → List (List ℕ) → Type 0 where
+  none : AreTold held [] []
+  next : {name content : List ℕ} {names contents : List (List ℕ)} →
+      held name ≡ Told content → length content ≤ file_limit →
+      AreTold held names contents → AreTold held (name ∷ names) (content ∷ contents)
+
+-- the call ends with the answer on these contents
+pub data EndsBy (call : Call) (contents : List (List ℕ)) : Status → Type 0 where
+  by_answer : {status : Status} {out err : List ℕ} →
+      Answer call.job contents status out err → PutWhole call.out out → PutWhole call.err err →
+      EndsBy call contents status
+  by_memory : PutWhole call.out [] → PutWhole call.err memory_line → EndsBy call contents NoMemory
+
+-- where the files are told and within the limit and nothing fails, the call ends with the answer
+abbrev pub IsExact : Call → Status → Type 0
+IsExact call status = (contents : List (List ℕ)) → AreTold call.shelf.held (files_of call.job) contents → IsCalm call → EndsBy call contents status
+
+-- where a file is told to be longer than the limit and nothing fails, that is told
+abbrev pub IsLongExactly : Call → Status → Type 0
+IsLongExactly call status = (name content : List ℕ) → IsAmong name (files_of call.job) → call.shelf.held name ≡ Told content → file_limit < length content → IsCalm call → (status ≡ TooLong) ⊎ (status ≡ NoMemory)
+
+-- the statuses that no contents of an absent file give
+abbrev pub IsUnanswered : Status → Type 0
+IsUnanswered Done = ⊥
+IsUnanswered Refused = ⊥
+IsUnanswered Usage = ⊥
+IsUnanswered Halted = ⊥
+IsUnanswered PlanRefused = ⊥
+IsUnanswered ReadFault = Unit {0}
+IsUnanswered WriteFault = Unit {0}
+IsUnanswered NoMemory = Unit {0}
+IsUnanswered TooLong = Unit {0}
+IsUnanswered NotBuilt = ⊥
+
+-- where a file is told as absent, the status is none that rests on its contents
+abbrev pub IsNeverAbsent : Call → Status → Type 0
+IsNeverAbsent call status = (name : List ℕ) → IsAmong name (files_of call.job) → call.shelf.held name ≡ Absent → IsUnanswered status

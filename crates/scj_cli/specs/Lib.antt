@@ -1,0 +1,7 @@
+pub mod Answers
+pub mod Endings
+pub mod Jobs
+pub mod Modes
+pub mod Readings
+pub mod Refusals
+pub mod Reports

@@ -1,0 +1,42 @@
+-- What a mode leaves behind for the end of the call, which tells what is to be told on `err`.
+use Rattle.std.specs.Prelude.{◌≡◌, ℕ, List, [], Option, None}
+use Rattle.scj_base.specs.declared.statuses.Status.{Status}
+use Rattle.scj_base.specs.declared.statuses.Status.TheVariants.{WriteFault}
+use Rattle.scj_io.specs.Loads.{ShelfRun}
+use Rattle.scj_io.specs.Puts.{SinkRun, PutWhole, PutFront}
+use Rattle.scj_cli.specs.Jobs.{Job}
+use Rattle.scj_cli.specs.Endings.{Comes}
+use Rattle.scj_cli.specs.Readings.{forest_with}
+use Rattle.scj_cli.specs.Refusals.{status_of, line_of}
+use Rattle.scj_cli.specs.declared.refusals.Refusal.{Refusal}
+use Rattle.scj_cli.specs.declared.refusals.Refusal.TheVariants.{Usage, Unread, Overlong, OtherForm, OutOfMemory}
+use Rattle.scj_cli.specs.declared.refusals.Stop.{Stop}
+use Rattle.scj_cli.specs.declared.refusals.Stop.TheVariants.{Told, Broken}
+
+-- the answer stands whole on `out`, and nothing is to be told on `err`
+pub record IsAnswered (job : Option Job) (shelf : ShelfRun) (out : SinkRun) (status : Status) : Type 0 where
+  pub text : List ℕ
+  pub comes : Comes job shelf status text []
+  pub put : PutWhole out text
+
+-- nothing stands on `out` and the refusal is to be told on `err`; or the put of the answer failed
+pub data Stops (job : Option Job) (shelf : ShelfRun) (out : SinkRun) : Stop → Type 0 where
+  told : {refusal : Refusal} →
+      Comes job shelf (status_of refusal) [] (line_of refusal) → PutWhole out [] →
+      Stops job shelf out (Told refusal)
+  broken : {status : Status} {text : List ℕ} →
+      Comes job shelf status text [] → PutFront out text →
+      Stops job shelf out Broken
+
+-- the refusals of a judgement over these contents
+abbrev pub RefusesForm : List (List ℕ) → Refusal → Type 0
+RefusesForm contents Usage = ⊥
+RefusesForm contents (Unread line) = ⊥
+RefusesForm contents (Overlong line) = ⊥
+RefusesForm contents OtherForm = forest_with contents ≡ None
+RefusesForm contents OutOfMemory = Unit {0}
+
+-- the refusal's line was put whole and its status is the call's, or the put failed
+pub data Tells (err : SinkRun) (refusal : Refusal) : Status → Type 0 where
+  whole : PutWhole err (line_of refusal) → Tells err refusal (status_of refusal)
+  fault : PutFront err (line_of refusal) → Tells err refusal WriteFault

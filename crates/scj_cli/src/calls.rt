@@ -1,0 +1,99 @@
+//! The top call.
+
+ghost use Rattle.std.specs.Prelude.{◌≡◌, [], ◌∷◌, length, map, string_bytes, IfOk, IfErr, Some};
+ghost use Rattle.scj_io.specs.Loads.{ShelfGoes, shelf_run};
+ghost use Rattle.scj_io.specs.Puts.{sink_run};
+ghost use Rattle.scj_cli.specs.Jobs.{job_of};
+ghost use Rattle.scj_cli.specs.Modes.{IsAnswered, Stops, Tells};
+ghost use Rattle.scj_cli.specs.Endings.{Ends, call_of, IsExact, IsLongExactly, IsNeverAbsent};
+
+use crate::checks::check;
+use crate::refusals::{Refusal, Stop};
+use crate::words::names_to_check;
+use scj_base::Status;
+use scj_io::{Shelf, Sink, put_all};
+use std::alloc::Global;
+
+/// Does what the words behind the program's name ask for.
+///
+/// The answer is put on `out`, and what is refused is told on `err` by one line. Nothing is put after a
+/// put has failed.
+pub fn scj<H: Shelf, K: Sink, E: Sink>(
+    alloc: Global,
+    words: &[String],
+    shelf: &mut H,
+    out: &mut K,
+    err: &mut E,
+) -> Status
+    ensures goes { ShelfGoes (H.held shelf.old) (H.held shelf.new) (H.faults shelf.old) (H.faults shelf.new) (H.most shelf.old) (H.most shelf.new) }
+    ensures ends { Ends (call_of (job_of (map string_bytes words.now))
+        (shelf_run (H.held shelf.old) (H.faults shelf.old) (H.faults shelf.new) (H.most shelf.new))
+        (sink_run (K.taken out.old) (K.taken out.new) (K.faults out.old) (K.faults out.new))
+        (sink_run (E.taken err.old) (E.taken err.new) (E.faults err.old) (E.faults err.new))) result }
+    ensures exact { IsExact (call_of (job_of (map string_bytes words.now))
+        (shelf_run (H.held shelf.old) (H.faults shelf.old) (H.faults shelf.new) (H.most shelf.new))
+        (sink_run (K.taken out.old) (K.taken out.new) (K.faults out.old) (K.faults out.new))
+        (sink_run (E.taken err.old) (E.taken err.new) (E.faults err.old) (E.faults err.new))) result }
+    ensures too_long { IsLongExactly (call_of (job_of (map string_bytes words.now))
+        (shelf_run (H.held shelf.old) (H.faults shelf.old) (H.faults shelf.new) (H.most shelf.new))
+        (sink_run (K.taken out.old) (K.taken out.new) (K.faults out.old) (K.faults out.new))
+        (sink_run (E.taken err.old) (E.taken err.new) (E.faults err.old) (E.faults err.new))) result }
+    ensures absent { IsNeverAbsent (call_of (job_of (map string_bytes words.now))
+        (shelf_run (H.held shelf.old) (H.faults shelf.old) (H.faults shelf.new) (H.most shelf.new))
+        (sink_run (K.taken out.old) (K.taken out.new) (K.faults out.old) (K.faults out.new))
+        (sink_run (E.taken err.old) (E.taken err.new) (E.faults err.old) (E.faults err.new))) result }
+{
+    finish(alloc, words, shelf, out, err)
+}
+
+// Tells what the answer leaves to be told.
+fn finish<H: Shelf, K: Sink, E: Sink>(
+    alloc: Global,
+    words: &[String],
+    shelf: &mut H,
+    out: &mut K,
+    err: &mut E,
+) -> Status
+    ensures goes { ShelfGoes (H.held shelf.old) (H.held shelf.new) (H.faults shelf.old) (H.faults shelf.new) (H.most shelf.old) (H.most shelf.new) }
+    ensures ends { Ends (call_of (job_of (map string_bytes words.now))
+        (shelf_run (H.held shelf.old) (H.faults shelf.old) (H.faults shelf.new) (H.most shelf.new))
+        (sink_run (K.taken out.old) (K.taken out.new) (K.faults out.old) (K.faults out.new))
+        (sink_run (E.taken err.old) (E.taken err.new) (E.faults err.old) (E.faults err.new))) result }
+{
+    match answer(alloc, words, shelf, out) {
+        Ok(status) => status,
+        Err(Stop::Told(refusal)) => tell(&refusal, err),
+        Err(Stop::Broken) => Status::WriteFault,
+    }
+}
+
+// The answer on `out`.
+fn answer<H: Shelf, K: Sink>(
+    alloc: Global,
+    words: &[String],
+    shelf: &mut H,
+    out: &mut K,
+) -> Result<Status, Stop>
+    ensures goes { ShelfGoes (H.held shelf.old) (H.held shelf.new) (H.faults shelf.old) (H.faults shelf.new) (H.most shelf.old) (H.most shelf.new) }
+    ensures ok { IfOk result (λ status. IsAnswered (job_of (map string_bytes words.now))
+        (shelf_run (H.held shelf.old) (H.faults shelf.old) (H.faults shelf.new) (H.most shelf.new))
+        (sink_run (K.taken out.old) (K.taken out.new) (K.faults out.old) (K.faults out.new)) status) }
+    ensures stop { IfErr result (λ stop. Stops (job_of (map string_bytes words.now))
+        (shelf_run (H.held shelf.old) (H.faults shelf.old) (H.faults shelf.new) (H.most shelf.new))
+        (sink_run (K.taken out.old) (K.taken out.new) (K.faults out.old) (K.faults out.new)) stop) }
+{
+    match names_to_check(words) {
+        Some(names) => check(alloc, names, shelf, out),
+        None => Err(Stop::Told(Refusal::Usage)),
+    }
+}
+
+// Tells a refusal on `err`.
+fn tell<E: Sink>(refusal: &Refusal, err: &mut E) -> Status
+    ensures { Tells (sink_run (E.taken err.old) (E.taken err.new) (E.faults err.old) (E.faults err.new)) refusal.now result }
+{
+    match put_all(err, refusal.line().as_bytes()) {
+        Ok(()) => refusal.status(),
+        Err(_) => Status::WriteFault,
+    }
+}

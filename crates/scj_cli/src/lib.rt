@@ -1,0 +1,11 @@
+//! The top call of the checker: words in, text on two sinks and a status out.
+#![tactic(auto)]
+
+mod calls;
+mod checks;
+mod loads;
+mod refusals;
+mod reports;
+mod words;
+
+pub use calls::scj;

@@ -1,0 +1,1 @@
+@DefineScope(name="M", parent="IMMORTAL") abstract class M1 extends Mission { }

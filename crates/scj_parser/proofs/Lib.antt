@@ -1,0 +1,4 @@
+pub mod FormLemmas
+mod Runs
+pub mod GrowthLemmas
+pub mod ScanLemmas

@@ -1,0 +1,5 @@
+pub mod Growth
+pub mod HeaderForm
+pub mod Headers
+pub mod Lexemes
+pub mod Plants

@@ -1,0 +1,5 @@
+//! Whole calls of the checker, each compared with what it tells and puts.
+#![tactic(auto)]
+
+#[cfg(test)]
+mod tests;

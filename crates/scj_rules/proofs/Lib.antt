@@ -1,0 +1,6 @@
+pub mod Computing
+pub mod ReportLemmas
+pub mod RowOfUse
+pub mod RowsOfClasses
+pub mod RowsOfScopes
+pub mod WorkedRows

@@ -1,0 +1,153 @@
+-- Where a node stands: its class and member, the variables that are known there (JLS 6.3), and whether there is an
+-- object that `this` names (JLS 8.4.3.2, 8.8.7.1).
+use Rattle.std.specs.Prelude.{ℕ, zero, suc, ◌+◌, Bool, true, false, not, ◌&&◌, ◌||◌, ◌==◌, List, [], ◌∷◌, length, map, find, position, take_while, slice_get, Option, Some, None, if◌then◌else◌, is_some, option_map, option_and_then}
+use Rattle.scj_tree.specs.declared.nodes.Node.{Node}
+use Rattle.scj_tree.specs.declared.nodes.Node.TheVariants.{Class, Field, Method, Constructor, Parameters, SuperCall, Block, For, FieldAccess, Call}
+use Rattle.scj_tree.specs.Forest.{Forest}
+use Rattle.scj_tree.specs.Shape.{children}
+use Rattle.scj_tree.specs.Recursion.{told, listed, falling}
+use Rattle.scj_rules.specs.declared.scopes.Definition.{Definition}
+use Rattle.scj_rules.specs.Definitions.{read, definitions}
+use Rattle.scj_rules.specs.Words.{is_same, is_among, chain, holds, or_else}
+use Rattle.scj_rules.specs.Views.{Modifiers, Declared, variable_at, Declared, modifiers_at, WrittenClass}
+use Rattle.scj_rules.specs.Classes.{ClassRow, first_user_class, class_nodes, user_classes, class_names, written_rows, counted_from}
+
+-- the class in which a node stands, the member, the last variable that is known at the node, whether it stands in the
+-- arguments of a super call, and whether it stands directly before a dot
+pub record Context : Type 0 where
+  pub class : Option ℕ
+  pub member : Option ℕ
+  pub last : Option ℕ
+  pub in_super_call : Bool
+  pub before_dot : Bool
+
+abbrev pub outermost : Context
+outermost = record { class = None; member = None; last = None; in_super_call = false; before_dot = false }
+
+-- the number of a class, by its node
+unfoldable pub number_of_class : List ℕ → ℕ → Option ℕ
+number_of_class classes node = option_map (λ k. first_user_class + k) (position (λ other. node == other) classes)
+
+-- the last of these nodes that declares a variable
+unfoldable pub last_variable : List Node → Option ℕ → List ℕ → Option ℕ
+last_variable nodes known [] = known
+last_variable nodes known (id ∷ ids) = last_variable nodes (if is_some (variable_at nodes id) then Some id else known) ids
+
+-- those before a node in a list
+abbrev pub those_before : ℕ → List ℕ → List ℕ
+those_before id ids = take_while (λ other. not (other == id)) ids
+
+unfoldable pub parameter_nodes : Node → Option (List ℕ)
+parameter_nodes (Parameters place list) = Some list
+parameter_nodes _ = None
+
+-- the parameters of a declaration, for a child that isn't their list
+abbrev pub parameters_before : List Node → Option ℕ → ℕ → List ℕ
+parameters_before nodes None child = []
+parameters_before nodes (Some parameters) child = if child == parameters then [] else (elim (read nodes parameter_nodes parameters) [ None ↦ [] | Some list ↦ list ])
+
+-- the children of a parent whose declarations are known at a child of it. A local is known behind its declaration in the
+-- block or `for` in which it stands directly, a parameter behind its declaration in the whole method (JLS 6.3)
+unfoldable pub declared_before : List Node → Node → ℕ → List ℕ
+declared_before nodes (Block place statements) child = those_before child statements
+declared_before nodes (For place first condition step body) child = those_before child (first ∷ condition ∷ step ∷ body ∷ [])
+declared_before nodes (Parameters place list) child = those_before child list
+declared_before nodes (Method place name flags result_type parameters body) child = parameters_before nodes parameters child
+declared_before nodes (Constructor place name flags parameters super_call body) child = parameters_before nodes parameters child
+declared_before nodes _ child = []
+
+unfoldable pub is_member : Node → Bool
+is_member (Field place name flags declared_type value) = true
+is_member (Method place name flags result_type parameters body) = true
+is_member (Constructor place name flags parameters super_call body) = true
+is_member _ = false
+
+unfoldable pub is_super_call : Node → Bool
+is_super_call (SuperCall place arguments) = true
+is_super_call _ = false
+
+-- the object of an access or a call, which stands directly before its dot
+unfoldable pub object_of : Node → Option ℕ
+object_of (FieldAccess place name object) = Some object
+object_of (Call place name object arguments) = object
+object_of _ = None
+
+-- the context of a child, from that of its parent
+unfoldable pub child_context : List Node → List ℕ → ℕ → Node → Context → ℕ → Context
+child_context nodes classes parent node above child =
+    record {
+      class = or_else (number_of_class classes parent) above.class;
+      member = if is_member node then Some parent else above.member;
+      last = last_variable nodes above.last (declared_before nodes node child);
+      in_super_call = is_super_call node || above.in_super_call;
+      before_dot = holds (object_of node) (λ object. object == child);
+    }
+
+-- the parent of a node
+unfoldable pub parent_in : List Node → ℕ → Option ℕ
+parent_in nodes id = position (λ node. is_among id (children node)) nodes
+
+-- the context of a node, where those of larger nodes are told
+unfoldable pub context_of : List Node → List ℕ → ℕ → (ℕ → Context) → Context
+context_of nodes classes id larger =
+    elim (parent_in nodes id) [
+      None ↦ outermost
+    | Some parent ↦ elim (slice_get nodes parent) [ None ↦ outermost | Some node ↦ child_context nodes classes parent node (larger parent) id ]
+    ]
+
+-- the contexts of all nodes
+unfoldable pub contexts_in : Forest → List Context
+contexts_in forest = falling outermost (context_of forest.nodes (class_nodes forest)) 0 (length forest.nodes)
+
+-- ---- what is declared in a program: what every rule looks at
+
+-- the nodes; the user classes; the names of all classes; their rows as written and as they count; the definitions of
+-- scopes; the contexts of the nodes
+pub record Program : Type 0 where
+  pub nodes : List Node
+  pub users : List WrittenClass
+  pub names : List (List ℕ)
+  pub written : List ClassRow
+  pub classes : List ClassRow
+  pub scopes : List Definition
+  pub contexts : List Context
+
+unfoldable pub program_of : Forest → Program
+program_of forest =
+    let users = user_classes forest in
+    let names = class_names users in
+    let written = written_rows forest.nodes users in
+    record {
+      nodes = forest.nodes;
+      users = users;
+      names = names;
+      written = written;
+      classes = counted_from names written 0 written;
+      scopes = definitions forest;
+      contexts = contexts_in forest;
+    }
+
+abbrev pub context : Program → ℕ → Context
+context p id = told outermost p.contexts id
+
+-- the variables that are known at a node, the last first
+unfoldable pub known_variables : Program → ℕ → List ℕ
+known_variables p id = elim (context p id).last [ None ↦ [] | Some last ↦ chain (λ v. (context p v).last) (length p.nodes) last ]
+
+-- the variable of a name that is known at a node: the last one that is declared
+unfoldable pub variable_named : Program → ℕ → List ℕ → Option ℕ
+variable_named p id name = find (λ v. holds (variable_at p.nodes v) (λ d. is_same name d.name)) (known_variables p id)
+
+-- the annotations and modifiers of a member
+unfoldable pub member_flags : Node → Option (Option ℕ)
+member_flags (Field place name flags declared_type value) = Some flags
+member_flags (Method place name flags result_type parameters body) = Some flags
+member_flags (Constructor place name flags parameters super_call body) = Some flags
+member_flags _ = None
+
+abbrev pub is_static_member : List Node → ℕ → Bool
+is_static_member nodes member = holds (read nodes member_flags member) (λ flags. (modifiers_at nodes flags).is_static)
+
+-- there is an object that `this` names
+unfoldable pub has_object : Program → ℕ → Bool
+has_object p id = not (context p id).in_super_call && not (holds (context p id).member (is_static_member p.nodes))

@@ -1,0 +1,23 @@
+-- The report: what is broken, each once, by file, line, column and rule.
+use Rattle.std.specs.Prelude.{List, ◌↔◌}
+use Rattle.std.specs.Ordering.{nat_cmp, ordering_then}
+use Rattle.std.specs.declared.cmp.Ordering.{Ordering}
+use Rattle.std.specs.List.{Contains}
+use Rattle.std.specs.List.Sorted.{IsStrictlySortedBy}
+use Rattle.scj_base.specs.declared.findings.Found.{Found}
+use Rattle.scj_base.specs.declared.findings.Rule.{Rule}
+use Rattle.scj_base.specs.declared.places.Pos.{Pos}
+use Rattle.scj_base.specs.Rule.{number_of}
+
+-- the order of places: by file, line and column
+abbrev pub place_order : Pos → Pos → Ordering
+place_order a b = ordering_then (nat_cmp a.file b.file) (ordering_then (nat_cmp a.line b.line) (nat_cmp a.col b.col))
+
+-- the order of a report: by place, and at one place by rule
+abbrev pub report_order : Found → Found → Ordering
+report_order a b = ordering_then (place_order a.pos b.pos) (nat_cmp (number_of a.rule) (number_of b.rule))
+
+-- the list has exactly the breaks, in order and each once
+pub record IsReport (breaks : Rule → Pos → Type 0) (found : List Found) : Type 0 where
+  pub in_order : IsStrictlySortedBy report_order found
+  pub exact : (finding : Found) → Contains found finding ↔ breaks finding.rule finding.pos

@@ -1,0 +1,192 @@
+-- What the nodes of a program declare: annotations and modifiers, types, fields, methods, constructors and classes as
+-- they are written (JLS 8.1, 8.3, 8.4, 8.8).
+use Rattle.std.specs.Prelude.{ℕ, Bool, true, false, List, [], ◌∷◌, map, slice_get, filter_map, Option, Some, None, if◌then◌else◌, option_and_then, option_map, unwrap_or, is_some}
+use Rattle.scj_base.specs.declared.places.Pos.{Pos}
+use Rattle.scj_tree.specs.declared.nodes.Node.{Node}
+use Rattle.scj_tree.specs.declared.nodes.Node.TheVariants.{Class, Flags, Supers, SuperType, IntType, BooleanType, ClassType, VoidType, LongType, Field, Method, Constructor, Parameters, Parameter, SuperCall, Local, LocalWithValue}
+use Rattle.scj_tree.specs.Shape.{place_of}
+use Rattle.scj_rules.specs.declared.scopes.Written.{Written}
+use Rattle.scj_rules.specs.Definitions.{read, written_of}
+
+-- a place that stands for none
+abbrev pub nowhere : Pos
+nowhere = record { file = 0; line = 0; col = 0 }
+
+abbrev pub place_at : List Node → ℕ → Pos
+place_at nodes id = elim (slice_get nodes id) [ None ↦ nowhere | Some node ↦ place_of node ]
+
+-- the annotations and modifiers before a declaration
+pub record Modifiers : Type 0 where
+  pub defines_scope : Bool
+  pub scope : Option Written
+  pub runs_in : Option Written
+  pub is_static : Bool
+  pub is_abstract : Bool
+  pub is_synchronized : Bool
+
+abbrev pub no_modifiers : Modifiers
+no_modifiers = record { defines_scope = false; scope = None; runs_in = None; is_static = false; is_abstract = false; is_synchronized = false }
+
+unfoldable pub modifiers_of : List Node → Node → Option Modifiers
+modifiers_of nodes (Flags place define_scope scope runs_in is_static is_abstract is_synchronized) =
+    Some (record {
+      defines_scope = is_some define_scope;
+      scope = option_and_then (read nodes written_of) scope;
+      runs_in = option_and_then (read nodes written_of) runs_in;
+      is_static = is_static;
+      is_abstract = is_abstract;
+      is_synchronized = is_synchronized;
+    })
+modifiers_of nodes _ = None
+
+abbrev pub modifiers_at : List Node → Option ℕ → Modifiers
+modifiers_at nodes flags = unwrap_or (option_and_then (read nodes (modifiers_of nodes)) flags) no_modifiers
+
+-- a type as it is written; a text is the type of a framework's parameter alone
+pub data WrittenType : Type 0 where
+  int_type boolean_type void_type long_type text_type int_array boolean_array : WrittenType
+  class_type class_array : List ℕ → WrittenType
+
+unfoldable pub type_of_node : Node → Option WrittenType
+type_of_node (IntType place is_array) = Some (if is_array then int_array else int_type)
+type_of_node (BooleanType place is_array) = Some (if is_array then boolean_array else boolean_type)
+type_of_node (ClassType place name argument is_array) = Some (if is_array then class_array name else class_type name)
+type_of_node (VoidType place) = Some void_type
+type_of_node (LongType place) = Some long_type
+type_of_node _ = None
+
+abbrev pub type_at : List Node → ℕ → WrittenType
+type_at nodes id = unwrap_or (read nodes type_of_node id) void_type
+
+-- a class that is named after `extends` or `implements`
+unfoldable pub named_super : Node → Option Written
+named_super (SuperType place name argument) = Some (record { name = name; place = place })
+named_super _ = None
+
+-- the names after `extends`, and those after `implements`
+unfoldable pub named_supers : List Node → Node → Option (Option Written × List Written)
+named_supers nodes (Supers place superclass interfaces) = Some (option_and_then (read nodes named_super) superclass, filter_map (read nodes named_super) interfaces)
+named_supers nodes _ = None
+
+-- a variable or a member that is declared: its node, where it is named, its name, modifiers and type
+pub record Declared : Type 0 where
+  pub node : ℕ
+  pub place : Pos
+  pub name : List ℕ
+  pub modifiers : Modifiers
+  pub type : WrittenType
+
+abbrev pub declared : List Node → ℕ → Pos → List ℕ → Option ℕ → ℕ → Declared
+declared nodes node place name flags declared_type = record { node = node; place = place; name = name; modifiers = modifiers_at nodes flags; type = type_at nodes declared_type }
+
+-- a parameter or a local
+unfoldable pub variable_of : List Node → ℕ → Node → Option Declared
+variable_of nodes id (Parameter place name flags declared_type) = Some (declared nodes id place name flags declared_type)
+variable_of nodes id (Local place name flags declared_type) = Some (declared nodes id place name flags declared_type)
+variable_of nodes id (LocalWithValue place name_place name flags declared_type value) = Some (declared nodes id name_place name flags declared_type)
+variable_of nodes id _ = None
+
+abbrev pub variable_at : List Node → ℕ → Option Declared
+variable_at nodes id = read nodes (variable_of nodes id) id
+
+unfoldable pub field_of : List Node → ℕ → Node → Option Declared
+field_of nodes id (Field place name flags declared_type value) = Some (declared nodes id place name flags declared_type)
+field_of nodes id _ = None
+
+abbrev pub field_at : List Node → ℕ → Option Declared
+field_at nodes id = read nodes (field_of nodes id) id
+
+unfoldable pub parameters_of : List Node → Node → Option (List Declared)
+parameters_of nodes (Parameters place list) = Some (filter_map (variable_at nodes) list)
+parameters_of nodes _ = None
+
+abbrev pub parameters_at : List Node → Option ℕ → List Declared
+parameters_at nodes parameters = unwrap_or (option_and_then (read nodes (parameters_of nodes)) parameters) []
+
+-- a method: what is declared of it, its type being the result's, its parameters, its body if there is one, and of a
+-- framework's method its number
+pub record DeclaredMethod : Type 0 where
+  pub declared : Declared
+  pub parameters : List Declared
+  pub body : Option ℕ
+  pub builtin : Option ℕ
+  pub callable : Bool
+  pub overridable : Bool
+
+unfoldable pub method_of : List Node → ℕ → Node → Option DeclaredMethod
+method_of nodes id (Method place name flags result_type parameters body) =
+    Some (record {
+      declared = declared nodes id place name flags result_type;
+      parameters = parameters_at nodes parameters;
+      body = body;
+      builtin = None;
+      callable = true;
+      overridable = true;
+    })
+method_of nodes id _ = None
+
+abbrev pub method_at : List Node → ℕ → Option DeclaredMethod
+method_at nodes id = read nodes (method_of nodes id) id
+
+-- a constructor; `super_call` is the list of the arguments of its super call, where one is written
+pub record DeclaredConstructor : Type 0 where
+  pub node : ℕ
+  pub place : Pos
+  pub name : List ℕ
+  pub modifiers : Modifiers
+  pub parameters : List Declared
+  pub super_call : Option (List ℕ)
+  pub body : ℕ
+
+unfoldable pub super_arguments : Node → Option (List ℕ)
+super_arguments (SuperCall place arguments) = Some arguments
+super_arguments _ = None
+
+unfoldable pub constructor_of : List Node → ℕ → Node → Option DeclaredConstructor
+constructor_of nodes id (Constructor place name flags parameters super_call body) =
+    Some (record {
+      node = id;
+      place = place;
+      name = name;
+      modifiers = modifiers_at nodes flags;
+      parameters = parameters_at nodes parameters;
+      super_call = option_and_then (read nodes super_arguments) super_call;
+      body = body;
+    })
+constructor_of nodes id _ = None
+
+abbrev pub constructor_at : List Node → ℕ → Option DeclaredConstructor
+constructor_at nodes id = read nodes (constructor_of nodes id) id
+
+-- the name of a method or a constructor, and where it is named
+unfoldable pub callable_name : Node → Option Written
+callable_name (Method place name flags result_type parameters body) = Some (record { name = name; place = place })
+callable_name (Constructor place name flags parameters super_call body) = Some (record { name = name; place = place })
+callable_name _ = None
+
+-- a class as it is written
+pub record WrittenClass : Type 0 where
+  pub node : ℕ
+  pub place : Pos
+  pub name : List ℕ
+  pub modifiers : Modifiers
+  pub extends : Option Written
+  pub implements : List Written
+  pub members : List ℕ
+
+unfoldable pub class_of : List Node → ℕ → Node → Option WrittenClass
+class_of nodes id (Class place name flags header members) =
+    let supers : Option Written × List Written = unwrap_or (option_and_then (read nodes (named_supers nodes)) header) (None, []) in
+    Some (record {
+      node = id;
+      place = place;
+      name = name;
+      modifiers = modifiers_at nodes flags;
+      extends = supers.0;
+      implements = supers.1;
+      members = members;
+    })
+class_of nodes id _ = None
+
+abbrev pub class_at : List Node → ℕ → Option WrittenClass
+class_at nodes id = read nodes (class_of nodes id) id

@@ -1,0 +1,74 @@
+//! The types of expressions, what a name stands for, and static scopes.
+
+use scj_base::{ClassId, FieldId, MethodId, ScopeId};
+
+/// The type of an expression (JLS, chapter 4).
+#[derive(Clone, Copy, Debug)]
+pub enum Ty {
+    /// `int`.
+    Int,
+    /// `boolean`.
+    Bool,
+    /// What a call of a method without a result has.
+    Void,
+    /// The type of `null`.
+    NullTy,
+    /// The type of a text.
+    Label,
+    /// A class or interface type.
+    Class(ClassId),
+    /// `int[]`.
+    IntArray,
+    /// `boolean[]`.
+    BoolArray,
+    /// An array of a class or interface type.
+    ClassArray(ClassId),
+}
+
+/// The method that a call stands for.
+#[derive(Clone, Copy, Debug)]
+pub struct Target {
+    /// The method.
+    pub id: MethodId,
+    /// The static type of the receiver; of the second argument where memory is entered, unless that is the type of
+    /// `null`; and otherwise the class that declares the method.
+    pub on: ClassId,
+    /// Whether the call leaves a value.
+    pub gives: bool,
+}
+
+/// What a node stands for.
+#[derive(Clone, Copy, Debug)]
+pub enum Binding {
+    /// Nothing but itself.
+    Plain,
+    /// The local of this number: parameters first, then in the order of declaration.
+    Local(u8),
+    /// An instance field.
+    Field(FieldId),
+    /// A static field.
+    Static(FieldId),
+    /// The length of an array.
+    Length,
+    /// A class; of a new array the array's.
+    Class(ClassId),
+    /// An instance method of a user class.
+    Method(Target),
+    /// A static method of a user class.
+    StaticMethod(Target),
+    /// A method of the framework.
+    Builtin(Target),
+}
+
+/// The static scope of a reference: where the object lies that it names.
+#[derive(Clone, Copy, Debug)]
+pub enum Scope {
+    /// Anywhere, as `null` does.
+    Any,
+    /// Where the object lies whose method runs.
+    This,
+    /// In the scope that is current when the method is called.
+    Caller,
+    /// In a named scope, or in `IMMORTAL`.
+    In(ScopeId),
+}

@@ -1,0 +1,4 @@
+pub mod Findings
+pub mod Index
+pub mod Jumps
+pub mod Samples

@@ -1,0 +1,13 @@
+//! The checks on the tree of scopes.
+#![tactic(auto)]
+
+mod cycles;
+mod definitions;
+mod headers;
+mod names;
+mod reports;
+
+pub use definitions::check_definitions;
+
+#[cfg(test)]
+mod tests;
