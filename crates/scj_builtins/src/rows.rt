@@ -122,28 +122,52 @@ pub fn builtin_class(name: &[u8]) -> Option<BuiltinId>
 fn declared_below(gives: GivesKind) -> MethodRow
     ensures { result ≡ record { params = 0; gives = gives; is_static = false; callable = false; is_abstract = true } }
 {
-    MethodRow { params: 0, gives, is_static: false, callable: false, is_abstract: true }
+    MethodRow {
+        params: 0,
+        gives,
+        is_static: false,
+        callable: false,
+        is_abstract: true,
+    }
 }
 
 /// A method that has an empty body where no class declares it.
 fn empty_unless_declared() -> MethodRow
     ensures { result ≡ record { params = 0; gives = Nothing; is_static = false; callable = false; is_abstract = false } }
 {
-    MethodRow { params: 0, gives: GivesKind::Nothing, is_static: false, callable: false, is_abstract: false }
+    MethodRow {
+        params: 0,
+        gives: GivesKind::Nothing,
+        is_static: false,
+        callable: false,
+        is_abstract: false,
+    }
 }
 
 /// A method that a program calls on an object.
 fn called_on_object() -> MethodRow
     ensures { result ≡ record { params = 0; gives = Nothing; is_static = false; callable = true; is_abstract = false } }
 {
-    MethodRow { params: 0, gives: GivesKind::Nothing, is_static: false, callable: true, is_abstract: false }
+    MethodRow {
+        params: 0,
+        gives: GivesKind::Nothing,
+        is_static: false,
+        callable: true,
+        is_abstract: false,
+    }
 }
 
 /// A method that a program calls on the class.
 fn called_on_class(params: u8, gives: GivesKind) -> MethodRow
     ensures { result ≡ record { params = params; gives = gives; is_static = true; callable = true; is_abstract = false } }
 {
-    MethodRow { params, gives, is_static: true, callable: true, is_abstract: false }
+    MethodRow {
+        params,
+        gives,
+        is_static: true,
+        callable: true,
+        is_abstract: false,
+    }
 }
 
 /// The method of a name of `Runnable`.

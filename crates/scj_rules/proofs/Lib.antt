@@ -1,5 +1,8 @@
+pub mod AcceptedLemmas
 pub mod Computing
+pub mod ForestTests
 pub mod ReportLemmas
+pub mod ReportsLemmas
 pub mod RowOfUse
 pub mod RowsOfClasses
 pub mod RowsOfScopes

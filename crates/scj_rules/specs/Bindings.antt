@@ -1,5 +1,5 @@
 -- What each node of a well-typed program stands for: what its name, access, call, `new` or cast means where it is typed.
-use Rattle.std.specs.Prelude.{ℕ, zero, suc, ◌+◌, Bool, true, false, not, ◌&&◌, ◌==◌, List, [], ◌∷◌, length, position, slice_get, Option, Some, None, if◌then◌else◌, option_map, option_and_then, unwrap_or}
+use Rattle.std.specs.Prelude.{ℕ, ◌+◌, not, ◌&&◌, ◌==◌, List, [], ◌∷◌, length, position, slice_get, Option, Some, None, if◌then◌else◌, option_map, option_and_then, unwrap_or}
 use Rattle.scj_builtins.specs.Framework.{managed_memory}
 use Rattle.scj_tree.specs.declared.nodes.Node.{Node}
 use Rattle.scj_tree.specs.declared.nodes.Node.TheVariants.{Class, Field, Constructor, Parameter, SuperCall, Local, LocalWithValue, Cast, SimpleName, FieldAccess, Call, New, NewArray}
@@ -9,17 +9,16 @@ use Rattle.scj_rules.specs.declared.typing.Ty.TheVariants.{Class as ClassTy, Int
 use Rattle.scj_rules.specs.declared.typing.Binding.{Binding}
 use Rattle.scj_rules.specs.declared.typing.Binding.TheVariants.{Plain, Local as LocalVariable, Field as InstanceField, Static, Length, Class as ClassNamed, Method, StaticMethod, Builtin}
 use Rattle.scj_rules.specs.declared.typing.Target.{Target}
-use Rattle.scj_rules.specs.Words.{is_same, holds}
 use Rattle.scj_rules.specs.Views.{void_type, Declared}
 use Rattle.scj_rules.specs.Classes.{FoundField, FoundMethod, class_number, superclass_in, field_number, method_number}
 use Rattle.scj_rules.specs.LimitRules.{variables_of}
 use Rattle.scj_rules.specs.ClassRules.{is_same_type}
-use Rattle.scj_rules.specs.Contexts.{Program, Context, context}
-use Rattle.scj_rules.specs.Types.{array_of, Meaning, a_variable, a_field, a_class, nothing, meaning, Receiver, the_class, the_value, own_object, receiver, call_receiver, class_of_receiver, is_array_value, accessed_field, called_method, is_length, is_form_part}
+use Rattle.scj_rules.specs.Contexts.{Declarations, context}
+use Rattle.scj_rules.specs.Types.{array_of, Meaning, a_variable, a_field, a_class, nothing, meaning, Receiver, the_class, receiver, call_receiver, class_of_receiver, is_array_value, accessed_field, called_method, is_length, is_form_part}
 use Rattle.scj_rules.specs.TypeRules.{Types, written_type, types_in}
 
 -- the number of an array's class: behind the classes, first of int, then of boolean, then of each class
-unfoldable pub array_class : Program → Ty → Option ℕ
+unfoldable pub array_class : Declarations → Ty → Option ℕ
 array_class p IntArray = Some (length p.names)
 array_class p BoolArray = Some (length p.names + 1)
 array_class p (ClassArray class) = Some (length p.names + 2 + class)
@@ -29,23 +28,23 @@ abbrev pub plain_or : {A : Type 0} → (A → Binding) → Option A → Binding
 plain_or f o = unwrap_or (option_map f o) Plain
 
 -- a variable, by its number among those of its member
-unfoldable pub variable_binding : Program → ℕ → ℕ → Binding
+unfoldable pub variable_binding : Declarations → ℕ → ℕ → Binding
 variable_binding p id variable =
     plain_or (λ k. LocalVariable k) (option_and_then (λ member. position (λ v. v == variable) (variables_of p member)) (context p id).member)
 
-unfoldable pub field_binding : Program → Declared → Binding
+unfoldable pub field_binding : Declarations → Declared → Binding
 field_binding p f = plain_or (λ k. if f.modifiers.is_static then Static k else InstanceField k) (field_number p.classes f.node)
 
 abbrev pub class_binding : Option ℕ → Binding
 class_binding class = plain_or (λ c. ClassNamed c) class
 
-unfoldable pub meaning_binding : Program → ℕ → Meaning → Binding
+unfoldable pub meaning_binding : Declarations → ℕ → Meaning → Binding
 meaning_binding p id (a_variable v) = variable_binding p id v
 meaning_binding p id (a_field f) = field_binding p f.field
 meaning_binding p id (a_class class) = ClassNamed class
 meaning_binding p id nothing = Plain
 
-unfoldable pub access_binding : Program → Receiver → List ℕ → Binding
+unfoldable pub access_binding : Declarations → Receiver → List ℕ → Binding
 access_binding p r name = if is_array_value r && is_length name then Length else plain_or (λ (f : FoundField). field_binding p f.field) (accessed_field p r name)
 
 unfoldable pub class_of_type : Ty → Option ℕ
@@ -66,15 +65,15 @@ called_on types r f arguments =
 unfoldable pub target : Types → Receiver → FoundMethod → List ℕ → ℕ → Target
 target types r f arguments id = record { id = id; on = called_on types r f arguments; gives = not (is_same_type f.method.declared.type void_type) }
 
-unfoldable pub method_binding : Program → Types → Receiver → List ℕ → FoundMethod → Binding
+unfoldable pub method_binding : Declarations → Types → Receiver → List ℕ → FoundMethod → Binding
 method_binding p types r arguments f =
     elim f.method.builtin [
-      Some number ↦ Builtin (target types r f arguments number)
-    | None ↦ plain_or (λ number. if f.method.declared.modifiers.is_static then StaticMethod (target types r f arguments number) else Method (target types r f arguments number))
-        (method_number p.nodes p.users f.method.declared.node)
+      | Some number ↦ Builtin (target types r f arguments number)
+      | None ↦ plain_or (λ number. if f.method.declared.modifiers.is_static then StaticMethod (target types r f arguments number) else Method (target types r f arguments number))
+          (method_number p.nodes p.users f.method.declared.node)
     ]
 
-unfoldable pub binding_of : Program → Types → ℕ → Node → Binding
+unfoldable pub binding_of : Declarations → Types → ℕ → Node → Binding
 binding_of p types id (Parameter place name flags declared_type) = variable_binding p id id
 binding_of p types id (Local place name flags declared_type) = variable_binding p id id
 binding_of p types id (LocalWithValue place name_place name flags declared_type value) = variable_binding p id id
@@ -92,9 +91,9 @@ binding_of p types id (NewArray place element length) = class_binding (option_an
 binding_of p types id (Cast place name_place name operand) = class_binding (class_number p.names name)
 binding_of p types id _ = Plain
 
-unfoldable pub binding_at : Program → Types → ℕ → Binding
+unfoldable pub binding_at : Declarations → Types → ℕ → Binding
 binding_at p types id = plain_or (binding_of p types id) (slice_get p.nodes id)
 
 -- what each node stands for
-unfoldable pub bindings_in : Program → List Binding
+unfoldable pub bindings_in : Declarations → List Binding
 bindings_in p = let types = types_in p in listed (binding_at p (told None types)) (length p.nodes)

@@ -1,15 +1,14 @@
 -- The classes of a program and their members (JLS 8.1.4, 8.1.5, 8.2, 4.10.2).
-use Rattle.std.specs.Prelude.{ℕ, zero, suc, ◌+◌, ◌<◌, nat_lt, Bool, true, false, not, ◌&&◌, ◌||◌, ◌==◌, List, [], ◌∷◌, ◌++◌, length, map, reverse, filter, filter_map, flat_map, find, position, slice_get, Option, Some, None, if◌then◌else◌, is_some, option_map, option_and_then, codes}
+use Rattle.std.specs.Prelude.{ℕ, ◌+◌, nat_lt, Bool, true, false, not, ◌&&◌, ◌||◌, ◌==◌, List, [], ◌∷◌, ◌++◌, length, map, reverse, filter, filter_map, flat_map, find, position, slice_get, Option, Some, None, if◌then◌else◌, is_some, option_map, option_and_then, codes}
 use Rattle.std.specs.List.{list_any}
-use Rattle.scj_base.specs.declared.places.Pos.{Pos}
 use Rattle.scj_builtins.specs.declared.rows.GivesKind.{GivesKind}
 use Rattle.scj_builtins.specs.declared.rows.GivesKind.TheVariants.{Nothing, Number, Long, Sequencer, Mission}
-use Rattle.scj_builtins.specs.Framework.{ClassKind, concrete_class, abstract_class, interface_type, static_only, form_only, FrameworkClass, FrameworkMethod, ParameterKind, int_parameter, text_parameter, object_parameter, runnable_parameter, framework_classes, framework_methods, object, runnable, safelet, mission, mission_sequencer, periodic_handler, aperiodic_handler}
+use Rattle.scj_builtins.specs.Framework.{ClassKind, concrete_class, abstract_class, interface_type, FrameworkClass, FrameworkMethod, ParameterKind, int_parameter, text_parameter, object_parameter, runnable_parameter, framework_classes, framework_methods, object, runnable, safelet, mission, mission_sequencer, periodic_handler, aperiodic_handler}
 use Rattle.scj_tree.specs.declared.nodes.Node.{Node}
 use Rattle.scj_tree.specs.Forest.{Forest, joined}
 use Rattle.scj_rules.specs.declared.scopes.Written.{Written}
-use Rattle.scj_rules.specs.Words.{is_same, is_among, is_named_among, along, chain, chain_behind, holds}
-use Rattle.scj_rules.specs.Views.{nowhere, Modifiers, no_modifiers, WrittenType, int_type, void_type, long_type, text_type, class_type, Declared, DeclaredMethod, DeclaredConstructor, WrittenClass, class_at, field_at, method_at, constructor_at}
+use Rattle.scj_rules.specs.Words.{is_same, is_among, along, chain, chain_behind, holds}
+use Rattle.scj_rules.specs.Views.{nowhere, no_modifiers, WrittenType, int_type, void_type, long_type, text_type, class_type, Declared, DeclaredMethod, DeclaredConstructor, WrittenClass, class_at, field_at, method_at, constructor_at}
 
 -- ---- numbers of classes: the framework's in their order, then the user classes in the order of the sources, then the
 -- arrays of int, of boolean and of each of these classes
@@ -259,22 +258,22 @@ unfoldable pub forbidden_interfaces : List (List ℕ) → List ClassRow → List
 forbidden_interfaces names rows there [] = []
 forbidden_interfaces names rows there (w ∷ ws) =
     elim (class_number names w.name) [
-      None ↦ forbidden_interfaces names rows there ws
-    | Some class ↦
-        (if not (holds (slice_get rows class) (λ (row : ClassRow). is_implemented row.kind)) || brings_too_many there (filter is_kind (class ∷ [])) then w ∷ [] else [])
-        ++ forbidden_interfaces names rows (there ++ filter is_kind (class ∷ [])) ws
+      | None ↦ forbidden_interfaces names rows there ws
+      | Some class ↦
+          (if not (holds (slice_get rows class) (λ (row : ClassRow). is_implemented row.kind)) || brings_too_many there (filter is_kind (class ∷ [])) then w ∷ [] else [])
+          ++ forbidden_interfaces names rows (there ++ filter is_kind (class ∷ [])) ws
     ]
 
 -- C10: `extends` names what no class extends, `implements` what no class implements, or a name brings a second kind
 unfoldable pub forbidden_supers : List (List ℕ) → List ClassRow → WrittenClass → List Written
 forbidden_supers names rows c =
     elim c.extends [
-      None ↦ forbidden_interfaces names rows [] c.implements
-    | Some e ↦ elim (class_number names e.name) [
-        None ↦ forbidden_interfaces names rows [] c.implements
-      | Some class ↦
-          (if not (holds (slice_get rows class) (λ (row : ClassRow). is_extended row.kind)) || brings_too_many [] (kinds_of rows class) then e ∷ [] else [])
-          ++ forbidden_interfaces names rows (kinds_of rows class) c.implements
+      | None ↦ forbidden_interfaces names rows [] c.implements
+      | Some e ↦ elim (class_number names e.name) [
+        | None ↦ forbidden_interfaces names rows [] c.implements
+        | Some class ↦
+            (if not (holds (slice_get rows class) (λ (row : ClassRow). is_extended row.kind)) || brings_too_many [] (kinds_of rows class) then e ∷ [] else [])
+            ++ forbidden_interfaces names rows (kinds_of rows class) c.implements
       ]
     ]
 
@@ -289,8 +288,8 @@ is_well_headed names rows class c = is_empty (unknown_supers names c) && not (is
 unfoldable pub counted_row : List (List ℕ) → List ClassRow → ℕ → ClassRow → ClassRow
 counted_row names rows class row =
     elim row.written [
-      None ↦ row
-    | Some c ↦ if is_well_headed names rows class c then row else record row { superclass = Some object; interfaces = [] }
+      | None ↦ row
+      | Some c ↦ if is_well_headed names rows class c then row else record row { superclass = Some object; interfaces = [] }
     ]
 
 -- the rows from this number on, as they count

@@ -1,15 +1,15 @@
 -- Where a node stands: its class and member, the variables that are known there (JLS 6.3), and whether there is an
 -- object that `this` names (JLS 8.4.3.2, 8.8.7.1).
-use Rattle.std.specs.Prelude.{ℕ, zero, suc, ◌+◌, Bool, true, false, not, ◌&&◌, ◌||◌, ◌==◌, List, [], ◌∷◌, length, map, find, position, take_while, slice_get, Option, Some, None, if◌then◌else◌, is_some, option_map, option_and_then}
+use Rattle.std.specs.Prelude.{ℕ, ◌+◌, Bool, true, false, not, ◌&&◌, ◌||◌, ◌==◌, List, [], ◌∷◌, length, find, position, take_while, slice_get, Option, Some, None, if◌then◌else◌, is_some, option_map}
 use Rattle.scj_tree.specs.declared.nodes.Node.{Node}
-use Rattle.scj_tree.specs.declared.nodes.Node.TheVariants.{Class, Field, Method, Constructor, Parameters, SuperCall, Block, For, FieldAccess, Call}
+use Rattle.scj_tree.specs.declared.nodes.Node.TheVariants.{Field, Method, Constructor, Parameters, SuperCall, Block, For, FieldAccess, Call}
 use Rattle.scj_tree.specs.Forest.{Forest}
 use Rattle.scj_tree.specs.Shape.{children}
-use Rattle.scj_tree.specs.Recursion.{told, listed, falling}
+use Rattle.scj_tree.specs.Recursion.{told, falling}
 use Rattle.scj_rules.specs.declared.scopes.Definition.{Definition}
 use Rattle.scj_rules.specs.Definitions.{read, definitions}
 use Rattle.scj_rules.specs.Words.{is_same, is_among, chain, holds, or_else}
-use Rattle.scj_rules.specs.Views.{Modifiers, Declared, variable_at, Declared, modifiers_at, WrittenClass}
+use Rattle.scj_rules.specs.Views.{variable_at, modifiers_at, WrittenClass}
 use Rattle.scj_rules.specs.Classes.{ClassRow, first_user_class, class_nodes, user_classes, class_names, written_rows, counted_from}
 
 -- the class in which a node stands, the member, the last variable that is known at the node, whether it stands in the
@@ -91,8 +91,8 @@ parent_in nodes id = position (λ node. is_among id (children node)) nodes
 unfoldable pub context_of : List Node → List ℕ → ℕ → (ℕ → Context) → Context
 context_of nodes classes id larger =
     elim (parent_in nodes id) [
-      None ↦ outermost
-    | Some parent ↦ elim (slice_get nodes parent) [ None ↦ outermost | Some node ↦ child_context nodes classes parent node (larger parent) id ]
+      | None ↦ outermost
+      | Some parent ↦ elim (slice_get nodes parent) [ None ↦ outermost | Some node ↦ child_context nodes classes parent node (larger parent) id ]
     ]
 
 -- the contexts of all nodes
@@ -103,7 +103,7 @@ contexts_in forest = falling outermost (context_of forest.nodes (class_nodes for
 
 -- the nodes; the user classes; the names of all classes; their rows as written and as they count; the definitions of
 -- scopes; the contexts of the nodes
-pub record Program : Type 0 where
+pub record Declarations : Type 0 where
   pub nodes : List Node
   pub users : List WrittenClass
   pub names : List (List ℕ)
@@ -112,8 +112,8 @@ pub record Program : Type 0 where
   pub scopes : List Definition
   pub contexts : List Context
 
-unfoldable pub program_of : Forest → Program
-program_of forest =
+unfoldable pub declarations_of : Forest → Declarations
+declarations_of forest =
     let users = user_classes forest in
     let names = class_names users in
     let written = written_rows forest.nodes users in
@@ -127,15 +127,15 @@ program_of forest =
       contexts = contexts_in forest;
     }
 
-abbrev pub context : Program → ℕ → Context
+abbrev pub context : Declarations → ℕ → Context
 context p id = told outermost p.contexts id
 
 -- the variables that are known at a node, the last first
-unfoldable pub known_variables : Program → ℕ → List ℕ
+unfoldable pub known_variables : Declarations → ℕ → List ℕ
 known_variables p id = elim (context p id).last [ None ↦ [] | Some last ↦ chain (λ v. (context p v).last) (length p.nodes) last ]
 
 -- the variable of a name that is known at a node: the last one that is declared
-unfoldable pub variable_named : Program → ℕ → List ℕ → Option ℕ
+unfoldable pub variable_named : Declarations → ℕ → List ℕ → Option ℕ
 variable_named p id name = find (λ v. holds (variable_at p.nodes v) (λ d. is_same name d.name)) (known_variables p id)
 
 -- the annotations and modifiers of a member
@@ -149,5 +149,5 @@ abbrev pub is_static_member : List Node → ℕ → Bool
 is_static_member nodes member = holds (read nodes member_flags member) (λ flags. (modifiers_at nodes flags).is_static)
 
 -- there is an object that `this` names
-unfoldable pub has_object : Program → ℕ → Bool
+unfoldable pub has_object : Declarations → ℕ → Bool
 has_object p id = not (context p id).in_super_call && not (holds (context p id).member (is_static_member p.nodes))

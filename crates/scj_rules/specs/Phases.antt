@@ -1,5 +1,5 @@
 -- What is broken in each phase, and the report: all breaks of the first phase that has any.
-use Rattle.std.specs.Prelude.{◌≡◌, ℕ, List, [], ◌∷◌, ◌++◌, length, flat_map, slice_get, Option, Some, None, ◌⊎◌}
+use Rattle.std.specs.Prelude.{ℕ, List, [], ◌∷◌, ◌++◌, length, flat_map, slice_get, Option, Some, None, ◌⊎◌}
 use Rattle.std.specs.List.{Contains}
 use Rattle.scj_base.specs.declared.findings.Found.{Found}
 use Rattle.scj_base.specs.declared.findings.Rule.{Rule}
@@ -9,7 +9,7 @@ use Rattle.scj_tree.specs.Forest.{Forest}
 use Rattle.scj_tree.specs.Recursion.{told, joined_below}
 use Rattle.scj_rules.specs.Views.{WrittenClass}
 use Rattle.scj_rules.specs.Classes.{ClassRow}
-use Rattle.scj_rules.specs.Contexts.{Program, program_of}
+use Rattle.scj_rules.specs.Contexts.{Declarations, declarations_of}
 use Rattle.scj_rules.specs.ClassRules.{c8, class_breaks, node_breaks, numbers_from}
 use Rattle.scj_rules.specs.LimitRules.{class_limits, node_limits}
 use Rattle.scj_rules.specs.TypeRules.{types_in, type_breaks}
@@ -20,30 +20,30 @@ use Rattle.scj_rules.specs.Breaks.{Breaks}
 use Rattle.scj_rules.specs.Report.{IsReport}
 
 -- what a rule finds at all nodes, and at all user classes
-unfoldable pub over_nodes : Program → (ℕ → Node → List Found) → List Found
+unfoldable pub over_nodes : Declarations → (ℕ → Node → List Found) → List Found
 over_nodes p rule = joined_below (λ id. elim (slice_get p.nodes id) [ None ↦ [] | Some node ↦ rule id node ]) (length p.nodes)
 
-unfoldable pub at_class : Program → (ℕ → ClassRow → WrittenClass → List Found) → ℕ → List Found
+unfoldable pub at_class : Declarations → (ℕ → ClassRow → WrittenClass → List Found) → ℕ → List Found
 at_class p rule class = elim (slice_get p.classes class) [ None ↦ [] | Some row ↦ elim row.written [ None ↦ [] | Some c ↦ rule class row c ] ]
 
-unfoldable pub over_classes : Program → (ℕ → ClassRow → WrittenClass → List Found) → List Found
+unfoldable pub over_classes : Declarations → (ℕ → ClassRow → WrittenClass → List Found) → List Found
 over_classes p rule = flat_map (at_class p rule) (numbers_from 0 p.classes)
 
 -- C and K
-unfoldable pub class_phase : Program → List Found
+unfoldable pub class_phase : Declarations → List Found
 class_phase p =
     c8 p ++ (over_classes p (λ class row c. class_breaks p class row c ++ class_limits p class c) ++ over_nodes p (λ id node. node_breaks p id node ++ node_limits p id node))
 
 -- T
-unfoldable pub type_phase : Program → List Found
+unfoldable pub type_phase : Declarations → List Found
 type_phase p = let types = types_in p in over_nodes p (type_breaks p (told None types))
 
 -- S4 to S6
-unfoldable pub scope_phase : Program → List Found
+unfoldable pub scope_phase : Declarations → List Found
 scope_phase p = over_classes p (λ class row c. scope_breaks p class c)
 
 -- A and E
-unfoldable pub use_phase : Program → List Found
+unfoldable pub use_phase : Declarations → List Found
 use_phase p =
     let types = types_in p in
     let scopes = scopes_in p (told None types) in
@@ -54,17 +54,17 @@ abbrev pub IsFound : List Found → Rule → Pos → Type 0
 IsFound found rule place = Contains found (record { pos = place; rule = rule })
 
 abbrev pub BreaksClassRules : Forest → Rule → Pos → Type 0
-BreaksClassRules forest = IsFound (class_phase (program_of forest))
+BreaksClassRules forest = IsFound (class_phase (declarations_of forest))
 
 abbrev pub BreaksTypeRules : Forest → Rule → Pos → Type 0
-BreaksTypeRules forest = IsFound (type_phase (program_of forest))
+BreaksTypeRules forest = IsFound (type_phase (declarations_of forest))
 
 -- S1 to S3, and S4 to S6
 abbrev pub BreaksScopeRules : Forest → Rule → Pos → Type 0
-BreaksScopeRules forest rule place = Breaks forest rule place ⊎ IsFound (scope_phase (program_of forest)) rule place
+BreaksScopeRules forest rule place = Breaks forest rule place ⊎ IsFound (scope_phase (declarations_of forest)) rule place
 
 abbrev pub BreaksUseRules : Forest → Rule → Pos → Type 0
-BreaksUseRules forest = IsFound (use_phase (program_of forest))
+BreaksUseRules forest = IsFound (use_phase (declarations_of forest))
 
 abbrev pub NothingBreaks : (Rule → Pos → Type 0) → Type 0
 NothingBreaks breaks = (rule : Rule) (place : Pos) → ¬ (breaks rule place)
@@ -81,9 +81,9 @@ pub data Reports (forest : Forest) : Option Found → List Found → Type 0 wher
   in_the_text : {found : Found} → Reports forest (Some found) (found ∷ [])
   in_classes : {first : Found} {more : List Found} → IsReport (BreaksClassRules forest) (first ∷ more) → Reports forest None (first ∷ more)
   in_types : {first : Found} {more : List Found} → NothingBreaks (BreaksClassRules forest)
-    → IsReport (BreaksTypeRules forest) (first ∷ more) → Reports forest None (first ∷ more)
+      → IsReport (BreaksTypeRules forest) (first ∷ more) → Reports forest None (first ∷ more)
   in_scopes : {first : Found} {more : List Found} → NothingBreaks (BreaksClassRules forest) → NothingBreaks (BreaksTypeRules forest)
-    → IsReport (BreaksScopeRules forest) (first ∷ more) → Reports forest None (first ∷ more)
+      → IsReport (BreaksScopeRules forest) (first ∷ more) → Reports forest None (first ∷ more)
   in_uses : {first : Found} {more : List Found} → NothingBreaks (BreaksClassRules forest) → NothingBreaks (BreaksTypeRules forest) → NothingBreaks (BreaksScopeRules forest)
-    → IsReport (BreaksUseRules forest) (first ∷ more) → Reports forest None (first ∷ more)
+      → IsReport (BreaksUseRules forest) (first ∷ more) → Reports forest None (first ∷ more)
   nowhere : IsAccepted forest → Reports forest None []

@@ -1,47 +1,46 @@
 -- T1 to T14: what breaks the rules on types, and the types of the nodes that break none. Each is asked of a node by
 -- itself: `types` tells the types of its children.
-use Rattle.std.specs.Prelude.{ℕ, zero, suc, ◌+◌, nat_lt, Bool, true, false, not, ◌&&◌, ◌||◌, ◌==◌, List, [], ◌∷◌, ◌++◌, length, map, filter, slice_get, Option, Some, None, if◌then◌else◌, is_some, option_map, option_and_then}
-use Rattle.std.specs.List.{list_any, list_all}
+use Rattle.std.specs.Prelude.{ℕ, suc, nat_lt, Bool, true, false, not, ◌&&◌, ◌||◌, ◌==◌, List, [], ◌∷◌, ◌++◌, length, slice_get, Option, Some, None, if◌then◌else◌, is_some, option_map, option_and_then}
+use Rattle.std.specs.List.{list_any}
 use Rattle.scj_base.specs.declared.findings.Found.{Found}
 use Rattle.scj_base.specs.declared.findings.Rule.TheVariants.{T1, T2, T3, T4, T5, T6, T7, T8, T9, T10, T11, T12, T13, T14}
-use Rattle.scj_base.specs.declared.places.Pos.{Pos}
-use Rattle.scj_builtins.specs.Framework.{ClassKind, form_only, object, mission, safelet}
+use Rattle.scj_builtins.specs.Framework.{ClassKind, object, safelet}
 use Rattle.scj_tree.specs.declared.nodes.Node.{Node}
-use Rattle.scj_tree.specs.declared.nodes.Node.TheVariants.{Class, ClassType, Field, Method, Constructor, Parameter, SuperCall, Block, Local, LocalWithValue, Assign, If, While, For, Return, Binary, Unary, Cast, Parenthesized, SimpleName, FieldAccess, Call, Element, New, NewArray, Text, Number, True, False, Null, This}
+use Rattle.scj_tree.specs.declared.nodes.Node.TheVariants.{Class, ClassType, Field, Method, Parameter, SuperCall, Block, Local, LocalWithValue, Assign, If, While, For, Return, Binary, Unary, Cast, Parenthesized, SimpleName, FieldAccess, Call, Element, New, NewArray, Text, Number, True, False, Null, This}
 use Rattle.scj_tree.specs.Recursion.{told, rising}
 use Rattle.scj_rules.specs.declared.typing.Ty.{Ty}
-use Rattle.scj_rules.specs.declared.typing.Ty.TheVariants.{Int, Bool as Boolean, Void, NullTy, Label, Class as ClassTy, IntArray, BoolArray, ClassArray}
+use Rattle.scj_rules.specs.declared.typing.Ty.TheVariants.{Int, Bool as Boolean, NullTy, Label, Class as ClassTy}
 use Rattle.scj_rules.specs.Definitions.{read}
-use Rattle.scj_rules.specs.Words.{is_same, is_among, broken, holds}
-use Rattle.scj_rules.specs.Views.{place_at, WrittenType, int_type, void_type, long_type, type_at, Declared, DeclaredMethod, DeclaredConstructor, WrittenClass, variable_at}
-use Rattle.scj_rules.specs.Classes.{ClassRow, FoundField, FoundMethod, is_user_class, class_number, superclass_in, all_interfaces, superclasses, framework_row_named, is_empty}
+use Rattle.scj_rules.specs.Words.{is_among, broken, holds}
+use Rattle.scj_rules.specs.Views.{place_at, WrittenType, void_type, long_type, type_at, Declared, DeclaredConstructor, variable_at}
+use Rattle.scj_rules.specs.Classes.{ClassRow, FoundField, FoundMethod, is_user_class, class_number, superclass_in, all_interfaces, framework_row_named, is_empty}
 use Rattle.scj_rules.specs.ClassRules.{is_same_type}
-use Rattle.scj_rules.specs.Contexts.{Program, Context, context, variable_named, has_object}
-use Rattle.scj_rules.specs.Types.{type_written, are_same, is_int, is_boolean, is_reference, is_array, assigns, element_type, array_of, binary_type, unary_type, Meaning, a_variable, a_field, a_class, nothing, meaning, Receiver, receiver, call_receiver, class_of_receiver, names_class, is_value, is_no_reference, is_array_value, accessed_field, called_method, is_length, is_size_method, is_callable, take_arguments, all_types, constructor_in, constructor_parameters, kind_is, is_concrete, is_form, has_form, form_in, is_form_part, returns_of}
+use Rattle.scj_rules.specs.Contexts.{Declarations, context, variable_named, has_object}
+use Rattle.scj_rules.specs.Types.{type_written, is_int, is_boolean, is_reference, is_array, assigns, element_type, array_of, binary_type, unary_type, Meaning, a_variable, a_field, a_class, nothing, meaning, Receiver, receiver, call_receiver, names_class, is_value, is_no_reference, is_array_value, accessed_field, called_method, is_length, is_callable, take_arguments, all_types, constructor_in, constructor_parameters, kind_is, is_concrete, is_form, has_form, form_in, is_form_part, returns_of}
 
 abbrev pub Types : Type 0
 Types = ℕ → Option Ty
 
-abbrev pub written_type : Program → ℕ → Option Ty
+abbrev pub written_type : Declarations → ℕ → Option Ty
 written_type p node = type_written p.names (type_at p.nodes node)
 
 -- ---- the type of a node that breaks no rule, where its children have the types that it needs
 
-unfoldable pub type_of_meaning : Program → Meaning → Option Ty
+unfoldable pub type_of_meaning : Declarations → Meaning → Option Ty
 type_of_meaning p (a_variable v) = option_and_then (λ (d : Declared). type_written p.names d.type) (variable_at p.nodes v)
 type_of_meaning p (a_field f) = type_written p.names f.field.type
 type_of_meaning p (a_class class) = None
 type_of_meaning p nothing = None
 
 -- the type of a field or of an array's length
-unfoldable pub access_type : Program → Receiver → List ℕ → Option Ty
+unfoldable pub access_type : Declarations → Receiver → List ℕ → Option Ty
 access_type p r name = if is_array_value r && is_length name then Some Int else option_and_then (λ (f : FoundField). type_written p.names f.field.type) (accessed_field p r name)
 
 -- the type of a call: the method's result
-unfoldable pub call_type : Program → Receiver → List ℕ → Option Ty
+unfoldable pub call_type : Declarations → Receiver → List ℕ → Option Ty
 call_type p r name = option_and_then (λ (f : FoundMethod). type_written p.names f.method.declared.type) (called_method p r name)
 
-unfoldable pub type_of : Program → Types → ℕ → Node → Option Ty
+unfoldable pub type_of : Declarations → Types → ℕ → Node → Option Ty
 type_of p types id (Number place value is_negative) = Some Int
 type_of p types id (True place) = Some Boolean
 type_of p types id (False place) = Some Boolean
@@ -66,19 +65,19 @@ unfoldable pub stands_for_nothing : Meaning → Bool
 stands_for_nothing nothing = true
 stands_for_nothing _ = false
 
-unfoldable pub t1 : Program → Types → ℕ → Node → List Found
+unfoldable pub t1 : Declarations → Types → ℕ → Node → List Found
 t1 p types id (SimpleName place name) = broken (stands_for_nothing (meaning p id name)) T1 place
 t1 p types id _ = []
 
 -- T2, name twice: a local or parameter of the name is known here (JLS 6.4)
-unfoldable pub t2 : Program → Types → ℕ → Node → List Found
+unfoldable pub t2 : Declarations → Types → ℕ → Node → List Found
 t2 p types id (Parameter place name flags declared_type) = broken (is_some (variable_named p id name)) T2 place
 t2 p types id (Local place name flags declared_type) = broken (is_some (variable_named p id name)) T2 place
 t2 p types id (LocalWithValue place name_place name flags declared_type value) = broken (is_some (variable_named p id name)) T2 name_place
 t2 p types id _ = []
 
 -- T3, operand: an operand, an index, an array's length or a reference has another type than is asked (JLS 15.10 to 15.24)
-unfoldable pub t3 : Program → Types → ℕ → Node → List Found
+unfoldable pub t3 : Declarations → Types → ℕ → Node → List Found
 t3 p types id (Binary place operator left right) =
     broken (holds (types left) (λ a. holds (types right) (λ b. not (is_some (binary_type p.classes operator a b))))) T3 place
 t3 p types id (Unary place operator operand) = broken (holds (types operand) (λ a. not (is_some (unary_type operator a)))) T3 place
@@ -89,60 +88,60 @@ t3 p types id (Call place name object arguments) = broken (holds (call_receiver 
 t3 p types id _ = []
 
 -- T4, no field: no such field of the type, or a static one through a value (JLS 15.11)
-unfoldable pub lacks_field : Program → Receiver → List ℕ → Bool
+unfoldable pub lacks_field : Declarations → Receiver → List ℕ → Bool
 lacks_field p r name =
     not (is_no_reference r) && (not (is_array_value r && is_length name)
     && elim (accessed_field p r name) [ None ↦ true | Some f ↦ is_value r && f.field.modifiers.is_static ])
 
-unfoldable pub t4 : Program → Types → ℕ → Node → List Found
+unfoldable pub t4 : Declarations → Types → ℕ → Node → List Found
 t4 p types id (FieldAccess place name object) = broken (holds (receiver p types object) (λ r. lacks_field p r name)) T4 place
 t4 p types id _ = []
 
 -- T5, no method: no such callable method, a size method, or a static one through a value (JLS 15.12)
-unfoldable pub lacks_method : Program → Receiver → List ℕ → Bool
+unfoldable pub lacks_method : Declarations → Receiver → List ℕ → Bool
 lacks_method p r name =
     not (is_no_reference r)
     && elim (called_method p r name) [ None ↦ true | Some f ↦ not (is_callable p f) || (is_value r && f.method.declared.modifiers.is_static) ]
 
-unfoldable pub t5 : Program → Types → ℕ → Node → List Found
+unfoldable pub t5 : Declarations → Types → ℕ → Node → List Found
 t5 p types id (Call place name object arguments) =
     broken (holds (call_receiver p types id object) (λ r. holds (all_types types arguments) (λ ts. lacks_method p r name))) T5 place
 t5 p types id _ = []
 
 -- T6, arguments: their number or types don't fit (JLS 15.9.3, 15.12.2, 8.8.7)
-abbrev pub misfit : Program → Types → List Declared → List ℕ → Bool
+abbrev pub misfit : Declarations → Types → List Declared → List ℕ → Bool
 misfit p types parameters arguments = holds (all_types types arguments) (λ ts. not (take_arguments p parameters ts))
 
 -- of a call, where there is such a method
-unfoldable pub misfits_method : Program → Types → Receiver → List ℕ → List ℕ → Bool
+unfoldable pub misfits_method : Declarations → Types → Receiver → List ℕ → List ℕ → Bool
 misfits_method p types r name arguments =
     not (lacks_method p r name) && holds (called_method p r name) (λ (f : FoundMethod). misfit p types f.method.parameters arguments)
 
 -- of a `new`: of a user class or of Object, or in a form, whose arguments are ints
-unfoldable pub misfits_new : Program → Types → ℕ → List ℕ → List ℕ → Bool
+unfoldable pub misfits_new : Declarations → Types → ℕ → List ℕ → List ℕ → Bool
 misfits_new p types id name arguments =
     if is_form_part p id then list_any (λ a. not (is_form_part p a) && holds (types a) (λ t. not (is_int t))) arguments
     else holds (class_number p.names name) (λ class. (is_user_class class || (class == object)) && misfit p types (constructor_parameters p.classes class) arguments)
 
 -- the superclass of the class in which a node stands
-abbrev pub superclass_at : Program → ℕ → Option ℕ
+abbrev pub superclass_at : Declarations → ℕ → Option ℕ
 superclass_at p id = option_and_then (superclass_in p.classes) (context p id).class
 
 -- a constructor calls its superclass's without arguments, where no super call is written in it (JLS 8.8.7)
-abbrev pub calls_unwritten : Program → ℕ → Bool
+abbrev pub calls_unwritten : Declarations → ℕ → Bool
 calls_unwritten p class = not (holds (constructor_in p.classes class) (λ (c : DeclaredConstructor). is_some c.super_call))
 
-abbrev pub is_concrete_safelet : Program → ℕ → Bool
+abbrev pub is_concrete_safelet : Declarations → ℕ → Bool
 is_concrete_safelet p class = kind_is is_concrete p class && is_among safelet (all_interfaces p.classes class)
 
 -- of a class, whose constructor is called without arguments though it takes some: by the unwritten super call of the
 -- class, or by the machine, which constructs the safelet
-unfoldable pub misfits_class : Program → ℕ → Bool
+unfoldable pub misfits_class : Declarations → ℕ → Bool
 misfits_class p class =
     (calls_unwritten p class && holds (superclass_in p.classes class) (λ superclass. not (is_empty (constructor_parameters p.classes superclass))))
     || (is_concrete_safelet p class && not (is_empty (constructor_parameters p.classes class)))
 
-unfoldable pub t6 : Program → Types → ℕ → Node → List Found
+unfoldable pub t6 : Declarations → Types → ℕ → Node → List Found
 t6 p types id (Call place name object arguments) = broken (holds (call_receiver p types id object) (λ r. misfits_method p types r name arguments)) T6 place
 t6 p types id (New place name_place name arguments) = broken (misfits_new p types id name arguments) T6 place
 t6 p types id (SuperCall place arguments) =
@@ -151,26 +150,26 @@ t6 p types id (Class place name flags header members) = broken (holds (class_num
 t6 p types id _ = []
 
 -- T7, assignment: the value isn't assignable, or the target is an array's length (JLS 5.2, 15.26)
-abbrev pub misfits_value : Program → Option Ty → Option Ty → Bool
+abbrev pub misfits_value : Declarations → Option Ty → Option Ty → Bool
 misfits_value p target value = holds target (λ t. holds value (λ v. not (assigns p.classes v t)))
 
-unfoldable pub is_length_target : Program → Types → Node → Option Bool
+unfoldable pub is_length_target : Declarations → Types → Node → Option Bool
 is_length_target p types (FieldAccess place name object) = Some (holds (receiver p types object) (λ r. is_array_value r && is_length name))
 is_length_target p types _ = None
 
-unfoldable pub t7 : Program → Types → ℕ → Node → List Found
+unfoldable pub t7 : Declarations → Types → ℕ → Node → List Found
 t7 p types id (Assign place target value) =
     broken (is_some (types target) && (is_some (types value)
-      && (misfits_value p (types target) (types value) || holds (read p.nodes (is_length_target p types) target) (λ b. b)))) T7 place
+    && (misfits_value p (types target) (types value) || holds (read p.nodes (is_length_target p types) target) (λ b. b)))) T7 place
 t7 p types id (LocalWithValue place name_place name flags declared_type value) = broken (misfits_value p (written_type p declared_type) (types value)) T7 place
 t7 p types id (Field place name flags declared_type (Some value)) = broken (misfits_value p (written_type p declared_type) (types value)) T7 place
 t7 p types id _ = []
 
 -- T8, condition: not boolean (JLS 14.9, 14.12, 14.14)
-abbrev pub misfits_condition : Program → Types → ℕ → List Found
+abbrev pub misfits_condition : Declarations → Types → ℕ → List Found
 misfits_condition p types condition = broken (holds (types condition) (λ t. not (is_boolean t))) T8 (place_at p.nodes condition)
 
-unfoldable pub t8 : Program → Types → ℕ → Node → List Found
+unfoldable pub t8 : Declarations → Types → ℕ → Node → List Found
 t8 p types id (If place condition then_part else_part) = misfits_condition p types condition
 t8 p types id (While place condition body) = misfits_condition p types condition
 t8 p types id (For place first condition step body) = misfits_condition p types condition
@@ -182,24 +181,24 @@ result_of_member (Method place name flags result_type parameters body) = Some re
 result_of_member _ = None
 
 -- the result that is written where the node stands, `void` in a constructor
-unfoldable pub result_at : Program → ℕ → WrittenType
+unfoldable pub result_at : Declarations → ℕ → WrittenType
 result_at p id = elim (option_and_then (read p.nodes result_of_member) (context p id).member) [ None ↦ void_type | Some result ↦ type_at p.nodes result ]
 
-abbrev pub fits_result : Program → WrittenType → Ty → Bool
+abbrev pub fits_result : Declarations → WrittenType → Ty → Bool
 fits_result p result t =
     if is_same_type result long_type then is_int t
     else (not (is_same_type result void_type) && holds (type_written p.names result) (assigns p.classes t))
 
-unfoldable pub t9 : Program → Types → ℕ → Node → List Found
+unfoldable pub t9 : Declarations → Types → ℕ → Node → List Found
 t9 p types id (Return place None) = broken (not (is_same_type (result_at p id) void_type)) T9 place
 t9 p types id (Return place (Some value)) = broken (holds (types value) (λ t. not (fits_result p (result_at p id) t))) T9 place
 t9 p types id _ = []
 
 -- T10, end without return: a body with a result doesn't always return (JLS 8.4.7)
-abbrev pub always_returns : Program → ℕ → Bool
+abbrev pub always_returns : Declarations → ℕ → Bool
 always_returns p body = told false (rising false (λ id returns. holds (slice_get p.nodes id) (returns_of p.nodes returns)) (suc body)) body
 
-unfoldable pub t10 : Program → Types → ℕ → Node → List Found
+unfoldable pub t10 : Declarations → Types → ℕ → Node → List Found
 t10 p types id (Method place name flags result_type parameters (Some body)) =
     broken (not (is_same_type (type_at p.nodes result_type) void_type) && not (always_returns p body)) T10 place
 t10 p types id _ = []
@@ -208,7 +207,7 @@ t10 p types id _ = []
 abbrev pub is_never_made : ClassKind → Bool
 is_never_made kind = not (is_concrete kind || is_form kind)
 
-unfoldable pub t11 : Program → Types → ℕ → Node → List Found
+unfoldable pub t11 : Declarations → Types → ℕ → Node → List Found
 t11 p types id (New place name_place name arguments) =
     broken (holds (all_types types arguments) (λ ts. holds (class_number p.names name) (kind_is is_never_made p))) T11 place
 t11 p types id _ = []
@@ -217,7 +216,7 @@ t11 p types id _ = []
 abbrev pub are_related : List ClassRow → Ty → Ty → Bool
 are_related rows t u = is_reference t && (assigns rows t u || assigns rows u t)
 
-unfoldable pub t12 : Program → Types → ℕ → Node → List Found
+unfoldable pub t12 : Declarations → Types → ℕ → Node → List Found
 t12 p types id (Cast place name_place name operand) =
     broken (holds (types operand) (λ t. holds (class_number p.names name) (λ class. not (are_related p.classes t (ClassTy class))))) T12 place
 t12 p types id _ = []
@@ -228,21 +227,21 @@ is_instance_field (a_field f) = not f.field.modifiers.is_static
 is_instance_field _ = false
 
 -- no object is at hand: a class is named, or no object is written and there is none here
-abbrev pub lacks_object : Program → ℕ → Receiver → Bool
+abbrev pub lacks_object : Declarations → ℕ → Receiver → Bool
 lacks_object p id r = names_class r || (not (is_value r) && not (has_object p id))
 
-unfoldable pub t13 : Program → Types → ℕ → Node → List Found
+unfoldable pub t13 : Declarations → Types → ℕ → Node → List Found
 t13 p types id (This place) = broken (not (has_object p id)) T13 place
 t13 p types id (SimpleName place name) = broken (is_instance_field (meaning p id name) && not (has_object p id)) T13 place
 t13 p types id (FieldAccess place name object) =
     broken (holds (receiver p types object) (λ r. lacks_object p id r && holds (accessed_field p r name) (λ (f : FoundField). not f.field.modifiers.is_static))) T13 place
 t13 p types id (Call place name object arguments) =
     broken (holds (call_receiver p types id object) (λ r. holds (all_types types arguments) (λ ts.
-      lacks_object p id r && (not (lacks_method p r name) && holds (called_method p r name) (λ (f : FoundMethod). not f.method.declared.modifiers.is_static))))) T13 place
+    lacks_object p id r && (not (lacks_method p r name) && holds (called_method p r name) (λ (f : FoundMethod). not f.method.declared.modifiers.is_static))))) T13 place
 t13 p types id _ = []
 
 -- T14, misplaced framework form: a form class outside a form, a missing form, a size method of another body
-unfoldable pub element_class : Program → Node → Option ℕ
+unfoldable pub element_class : Declarations → Node → Option ℕ
 element_class p (ClassType place name argument is_array) = class_number p.names name
 element_class p _ = None
 
@@ -260,12 +259,12 @@ is_size_body nodes (Block place (statement ∷ [])) = read nodes (returns_number
 is_size_body nodes _ = None
 
 -- a method of result `long` is one of the framework's size methods, without a body or with that one
-unfoldable pub misfits_size : Program → ℕ → List ℕ → Option ℕ → Bool
+unfoldable pub misfits_size : Declarations → ℕ → List ℕ → Option ℕ → Bool
 misfits_size p id name body =
     not (holds (context p id).class (λ class. holds (framework_row_named p.classes class name) (λ (row : FoundMethod). is_same_type row.method.declared.type long_type)))
     || holds body (λ b. not (holds (read p.nodes (is_size_body p.nodes) b) (λ right. right)))
 
-unfoldable pub t14 : Program → Types → ℕ → Node → List Found
+unfoldable pub t14 : Declarations → Types → ℕ → Node → List Found
 t14 p types id (New place name_place name arguments) = broken (holds (class_number p.names name) (kind_is is_form p) && not (is_form_part p id)) T14 place
 t14 p types id (NewArray place element length) = broken (holds (read p.nodes (element_class p) element) (kind_is is_form p)) T14 place
 t14 p types id (Class place name flags header members) =
@@ -276,18 +275,18 @@ t14 p types id _ = []
 
 -- ---- all of them
 
-unfoldable pub type_breaks : Program → Types → ℕ → Node → List Found
+unfoldable pub type_breaks : Declarations → Types → ℕ → Node → List Found
 type_breaks p types id node =
     t1 p types id node ++ (t2 p types id node ++ (t3 p types id node ++ (t4 p types id node ++ (t5 p types id node ++ (t6 p types id node ++ (t7 p types id node
     ++ (t8 p types id node ++ (t9 p types id node ++ (t10 p types id node ++ (t11 p types id node ++ (t12 p types id node ++ (t13 p types id node ++ t14 p types id node))))))))))))
 
 -- a node that breaks one of these rules has no type
-unfoldable pub type_of_right : Program → Types → ℕ → Node → Option Ty
+unfoldable pub type_of_right : Declarations → Types → ℕ → Node → Option Ty
 type_of_right p types id node = if is_empty (type_breaks p types id node) then type_of p types id node else None
 
-unfoldable pub type_of_next : Program → ℕ → Types → Option Ty
+unfoldable pub type_of_next : Declarations → ℕ → Types → Option Ty
 type_of_next p id types = option_and_then (type_of_right p types id) (slice_get p.nodes id)
 
 -- the type of each node
-unfoldable pub types_in : Program → List (Option Ty)
+unfoldable pub types_in : Declarations → List (Option Ty)
 types_in p = rising None (type_of_next p) (length p.nodes)

@@ -1,19 +1,19 @@
 -- The types of expressions (JLS, chapters 4 and 15), and what a name, an access, a call or a `new` stands for. Each node
 -- is judged by itself, from the types of its children: a node with an ill-typed child has no type and breaks nothing.
-use Rattle.std.specs.Prelude.{ℕ, zero, suc, ◌+◌, nat_lt, nat_le, Bool, true, false, not, ◌&&◌, ◌||◌, ◌==◌, List, [], ◌∷◌, ◌++◌, length, map, find, slice_get, Option, Some, None, if◌then◌else◌, is_some, option_map, option_and_then, codes}
-use Rattle.std.specs.List.{list_any, list_all}
-use Rattle.scj_builtins.specs.Framework.{ClassKind, concrete_class, abstract_class, interface_type, static_only, form_only, object, mission, periodic_handler, aperiodic_handler, mission_sequencer, priority_parameters, periodic_parameters, aperiodic_parameters, storage_parameters, relative_time}
-use Rattle.scj_base.specs.Vocabulary.{sign_equal, sign_not_equal, sign_less, sign_greater, sign_less_equal, sign_greater_equal, sign_and_and, sign_or_or, sign_minus, sign_tilde, sign_not}
+use Rattle.std.specs.Prelude.{ℕ, Bool, true, false, not, ◌&&◌, ◌||◌, ◌==◌, List, [], ◌∷◌, length, slice_get, Option, Some, None, if◌then◌else◌, is_some, option_map, option_and_then, codes}
+use Rattle.std.specs.List.{list_any}
+use Rattle.scj_builtins.specs.Framework.{ClassKind, concrete_class, form_only, object, periodic_handler, aperiodic_handler, mission_sequencer, priority_parameters, periodic_parameters, aperiodic_parameters, storage_parameters, relative_time}
+use Rattle.scj_base.specs.Vocabulary.{sign_equal, sign_not_equal, sign_less, sign_greater, sign_less_equal, sign_greater_equal, sign_and_and, sign_or_or, sign_not}
 use Rattle.scj_tree.specs.declared.nodes.Node.{Node}
-use Rattle.scj_tree.specs.declared.nodes.Node.TheVariants.{Class, Field, Method, Constructor, Parameter, SuperCall, Block, Local, LocalWithValue, Assign, ExpressionStatement, If, While, For, Return, Binary, Unary, Cast, Parenthesized, SimpleName, FieldAccess, Call, Element, New, NewArray, Text, Number, True, False, Null, This}
+use Rattle.scj_tree.specs.declared.nodes.Node.TheVariants.{Block, If, While, Return, SimpleName, New, True}
 use Rattle.scj_rules.specs.declared.typing.Ty.{Ty}
 use Rattle.scj_rules.specs.declared.typing.Ty.TheVariants.{Int, Bool as Boolean, Void, NullTy, Label, Class as ClassTy, IntArray, BoolArray, ClassArray}
 use Rattle.scj_rules.specs.Definitions.{read}
 use Rattle.scj_rules.specs.Words.{is_same, is_among, holds}
-use Rattle.scj_rules.specs.Views.{WrittenType, int_type, boolean_type, void_type, long_type, text_type, int_array, boolean_array, class_type, class_array, type_at, Declared, DeclaredMethod, DeclaredConstructor, WrittenClass, variable_at, constructor_at}
-use Rattle.scj_rules.specs.Classes.{ClassRow, FoundField, FoundMethod, is_user_class, class_number, superclass_in, is_sub, field_named, method_named, framework_row_named}
+use Rattle.scj_rules.specs.Views.{WrittenType, int_type, boolean_type, void_type, long_type, text_type, int_array, boolean_array, class_type, class_array, Declared, DeclaredConstructor}
+use Rattle.scj_rules.specs.Classes.{ClassRow, FoundField, FoundMethod, class_number, superclass_in, is_sub, field_named, method_named, framework_row_named}
 use Rattle.scj_rules.specs.ClassRules.{is_same_type}
-use Rattle.scj_rules.specs.Contexts.{Program, Context, context, variable_named, has_object}
+use Rattle.scj_rules.specs.Contexts.{Declarations, context, variable_named}
 
 -- ---- types
 
@@ -89,7 +89,7 @@ binary_type rows operator a b =
     if is_among operator (sign_and_and ∷ sign_or_or ∷ []) then (if is_boolean a && is_boolean b then Some Boolean else None)
     else (if is_among operator (sign_less ∷ sign_greater ∷ sign_less_equal ∷ sign_greater_equal ∷ []) then (if is_int a && is_int b then Some Boolean else None)
     else (if is_among operator (sign_equal ∷ sign_not_equal ∷ []) then
-      (if (is_int a && is_int b) || ((is_boolean a && is_boolean b) || (is_reference a && (is_reference b && (assigns rows a b || assigns rows b a)))) then Some Boolean else None)
+    (if (is_int a && is_int b) || ((is_boolean a && is_boolean b) || (is_reference a && (is_reference b && (assigns rows a b || assigns rows b a)))) then Some Boolean else None)
     else (if is_int a && is_int b then Some Int else None)))
 
 unfoldable pub unary_type : ℕ → Ty → Option Ty
@@ -104,16 +104,16 @@ pub data Meaning : Type 0 where
   a_class : ℕ → Meaning
   nothing : Meaning
 
-unfoldable pub class_meaning : Program → ℕ → List ℕ → Meaning
+unfoldable pub class_meaning : Declarations → ℕ → List ℕ → Meaning
 class_meaning p id name = if (context p id).before_dot then (elim (class_number p.names name) [ None ↦ nothing | Some class ↦ a_class class ]) else nothing
 
-unfoldable pub meaning : Program → ℕ → List ℕ → Meaning
+unfoldable pub meaning : Declarations → ℕ → List ℕ → Meaning
 meaning p id name =
     elim (variable_named p id name) [
-      Some v ↦ a_variable v
-    | None ↦ elim (option_and_then (λ class. field_named p.classes class name) (context p id).class) [
-        Some f ↦ a_field f
-      | None ↦ class_meaning p id name
+      | Some v ↦ a_variable v
+      | None ↦ elim (option_and_then (λ class. field_named p.classes class name) (context p id).class) [
+        | Some f ↦ a_field f
+        | None ↦ class_meaning p id name
       ]
     ]
 
@@ -122,7 +122,7 @@ class_in (a_class class) = Some class
 class_in _ = None
 
 -- the class that a node names, where it is a simple name that stands for a class
-unfoldable pub class_at_name : Program → ℕ → Node → Option ℕ
+unfoldable pub class_at_name : Declarations → ℕ → Node → Option ℕ
 class_at_name p id (SimpleName place name) = class_in (meaning p id name)
 class_at_name p id _ = None
 
@@ -133,15 +133,15 @@ pub data Receiver : Type 0 where
   the_value : Ty → Receiver
   own_object : ℕ → Receiver
 
-unfoldable pub receiver : Program → (ℕ → Option Ty) → ℕ → Option Receiver
+unfoldable pub receiver : Declarations → (ℕ → Option Ty) → ℕ → Option Receiver
 receiver p types object =
     elim (read p.nodes (class_at_name p object) object) [
-      Some class ↦ Some (the_class class)
-    | None ↦ option_map (λ t. the_value t) (types object)
+      | Some class ↦ Some (the_class class)
+      | None ↦ option_map (λ t. the_value t) (types object)
     ]
 
 -- of a call: where no object is written it is the class in which the call stands
-unfoldable pub call_receiver : Program → (ℕ → Option Ty) → ℕ → Option ℕ → Option Receiver
+unfoldable pub call_receiver : Declarations → (ℕ → Option Ty) → ℕ → Option ℕ → Option Receiver
 call_receiver p types id (Some object) = receiver p types object
 call_receiver p types id None = option_map (λ class. own_object class) (context p id).class
 
@@ -171,26 +171,26 @@ is_no_reference r = holds (type_of_receiver r) (λ t. not (is_reference t))
 abbrev pub is_array_value : Receiver → Bool
 is_array_value r = holds (type_of_receiver r) is_array
 
-abbrev pub accessed_field : Program → Receiver → List ℕ → Option FoundField
+abbrev pub accessed_field : Declarations → Receiver → List ℕ → Option FoundField
 accessed_field p r name = option_and_then (λ class. field_named p.classes class name) (class_of_receiver r)
 
-abbrev pub called_method : Program → Receiver → List ℕ → Option FoundMethod
+abbrev pub called_method : Declarations → Receiver → List ℕ → Option FoundMethod
 called_method p r name = option_and_then (λ class. method_named p.classes class name) (class_of_receiver r)
 
 abbrev pub is_length : List ℕ → Bool
 is_length name = is_same name (codes "length")
 
 -- a method that nobody calls: one of the framework that isn't callable, and the size methods
-abbrev pub is_size_method : Program → FoundMethod → Bool
+abbrev pub is_size_method : Declarations → FoundMethod → Bool
 is_size_method p f =
     is_same_type f.method.declared.type long_type
     && holds (framework_row_named p.classes f.on f.method.declared.name) (λ (row : FoundMethod). is_same_type row.method.declared.type long_type)
 
-abbrev pub is_callable : Program → FoundMethod → Bool
+abbrev pub is_callable : Declarations → FoundMethod → Bool
 is_callable p f = f.method.callable && not (is_size_method p f)
 
 -- a parameter list takes the arguments, each of a known type (JLS 15.12.2); a text fits a framework's parameter alone
-unfoldable pub take_arguments : Program → List Declared → List Ty → Bool
+unfoldable pub take_arguments : Declarations → List Declared → List Ty → Bool
 take_arguments p [] [] = true
 take_arguments p [] (t ∷ ts) = false
 take_arguments p (d ∷ ds) [] = false
@@ -208,7 +208,7 @@ constructor_in rows class = option_and_then (λ (row : ClassRow). elim row.const
 unfoldable pub constructor_parameters : List ClassRow → ℕ → List Declared
 constructor_parameters rows class = elim (constructor_in rows class) [ None ↦ [] | Some c ↦ c.parameters ]
 
-abbrev pub kind_is : (ClassKind → Bool) → Program → ℕ → Bool
+abbrev pub kind_is : (ClassKind → Bool) → Declarations → ℕ → Bool
 kind_is test p class = holds (slice_get p.classes class) (λ (row : ClassRow). test row.kind)
 
 unfoldable pub is_concrete : ClassKind → Bool
@@ -223,27 +223,27 @@ is_form _ = false
 -- PeriodicParameters, AperiodicParameters, StorageParameters)
 
 -- the arguments of `new class(..)` at this node, where they are so many
-unfoldable pub new_of : Program → ℕ → ℕ → Node → Option (List ℕ)
+unfoldable pub new_of : Declarations → ℕ → ℕ → Node → Option (List ℕ)
 new_of p class count (New place name_place name arguments) =
     if holds (class_number p.names name) (λ c. c == class) && (length arguments == count) then Some arguments else None
 new_of p class count _ = None
 
-abbrev pub is_new : Program → ℕ → ℕ → ℕ → Bool
+abbrev pub is_new : Declarations → ℕ → ℕ → ℕ → Bool
 is_new p class count id = is_some (read p.nodes (new_of p class count) id)
 
 -- `new PeriodicParameters(new RelativeTime(e, e), new RelativeTime(e, e))`: its own node, the start's and the period's
-unfoldable pub periodic_part : Program → ℕ → List ℕ → Option (List ℕ)
+unfoldable pub periodic_part : Declarations → ℕ → List ℕ → Option (List ℕ)
 periodic_part p id (start ∷ period ∷ []) = if is_new p relative_time 2 start && is_new p relative_time 2 period then Some (id ∷ start ∷ period ∷ []) else None
 periodic_part p id _ = None
 
 -- the part in the middle of a handler's form
-unfoldable pub middle_part : Program → ℕ → ℕ → Option (List ℕ)
+unfoldable pub middle_part : Declarations → ℕ → ℕ → Option (List ℕ)
 middle_part p superclass id =
     if superclass == periodic_handler then option_and_then (periodic_part p id) (read p.nodes (new_of p periodic_parameters 2) id)
     else (if is_new p aperiodic_parameters 0 id then Some (id ∷ []) else None)
 
 -- the `new` parts of the arguments of a super call, where they are of the form of this framework superclass
-unfoldable pub form_parts : Program → ℕ → List ℕ → Option (List ℕ)
+unfoldable pub form_parts : Declarations → ℕ → List ℕ → Option (List ℕ)
 form_parts p superclass (priority ∷ storage ∷ []) =
     if (superclass == mission_sequencer) && (is_new p priority_parameters 1 priority && is_new p storage_parameters 1 storage) then Some (priority ∷ storage ∷ []) else None
 form_parts p superclass (priority ∷ middle ∷ storage ∷ []) =
@@ -257,14 +257,14 @@ has_form class = is_among class (periodic_handler ∷ aperiodic_handler ∷ miss
 
 -- the parts of the form in a class's constructor, where the class stands directly under such a class and its super call is
 -- of the form
-unfoldable pub form_in : Program → ℕ → Option (List ℕ)
+unfoldable pub form_in : Declarations → ℕ → Option (List ℕ)
 form_in p class =
     option_and_then (λ superclass. if has_form superclass
-      then option_and_then (form_parts p superclass) (option_and_then (λ (c : DeclaredConstructor). c.super_call) (constructor_in p.classes class)) else None)
+    then option_and_then (form_parts p superclass) (option_and_then (λ (c : DeclaredConstructor). c.super_call) (constructor_in p.classes class)) else None)
     (superclass_in p.classes class)
 
 -- the node is one of the parts of its class's form
-unfoldable pub is_form_part : Program → ℕ → Bool
+unfoldable pub is_form_part : Declarations → ℕ → Bool
 is_form_part p id = (context p id).in_super_call && holds (context p id).class (λ class. holds (form_in p class) (is_among id))
 
 -- ---- statements that always return (as JLS 14.21, but for unreachable statements)

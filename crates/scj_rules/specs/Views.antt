@@ -1,6 +1,6 @@
 -- What the nodes of a program declare: annotations and modifiers, types, fields, methods, constructors and classes as
 -- they are written (JLS 8.1, 8.3, 8.4, 8.8).
-use Rattle.std.specs.Prelude.{ℕ, Bool, true, false, List, [], ◌∷◌, map, slice_get, filter_map, Option, Some, None, if◌then◌else◌, option_and_then, option_map, unwrap_or, is_some}
+use Rattle.std.specs.Prelude.{ℕ, Bool, true, false, List, [], slice_get, filter_map, Option, Some, None, if◌then◌else◌, option_and_then, unwrap_or, is_some}
 use Rattle.scj_base.specs.declared.places.Pos.{Pos}
 use Rattle.scj_tree.specs.declared.nodes.Node.{Node}
 use Rattle.scj_tree.specs.declared.nodes.Node.TheVariants.{Class, Flags, Supers, SuperType, IntType, BooleanType, ClassType, VoidType, LongType, Field, Method, Constructor, Parameters, Parameter, SuperCall, Local, LocalWithValue}

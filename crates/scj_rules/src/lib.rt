@@ -2,6 +2,7 @@
 #![tactic(auto)]
 
 pub mod laws;
+pub mod report_laws;
 pub mod scopes;
 pub mod typing;
 

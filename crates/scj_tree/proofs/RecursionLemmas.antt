@@ -124,3 +124,18 @@ listed-at {A} default f (suc n) k =
     (λ (v : (nat_lt k (suc n) ≡ false) × (suc n ≤ k)). rw v.0 (told-behind default (listed f (suc n)) k (omega (arith, length-listed f (suc n), v.1))))
     (below-or-not k (suc n)))
     (below-or-not k n)
+
+below-same : {A : Type 0} (default : A) (f g : ℕ → A) (n : ℕ) → ((k : ℕ) → k < n → f k ≡ g k) → (k : ℕ) → below default n f k ≡ below default n g k
+below-same default f g n h k =
+    ⊎_elim
+    (λ (l : (nat_lt k n ≡ true) × (k < n)). rw l.0 (h k l.1))
+    (λ (m : (nat_lt k n ≡ false) × (n ≤ k)). rw m.0 refl)
+    (below-or-not k n)
+
+-- the equation of a list that is made bottom up
+pub rising-is : {A : Type 0} (default : A) (step : ℕ → (ℕ → A) → A) (n k : ℕ) → k < n
+    → told default (rising default step n) k ≡ step k (below default k (told default (rising default step n)))
+rising-is default step n k h =
+    let same : (j : ℕ) → below default k (by_smaller default step) j ≡ below default k (told default (rising default step n)) j =
+    below-same default (by_smaller default step) (told default (rising default step n)) k (λ j l. sym (rising-at default step n j (omega (arith, l, h)))) in
+    rising-at default step n k h ∙ by_smaller-is default step k ∙ ap (step k) (λ i j. same j i)

@@ -1,0 +1,37 @@
+//! Laws of the report of a program, and of the tables that its rules are told from. Each is the contract of a function
+//! that does nothing.
+
+ghost use Rattle.std.specs.Prelude.{◌≡◌, ◌<◌, ℕ, List, Option, None, length, slice_get};
+ghost use Rattle.scj_base.specs.declared.findings.Found.{Found as Finding};
+ghost use Rattle.scj_tree.specs.Forest.{Forest, IsForest};
+ghost use Rattle.scj_tree.specs.Recursion.{told, below, above};
+ghost use Rattle.scj_rules.specs.Contexts.{Declarations, outermost, contexts_in, context_of};
+ghost use Rattle.scj_tree.specs.Forest.{joined};
+ghost use Rattle.scj_rules.specs.TypeRules.{Types, types_in, type_of_next};
+ghost use Rattle.scj_rules.specs.UseRules.{scopes_in, scope_of_next};
+ghost use Rattle.scj_rules.specs.Phases.{IsAccepted, Reports};
+
+/// Some program breaks no rule.
+pub fn some_program_is_accepted()
+    ensures { (forest : Forest) × IsForest forest × IsAccepted forest }
+{}
+
+/// A program has one report at most.
+pub fn one_report_of_a_program()
+    ensures { (forest : Forest) (early : Option Finding) (xs ys : List Finding) → Reports forest early xs → Reports forest early ys → xs ≡ ys }
+{}
+
+/// The type of a node is told by those of the nodes before it.
+pub fn types_come_from_below()
+    ensures { (p : Declarations) (id : ℕ) → id < length p.nodes → told None (types_in p) id ≡ type_of_next p id (below None id (told None (types_in p))) }
+{}
+
+/// The static scope of a node is told by those of the nodes before it.
+pub fn scopes_come_from_below()
+    ensures { (p : Declarations) (types : Types) (id : ℕ) → id < length p.nodes → told None (scopes_in p types) id ≡ scope_of_next p types id (below None id (told None (scopes_in p types))) }
+{}
+
+/// The context of a node is told by those of the nodes behind it.
+pub fn contexts_come_from_above()
+    ensures { (forest : Forest) (id : ℕ) → id < length forest.nodes → told outermost (contexts_in forest) id ≡ context_of forest.nodes (joined forest.files) id (above outermost id (told outermost (contexts_in forest))) }
+{}
