@@ -70,3 +70,6 @@ pub no_answer : (st : State) (i : List Lexeme) (p : Pos) → way st i ≡ up_to 
 unfolding way answer answered
 no_answer st [] p e = cc
 no_answer st (t ∷ o) p e = stopped_at (step st t) t o p (λ next h. no_answer next o p h) e
+
+pub way_answer : (st last : State) (i : List Lexeme) → way st i ≡ to last → answer st i ≡ finished last
+way_answer st last i e = (way_run st last i e).1

@@ -9,6 +9,7 @@ pub mod declarations;
 pub mod elements;
 pub mod enclosing_statements;
 pub mod endings;
+pub mod file_reads;
 pub mod files;
 pub mod flags;
 pub mod growing_nodes;
