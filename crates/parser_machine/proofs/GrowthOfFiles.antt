@@ -332,7 +332,7 @@ classes_are (one_class_more {N1 = N1} {N2 = N2} {ids = ids} {id = id} b d) =
     let P : List Node → Type 0 = λ M. AllClasses M ids in
     AllClasses-append N2 ids (id ∷ []) (subst P (sym g.whole) (AllClasses-more N1 g.more ids (classes_are b))) (class_is d)
 
-tree_grown : {N N1 : List Node} {i : List Lexeme} {ids : List ℕ} → Tree N i N1 ids → Grown N N1 ids
+pub tree_grown : {N N1 : List Node} {i : List Lexeme} {ids : List ℕ} → Tree N i N1 ids → Grown N N1 ids
 tree_grown (file d c) = classes_grown c
 tree_grown (file_of_package p d c) = classes_grown c
 
