@@ -1,14 +1,9 @@
-//! The parser: reads the sources of a call into a program.
+//! The parser: the tokens of a file read into the tree of a program.
 #![tactic(auto)]
 
-pub mod first;
-pub mod headers;
-pub mod lexemes;
+mod heights;
+pub mod parse_answers;
 pub mod parses;
-mod plants;
-mod readers;
-mod reads;
-mod scans;
 
-pub use first::{FirstAnswer, parse_first};
-pub use parses::{ParseAnswer, parse};
+pub use parse_answers::ParseAnswer;
+pub use parses::parse;
