@@ -7,6 +7,9 @@ former. All others are changes of a few files: one byte, or one token, or a cut.
 """
 
 import os
+import sys
+
+sys.dont_write_bytecode = True
 import recogniser
 from recogniser import begin, lex, refused, step
 
