@@ -1,21 +1,20 @@
 -- Behind the end of a file stands nothing, and what the way over its lexemes tells.
-use Rattle.std.proofs.Common.{◌≡◌, ℕ, List, [], ◌∷◌, ◌++◌, Option, Some, None, refl, sym, ◌∙◌, ap}
+use Rattle.std.proofs.Common.{◌≡◌, List, [], ◌∷◌, ◌++◌, Option, Some, None, refl, ap}
 use Rattle.parser_machine.specs.Blocks.{first_start, local_named_step, name_bracket_step, name_first_step, return_step, statement_sign, statement_start, statement_word, statements_step, target_start, test_open_step}
 use Rattle.parser_machine.specs.Closing.{}
 use Rattle.parser_machine.specs.Declarations.{annotation_named, class_start, define_assign_step, define_name_step, define_open_step, define_other_assign_step, define_other_step, define_scope_named, element_node, member_start, member_word, other_word, pair_ended, plain_assigned_step, plain_dot_step, plain_end_step, plain_first_step, plain_name_step, plain_next_step, plain_open_step, plain_path_step, plain_value_step, runs_in_named, scope_named, type_argument_end_step, type_argument_name_step, type_bracket_step, type_end_step, type_name_step, type_start, value_dot_step, value_end_step, value_open_step, value_scope_step, value_start_step}
 use Rattle.parser_machine.specs.Files.{class_name_step, class_named_step, classes_step, file_start_step, import_dot_step, import_end_step, import_name_step, import_star_step, import_start_step, imports_step, interface_sign, package_end_step, package_name_step, super_argument_end_step, super_argument_name_step, super_name_step, super_named_step, superclass_sign}
 use Rattle.parser_machine.specs.Members.{constructor_start_step, is_else, literal_end_step, literal_minus_step, literal_step, literal_word, member_named_step, members_step, method_named_step, parameter_end_step, parameters_end_step, parameters_first_step, result_step, super_end_step, super_open_step}
 use Rattle.parser_machine.specs.Operands.{argument_first_step, argument_start, closed_name_step, compound_step, dot_name_step, dot_step, is_operand_start, minus_step, name_step, new_element_step, new_name_step, new_step, opened_name_step, opened_step, operand_sign, operand_start, operand_word, stepping_step, target_name_step}
-use Rattle.parser_machine.specs.Machine.{answer, finished, run, step, step_mode}
+use Rattle.parser_machine.specs.Machine.{run, step, step_mode}
 use Rattle.parser_machine.specs.States.{State, at}
 use Rattle.parser_machine.specs.declared.entries.Entry.{Entry}
 use Rattle.parser_machine.specs.declared.modes.Mode.{Mode}
 use Rattle.parser_machine.specs.declared.modes.Mode.TheVariants.{ArgumentFirst, ArgumentNext, Assigned, At, ClassName, ClassNamed, ClosedName, ConstructorStart, DefineAssign, DefineName, DefineOpen, DefineOther, DefineOtherAssign, Dot, DotName, FileStart, Finished, FlagsRead, ForFirst, ForOpen, ForStepStart, IfOpen, ImportDot, ImportEnd, ImportName, ImportStar, ImportStart, InClasses, InImports, InMembers, InStatements, LiteralDone, LiteralMinus, LiteralStart, LocalNamed, MemberNamed, MethodNamed, Minus, NameBracket, NameFirst, NameRead, NewElement, NewName, NewStart, Opened, OpenedName, Operand, PackageEnd, PackageName, ParameterDone, ParametersDone, ParametersFirst, PlainAssigned, PlainDot, PlainEnd, PlainFirst, PlainName, PlainNext, PlainOpen, PlainPath, PostDone, ResultDone, ReturnStart, StatementEnd, StatementStart, SuperArgumentEnd, SuperArgumentName, SuperDone, SuperEnd, SuperName, SuperNamed, SuperOpen, TextRead, TypeArgumentEnd, TypeArgumentName, TypeBracket, TypeDone, TypeEnd, TypeName, ValueDot, ValueOpen, ValueRead, ValueScope, ValueStart, WhileOpen}
 use Rattle.scj_base.specs.declared.places.Pos.{Pos}
-use Rattle.scj_tree.specs.Lexemes.{Lexeme, place_of_lexeme, the_end}
+use Rattle.scj_tree.specs.Lexemes.{Lexeme, the_end}
 use Rattle.scj_tree.specs.Terminals.{is_unary1_start}
 use Rattle.scj_tree.specs.declared.nodes.Node.{Node}
-use Rattle.parser_steps.specs.Outcomes.{Way, to, up_to, way}
 use Rattle.parser_steps.proofs.Ends.{end_assign, end_at, end_flags, end_plain, end_post, end_statement, end_super, end_text, end_typed}
 
 -- one lexeme more

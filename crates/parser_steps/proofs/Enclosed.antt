@@ -1,7 +1,7 @@
 -- A statement that ends with its last part.
 use Rattle.std.proofs.Common.{◌≡◌, ℕ, Bool, true, false, List, ◌∷◌, length, Option, Some, None, refl, if◌then◌else◌}
 use Rattle.parser_machine.specs.Members.{is_else, statement_ended}
-use Rattle.parser_machine.specs.States.{State, at}
+use Rattle.parser_machine.specs.States.{State}
 use Rattle.parser_machine.specs.declared.entries.Entry.{Entry}
 use Rattle.parser_machine.specs.declared.entries.Entry.TheVariants.{ForBody, IfElse, IfThen, WhileBody}
 use Rattle.scj_tree.specs.Headers.{put}

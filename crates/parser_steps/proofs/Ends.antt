@@ -1,17 +1,16 @@
 -- The end of a file stands nowhere but behind its classes.
-use Rattle.std.proofs.Common.{◌≡◌, ℕ, ◌<◌, zero, suc, Bool, true, false, List, [], ◌∷◌, ◌++◌, length, Option, Some, None, nat_lt, refl, sym, ◌∙◌, ap, arith}
+use Rattle.std.proofs.Common.{◌≡◌, ℕ, Bool, true, false, List, [], ◌∷◌, Option, None, nat_lt, refl, arith}
 use Rattle.std.proofs.lemmas.Bool.Decides.{nat_tests}
-use Rattle.parser_machine.specs.Blocks.{first_start, name_bracket_step, return_step, statement_start, statements_step, target_start}
-use Rattle.parser_machine.specs.Closing.{admits, argument_ended, assigned, closed, ended, operation, shifted, target_ended}
+use Rattle.parser_machine.specs.Blocks.{first_start, statement_start, statements_step, target_start}
+use Rattle.parser_machine.specs.Closing.{admits, argument_ended, assigned, closed, ended, operation, target_ended}
 use Rattle.parser_machine.specs.Declarations.{at_step, class_start, declaration_start, flags_ended, flags_step, member_start, plain_without, type_start, typed}
 use Rattle.parser_machine.specs.Files.{super_ended}
 use Rattle.parser_machine.specs.Members.{is_else, member_ended, members_step, statement_ended}
 use Rattle.parser_machine.specs.Operands.{operand_start, post_ended, post_step, text_step}
-use Rattle.parser_machine.specs.States.{State, level_of}
+use Rattle.parser_machine.specs.States.{level_of}
 use Rattle.parser_machine.specs.declared.entries.Entry.{Entry}
 use Rattle.parser_machine.specs.declared.entries.Entry.TheVariants.{AnnotationOpen, ArgumentsOpen, AssignValue, BinaryLeft, BlockOpen, CastOpen, ClassBody, CompoundValue, ConstructorBody, FileOpen, ForBody, ForHead, ForStep, ForTest, GroupOpen, IfElse, IfTest, IfThen, IndexOpen, LengthOpen, LocalOpen, LocalValue, MemberOpen, MethodBody, ParameterOpen, ParametersOpen, ReturnValue, Simple, SupersOpen, Target, UnaryOpen, WhileBody, WhileTest}
 use Rattle.scj_base.specs.declared.places.Pos.{Pos}
-use Rattle.scj_tree.specs.Headers.{put}
 use Rattle.scj_tree.specs.Lexemes.{the_end}
 use Rattle.scj_tree.specs.Terminals.{flags_number, level, with_flags}
 use Rattle.scj_tree.specs.declared.nodes.Node.{Node}

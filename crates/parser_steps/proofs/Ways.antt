@@ -1,7 +1,6 @@
 -- Tokens and the places of their lexemes.
 use Rattle.std.proofs.Common.{◌≡◌, ℕ, List, refl}
 use Rattle.scj_base.specs.declared.lexemes.Token.{Token}
-use Rattle.scj_base.specs.declared.lexemes.TokenKind.{TokenKind}
 use Rattle.scj_base.specs.declared.lexemes.TokenKind.TheVariants.{Name, Word, Number, Text, Sign, End}
 use Rattle.scj_tree.specs.Lexemes.{lexeme_of, place_of_lexeme}
 

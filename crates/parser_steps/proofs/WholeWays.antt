@@ -1,10 +1,10 @@
 -- What the way over the lexemes of a file tells.
-use Rattle.std.proofs.Common.{◌≡◌, List, [], ◌∷◌, ◌++◌, Option, Some, None, refl, sym, ◌∙◌, ap}
+use Rattle.std.proofs.Common.{◌≡◌, List, [], ◌∷◌, ◌++◌, Option, Some, None, refl, ◌∙◌, ap}
 use Rattle.parser_machine.specs.Machine.{Parsed, answer, finished, run, step}
 use Rattle.parser_machine.specs.States.{State}
 use Rattle.scj_base.specs.declared.places.Pos.{Pos}
-use Rattle.scj_tree.specs.Lexemes.{Lexeme, place_of_lexeme, the_end}
-use Rattle.parser_steps.specs.Outcomes.{Way, to, up_to, way}
+use Rattle.scj_tree.specs.Lexemes.{Lexeme, place_of_lexeme}
+use Rattle.parser_steps.specs.Outcomes.{to, up_to, way}
 
 -- the state of a way that goes over all lexemes
 pub way_run : (st last : State) (i : List Lexeme) → way st i ≡ to last → (run st i ≡ Some last) × (answer st i ≡ finished last)

@@ -1,5 +1,5 @@
 -- How the machine goes over the lexemes of a file.
-use Rattle.std.specs.Prelude.{ℕ, ◌+◌, ◌≤◌, List, [], ◌∷◌, length, Option, Some, None, Result, Ok, Err}
+use Rattle.std.specs.Prelude.{ℕ, ◌+◌, ◌≤◌, List, [], ◌∷◌, length, Some, None, Result, Ok, Err}
 use Rattle.parser_machine.specs.Machine.{step}
 use Rattle.parser_machine.specs.States.{State, at}
 use Rattle.parser_machine.specs.declared.entries.Entry.{Entry}

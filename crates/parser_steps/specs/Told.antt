@@ -4,7 +4,6 @@ use Rattle.parser_machine.specs.States.{State, at}
 use Rattle.parser_machine.specs.declared.entries.Entry.{Entry}
 use Rattle.parser_machine.specs.declared.modes.Mode.{Mode}
 use Rattle.scj_base.specs.declared.errors.Memory.{Memory}
-use Rattle.scj_base.specs.declared.places.Pos.{Pos}
 use Rattle.scj_tree.specs.Lexemes.{Lexeme, a_name, a_word, a_number, a_text, a_sign, the_end}
 use Rattle.scj_tree.specs.declared.nodes.Node.{Node}
 use Rattle.parser_steps.specs.declared.views.View.{View}

@@ -1,12 +1,12 @@
 -- From the tokens of a file to its tree or its refusal.
-use Rattle.std.proofs.Common.{◌≡◌, ℕ, ◌+◌, ◌<◌, ◌≤◌, ◌^◌, List, [], ◌∷◌, ◌++◌, length, Option, Some, None, Result, Err, refl, sym, ap, ◌∙◌, subst, arith, append_assoc, length-append}
+use Rattle.std.proofs.Common.{◌≡◌, ℕ, ◌+◌, ◌<◌, ◌≤◌, ◌^◌, List, [], ◌∷◌, ◌++◌, length, Some, None, Result, Err, refl, sym, ap, ◌∙◌, subst, arith, append_assoc, length-append}
 use Rattle.parser_machine.specs.Machine.{answer, finished, parsed, run, start, step}
 use Rattle.parser_machine.specs.States.{State}
 use Rattle.parser_machine.proofs.ClassesRun.{file_run}
 use Rattle.parser_machine.proofs.ClosingPlaces.{refused_at, run_begins}
 use Rattle.parser_machine.proofs.Soundness.{answer_is_tree}
 use Rattle.parser_steps.proofs.BehindEnds.{nothing_behind}
-use Rattle.parser_steps.proofs.WholeWays.{IsStopped, answer_behind, no_answer, way_run, way_stops}
+use Rattle.parser_steps.proofs.WholeWays.{answer_behind, no_answer, way_run, way_stops}
 use Rattle.parser_steps.specs.Outcomes.{AllFit, Fits, to, up_to, way}
 use Rattle.scj_base.specs.Lex.{Lexes, ends, skips, takes, token_at}
 use Rattle.scj_base.specs.Lexeme.{Lexeme as Shape, Piece, lexeme, name, number, sign, text, word}
@@ -22,7 +22,7 @@ use Rattle.parser_machine.proofs.GrowthOfFiles.{forest_kept}
 use Rattle.scj_tree.specs.Forest.{IsForest, forest_of}
 use Rattle.scj_tree.specs.Grammar.{RefusedAt, Tree}
 use Rattle.scj_tree.specs.Heights.{too_deep}
-use Rattle.scj_tree.specs.Lexemes.{Lexeme, lexeme_of, lexemes_of, the_end}
+use Rattle.scj_tree.specs.Lexemes.{Lexeme, lexeme_of, lexemes_of}
 use Rattle.scj_tree.specs.declared.nodes.Node.{Node}
 
 -- ---- tokens

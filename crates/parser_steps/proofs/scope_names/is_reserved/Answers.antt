@@ -1,4 +1,4 @@
-use Rattle.std.proofs.Common.{◌≡◌, ℕ, ◌+◌, ◌||◌, Bool, true, false, List, drop, refl, sym, ap, ◌∙◌, arith}
+use Rattle.std.proofs.Common.{◌≡◌, ℕ, ◌+◌, ◌||◌, Bool, true, false, drop, sym, ap, ◌∙◌, arith}
 use Rattle.scj_base.specs.Vocabulary.{words}
 use Rattle.scj_tree.specs.Lexemes.{is_one_of, same}
 use Rattle.parser_steps.proofs.Reserved.{one_more}

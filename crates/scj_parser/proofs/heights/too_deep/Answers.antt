@@ -1,8 +1,7 @@
-use Rattle.std.proofs.Common.{◌≡◌, ℕ, ◌+◌, ◌<◌, ◌≤◌, List, [], ◌∷◌, ◌++◌, Some, None, drop, length, sym, ap, ◌∙◌, subst, arith}
+use Rattle.std.proofs.Common.{◌≡◌, ℕ, ◌+◌, ◌<◌, ◌≤◌, List, Some, None, drop, sym, ap, ◌∙◌, subst, arith}
 use Rattle.scj_base.specs.declared.places.Pos.{Pos}
 use Rattle.scj_tree.specs.Heights.{first_too_deep, highest, too_deep, weight}
 use Rattle.scj_tree.specs.Shape.{children, place_of}
-use Rattle.scj_tree.specs.declared.nodes.Node.{Node}
 use Rattle.scj_parser.proofs.HeightLemmas.{Gone, gone_all, gone_at, gone_deep, gone_next, gone_small_child, light}
 use Rattle.scj_parser.specs.HeightRows.{body_height_by, row}
 use Rattle.scj_parser.proofs.heights.too_deep.Goals as goal

@@ -1,4 +1,4 @@
-use Rattle.std.proofs.Common.{◌≡◌, ◌+◌, drop, length}
+use Rattle.std.proofs.Common.{◌≡◌, drop}
 use Rattle.scj_parser.proofs.HeightLemmas.{Gone}
 use Rattle.scj_parser.proofs.heights.too_deep.Given as goal
 

@@ -1,11 +1,10 @@
-use Rattle.std.proofs.Common.{◌≡◌, ℕ, ◌≤◌, List, Some, drop, length, ap, sym, ◌∙◌, subst, arith}
+use Rattle.std.proofs.Common.{◌≡◌, ℕ, List, Some, drop, length, ap, sym, ◌∙◌, subst, arith}
 use Rattle.scj_base.specs.declared.findings.Found.{Found}
 use Rattle.scj_base.specs.declared.findings.Rule.TheVariants.{P2}
 use Rattle.scj_parser.proofs.ParsingLemmas.{same_found}
 use Rattle.scj_parser.proofs.Within.{tree_longer, tree_within}
 use Rattle.scj_parser.specs.HeightRows.{ChildrenWithin}
 use Rattle.scj_parser.specs.Parsing.{IsRefused, too_high}
-use Rattle.scj_tree.specs.Grammar.{Tree}
 use Rattle.scj_tree.specs.Heights.{too_deep}
 use Rattle.scj_tree.specs.Lexemes.{lexemes_of}
 use Rattle.scj_tree.specs.declared.nodes.Node.{Node}
