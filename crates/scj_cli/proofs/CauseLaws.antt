@@ -1,56 +1,60 @@
 -- From what each layer leaves to the causes of the call's status.
-use Rattle.std.proofs.Common.{◌≡◌, ℕ, List, [], ◌∷◌, Option, Some, None}
+use Rattle.std.proofs.Common.{◌≡◌, ℕ, List, [], ◌∷◌, Option, Some, None, true}
 use Rattle.scj_base.specs.declared.statuses.Status.{Status}
 use Rattle.scj_base.specs.declared.statuses.Status.TheVariants.{WriteFault}
 use Rattle.scj_base.specs.declared.findings.Found.{Found}
 use Rattle.scj_tree.specs.Forest.{Forest}
 use Rattle.scj_rules.specs.Breaks.{Breaks}
+use Rattle.scj_rules.specs.HeaderForm.{is_header_form}
 use Rattle.scj_rules.specs.Report.{IsReport}
-use Rattle.scj_io.specs.Loads.{ShelfRun, LoadHolds}
+use Rattle.scj_rules.specs.Syntax.{Reads}
+use Rattle.scj_io.specs.Loads.{ShelfRun}
 use Rattle.scj_io.specs.Puts.{SinkRun, sink_run, PutWhole}
 use Rattle.scj_io.proofs.PutLaws.{PutWhole-nothing}
-use Rattle.scj_cli.specs.Jobs.{Job, files_of, file_limit}
-use Rattle.scj_cli.specs.Jobs.Job.{Check}
+use Rattle.command_line.specs.Job.{Job, Check}
+use Rattle.scj_cli.specs.Jobs.{files_of}
 use Rattle.scj_cli.specs.Answers.{Answer, status_on, text_on}
 use Rattle.scj_cli.specs.Answers.Answer.{no_job, other_form, refused, accepted}
-use Rattle.scj_cli.specs.Readings.{forest_with}
-use Rattle.scj_cli.specs.Endings.{call_of, IsAmong, MayStand, Comes, Ends}
-use Rattle.scj_cli.specs.Endings.IsAmong.{here}
-use Rattle.scj_cli.specs.Endings.MayStand.{none, next}
+use Rattle.scj_cli.specs.Endings.{call_of, MayStand, Comes, Ends}
+use Rattle.scj_cli.specs.Endings.MayStand.{none}
 use Rattle.scj_cli.specs.Endings.Comes.{answered, unread, overlong, out_of_memory}
 use Rattle.scj_cli.specs.Endings.Ends.{whole, fault_of_out, fault_of_err}
-use Rattle.scj_cli.specs.Refusals.{status_of, line_of, RefusesLoad}
-use Rattle.scj_cli.specs.Modes.{IsAnswered, Stops, RefusesForm, Tells}
+use Rattle.scj_cli.specs.Refusals.{status_of, line_of, RefusesLoads}
+use Rattle.scj_cli.specs.Modes.{IsAnswered, Stops, RefusesForm, RefusesProgram, Tells}
 use Rattle.scj_cli.specs.Modes.Stops.{told, broken}
 use Rattle.scj_cli.specs.Modes.Tells.{whole as put_whole, fault as put_fault}
 use Rattle.scj_cli.specs.declared.refusals.Refusal.{Refusal}
 use Rattle.scj_cli.specs.declared.refusals.Refusal.TheVariants.{Usage, Unread, Overlong, OtherForm, OutOfMemory}
 use Rattle.scj_cli.specs.declared.refusals.Stop.TheVariants.{Told, Broken}
 
--- what was found on a forest is the answer on the contents that were read as it
-pub Answer-found : (names contents : List (List ℕ)) (forest : Forest) (found : List Found) → forest_with contents ≡ Some forest → IsReport (Breaks forest) found → Answer (Some (Check names)) contents (status_on found) (text_on names found) []
-Answer-found names contents forest [] reads report = accepted reads report
-Answer-found names contents forest (first ∷ others) reads report = refused reads report
+-- what was found on a program is the answer on the contents that were read as it
+pub Answer-found : (names contents : List (List ℕ)) (forest : Forest) (found : List Found) → Reads contents forest → is_header_form forest ≡ true → IsReport (Breaks forest) found → Answer (Some (Check names)) contents (status_on found) (text_on names found) []
+Answer-found names contents forest [] reads form report = accepted reads form report
+Answer-found names contents forest (first ∷ others) reads form report = refused reads form report
 
--- what a load of a file of the job was refused for is the cause of a status
-pub Comes-load : (job : Option Job) (shelf : ShelfRun) (name : List ℕ) (refusal : Refusal) → IsAmong name (files_of job) → RefusesLoad shelf name refusal → Comes job shelf (status_of refusal) [] (line_of refusal)
-Comes-load job shelf name Usage among refuses = absurd refuses
-Comes-load job shelf name (Unread line) among refuses = rw refuses.1 (unread among refuses.0)
-Comes-load job shelf name (Overlong line) among refuses = rw refuses.2 (overlong among refuses.0 refuses.1)
-Comes-load job shelf name OtherForm among refuses = absurd refuses
-Comes-load job shelf name OutOfMemory among refuses = out_of_memory
+-- what a program was refused for is what its contents are
+pub Refuses-program : (names contents : List (List ℕ)) (forest : Forest) (refusal : Refusal) → Reads contents forest → RefusesProgram forest refusal → RefusesForm (Check names) contents refusal
+Refuses-program names contents forest Usage reads refuses = absurd refuses
+Refuses-program names contents forest (Unread line) reads refuses = absurd refuses
+Refuses-program names contents forest (Overlong line) reads refuses = absurd refuses
+Refuses-program names contents forest OtherForm reads refuses = other_form reads refuses
+Refuses-program names contents forest OutOfMemory reads refuses = tt
+
+-- what the loads of a job's files were refused for is the cause of a status
+pub Comes-loads : (job : Job) (shelf : ShelfRun) (refusal : Refusal) → RefusesLoads shelf (files_of (Some job)) refusal → Comes (Some job) shelf (status_of refusal) [] (line_of refusal)
+Comes-loads job shelf Usage refuses = absurd refuses
+Comes-loads job shelf (Unread line) refuses = rw refuses.2.1 (unread refuses.1 refuses.2.0)
+Comes-loads job shelf (Overlong line) refuses = rw refuses.2.2 (overlong refuses.1 refuses.2.0 refuses.2.1)
+Comes-loads job shelf OtherForm refuses = absurd refuses
+Comes-loads job shelf OutOfMemory refuses = out_of_memory
 
 -- what a judgement was refused for is the cause of a status
-pub Comes-form : (names : List (List ℕ)) (shelf : ShelfRun) (contents : List (List ℕ)) (refusal : Refusal) → MayStand shelf names contents → RefusesForm contents refusal → Comes (Some (Check names)) shelf (status_of refusal) [] (line_of refusal)
-Comes-form names shelf contents Usage stands refuses = absurd refuses
-Comes-form names shelf contents (Unread line) stands refuses = absurd refuses
-Comes-form names shelf contents (Overlong line) stands refuses = absurd refuses
-Comes-form names shelf contents OtherForm stands refuses = answered stands (other_form refuses)
-Comes-form names shelf contents OutOfMemory stands refuses = out_of_memory
-
--- what was loaded may stand under the one name
-pub MayStand-loaded : (shelf : ShelfRun) (name content : List ℕ) → LoadHolds shelf name file_limit content → MayStand shelf (name ∷ []) (content ∷ [])
-MayStand-loaded shelf name content loaded = next loaded.content loaded.within none
+pub Comes-form : (job : Job) (shelf : ShelfRun) (contents : List (List ℕ)) (refusal : Refusal) → MayStand shelf (files_of (Some job)) contents → RefusesForm job contents refusal → Comes (Some job) shelf (status_of refusal) [] (line_of refusal)
+Comes-form job shelf contents Usage stands refuses = absurd refuses
+Comes-form job shelf contents (Unread line) stands refuses = absurd refuses
+Comes-form job shelf contents (Overlong line) stands refuses = absurd refuses
+Comes-form job shelf contents OtherForm stands refuses = answered stands refuses
+Comes-form job shelf contents OutOfMemory stands refuses = out_of_memory
 
 -- words that ask for nothing stop the call
 pub Stops-no_job : (shelf : ShelfRun) (taken : Option (List ℕ)) (faults : ℕ) → Stops None shelf (sink_run taken taken faults faults) (Told Usage)
@@ -67,12 +71,13 @@ Ends-told (told comes untouched) (put_fault put) = fault_of_err comes untouched 
 pub Ends-broken : {job : Option Job} {shelf : ShelfRun} {out err : SinkRun} → Stops job shelf out Broken → PutWhole err [] → Ends (call_of job shelf out err) WriteFault
 Ends-broken (broken comes put) untouched = fault_of_out comes put untouched
 
--- from the steps of a check to its end; `name` is the one file's, and `bytes` are what was loaded
-pub Stops-load : (names : List (List ℕ)) (name : List ℕ) (shelf : ShelfRun) (taken : Option (List ℕ)) (faults : ℕ) (refusal : Refusal) → names ≡ name ∷ [] → RefusesLoad shelf name refusal → Stops (Some (Check names)) shelf (sink_run taken taken faults faults) (Told refusal)
-Stops-load names name shelf taken faults refusal one refuses = rw one (told (Comes-load (Some (Check (name ∷ []))) shelf name refusal here refuses) (PutWhole-nothing taken faults))
+-- from the steps of a mode to its end
+pub Stops-loads : (job : Job) (shelf : ShelfRun) (taken : Option (List ℕ)) (faults : ℕ) (refusal : Refusal) → RefusesLoads shelf (files_of (Some job)) refusal → Stops (Some job) shelf (sink_run taken taken faults faults) (Told refusal)
+Stops-loads job shelf taken faults refusal refuses = told (Comes-loads job shelf refusal refuses) (PutWhole-nothing taken faults)
 
-pub Stops-form : (names : List (List ℕ)) (name bytes : List ℕ) (shelf : ShelfRun) (taken : Option (List ℕ)) (faults : ℕ) (refusal : Refusal) → names ≡ name ∷ [] → LoadHolds shelf name file_limit bytes → RefusesForm (bytes ∷ []) refusal → Stops (Some (Check names)) shelf (sink_run taken taken faults faults) (Told refusal)
-Stops-form names name bytes shelf taken faults refusal one loaded refuses = rw one (told (Comes-form (name ∷ []) shelf (bytes ∷ []) refusal (MayStand-loaded shelf name bytes loaded) refuses) (PutWhole-nothing taken faults))
+pub Stops-form : (job : Job) (shelf : ShelfRun) (contents : List (List ℕ)) (taken : Option (List ℕ)) (faults : ℕ) (refusal : Refusal) → MayStand shelf (files_of (Some job)) contents → RefusesForm job contents refusal → Stops (Some job) shelf (sink_run taken taken faults faults) (Told refusal)
+Stops-form job shelf contents taken faults refusal stands refuses = told (Comes-form job shelf contents refusal stands refuses) (PutWhole-nothing taken faults)
 
-pub Comes-answer : (names : List (List ℕ)) (name bytes : List ℕ) (shelf : ShelfRun) (status : Status) (text : List ℕ) → names ≡ name ∷ [] → LoadHolds shelf name file_limit bytes → Answer (Some (Check names)) (bytes ∷ []) status text [] → Comes (Some (Check names)) shelf status text []
-Comes-answer names name bytes shelf status text one loaded answer = answered (rw one (MayStand-loaded shelf name bytes loaded)) answer
+-- words that were not read for want of memory
+pub Stops-words : (job : Option Job) (shelf : ShelfRun) (taken : Option (List ℕ)) (faults : ℕ) → Stops job shelf (sink_run taken taken faults faults) (Told OutOfMemory)
+Stops-words job shelf taken faults = told out_of_memory (PutWhole-nothing taken faults)

@@ -1,3 +1,5 @@
 pub mod AnswerLaws
 pub mod CauseLaws
 pub mod EndLaws
+pub mod LoadLaws
+pub mod ShowLaws

@@ -1,14 +1,15 @@
 -- What each job answers: its status, and its texts on the two sinks.
-use Rattle.std.specs.Prelude.{◌≡◌, ℕ, List, [], ◌∷◌, codes, Option, Some, None}
+use Rattle.std.specs.Prelude.{◌≡◌, ℕ, ◌+◌, List, [], ◌∷◌, ◌++◌, codes, Option, Some, None, true, false}
 use Rattle.scj_base.specs.declared.findings.Found.{Found}
 use Rattle.scj_base.specs.declared.statuses.Status.{Status}
 use Rattle.scj_base.specs.declared.statuses.Status.TheVariants.{Done, Refused, Usage, NotBuilt}
 use Rattle.scj_tree.specs.Forest.{Forest}
 use Rattle.scj_rules.specs.Breaks.{Breaks}
 use Rattle.scj_rules.specs.Report.{IsReport}
-use Rattle.scj_cli.specs.Jobs.{Job}
-use Rattle.scj_cli.specs.Jobs.Job.{Check}
-use Rattle.scj_cli.specs.Readings.{forest_with}
+use Rattle.scj_rules.specs.Syntax.{Reads, BreaksSyntax}
+use Rattle.scj_rules.specs.HeaderForm.{is_header_form}
+use Rattle.scj_show.specs.Symbols.{text_of_file}
+use Rattle.command_line.specs.Job.{Job, Check, Show}
 use Rattle.scj_cli.specs.Reports.{report_text}
 
 abbrev pub accepted_line : List ℕ
@@ -20,19 +21,37 @@ usage_line = codes "scj: usage\n"
 abbrev pub not_built_line : List ℕ
 not_built_line = codes "scj: form not built\n"
 
+-- the canonical texts of some files of a program, the first of them with this number, one behind the other
+unfoldable pub shown_from : Forest → ℕ → List (List ℕ) → List ℕ
+shown_from forest file [] = []
+shown_from forest file (classes ∷ more) = text_of_file forest file ++ shown_from forest (file + 1) more
+
+-- the canonical texts of all files
+abbrev pub shown_text : Forest → List ℕ
+shown_text forest = shown_from forest 0 forest.files
+
 -- the status and the texts on `out` and on `err` that a job has on these contents of its files
 pub data Answer : Option Job → List (List ℕ) → Status → List ℕ → List ℕ → Type 0 where
   no_job : {contents : List (List ℕ)} →
       Answer None contents Usage [] usage_line
-  other_form : {names contents : List (List ℕ)} →
-      forest_with contents ≡ None →
+  check_unreadable : {names contents : List (List ℕ)} {found : Found} →
+      BreaksSyntax contents found →
+      Answer (Some (Check names)) contents Refused (report_text names (found ∷ [])) []
+  other_form : {names contents : List (List ℕ)} {forest : Forest} →
+      Reads contents forest → is_header_form forest ≡ false →
       Answer (Some (Check names)) contents NotBuilt [] not_built_line
   refused : {names contents : List (List ℕ)} {forest : Forest} {first : Found} {others : List Found} →
-      forest_with contents ≡ Some forest → IsReport (Breaks forest) (first ∷ others) →
+      Reads contents forest → is_header_form forest ≡ true → IsReport (Breaks forest) (first ∷ others) →
       Answer (Some (Check names)) contents Refused (report_text names (first ∷ others)) []
   accepted : {names contents : List (List ℕ)} {forest : Forest} →
-      forest_with contents ≡ Some forest → IsReport (Breaks forest) [] →
+      Reads contents forest → is_header_form forest ≡ true → IsReport (Breaks forest) [] →
       Answer (Some (Check names)) contents Done accepted_line []
+  show_unreadable : {names contents : List (List ℕ)} {found : Found} →
+      BreaksSyntax contents found →
+      Answer (Some (Show names)) contents Refused (report_text names (found ∷ [])) []
+  shown : {names contents : List (List ℕ)} {forest : Forest} →
+      Reads contents forest →
+      Answer (Some (Show names)) contents Done (shown_text forest) []
 
 -- the status and the text of a check that found these breaks
 abbrev pub status_on : List Found → Status

@@ -6,7 +6,8 @@ use Rattle.scj_io.specs.Counters.{Rose}
 use Rattle.scj_io.specs.Loads.{Held, ShelfRun, MayHold, MayExceed}
 use Rattle.scj_io.specs.Loads.Held.{Told, Absent}
 use Rattle.scj_io.specs.Puts.{SinkRun, PutWhole, PutFront}
-use Rattle.scj_cli.specs.Jobs.{Job, files_of, file_limit}
+use Rattle.command_line.specs.Job.{Job}
+use Rattle.scj_cli.specs.Jobs.{files_of, file_limit}
 use Rattle.scj_cli.specs.Answers.{Answer}
 
 -- a call: its job, and what became of its shelf and its two sinks from its begin to its end

@@ -2,6 +2,5 @@ pub mod Answers
 pub mod Endings
 pub mod Jobs
 pub mod Modes
-pub mod Readings
 pub mod Refusals
 pub mod Reports

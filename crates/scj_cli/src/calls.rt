@@ -3,13 +3,14 @@
 ghost use Rattle.std.specs.Prelude.{◌≡◌, [], ◌∷◌, length, map, string_bytes, IfOk, IfErr, Some};
 ghost use Rattle.scj_io.specs.Loads.{ShelfGoes, shelf_run};
 ghost use Rattle.scj_io.specs.Puts.{sink_run};
-ghost use Rattle.scj_cli.specs.Jobs.{job_of};
+ghost use Rattle.command_line.specs.Job.{job_of};
 ghost use Rattle.scj_cli.specs.Modes.{IsAnswered, Stops, Tells};
 ghost use Rattle.scj_cli.specs.Endings.{Ends, call_of, IsExact, IsLongExactly, IsNeverAbsent};
 
 use crate::checks::check;
 use crate::refusals::{Refusal, Stop};
-use crate::words::names_to_check;
+use crate::shows::show;
+use command_line::{Job, WordsAnswer, read_words};
 use scj_base::Status;
 use scj_io::{Shelf, Sink, put_all};
 use std::alloc::Global;
@@ -82,9 +83,11 @@ fn answer<H: Shelf, K: Sink>(
         (shelf_run (H.held shelf.old) (H.faults shelf.old) (H.faults shelf.new) (H.most shelf.new))
         (sink_run (K.taken out.old) (K.taken out.new) (K.faults out.old) (K.faults out.new)) stop) }
 {
-    match names_to_check(words) {
-        Some(names) => check(alloc, names, shelf, out),
-        None => Err(Stop::Told(Refusal::Usage)),
+    match read_words(alloc, words) {
+        Ok(Job::Check { sources }) => check(alloc, &sources, shelf, out),
+        Ok(Job::Show { sources }) => show(alloc, &sources, shelf, out),
+        Err(WordsAnswer::Usage) => Err(Stop::Told(Refusal::Usage)),
+        Err(WordsAnswer::Memory) => Err(Stop::Told(Refusal::OutOfMemory)),
     }
 }
 

@@ -1,32 +1,34 @@
 //! The mode that checks sources.
 
-ghost use Rattle.std.specs.Prelude.{◌≡◌, [], ◌∷◌, ◌≤◌, length, map, string_bytes, IfOk, IfErr, Some};
+ghost use Rattle.std.specs.Prelude.{◌≡◌, [], ◌≤◌, length, map, string_bytes, IfOk, IfErr, Some, true};
 ghost use Rattle.scj_io.specs.Loads.{ShelfGoes, shelf_run};
 ghost use Rattle.scj_io.specs.Puts.{sink_run};
-ghost use Rattle.scj_cli.specs.Jobs.Job.{Check};
-ghost use Rattle.scj_cli.specs.Jobs.{file_limit};
+ghost use Rattle.command_line.specs.Job.{Check};
+ghost use Rattle.scj_check.specs.Texts.{texts_of};
 ghost use Rattle.scj_cli.specs.Answers.{Answer, status_on, text_on};
-ghost use Rattle.scj_cli.specs.Readings.{forest_with};
-ghost use Rattle.scj_cli.specs.Modes.{IsAnswered, Stops, RefusesForm};
+ghost use Rattle.scj_cli.specs.Modes.{IsAnswered, Stops, RefusesForm, RefusesProgram};
+ghost use Rattle.scj_rules.specs.Breaks.{Breaks};
+ghost use Rattle.scj_rules.specs.HeaderForm.{is_header_form};
+ghost use Rattle.scj_rules.specs.Report.{IsReport};
 
-use crate::loads::load;
+use crate::loads::load_all;
 use crate::refusals::{Refusal, Stop};
 use crate::reports::report;
 use scj_base::{Found, Status};
+use scj_check::{Reading, Sources, is_header_form, read};
 use scj_io::{Shelf, Sink, put_all};
-use scj_parser::{FirstAnswer, parse_first};
 use scj_tree::Program;
 use scope_tree::check_definitions;
 use std::alloc::{AllocError, Global};
 
-/// Checks the one file that is named, and puts `accepted` or the report on `out`.
+/// Checks the files of these names, and puts `accepted` or the report on `out`.
 pub fn check<H: Shelf, K: Sink>(
     alloc: Global,
     names: &[String],
     shelf: &mut H,
     out: &mut K,
 ) -> Result<Status, Stop>
-    requires { length names.now ≡ 1 }
+    requires { length names.now ≤ 16 }
     ensures goes { ShelfGoes (H.held shelf.old) (H.held shelf.new) (H.faults shelf.old) (H.faults shelf.new) (H.most shelf.old) (H.most shelf.new) }
     ensures ok { IfOk result (λ status. IsAnswered (Some (Check (map string_bytes names.now)))
         (shelf_run (H.held shelf.old) (H.faults shelf.old) (H.faults shelf.new) (H.most shelf.new))
@@ -35,18 +37,10 @@ pub fn check<H: Shelf, K: Sink>(
         (shelf_run (H.held shelf.old) (H.faults shelf.old) (H.faults shelf.new) (H.most shelf.new))
         (sink_run (K.taken out.old) (K.taken out.new) (K.faults out.old) (K.faults out.new)) stop) }
 {
-    let name = only(names);
-    let bytes = load(alloc, name, shelf)?;
-    let verdict = judge(alloc, names, &bytes)?;
+    let sources = load_all(alloc, names, shelf)?;
+    let verdict = judge(alloc, names, &sources)?;
     put_all(out, verdict.text.as_bytes())?;
     Ok(verdict.status)
-}
-
-fn only(names: &[String]) -> &str
-    requires { length names.now ≡ 1 }
-    ensures { map string_bytes names.now ≡ result.now ∷ [] }
-{
-    &names[0]
 }
 
 // What a check answers.
@@ -56,30 +50,30 @@ struct Verdict {
     text: String,
 }
 
-// The answer on the contents of the one file.
-fn judge(alloc: Global, names: &[String], bytes: &[u8]) -> Result<Verdict, Refusal>
-    requires { length bytes.now ≤ file_limit }
-    ensures ok { IfOk result (λ verdict. Answer (Some (Check (map string_bytes names.now))) (bytes.now ∷ []) verdict.status (string_bytes verdict.text) []) }
-    ensures refusal { IfErr result (λ refusal. RefusesForm (bytes.now ∷ []) refusal) }
+// The answer on the contents of the files.
+fn judge(alloc: Global, names: &[String], sources: &Sources) -> Result<Verdict, Refusal>
+    ensures ok { IfOk result (λ verdict. Answer (Some (Check (map string_bytes names.now))) (texts_of sources.now) verdict.status (string_bytes verdict.text) []) }
+    ensures refusal { IfErr result (λ refusal. RefusesForm (Check (map string_bytes names.now)) (texts_of sources.now) refusal) }
 {
-    let program = read(alloc, bytes)?;
-    let found = check_definitions(alloc, &program)?;
-    Ok(verdict_on(alloc, names, &found)?)
+    match read(alloc, sources)? {
+        Reading::Read(program) => {
+            let found = check_program(alloc, &program)?;
+            Ok(verdict_on(alloc, names, &found)?)
+        }
+        Reading::Broken(found) => Ok(verdict_on(alloc, names, &[found])?),
+    }
 }
 
-// The program of the one file.
-#[tactic(auto, unfolding(crate::specs::Readings::forest_with))]
-fn read(alloc: Global, bytes: &[u8]) -> Result<Program, Refusal>
-    requires { length bytes.now ≤ file_limit }
-    ensures ok { IfOk result (λ program. forest_with (bytes.now ∷ []) ≡ Some program) }
-    ensures refusal { IfErr result (λ refusal. RefusesForm (bytes.now ∷ []) refusal) }
+// The breaks of a program that is of the form that is checked so far.
+fn check_program(alloc: Global, program: &Program) -> Result<Vec<Found>, Refusal>
+    ensures form { IfOk result (λ found. is_header_form program.now ≡ true) }
+    ensures ok { IfOk result (λ found. IsReport (Breaks program.now) found.items) }
+    ensures refusal { IfErr result (λ refusal. RefusesProgram program.now refusal) }
 {
-    let mut program = Program::new(alloc);
-    match parse_first(alloc, 0, bytes, &mut program) {
-        Ok(()) => Ok(program),
-        Err(FirstAnswer::NotBuilt) => Err(Refusal::OtherForm),
-        Err(FirstAnswer::Memory) => Err(Refusal::OutOfMemory),
+    if !is_header_form(program) {
+        return Err(Refusal::OtherForm);
     }
+    Ok(check_definitions(alloc, program)?)
 }
 
 fn verdict_on(alloc: Global, names: &[String], found: &[Found]) -> Result<Verdict, AllocError>

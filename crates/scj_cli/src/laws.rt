@@ -2,7 +2,7 @@
 
 ghost use Rattle.std.specs.Prelude.{ℕ, List, Option};
 ghost use Rattle.scj_base.specs.declared.statuses.Status.{Status as Told};
-ghost use Rattle.scj_cli.specs.Jobs.{Job};
+ghost use Rattle.command_line.specs.Job.{Job};
 ghost use Rattle.scj_cli.specs.Answers.{Answer, IsSameAnswer};
 
 /// A job has one answer at most on the contents of its files.

@@ -7,6 +7,6 @@ pub mod laws;
 mod loads;
 mod refusals;
 mod reports;
-mod words;
+mod shows;
 
 pub use calls::scj;

@@ -1,19 +1,42 @@
 //! The loads of the files that the words name.
 
-ghost use Rattle.std.specs.Prelude.{◌≡◌, ℕ, IfOk, IfErr};
+ghost use Rattle.std.specs.Prelude.{◌≡◌, ◌≤◌, ℕ, length, map, string_bytes, IfOk, IfErr};
 ghost use Rattle.scj_io.specs.Loads.{ShelfGoes, LoadHolds, shelf_run};
+ghost use Rattle.scj_check.specs.Texts.{texts_of};
 ghost use Rattle.scj_cli.specs.Jobs.{file_limit};
-ghost use Rattle.scj_cli.specs.Refusals.{RefusesLoad};
+ghost use Rattle.scj_cli.specs.Endings.{MayStand};
+ghost use Rattle.scj_cli.specs.Refusals.{RefusesLoad, RefusesLoads};
 
 use crate::refusals::Refusal;
+use scj_check::Sources;
 use scj_io::{LoadAnswer, Shelf};
 use std::alloc::Global;
 
 /// The most bytes of a file.
 pub const FILE_LIMIT: usize = 1_048_576;
 
+/// The files of these names, loaded in their order up to the first that can't be had.
+pub fn load_all<H: Shelf>(
+    alloc: Global,
+    names: &[String],
+    shelf: &mut H,
+) -> Result<Sources, Refusal>
+    requires { length names.now ≤ 16 }
+    ensures goes { ShelfGoes (H.held shelf.old) (H.held shelf.new) (H.faults shelf.old) (H.faults shelf.new) (H.most shelf.old) (H.most shelf.new) }
+    ensures ok { IfOk result (λ sources. MayStand (shelf_run (H.held shelf.old) (H.faults shelf.old) (H.faults shelf.new) (H.most shelf.new)) (map string_bytes names.now) (texts_of sources)) }
+    ensures refusal { IfErr result (λ refusal. RefusesLoads (shelf_run (H.held shelf.old) (H.faults shelf.old) (H.faults shelf.new) (H.most shelf.new)) (map string_bytes names.now) refusal) }
+{
+    let mut sources = Sources::new(alloc);
+    for name in names {
+        let bytes = load(alloc, name, shelf)?;
+        let name = String::from_str(alloc, name)?;
+        sources.add(name, bytes)?;
+    }
+    Ok(sources)
+}
+
 /// The bytes of a file.
-pub fn load<H: Shelf>(alloc: Global, name: &str, shelf: &mut H) -> Result<Vec<u8>, Refusal>
+fn load<H: Shelf>(alloc: Global, name: &str, shelf: &mut H) -> Result<Vec<u8>, Refusal>
     ensures goes { ShelfGoes (H.held shelf.old) (H.held shelf.new) (H.faults shelf.old) (H.faults shelf.new) (H.most shelf.old) (H.most shelf.new) }
     ensures ok { IfOk result (λ bytes. LoadHolds (shelf_run (H.held shelf.old) (H.faults shelf.old) (H.faults shelf.new) (H.most shelf.new)) name.now file_limit bytes.items) }
     ensures refusal { IfErr result (λ refusal. RefusesLoad (shelf_run (H.held shelf.old) (H.faults shelf.old) (H.faults shelf.new) (H.most shelf.new)) name.now refusal) }

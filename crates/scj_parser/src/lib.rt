@@ -1,12 +1,9 @@
-//! The parser: reads the sources of a call into a program.
+//! The parser: the tokens of a file read into the tree of a program.
 #![tactic(auto)]
 
-pub mod first;
-pub mod headers;
-pub mod lexemes;
-mod plants;
-mod readers;
-mod reads;
-mod scans;
+mod heights;
+pub mod parse_answers;
+pub mod parses;
 
-pub use first::{FirstAnswer, parse_first};
+pub use parse_answers::ParseAnswer;
+pub use parses::parse;

@@ -1,6 +1,7 @@
 //! Calls over a shelf with one file and two sinks in memory. Each row is a call with ample memory, and has
 //! the whole of what it leaves.
 
+use crate::endings::Ending;
 use scj_base::Status;
 use scj_cli::scj;
 use scj_io::{MemShelf, MemSink};
@@ -92,9 +93,8 @@ const ROWS: [Row; 22] = [
     },
     Row {
         content: b"class A { } \xff",
-        status: Status::NotBuilt,
-        out: "",
-        err: "scj: form not built\n",
+        status: Status::Refused,
+        out: "S.java:1:13: L1 bad byte\nrefused 1\n",
         ..ACCEPTED
     },
     // a file that isn't there, and a load that fails
@@ -167,7 +167,7 @@ const ROWS: [Row; 22] = [
         ..USAGE
     },
     Row {
-        words: ["check", "S.java", "S.java"],
+        words: ["check", "S.java", "--size"],
         count: 3,
         ..USAGE
     },
@@ -220,14 +220,6 @@ fn shelf_of(alloc: Global, content: &[u8], fault: Fault) -> Result<MemShelf, Fai
         shelf.fail_at(call)?;
     }
     Ok(shelf)
-}
-
-// What a call leaves.
-#[derive(Drop)]
-struct Ending {
-    status: Status,
-    out: MemSink,
-    err: MemSink,
 }
 
 fn left_by(alloc: Global, words: &[String], content: &[u8], fault: Fault) -> Result<Ending, Fail> {

@@ -6,11 +6,13 @@ pub mod ClassRules
 pub mod Classes
 pub mod Contexts
 pub mod Definitions
+pub mod HeaderForm
 pub mod LimitRules
 pub mod Phases
 pub mod Report
 pub mod ScopeRules
 pub mod StaticScopes
+pub mod Syntax
 pub mod TypeRules
 pub mod Types
 pub mod UseRules

@@ -1,0 +1,4 @@
+pub mod Growing
+pub mod Told
+pub mod Enclosing
+pub mod Outcomes

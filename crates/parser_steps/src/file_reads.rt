@@ -1,0 +1,98 @@
+//! Reading of the tokens of a file, from its begin to its end.
+
+ghost use Rattle.std.specs.Prelude.{◌≡◌, List, ℕ, Ok, Some, None, option_map};
+ghost use Rattle.parser_machine.specs.Machine.{finished, parsed, start};
+ghost use Rattle.parser_machine.specs.States.{State, at};
+ghost use Rattle.parser_machine.specs.declared.modes.Mode.TheVariants.{FileStart};
+ghost use Rattle.parser_steps.specs.Outcomes.{AllFit, Way, leads, to, up_to, way};
+ghost use Rattle.parser_steps.specs.declared.file_reads.FileRead.TheVariants.{Whole, Stopped, Unfinished};
+ghost use Rattle.scj_base.specs.declared.places.Pos.{Pos as Place};
+ghost use Rattle.scj_tree.specs.Lexemes.{lexemes_of};
+ghost use Rattle.scj_tree.specs.declared.nodes.Node.{Node};
+
+use crate::growing_nodes::Nodes;
+use crate::runs::{Outcome, read};
+use crate::stacks::Stack;
+use parser_machine::{Entry, Mode};
+use scj_base::{Memory, Pos, Token};
+use scj_tree::NodeList;
+use std::alloc::Global;
+
+/// What the tokens of a file are.
+#[derive(Debug, Drop)]
+pub enum FileRead {
+    /// A file with these classes.
+    Whole(NodeList),
+    /// No file: the first token that may not stand where it does stands at the place.
+    Stopped(Pos),
+    /// The begin of a file, without its end.
+    Unfinished,
+}
+
+/// The classes of a file that was read to its end.
+#[tactic(auto, unfolding(parser_machine::specs::Machine::finished))]
+fn classes_of(stack: &mut Stack, mode: Mode) -> Option<NodeList>
+    ensures { (nodes : List Node) → finished (at mode stack.old nodes) ≡ option_map (λ ids. parsed nodes ids) result }
+{
+    let Mode::Finished = mode else {
+        return None;
+    };
+    let Some(entry) = stack.pop() else {
+        return None;
+    };
+    match entry {
+        Entry::FileOpen { classes } => Some(classes),
+        _other => None,
+    }
+}
+
+/// What stands on the stack behind all tokens.
+fn end_of(nodes: &Nodes, stack: &mut Stack, mode: Mode) -> FileRead
+    ensures whole { (ids : List ℕ) → result ≡ Whole ids → finished (at mode stack.old nodes.now.all) ≡ Some (parsed nodes.now.all ids) }
+    ensures unfinished { result ≡ Unfinished → finished (at mode stack.old nodes.now.all) ≡ None }
+    ensures stopped { (p : Place) → result ≡ Stopped p → ⊥ }
+{
+    let _ = nodes;
+    match classes_of(stack, mode) {
+        Some(classes) => FileRead::Whole(classes),
+        None => FileRead::Unfinished,
+    }
+}
+
+/// What the tokens of a file are, by how far a run came over them.
+fn told_by(
+    nodes: &Nodes,
+    stack: &mut Stack,
+    outcome: Result<Outcome, Memory>,
+) -> Result<FileRead, Memory>
+    ensures whole { (awaited : Way) (ids : List ℕ) → leads outcome nodes.now.all stack.old awaited ≡ awaited → result ≡ Ok (Whole ids) → (st : State) × (awaited ≡ to st) × (finished st ≡ Some (parsed nodes.now.all ids)) }
+    ensures stopped { (awaited : Way) (p : Place) → leads outcome nodes.now.all stack.old awaited ≡ awaited → result ≡ Ok (Stopped p) → awaited ≡ up_to p }
+    ensures unfinished { (awaited : Way) → leads outcome nodes.now.all stack.old awaited ≡ awaited → result ≡ Ok Unfinished → (st : State) × (awaited ≡ to st) × (finished st ≡ None) }
+{
+    match outcome {
+        Ok(Outcome::Stopped(pos)) => Ok(FileRead::Stopped(pos)),
+        Ok(Outcome::Ended(mode)) => Ok(end_of(nodes, stack, mode)),
+        Err(error) => Err(error),
+    }
+}
+
+/// Reads the tokens of a file behind the nodes.
+pub fn read_file(
+    alloc: Global,
+    nodes: &mut Nodes,
+    bytes: &[u8],
+    tokens: &[Token],
+) -> Result<FileRead, Memory>
+    requires { AllFit bytes.now tokens.now }
+    ensures whole { (ids : List ℕ) → result ≡ Ok (Whole ids) → (st : State) × (way (start nodes.old.all) (lexemes_of bytes.now tokens.now) ≡ to st) × (finished st ≡ Some (parsed nodes.new.all ids)) }
+    ensures stopped { (p : Place) → result ≡ Ok (Stopped p) → way (start nodes.old.all) (lexemes_of bytes.now tokens.now) ≡ up_to p }
+    ensures unfinished { result ≡ Ok Unfinished → (st : State) × (way (start nodes.old.all) (lexemes_of bytes.now tokens.now) ≡ to st) × (finished st ≡ None) }
+    ensures kept { nodes.new.kept ≡ nodes.old.kept }
+{
+    let mut stack = Stack::new(alloc);
+    stack.push(Entry::FileOpen {
+        classes: nodes.empty_list(),
+    })?;
+    let outcome = read(nodes, &mut stack, bytes, tokens);
+    told_by(nodes, &mut stack, outcome)
+}

@@ -1,0 +1,244 @@
+//! A step of the parser by its mode.
+
+ghost use Rattle.std.specs.Prelude.{◌≡◌};
+ghost use Rattle.parser_machine.specs.Machine.{step_mode};
+ghost use Rattle.parser_steps.specs.Told.{gives, seen};
+
+use crate::annotations::{
+    at_step, plain_assigned_step, plain_dot_step, plain_end_step, plain_first_step,
+    plain_name_step, plain_next_step, plain_open_step, plain_path_step,
+};
+use crate::arguments::{
+    argument_first_step, argument_start, new_element_step, new_name_step, new_step, text_step,
+};
+use crate::blocks::{
+    first_start, local_named_step, name_bracket_step, name_first_step, return_step,
+    statement_start, statements_step, target_start, test_open_step,
+};
+use crate::closing::assigned;
+use crate::declarations::flags_step;
+use crate::endings::{members_step, statement_ended};
+use crate::files::{
+    classes_step, file_start_step, import_dot_step, import_end_step, import_name_step,
+    import_star_step, import_start_step, imports_step, package_end_step, package_name_step,
+};
+use crate::growing_nodes::Nodes;
+use crate::heads::{
+    class_name_step, class_named_step, super_argument_end_step, super_argument_name_step,
+    super_ended, super_name_step, super_named_step,
+};
+use crate::members::{
+    literal_end_step, literal_minus_step, literal_step, member_named_step, method_named_step,
+    result_step,
+};
+use crate::operands::{
+    closed_name_step, dot_name_step, dot_step, minus_step, name_step, opened_name_step,
+    opened_step, operand_start, post_step,
+};
+use crate::parameters::{
+    constructor_start_step, parameter_end_step, parameters_end_step, parameters_first_step,
+    super_end_step, super_open_step,
+};
+use crate::scope_values::{
+    define_assign_step, define_name_step, define_open_step, define_other_assign_step,
+    define_other_step, value_dot_step, value_end_step, value_open_step, value_scope_step,
+    value_start_step,
+};
+use crate::stacks::Stack;
+use crate::types::{
+    type_argument_end_step, type_argument_name_step, type_bracket_step, type_end_step,
+    type_name_step, typed,
+};
+use crate::views::View;
+use parser_machine::{Entry, Mode};
+use scj_base::Memory;
+
+/// Takes one lexeme; none where it may not stand here.
+#[tactic(auto, unfolding(parser_machine::specs::Machine::step_mode))]
+pub fn step_mode(
+    nodes: &mut Nodes,
+    stack: &mut Stack,
+    view: &View,
+    mode: Mode,
+) -> Result<Option<Mode>, Memory>
+    ensures step { let awaited = step_mode mode nodes.old.all stack.old (seen view.now) in gives result nodes.new.all stack.new awaited ≡ awaited }
+    ensures kept { nodes.new.kept ≡ nodes.old.kept }
+{
+    match mode {
+        Mode::FileStart => file_start_step(nodes, stack, view),
+        Mode::PackageName => package_name_step(nodes, stack, view),
+        Mode::PackageEnd => package_end_step(nodes, stack, view),
+        Mode::InImports => imports_step(nodes, stack, view),
+        Mode::ImportStart => import_start_step(nodes, stack, view),
+        Mode::ImportName => import_name_step(nodes, stack, view),
+        Mode::ImportDot => import_dot_step(nodes, stack, view),
+        Mode::ImportEnd => import_end_step(nodes, stack, view),
+        Mode::ImportStar => import_star_step(nodes, stack, view),
+        Mode::InClasses => classes_step(nodes, stack, view),
+        Mode::Finished => Ok(None),
+        Mode::FlagsRead { is_local, flags } => flags_step(nodes, stack, view, is_local, flags),
+        Mode::At { place } => at_step(nodes, stack, view, place),
+        Mode::PlainOpen => plain_open_step(nodes, stack, view),
+        Mode::PlainFirst => plain_first_step(nodes, stack, view),
+        Mode::PlainNext => plain_next_step(nodes, stack, view),
+        Mode::PlainName => plain_name_step(nodes, stack, view),
+        Mode::PlainAssigned => plain_assigned_step(nodes, stack, view),
+        Mode::PlainPath => plain_path_step(nodes, stack, view),
+        Mode::PlainDot => plain_dot_step(nodes, stack, view),
+        Mode::PlainEnd => plain_end_step(nodes, stack, view),
+        Mode::ValueOpen => value_open_step(nodes, stack, view),
+        Mode::ValueStart => value_start_step(nodes, stack, view),
+        Mode::ValueScope { place } => value_scope_step(nodes, stack, view, place),
+        Mode::ValueDot { place } => value_dot_step(nodes, stack, view, place),
+        Mode::ValueRead { id } => value_end_step(nodes, stack, view, id),
+        Mode::DefineOpen { place } => define_open_step(nodes, stack, view, place),
+        Mode::DefineName { place } => define_name_step(nodes, stack, view, place),
+        Mode::DefineAssign {
+            place,
+            parent_first,
+        } => define_assign_step(nodes, stack, view, place, parent_first),
+        Mode::DefineOther {
+            place,
+            parent_first,
+            first,
+        } => define_other_step(nodes, stack, view, place, parent_first, first),
+        Mode::DefineOtherAssign {
+            place,
+            parent_first,
+            first,
+        } => define_other_assign_step(nodes, stack, view, place, parent_first, first),
+        Mode::ClassName { flags } => class_name_step(nodes, stack, view, flags),
+        Mode::ClassNamed => class_named_step(nodes, stack, view),
+        Mode::SuperName => super_name_step(nodes, stack, view),
+        Mode::SuperNamed { place, name } => super_named_step(nodes, stack, view, place, name),
+        Mode::SuperArgumentName { place, name } => super_argument_name_step(
+            nodes, stack, view, place, name,
+        ),
+        Mode::SuperArgumentEnd {
+            place,
+            name,
+            argument,
+        } => super_argument_end_step(nodes, stack, view, place, name, argument),
+        Mode::SuperDone { id } => super_ended(nodes, stack, view, id),
+        Mode::InMembers => members_step(nodes, stack, view),
+        Mode::TypeName { place, name } => type_name_step(nodes, stack, view, place, name),
+        Mode::TypeArgumentName { place, name } => type_argument_name_step(
+            nodes, stack, view, place, name,
+        ),
+        Mode::TypeArgumentEnd {
+            place,
+            name,
+            argument,
+        } => type_argument_end_step(nodes, stack, view, place, name, argument),
+        Mode::TypeEnd { place, element } => type_end_step(nodes, stack, view, place, element),
+        Mode::TypeBracket { place, element } => type_bracket_step(
+            nodes, stack, view, place, element,
+        ),
+        Mode::TypeDone { id } => typed(nodes, stack, view, id),
+        Mode::MemberNamed {
+            flags,
+            declared_type,
+            place,
+            name,
+        } => member_named_step(nodes, stack, view, flags, declared_type, place, name),
+        Mode::ResultDone { flags, result_type } => result_step(
+            nodes,
+            stack,
+            view,
+            flags,
+            result_type,
+        ),
+        Mode::MethodNamed {
+            flags,
+            result_type,
+            place,
+            name,
+        } => method_named_step(nodes, stack, view, flags, result_type, place, name),
+        Mode::LiteralStart => literal_step(nodes, stack, view),
+        Mode::LiteralMinus { place } => literal_minus_step(nodes, stack, view, place),
+        Mode::LiteralDone { id } => literal_end_step(nodes, stack, view, id),
+        Mode::ParametersFirst { place } => parameters_first_step(nodes, stack, view, place),
+        Mode::ParameterDone { id } => parameter_end_step(nodes, stack, view, id),
+        Mode::ParametersDone { parameters } => parameters_end_step(nodes, stack, view, parameters),
+        Mode::ConstructorStart { place } => constructor_start_step(nodes, stack, view, place),
+        Mode::SuperOpen { block_place, place } => super_open_step(
+            nodes,
+            stack,
+            view,
+            block_place,
+            place,
+        ),
+        Mode::SuperEnd { block_place } => super_end_step(nodes, stack, view, block_place),
+        Mode::InStatements => statements_step(nodes, stack, view),
+        Mode::StatementStart => statement_start(nodes, stack, view),
+        Mode::StatementEnd { id } => statement_ended(nodes, stack, view, id),
+        Mode::IfOpen { place } => test_open_step(
+            nodes,
+            stack,
+            view,
+            Mode::Operand,
+            Entry::IfTest { place },
+        ),
+        Mode::WhileOpen { place } => test_open_step(
+            nodes,
+            stack,
+            view,
+            Mode::Operand,
+            Entry::WhileTest { place },
+        ),
+        Mode::ForOpen { place } => test_open_step(
+            nodes,
+            stack,
+            view,
+            Mode::ForFirst,
+            Entry::ForHead { place },
+        ),
+        Mode::ForFirst => first_start(nodes, stack, view),
+        Mode::ForStepStart => target_start(nodes, stack, view),
+        Mode::ReturnStart { place } => return_step(nodes, stack, view, place),
+        Mode::NameFirst { place, name } => name_first_step(nodes, stack, view, place, name),
+        Mode::NameBracket {
+            place,
+            name,
+            bracket,
+        } => name_bracket_step(nodes, stack, view, place, name, bracket),
+        Mode::LocalNamed {
+            flags,
+            declared_type,
+            place,
+            name,
+        } => local_named_step(nodes, stack, view, flags, declared_type, place, name),
+        Mode::Assigned { id } => assigned(nodes, stack, view, id),
+        Mode::Operand => operand_start(nodes, stack, view),
+        Mode::NameRead { place, name } => name_step(nodes, stack, view, place, name),
+        Mode::Opened { place } => opened_step(nodes, stack, view, place),
+        Mode::OpenedName {
+            place,
+            name_place,
+            name,
+        } => opened_name_step(nodes, stack, view, place, name_place, name),
+        Mode::ClosedName {
+            place,
+            name_place,
+            name,
+        } => closed_name_step(nodes, stack, view, place, name_place, name),
+        Mode::Minus { place } => minus_step(nodes, stack, view, place),
+        Mode::NewStart { place } => new_step(nodes, stack, view, place),
+        Mode::NewName {
+            place,
+            name_place,
+            name,
+        } => new_name_step(nodes, stack, view, place, name_place, name),
+        Mode::NewElement { place, element } => new_element_step(nodes, stack, view, place, element),
+        Mode::PostDone { kind, place, id } => post_step(nodes, stack, view, kind, place, id),
+        Mode::Dot { object } => dot_step(nodes, stack, view, object),
+        Mode::DotName {
+            object,
+            place,
+            name,
+        } => dot_name_step(nodes, stack, view, object, place, name),
+        Mode::ArgumentFirst => argument_first_step(nodes, stack, view),
+        Mode::ArgumentNext => argument_start(nodes, stack, view),
+        Mode::TextRead { id } => text_step(nodes, stack, view, id),
+    }
+}

@@ -1,0 +1,20 @@
+//! Lexemes as the parser sees them.
+
+use scj_base::{Name, Pos};
+
+/// A token with its name or its text.
+#[derive(Clone, Copy, Debug)]
+pub enum View<'a> {
+    /// A name.
+    Name(Name, Pos),
+    /// A reserved word, by its number.
+    Word(u8, Pos),
+    /// A number, by its value.
+    Number(u32, Pos),
+    /// The bytes between the quotes of a text.
+    Text(&'a [u8], Pos),
+    /// A sign, by its number.
+    Sign(u8, Pos),
+    /// The end of the file.
+    End(Pos),
+}

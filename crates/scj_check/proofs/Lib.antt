@@ -1,0 +1,5 @@
+pub mod GrammarLaws
+pub mod ParserLaws
+pub mod SourceLaws
+pub mod StandLaws
+pub mod SyntaxLaws

@@ -1,0 +1,21 @@
+//! What is true of the texts of every call. These functions do nothing: each stands for a law.
+
+ghost use Rattle.std.specs.Prelude.{◌≡◌, ℕ, List};
+ghost use Rattle.scj_base.specs.declared.findings.Found.{Found as Finding};
+ghost use Rattle.scj_tree.specs.Forest.{Forest};
+ghost use Rattle.scj_rules.specs.Syntax.{Reads, BreaksSyntax};
+
+/// Texts have one program at most.
+pub fn one_program_at_most()
+    ensures { (texts : List (List ℕ)) (one other : Forest) → Reads texts one → Reads texts other → one ≡ other }
+{}
+
+/// Of texts one break at most is told.
+pub fn one_break_at_most()
+    ensures { (texts : List (List ℕ)) (one other : Finding) → BreaksSyntax texts one → BreaksSyntax texts other → one ≡ other }
+{}
+
+/// Texts that have a program have no break.
+pub fn no_break_of_a_program()
+    ensures { (texts : List (List ℕ)) (program : Forest) (found : Finding) → Reads texts program → BreaksSyntax texts found → ⊥ }
+{}

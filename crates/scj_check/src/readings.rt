@@ -1,0 +1,82 @@
+//! Sources read into a program.
+
+ghost use Rattle.std.specs.Prelude.{◌≡◌, ◌+◌, ◌<◌, ◌≤◌, length, IfOk, IfErr};
+ghost use Rattle.scj_base.specs.Lex.{Lex};
+ghost use Rattle.scj_tree.specs.Lexemes.{lexemes_of};
+ghost use Rattle.scj_check.specs.Texts.{texts_of};
+ghost use Rattle.scj_check.specs.Readings.{IsReading, HasFiles, Goes, GoesOn, RefusesText};
+ghost use Rattle.scj_check.specs.declared.readings.Reading.TheVariants.{Read};
+
+use crate::sources::Sources;
+use scj_base::{Found, Memory, Tokens};
+use scj_lexer::{LexAnswer, lex};
+use scj_parser::{ParseAnswer, parse};
+use scj_tree::Program;
+use std::alloc::Global;
+
+/// What sources are read as.
+#[derive(Drop)]
+pub enum Reading {
+    /// Their program.
+    Read(Program),
+    /// The break of the lexemes or of the grammar that is told of them.
+    Broken(Found),
+}
+
+/// Reads sources into a program, in time that grows with their bytes alone.
+///
+/// # Errors
+///
+/// `Memory` may come at any sources.
+pub fn read(alloc: Global, sources: &Sources) -> Result<Reading, Memory>
+    ensures { IfOk result (λ reading. IsReading (texts_of sources.now) reading) }
+{
+    let mut reading = Reading::Read(Program::new(alloc));
+    for file in 0..sources.len() {
+        reading = match add_text(alloc, file as u8, sources.text(file), reading) {
+            Ok(more) => more,
+            Err(LexAnswer::Bad(found)) => return Ok(Reading::Broken(found)),
+            Err(LexAnswer::Memory) => return Err(Memory),
+        };
+    }
+    Ok(reading)
+}
+
+/// What was read before with one more file. A break of the grammar stays, since the lexemes of later files may
+/// still have one, which is told in its place.
+fn add_text(alloc: Global, file: u8, text: &[u8], before: Reading) -> Result<Reading, LexAnswer>
+    requires few { file < 16 }
+    requires short { length text.now ≤ 1048576 }
+    requires next { HasFiles file before }
+    ensures ok { IfOk result (λ after. GoesOn file text.now before after) }
+    ensures files { IfOk result (λ after. HasFiles (file + 1) after) }
+    ensures refusal { IfErr result (λ answer. RefusesText file text.now answer) }
+{
+    let tokens = lex(alloc, file, text)?;
+    match before {
+        Reading::Read(program) => Ok(add_tokens(alloc, file, &tokens, text, program)?),
+        Reading::Broken(found) => Ok(Reading::Broken(found)),
+    }
+}
+
+/// The program with one more file, or the break of the grammar in it.
+fn add_tokens(
+    alloc: Global,
+    file: u8,
+    tokens: &Tokens,
+    text: &[u8],
+    program: Program,
+) -> Result<Reading, Memory>
+    requires few { file < 16 }
+    requires next { file ≡ length program.files }
+    requires tokens { Lex file text.now tokens.now }
+    ensures ok { IfOk result (λ after. Goes (lexemes_of text.now tokens.now) (Read program) after) }
+    ensures files { IfOk result (λ after. HasFiles (file + 1) after) }
+{
+    let mut program = program;
+    match parse(alloc, file, tokens, text, &mut program) {
+        Ok(()) => Ok(Reading::Read(program)),
+        Err(ParseAnswer::Bad(found)) => Ok(Reading::Broken(found)),
+        Err(ParseAnswer::Memory) => Err(Memory),
+    }
+}

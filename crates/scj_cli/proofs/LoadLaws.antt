@@ -1,0 +1,53 @@
+-- Loads one after another.
+use Rattle.std.proofs.Common.{◌≡◌, ℕ, zero, suc, ◌+◌, ◌<◌, ◌≤◌, List, [], ◌∷◌, ◌++◌, length, map, take, get_or, refl, ap, ◌∙◌, subst, arith}
+use Rattle.std.proofs.lemmas.List.{map-append, map_more, length_push}
+use Rattle.scj_io.specs.Loads.{Held, ShelfRun, shelf_run, ShelfGoes, MayHold, MayExceed}
+use Rattle.scj_io.proofs.CounterLaws.{Rose-earlier}
+use Rattle.scj_check.specs.Texts.{texts_of}
+use Rattle.scj_cli.specs.Jobs.{file_limit}
+use Rattle.scj_cli.specs.Endings.{IsAmong, MayStand}
+use Rattle.scj_cli.specs.Endings.IsAmong.{here, later}
+use Rattle.scj_cli.specs.Endings.MayStand.{none, next}
+use Rattle.scj_cli.specs.Refusals.{RefusesLoad, RefusesLoads}
+use Rattle.scj_cli.specs.declared.refusals.Refusal.{Refusal}
+use Rattle.scj_cli.specs.declared.refusals.Refusal.TheVariants.{Usage, Unread, Overlong, OtherForm, OutOfMemory}
+
+pub MayStand-more : {shelf : ShelfRun} {names contents : List (List ℕ)} → MayStand shelf names contents → (name content : List ℕ) → MayHold (shelf.held name) content → length content ≤ file_limit → MayStand shelf (names ++ name ∷ []) (contents ++ content ∷ [])
+MayStand-more none name content holds within = next holds within none
+MayStand-more (next first short rest) name content holds within = next first short (MayStand-more rest name content holds within)
+
+pub goes_by : (held : List ℕ → Held) (faults most : List ℕ → ℕ) → ShelfGoes held held faults faults most most
+goes_by held faults most = record { held = λ name. refl; faults = λ name. omega arith; most = λ name. omega arith }
+
+pub goes_then : (a b c : List ℕ → Held) (f g h k m n : List ℕ → ℕ) → ShelfGoes a b f g k m → ShelfGoes b c g h m n → ShelfGoes a c f h k n
+goes_then a b c f g h k m n one two = record {
+  held = λ name. two.held name ∙ one.held name;
+  faults = λ name. let x = one.faults name in let y = two.faults name in omega arith;
+  most = λ name. let x = one.most name in let y = two.most name in omega arith;
+}
+
+pub among_at : {X : Type 0} (f : X → List ℕ) (xs : List X) (k : ℕ) (d : X) → k < length xs → IsAmong (f (get_or xs k d)) (map f xs)
+among_at f [] k d within = absurd (omega (arith, within))
+among_at f (x ∷ xs) zero d within = here
+among_at f (x ∷ xs) (suc k) d within = later (among_at f xs k d (omega (arith, within)))
+
+-- a load that was refused after others that weren't
+pub refused_later : (held held_then : List ℕ → Held) (faults faults_then faults_after most most_then most_after : List ℕ → ℕ) (names : List (List ℕ)) (name : List ℕ) (refusal : Refusal) → ShelfGoes held held_then faults faults_then most most_then → IsAmong name names → RefusesLoad (shelf_run held_then faults_then faults_after most_after) name refusal → RefusesLoads (shelf_run held faults faults_after most_after) names refusal
+refused_later held held_then faults faults_then faults_after most most_then most_after names name Usage goes among refuses = absurd refuses
+refused_later held held_then faults faults_then faults_after most most_then most_after names name (Unread line) goes among refuses = (name, among, (Rose-earlier _ _ _ (goes.faults name) refuses.0, refuses.1))
+refused_later held held_then faults faults_then faults_after most most_then most_after names name (Overlong line) goes among refuses =
+    (name, among, (subst (λ (h : Held). MayExceed h file_limit) (goes.held name) refuses.0, refuses.1, refuses.2))
+refused_later held held_then faults faults_then faults_after most most_then most_after names name OtherForm goes among refuses = absurd refuses
+refused_later held held_then faults faults_then faults_after most most_then most_after names name OutOfMemory goes among refuses = tt
+
+-- one file more was loaded
+pub stands_more : {X : Type 0} (shelf : ShelfRun) (f : X → List ℕ) (names : List X) (k : ℕ) (d : X) (sources grown : List (List ℕ × List ℕ)) (name bytes : List ℕ) → k < length names → MayStand shelf (map f (take k names)) (texts_of sources) → grown ≡ sources ++ (name, bytes) ∷ [] → MayHold (shelf.held (f (get_or names k d))) bytes → length bytes ≤ file_limit → MayStand shelf (map f (take (k + 1) names)) (texts_of grown)
+stands_more shelf f names k d sources grown name bytes within stands is holds short =
+    rw (map_more f names k d within, is, map-append (λ s. s.1) sources ((name, bytes) ∷ [])) (MayStand-more stands (f (get_or names k d)) bytes holds short)
+
+pub one_more_source : (sources grown : List (List ℕ × List ℕ)) (source : List ℕ × List ℕ) (k : ℕ) → grown ≡ sources ++ source ∷ [] → length sources ≡ k → length grown ≡ k + 1
+one_more_source sources grown source k is count = ap length is ∙ (length_push sources source ∙ ap (λ n. n + 1) count)
+
+-- what a later load gave is what stood there at first
+pub held_first : (held held_then : List ℕ → Held) (faults faults_then most most_then : List ℕ → ℕ) (name content : List ℕ) → ShelfGoes held held_then faults faults_then most most_then → MayHold (held_then name) content → MayHold (held name) content
+held_first held held_then faults faults_then most most_then name content goes holds = subst (λ (h : Held). MayHold h content) (goes.held name) holds

@@ -1,0 +1,4 @@
+mod Lexing
+mod Printing
+mod Unfolding
+mod WorkedRows

@@ -1,0 +1,4 @@
+pub mod Parts
+pub mod Symbols
+pub mod Works
+pub mod Placed
