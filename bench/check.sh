@@ -9,19 +9,7 @@ program=$top/crates/scj_main/out/scj_main
 work=$(mktemp -d)
 trap 'rm -rf "$work"' EXIT
 
-# The least of several runs of a command, in microseconds.
-least() {
-    local runs=$1 best=0 begin end spent i
-    shift
-    for ((i = 0; i < runs; i++)); do
-        begin=$(date +%s%N)
-        "$@" >/dev/null 2>&1
-        end=$(date +%s%N)
-        spent=$(((end - begin) / 1000))
-        if [ "$best" -eq 0 ] || [ "$spent" -lt "$best" ]; then best=$spent; fi
-    done
-    echo "$best"
-}
+. "$top/bench/timing.sh"
 
 compiler=''
 if command -v javac >/dev/null 2>&1; then
