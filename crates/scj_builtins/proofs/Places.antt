@@ -6,7 +6,7 @@ abbrev class_at : ℕ → List ℕ → Type 0
 class_at number name = slice_get (map (λ (c : FrameworkClass). c.name) framework_classes) number ≡ Some name
 
 abbrev method_at : ℕ → ℕ → List ℕ → Type 0
-method_at number on name = slice_get (map (λ (m : FrameworkMethod). (m.on, m.name)) framework_methods) number ≡ Some (on, name)
+method_at number on name = (slice_get (map (λ (m : FrameworkMethod). m.on) framework_methods) number ≡ Some on) × (slice_get (map (λ (m : FrameworkMethod). m.name) framework_methods) number ≡ Some name)
 
 object-is : class_at object (codes "Object")
 unfolding framework_classes
@@ -74,76 +74,76 @@ relative_time-is = refl
 
 runnable_run-is : method_at runnable_run runnable (codes "run")
 unfolding framework_methods
-runnable_run-is = refl
+runnable_run-is = (refl, refl)
 
 safelet_get_sequencer-is : method_at safelet_get_sequencer safelet (codes "getSequencer")
 unfolding framework_methods
-safelet_get_sequencer-is = refl
+safelet_get_sequencer-is = (refl, refl)
 
 safelet_immortal_memory_size-is : method_at safelet_immortal_memory_size safelet (codes "immortalMemorySize")
 unfolding framework_methods
-safelet_immortal_memory_size-is = refl
+safelet_immortal_memory_size-is = (refl, refl)
 
 safelet_initialize_application-is : method_at safelet_initialize_application safelet (codes "initializeApplication")
 unfolding framework_methods
-safelet_initialize_application-is = refl
+safelet_initialize_application-is = (refl, refl)
 
 mission_initialize-is : method_at mission_initialize mission (codes "initialize")
 unfolding framework_methods
-mission_initialize-is = refl
+mission_initialize-is = (refl, refl)
 
 mission_mission_memory_size-is : method_at mission_mission_memory_size mission (codes "missionMemorySize")
 unfolding framework_methods
-mission_mission_memory_size-is = refl
+mission_mission_memory_size-is = (refl, refl)
 
 mission_clean_up-is : method_at mission_clean_up mission (codes "cleanUp")
 unfolding framework_methods
-mission_clean_up-is = refl
+mission_clean_up-is = (refl, refl)
 
 mission_request_termination-is : method_at mission_request_termination mission (codes "requestTermination")
 unfolding framework_methods
-mission_request_termination-is = refl
+mission_request_termination-is = (refl, refl)
 
 mission_sequencer_get_next_mission-is : method_at mission_sequencer_get_next_mission mission_sequencer (codes "getNextMission")
 unfolding framework_methods
-mission_sequencer_get_next_mission-is = refl
+mission_sequencer_get_next_mission-is = (refl, refl)
 
 periodic_handler_handle_async_event-is : method_at periodic_handler_handle_async_event periodic_handler (codes "handleAsyncEvent")
 unfolding framework_methods
-periodic_handler_handle_async_event-is = refl
+periodic_handler_handle_async_event-is = (refl, refl)
 
 periodic_handler_register-is : method_at periodic_handler_register periodic_handler (codes "register")
 unfolding framework_methods
-periodic_handler_register-is = refl
+periodic_handler_register-is = (refl, refl)
 
 aperiodic_handler_handle_async_event-is : method_at aperiodic_handler_handle_async_event aperiodic_handler (codes "handleAsyncEvent")
 unfolding framework_methods
-aperiodic_handler_handle_async_event-is = refl
+aperiodic_handler_handle_async_event-is = (refl, refl)
 
 aperiodic_handler_register-is : method_at aperiodic_handler_register aperiodic_handler (codes "register")
 unfolding framework_methods
-aperiodic_handler_register-is = refl
+aperiodic_handler_register-is = (refl, refl)
 
 aperiodic_handler_release-is : method_at aperiodic_handler_release aperiodic_handler (codes "release")
 unfolding framework_methods
-aperiodic_handler_release-is = refl
+aperiodic_handler_release-is = (refl, refl)
 
 managed_memory_enter_private_memory-is : method_at managed_memory_enter_private_memory managed_memory (codes "enterPrivateMemory")
 unfolding framework_methods
-managed_memory_enter_private_memory-is = refl
+managed_memory_enter_private_memory-is = (refl, refl)
 
 managed_memory_execute_in_area_of-is : method_at managed_memory_execute_in_area_of managed_memory (codes "executeInAreaOf")
 unfolding framework_methods
-managed_memory_execute_in_area_of-is = refl
+managed_memory_execute_in_area_of-is = (refl, refl)
 
 services_set_ceiling-is : method_at services_set_ceiling services (codes "setCeiling")
 unfolding framework_methods
-services_set_ceiling-is = refl
+services_set_ceiling-is = (refl, refl)
 
 trace_print-is : method_at trace_print trace (codes "print")
 unfolding framework_methods
-trace_print-is = refl
+trace_print-is = (refl, refl)
 
 device_read-is : method_at device_read device (codes "read")
 unfolding framework_methods
-device_read-is = refl
+device_read-is = (refl, refl)

@@ -1,6 +1,6 @@
 -- The framework's classes and their methods (JSR 302: javax.safetycritical, javax.realtime; Object and Runnable:
 -- java.lang). Which classes there are, how they are called and in which order they stand is this project's profile.
-use Rattle.std.specs.Prelude.{ℕ, Bool, true, false, not, ◌&&◌, ◌==◌, List, [], ◌∷◌, map, length, find, position, Option, Some, None, option_map, codes}
+use Rattle.std.specs.Prelude.{ℕ, Bool, true, false, ◌&&◌, ◌==◌, List, [], ◌∷◌, length, find, position, Option, option_map, codes}
 use Rattle.std.specs.Cmp.Lexicographic.{pointwise}
 use Rattle.scj_builtins.specs.declared.rows.GivesKind.{GivesKind}
 use Rattle.scj_builtins.specs.declared.rows.GivesKind.TheVariants.{Nothing, Number, Long, Sequencer, Mission}
