@@ -1,2 +1,3 @@
+pub mod LexFacts
 mod NamedPlaces
 pub mod ReadThrough

@@ -42,3 +42,9 @@ status_on (first ∷ others) = Refused
 abbrev pub text_on : List (List ℕ) → List Found → List ℕ
 text_on names [] = accepted_line
 text_on names (first ∷ others) = report_text names (first ∷ others)
+
+-- two answers are the same
+pub record IsSameAnswer (status : Status) (out err : List ℕ) (status_again : Status) (out_again err_again : List ℕ) : Type 0 where
+  pub same_status : status ≡ status_again
+  pub same_out : out ≡ out_again
+  pub same_err : err ≡ err_again

@@ -3,6 +3,7 @@
 
 mod calls;
 mod checks;
+pub mod laws;
 mod loads;
 mod refusals;
 mod reports;

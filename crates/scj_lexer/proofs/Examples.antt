@@ -1,23 +1,21 @@
 -- Worked texts: the definition's tokens and breaks, computed.
-use Rattle.std.proofs.Common.{◌≡◌, ℕ, zero, suc, ◌+◌, List, [], ◌∷◌, ◌++◌, length, take, drop, Some, None, Option, codes, refl, ap, sym, subst, ◌∙◌, ◌⊎◌, inl, inr}
+use Rattle.std.proofs.Common.{◌≡◌, ℕ, zero, suc, List, [], ◌∷◌, ◌++◌, length, take, drop, Some, None, Option, codes, refl, ap, sym, subst, ◌∙◌, ◌⊎◌, inl, inr}
 use Rattle.std.specs.Prelude.{option_map}
 use Rattle.std.proofs.lemmas.List.{take_at, drop_at}
 use Rattle.scj_base.specs.Vocabulary.{words, signs}
-use Rattle.scj_base.specs.Lexeme.{Piece, is_blank, is_letter, is_digit, is_name_byte, is_text_byte, is_line_byte, value_of, opens_comment, has_close}
+use Rattle.scj_base.specs.Lexeme.{is_blank, is_letter, is_digit, is_name_byte, is_text_byte, is_line_byte, value_of, opens_comment, has_close}
 use Rattle.scj_base.specs.Lex.{Lexes, Lex, LexBreak, token_at, place_at, place_behind, place_behind_byte, place_of}
 use Rattle.scj_base.specs.Lex.Lexes.{ends}
-use Rattle.scj_base.specs.Lex.LexBreak.{here, later}
-use Rattle.scj_base.specs.declared.places.Pos.{Pos}
+use Rattle.scj_base.specs.Lex.LexBreak.{here}
 use Rattle.scj_base.specs.declared.lexemes.Token.{Token}
 use Rattle.scj_base.specs.declared.lexemes.TokenKind.{TokenKind}
 use Rattle.scj_base.specs.declared.lexemes.TokenKind.TheVariants.{Name, Word, Number, Text, Sign, End}
 use Rattle.scj_base.specs.declared.findings.Rule.{Rule}
-use Rattle.scj_base.specs.declared.findings.Rule.TheVariants.{L1, L2, L3, L4}
+use Rattle.scj_base.specs.declared.findings.Rule.TheVariants.{L1, L2, L3}
 use Rattle.scj_lexer.specs.declared.pieces.Front.{Front}
 use Rattle.scj_lexer.specs.declared.pieces.Front.TheVariants.{Piece as Told, Bad}
 use Rattle.scj_lexer.specs.Tries.{word_of, sign_of, words_from, signs_from}
 use Rattle.scj_lexer.specs.First.{first_of, name_first, number_first, text_first, comment_first, sign_first, number_of, digits_of, close_of}
-use Rattle.scj_lexer.proofs.Runs.{none≢some}
 use Rattle.scj_lexer.proofs.Decided.{Begins, piece_sound, break_sound}
 use Rattle.scj_lexer.proofs.Whole.{joined, step}
 

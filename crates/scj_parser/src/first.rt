@@ -100,3 +100,39 @@ pub fn parse_first(
     }
     Ok(())
 }
+
+#[cfg(test)]
+mod tests {
+    use super::*;
+    use scj_tree::Node;
+    use std::test::Fail;
+
+    #[test]
+    fn two_headers(rt: HostRuntime) -> Result<(), Fail> {
+        let mut program = Program::new(rt.alloc());
+        let text =
+            "@DefineScope(name=\"M\", parent=\"IMMORTAL\") abstract class A extends Mission { }\nclass B { }";
+        assert!(rt; text.len() < 200);
+        let answer = parse_first(rt.alloc(), 0, text.as_bytes(), &mut program);
+        assert!(rt; answer.is_ok());
+        assert_eq!(rt; program.len(), 8);
+        assert_eq!(rt; program.file_count(), 1);
+        let Some(Node::Class { place, .. }) = program.get(NodeId::at(7)) else {
+            panic!(rt; "no class");
+        };
+        assert_eq!(rt; place.line, 2);
+        assert_eq!(rt; place.col, 7);
+        Ok(())
+    }
+
+    #[test]
+    fn a_field(rt: HostRuntime) -> Result<(), Fail> {
+        let mut program = Program::new(rt.alloc());
+        let text = "class A { int x; }";
+        assert!(rt; text.len() < 200);
+        let answer = parse_first(rt.alloc(), 0, text.as_bytes(), &mut program);
+        assert_eq!(rt; answer, Err(FirstAnswer::NotBuilt));
+        assert_eq!(rt; program.len(), 0);
+        Ok(())
+    }
+}

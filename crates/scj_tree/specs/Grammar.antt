@@ -1,5 +1,5 @@
 -- The grammar, last part: members, classes and files (JLS 7, 8); and where a row of lexemes stops being a file's begin.
-use Rattle.std.specs.Prelude.{◌≡◌, ◌≢◌, ℕ, Bool, true, false, List, [], ◌∷◌, ◌++◌, length, Option, Some, None}
+use Rattle.std.specs.Prelude.{◌≡◌, ℕ, true, false, List, [], ◌∷◌, ◌++◌, length, Some, None}
 use Rattle.scj_base.specs.declared.places.Pos.{Pos}
 use Rattle.scj_base.specs.Vocabulary.{word_class, word_false, word_null, word_package, word_super, word_true, sign_left_brace, sign_right_brace, sign_left_parenthesis, sign_semicolon, sign_assign, sign_minus}
 use Rattle.scj_tree.specs.declared.nodes.Node.{Node}
@@ -43,19 +43,19 @@ pub data Tree : List Node → List Lexeme → List Node → List ℕ → Type 0 
   file : {N N1 : _} {i i1 : _} {ids : _} {p : _} → Imports i i1 → ClassesRead N i1 N1 (the_end p ∷ []) ids → Tree N i N1 ids
   file_of_package : {N N1 : _} {i i1 i2 : _} {ids : _} {p q r : _} → Dotted i (a_sign sign_semicolon q ∷ i1) → Imports i1 i2 → ClassesRead N i2 N1 (the_end p ∷ []) ids → Tree N (a_word word_package r ∷ i) N1 ids
 
--- some lexemes behind these make a file of them
-pub record BeginsFile (tokens : List Lexeme) : Type 0 where
+-- some lexemes behind these make a file of them, read from the nodes N
+pub record BeginsFile (N : List Node) (tokens : List Lexeme) : Type 0 where
   pub rest : List Lexeme
   pub nodes : List Node
   pub classes : List ℕ
-  pub tree : Tree [] (tokens ++ rest) nodes classes
+  pub tree : Tree N (tokens ++ rest) nodes classes
 
--- the first lexeme that no file has behind those before it, at p
-pub record RefusedAt (tokens : List Lexeme) (p : Pos) : Type 0 where
+-- the first lexeme that no file has behind those before it stands at p
+pub record RefusedAt (N : List Node) (tokens : List Lexeme) (p : Pos) : Type 0 where
   pub before : List Lexeme
   pub refused : Lexeme
   pub behind : List Lexeme
   pub whole : tokens ≡ before ++ refused ∷ behind
-  pub begins : BeginsFile before
-  pub ends : BeginsFile (before ++ refused ∷ []) → Prim.⊥
+  pub begins : BeginsFile N before
+  pub ends : BeginsFile N (before ++ refused ∷ []) → Prim.⊥
   pub place : place_of_lexeme refused ≡ p

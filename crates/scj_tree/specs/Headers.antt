@@ -2,7 +2,6 @@
 -- `X N i N' o id` says: from the nodes N and the lexemes i, reading an X ends with the nodes N' and the lexemes o,
 -- and what was read is the node id. Nodes come in the order in which reading finishes them.
 use Rattle.std.specs.Prelude.{◌≡◌, ℕ, Bool, true, false, List, [], ◌∷◌, ◌++◌, length, Option, Some, None, codes}
-use Rattle.scj_base.specs.declared.places.Pos.{Pos}
 use Rattle.scj_base.specs.Vocabulary.{word_boolean, word_extends, word_false, word_implements, word_import, word_int, word_long, word_static, word_true, word_void, sign_left_brace, sign_left_parenthesis, sign_right_parenthesis, sign_left_bracket, sign_right_bracket, sign_semicolon, sign_comma, sign_dot, sign_at, sign_assign, sign_less, sign_greater, sign_star}
 use Rattle.scj_tree.specs.declared.nodes.Node.{Node}
 use Rattle.scj_tree.specs.declared.nodes.Node.TheVariants.{DefineScope, ScopeName, Supers, SuperType, TypeArgument, IntType, BooleanType, ClassType, VoidType, LongType, Parameters, Parameter}

@@ -1,8 +1,8 @@
 -- How deep the statements and expressions of a body nest, and which body is too deep.
-use Rattle.std.specs.Prelude.{◌≡◌, ℕ, zero, suc, ◌+◌, ◌<◌, max, Bool, true, false, List, [], ◌∷◌, length, drop, Option, Some, None, slice_get, nat_lt, if◌then◌else◌}
+use Rattle.std.specs.Prelude.{ℕ, ◌+◌, max, List, [], ◌∷◌, length, drop, Option, Some, None, slice_get, nat_lt, if◌then◌else◌}
 use Rattle.scj_base.specs.declared.places.Pos.{Pos}
 use Rattle.scj_tree.specs.declared.nodes.Node.{Node}
-use Rattle.scj_tree.specs.declared.nodes.Node.TheVariants.{Class, Flags, DefineScope, ScopeName, Supers, SuperType, TypeArgument, IntType, BooleanType, ClassType, VoidType, LongType, Field, Method, Constructor, Parameters, Parameter, SuperCall, Block, Empty, Local, LocalWithValue, Assign, ExpressionStatement, If, While, For, Return, Binary, Unary, Cast, Parenthesized, SimpleName, FieldAccess, Call, Element, New, NewArray, Text, Number, True, False, Null, This}
+use Rattle.scj_tree.specs.declared.nodes.Node.TheVariants.{Method, Constructor, Block, Empty, Local, LocalWithValue, Assign, ExpressionStatement, If, While, For, Return, Binary, Unary, Cast, Parenthesized, SimpleName, FieldAccess, Call, Element, New, NewArray, Number, True, False, Null, This}
 use Rattle.scj_tree.specs.Recursion.{by_smaller}
 use Rattle.scj_tree.specs.Shape.{place_of, children}
 

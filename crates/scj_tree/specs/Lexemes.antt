@@ -3,7 +3,6 @@ use Rattle.std.specs.Prelude.{ℕ, ◌+◌, ◌-◌, Bool, true, false, ◌&&◌
 use Rattle.std.specs.Cmp.Lexicographic.{pointwise}
 use Rattle.scj_base.specs.declared.places.Pos.{Pos}
 use Rattle.scj_base.specs.declared.lexemes.Token.{Token}
-use Rattle.scj_base.specs.declared.lexemes.TokenKind.{TokenKind}
 use Rattle.scj_base.specs.declared.lexemes.TokenKind.TheVariants.{Name, Word, Number, Text, Sign, End}
 use Rattle.scj_base.specs.Vocabulary.{words}
 
@@ -22,12 +21,13 @@ part_of bytes start len = take len (drop start bytes)
 -- the lexeme of a token; of a text the bytes between its quotes
 unfoldable pub lexeme_of : List ℕ → Token → Lexeme
 lexeme_of bytes token = elim token.kind [
-    Name ↦ a_name (part_of bytes token.start token.len) token.pos
+  | Name ↦ a_name (part_of bytes token.start token.len) token.pos
   | Word w ↦ a_word w token.pos
   | Number n ↦ a_number n token.pos
   | Text ↦ a_text (part_of bytes (token.start + 1) (token.len - 2)) token.pos
   | Sign n ↦ a_sign n token.pos
-  | End ↦ the_end token.pos ]
+  | End ↦ the_end token.pos
+]
 
 unfoldable pub lexemes_of : List ℕ → List Token → List Lexeme
 lexemes_of bytes tokens = map (lexeme_of bytes) tokens

@@ -1,13 +1,13 @@
 -- The tests on lexemes by which the grammar tells its productions apart.
-use Rattle.std.specs.Prelude.{ℕ, Bool, true, false, ◌&&◌, ◌||◌, not, List, [], ◌∷◌, ◌++◌, Option, Some, None, nat_le, nat_lt, ◌==◌, if◌then◌else◌, codes, length}
+use Rattle.std.specs.Prelude.{ℕ, Bool, true, false, ◌&&◌, ◌||◌, not, List, [], ◌∷◌, ◌++◌, Option, Some, None, ◌==◌, if◌then◌else◌, codes, length}
 use Rattle.scj_base.specs.declared.places.Pos.{Pos}
-use Rattle.scj_base.specs.Vocabulary.{word_abstract, word_boolean, word_class, word_else, word_false, word_final, word_for, word_if, word_import, word_int, word_long, word_new, word_null, word_package, word_private, word_protected, word_public, word_return, word_static, word_super, word_synchronized, word_this, word_true, word_void, word_while, sign_left_brace, sign_right_brace, sign_left_parenthesis, sign_right_parenthesis, sign_left_bracket, sign_right_bracket, sign_semicolon, sign_dot, sign_at, sign_equal, sign_not_equal, sign_less, sign_greater, sign_less_equal, sign_greater_equal, sign_plus, sign_minus, sign_star, sign_slash, sign_percent, sign_not, sign_and_and, sign_or_or, sign_and, sign_or, sign_xor, sign_tilde, sign_shift_left, sign_shift_right, sign_shift_right_unsigned, sign_plus_plus, sign_minus_minus, sign_plus_assign, sign_minus_assign, sign_star_assign, sign_slash_assign, sign_percent_assign, sign_and_assign, sign_or_assign, sign_xor_assign, sign_shift_left_assign, sign_shift_right_assign, sign_shift_right_unsigned_assign}
+use Rattle.scj_base.specs.Vocabulary.{word_abstract, word_false, word_final, word_new, word_null, word_private, word_protected, word_public, word_static, word_synchronized, word_this, word_true, sign_left_parenthesis, sign_right_parenthesis, sign_at, sign_equal, sign_not_equal, sign_less, sign_greater, sign_less_equal, sign_greater_equal, sign_plus, sign_minus, sign_star, sign_slash, sign_percent, sign_not, sign_and_and, sign_or_or, sign_and, sign_or, sign_xor, sign_tilde, sign_shift_left, sign_shift_right, sign_shift_right_unsigned, sign_plus_plus, sign_minus_minus, sign_plus_assign, sign_minus_assign, sign_star_assign, sign_slash_assign, sign_percent_assign, sign_and_assign, sign_or_assign, sign_xor_assign, sign_shift_left_assign, sign_shift_right_assign, sign_shift_right_unsigned_assign}
 use Rattle.scj_tree.specs.declared.nodes.Node.{Node}
 use Rattle.scj_tree.specs.declared.nodes.Node.TheVariants.{Flags}
 use Rattle.scj_tree.specs.declared.readings.FlagSet.{FlagSet}
 use Rattle.scj_tree.specs.declared.readings.PostKind.{PostKind}
 use Rattle.scj_tree.specs.declared.readings.PostKind.TheVariants.{Variable, Invocation, NewArray, Value}
-use Rattle.scj_tree.specs.Lexemes.{Lexeme, a_name, a_word, a_number, a_text, a_sign, the_end, same, is_one_of}
+use Rattle.scj_tree.specs.Lexemes.{Lexeme, a_name, a_word, a_number, a_text, a_sign, the_end, is_one_of}
 
 -- ---- operators
 

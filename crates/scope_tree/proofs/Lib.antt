@@ -1,7 +1,8 @@
 pub mod DefinitionLemmas
-pub mod NameLemmas
-pub mod JumpLemmas
-pub mod RuleNumbers
-pub mod ParentLemmas
 pub mod FindingLemmas
+pub mod JumpLemmas
+pub mod NameLemmas
+pub mod ParentLemmas
 pub mod ReportLemmas
+pub mod RuleNumbers
+pub mod SampleLemmas

@@ -1,3 +1,4 @@
-pub mod Index
 pub mod Findings
+pub mod Index
 pub mod Jumps
+pub mod Samples

@@ -8,3 +8,6 @@ mod names;
 mod reports;
 
 pub use definitions::check_definitions;
+
+#[cfg(test)]
+mod tests;
