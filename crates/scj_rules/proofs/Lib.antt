@@ -1,4 +1,5 @@
 pub mod AcceptedLemmas
+pub mod ChainLemmas
 pub mod Computing
 pub mod ForestTests
 pub mod ReportLemmas
