@@ -1,5 +1,5 @@
 -- A chain of as many numbers as there are holds all that is reached, whether the steps come back or not.
-use Rattle.std.proofs.Common.{◌≡◌, ℕ, ◌+◌, ◌<◌, ◌≤◌, zero, suc, List, [], ◌∷◌, length, refl, sym, ap, ◌∙◌, subst, arith, Option, Some, None, Bool, true, false, ◌||◌, true≢false, ◌⊎◌, inl, inr, ⊎_elim, ◌==◌, eqb, ◌↔◌}
+use Rattle.std.proofs.Common.{◌≡◌, ℕ, ◌<◌, ◌≤◌, zero, suc, List, [], ◌∷◌, length, refl, sym, ap, ◌∙◌, subst, arith, Option, Some, None, Bool, true, false, ◌||◌, true≢false, ◌⊎◌, inl, inr, ⊎_elim, ◌==◌, eqb, ◌↔◌}
 use Rattle.std.proofs.lemmas.Bool.Decides.{nat_tests}
 use Rattle.std.specs.List.{list_any, IsDistinct, AllByRecursion}
 use Rattle.std.proofs.lemmas.Map.Steps.{length-le_from_distinct_below}
@@ -11,10 +11,10 @@ data Way (next : ℕ → Option ℕ) (b : ℕ) : ℕ → List ℕ → Type 0 whe
   ends : Way next b b (b ∷ [])
   goes : {a c : ℕ} {xs : List ℕ} → next a ≡ Some c → Way next b c xs → is_among a xs ≡ false → Way next b a (a ∷ xs)
 
-same_number : (x y : ℕ) → (x == y) ≡ true → x ≡ y
+pub same_number : (x y : ℕ) → (x == y) ≡ true → x ≡ y
 same_number x y e = grind (arith, nat_tests)
 
-is_same_number : (x y : ℕ) → x ≡ y → (x == y) ≡ true
+pub is_same_number : (x y : ℕ) → x ≡ y → (x == y) ≡ true
 is_same_number x y e = grind (arith, nat_tests)
 
 or_first_false : (a b : Bool) → (a || b) ≡ false → a ≡ false
@@ -25,15 +25,15 @@ or_second_false : (a b : Bool) → (a || b) ≡ false → b ≡ false
 or_second_false true b h = absurd (true≢false h)
 or_second_false false b h = h
 
-or_cases : (a b : Bool) → (a || b) ≡ true → (a ≡ true) ⊎ (b ≡ true)
+pub or_cases : (a b : Bool) → (a || b) ≡ true → (a ≡ true) ⊎ (b ≡ true)
 or_cases true b h = inl refl
 or_cases false b h = inr h
 
-or_right : (a b : Bool) → b ≡ true → (a || b) ≡ true
+pub or_right : (a b : Bool) → b ≡ true → (a || b) ≡ true
 or_right true b h = refl
 or_right false b h = h
 
-or_left : (a b : Bool) → a ≡ true → (a || b) ≡ true
+pub or_left : (a b : Bool) → a ≡ true → (a || b) ≡ true
 or_left true b h = refl
 or_left false b h = absurd (true≢false (sym h))
 
@@ -98,9 +98,9 @@ first_or_rest next b a bound None e h later =
 first_or_rest next b a bound (Some c) e h later =
     ⊎_elim (λ (f : (b == a) ≡ true). inl (sym (same_number b a f)))
     (λ (f : is_among b (chain next bound c) ≡ true). inr (⊎_elim
-        (λ (g : c ≡ b). one (e ∙ ap (λ (x : ℕ). Some x) g))
-        (λ (g : Follows next c b). more e g)
-        (later c f)))
+    (λ (g : c ≡ b). one (e ∙ ap (λ (x : ℕ). Some x) g))
+    (λ (g : Follows next c b). more e g)
+    (later c f)))
     (or_cases (b == a) (is_among b (chain next bound c)) h)
 
 -- what stands on a chain is its first number or is reached from it
@@ -111,11 +111,14 @@ on_chain_follows next b a (suc bound) h = first_or_rest next b a bound (next a) 
 
 -- a chain holds exactly its first number and what is reached from it
 pub chain_reaches : (next : ℕ → Option ℕ) (n a b : ℕ) → StaysBelow next n → a < n → (is_among b (chain next n a) ≡ true) ↔ ((a ≡ b) ⊎ Follows next a b)
-chain_reaches next n a b s l = (on_chain_follows next b a n, ⊎_elim
-    (λ (e : a ≡ b). (let P : ℕ → Type 0 = λ x. is_among x (chain next n a) ≡ true in subst P e (first_on_chain n l)))
-    (λ (f : Follows next a b).
-        let w : (xs : List ℕ) × Way next b a xs = way_of_follows next a b f in
-        on_chain next b a n w.0 w.1 (length-le_from_distinct_below w.0 n (way_distinct next b a w.0 w.1) (way_below next n b a w.0 s l w.1))))
+chain_reaches next n a b s l = (
+  on_chain_follows next b a n,
+  ⊎_elim
+      (λ (e : a ≡ b). (let P : ℕ → Type 0 = λ x. is_among x (chain next n a) ≡ true in subst P e (first_on_chain n l)))
+      (λ (f : Follows next a b).
+      let w : (xs : List ℕ) × Way next b a xs = way_of_follows next a b f in
+      on_chain next b a n w.0 w.1 (length-le_from_distinct_below w.0 n (way_distinct next b a w.0 w.1) (way_below next n b a w.0 s l w.1))),
+)
   where
     first_on_chain : (n : ℕ) → a < n → is_among a (chain next n a) ≡ true
     first_on_chain n l = on_chain next a a n (a ∷ []) ends (omega (arith, l))
@@ -128,6 +131,7 @@ chain_comes_back next n a s = (comes_back_from (next a) refl, back_on_chain)
     comes_back_from : (o : Option ℕ) → next a ≡ o → is_among a (elim o [ None ↦ [] | Some b ↦ chain next n b ]) ≡ true → ComesBack next a
     comes_back_from None e h = absurd (true≢false (sym h))
     comes_back_from (Some b) e h = ⊎_elim (λ (g : b ≡ a). one (e ∙ ap (λ (x : ℕ). Some x) g)) (λ (g : Follows next b a). more e g) (on_chain_follows next a b n h)
+
     back_on_chain : Follows next a a → is_among a (elim (next a) [ None ↦ [] | Some b ↦ chain next n b ]) ≡ true
     back_on_chain (one e) = rw e ((chain_reaches next n a a s (s a a e)).1 (inl refl))
     back_on_chain (more {b = b} e f) = rw e ((chain_reaches next n b a s (s a b e)).1 (inr f))

@@ -7,4 +7,5 @@ pub mod ReportsLemmas
 pub mod RowOfUse
 pub mod RowsOfClasses
 pub mod RowsOfScopes
+pub mod WithinLemmas
 pub mod WorkedRows
