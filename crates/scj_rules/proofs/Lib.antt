@@ -4,6 +4,7 @@ pub mod Computing
 pub mod ForestTests
 pub mod ReportLemmas
 pub mod ReportsLemmas
+pub mod RowOfBindings
 pub mod RowOfUse
 pub mod RowsOfClasses
 pub mod RowsOfScopes
