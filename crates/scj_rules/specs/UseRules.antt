@@ -90,9 +90,6 @@ unfoldable pub scopes_in : Declarations → Types → List (Option Scope)
 scopes_in p types = rising None (scope_of_next p types) (length p.nodes)
 
 -- ---- E1, new: of an annotated class, where another scope is current
-abbrev pub is_current : Declarations → ℕ → Scope → Bool
-is_current p id s = holds (current_at p id) (λ current. are_same_scope current s)
-
 abbrev pub isnt_current : Declarations → ℕ → Scope → Bool
 isnt_current p id s = holds (current_at p id) (λ current. not (are_same_scope current s))
 

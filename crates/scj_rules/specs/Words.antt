@@ -44,11 +44,6 @@ unfoldable pub named_twice : {A : Type 0} → (A → List ℕ) → List (List �
 named_twice name earlier [] = []
 named_twice name earlier (x ∷ xs) = (if is_named_among (name x) earlier then x ∷ [] else []) ++ named_twice name (name x ∷ earlier) xs
 
--- an optional value, or none, each made into a list
-abbrev pub listed_option : {A : Type 0} → Option A → List A
-listed_option None = []
-listed_option (Some x) = x ∷ []
-
 -- the first of two that is there
 abbrev pub or_else : {A : Type 0} → Option A → Option A → Option A
 or_else (Some x) other = Some x
