@@ -136,3 +136,108 @@ impl ScopeId {
         self.number
     }
 }
+
+/// The class `Object`.
+pub const OBJECT: ClassId = ClassId { number: 0 };
+
+/// The class `Runnable`.
+pub const RUNNABLE: ClassId = ClassId { number: 1 };
+
+/// The class `Safelet`.
+pub const SAFELET: ClassId = ClassId { number: 2 };
+
+/// The class `Mission`.
+pub const MISSION: ClassId = ClassId { number: 3 };
+
+/// The class `MissionSequencer`.
+pub const MISSION_SEQUENCER: ClassId = ClassId { number: 4 };
+
+/// The class `PeriodicEventHandler`.
+pub const PERIODIC_EVENT_HANDLER: ClassId = ClassId { number: 5 };
+
+/// The class `AperiodicEventHandler`.
+pub const APERIODIC_EVENT_HANDLER: ClassId = ClassId { number: 6 };
+
+/// The class `ManagedMemory`.
+pub const MANAGED_MEMORY: ClassId = ClassId { number: 7 };
+
+/// The class `Services`.
+pub const SERVICES: ClassId = ClassId { number: 8 };
+
+/// The class `Trace`.
+pub const TRACE: ClassId = ClassId { number: 9 };
+
+/// The class `Device`.
+pub const DEVICE: ClassId = ClassId { number: 10 };
+
+/// The class `PriorityParameters`.
+pub const PRIORITY_PARAMETERS: ClassId = ClassId { number: 11 };
+
+/// The class `PeriodicParameters`.
+pub const PERIODIC_PARAMETERS: ClassId = ClassId { number: 12 };
+
+/// The class `AperiodicParameters`.
+pub const APERIODIC_PARAMETERS: ClassId = ClassId { number: 13 };
+
+/// The class `StorageParameters`.
+pub const STORAGE_PARAMETERS: ClassId = ClassId { number: 14 };
+
+/// The class `RelativeTime`.
+pub const RELATIVE_TIME: ClassId = ClassId { number: 15 };
+
+/// The method `run` of `Runnable`.
+pub const RUNNABLE_RUN: MethodId = MethodId { number: 0 };
+
+/// The method `getSequencer` of `Safelet`.
+pub const SAFELET_GET_SEQUENCER: MethodId = MethodId { number: 1 };
+
+/// The method `immortalMemorySize` of `Safelet`.
+pub const SAFELET_IMMORTAL_MEMORY_SIZE: MethodId = MethodId { number: 2 };
+
+/// The method `initializeApplication` of `Safelet`.
+pub const SAFELET_INITIALIZE_APPLICATION: MethodId = MethodId { number: 3 };
+
+/// The method `initialize` of `Mission`.
+pub const MISSION_INITIALIZE: MethodId = MethodId { number: 4 };
+
+/// The method `missionMemorySize` of `Mission`.
+pub const MISSION_MISSION_MEMORY_SIZE: MethodId = MethodId { number: 5 };
+
+/// The method `cleanUp` of `Mission`.
+pub const MISSION_CLEAN_UP: MethodId = MethodId { number: 6 };
+
+/// The method `requestTermination` of `Mission`.
+pub const MISSION_REQUEST_TERMINATION: MethodId = MethodId { number: 7 };
+
+/// The method `getNextMission` of `MissionSequencer`.
+pub const MISSION_SEQUENCER_GET_NEXT_MISSION: MethodId = MethodId { number: 8 };
+
+/// The method `handleAsyncEvent` of `PeriodicEventHandler`.
+pub const PERIODIC_EVENT_HANDLER_HANDLE_ASYNC_EVENT: MethodId = MethodId { number: 9 };
+
+/// The method `register` of `PeriodicEventHandler`.
+pub const PERIODIC_EVENT_HANDLER_REGISTER: MethodId = MethodId { number: 10 };
+
+/// The method `handleAsyncEvent` of `AperiodicEventHandler`.
+pub const APERIODIC_EVENT_HANDLER_HANDLE_ASYNC_EVENT: MethodId = MethodId { number: 11 };
+
+/// The method `register` of `AperiodicEventHandler`.
+pub const APERIODIC_EVENT_HANDLER_REGISTER: MethodId = MethodId { number: 12 };
+
+/// The method `release` of `AperiodicEventHandler`.
+pub const APERIODIC_EVENT_HANDLER_RELEASE: MethodId = MethodId { number: 13 };
+
+/// The method `enterPrivateMemory` of `ManagedMemory`.
+pub const MANAGED_MEMORY_ENTER_PRIVATE_MEMORY: MethodId = MethodId { number: 14 };
+
+/// The method `executeInAreaOf` of `ManagedMemory`.
+pub const MANAGED_MEMORY_EXECUTE_IN_AREA_OF: MethodId = MethodId { number: 15 };
+
+/// The method `setCeiling` of `Services`.
+pub const SERVICES_SET_CEILING: MethodId = MethodId { number: 16 };
+
+/// The method `print` of `Trace`.
+pub const TRACE_PRINT: MethodId = MethodId { number: 17 };
+
+/// The method `read` of `Device`.
+pub const DEVICE_READ: MethodId = MethodId { number: 18 };

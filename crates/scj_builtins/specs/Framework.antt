@@ -1,6 +1,6 @@
 -- The framework's classes and their methods (JSR 302: javax.safetycritical, javax.realtime; Object and Runnable:
 -- java.lang). Which classes there are, how they are called and in which order they stand is this project's profile.
-use Rattle.std.specs.Prelude.{ℕ, Bool, true, false, not, ◌&&◌, ◌==◌, List, [], ◌∷◌, map, length, find, position, Option, Some, None, option_map, codes}
+use Rattle.std.specs.Prelude.{ℕ, Bool, true, false, ◌&&◌, ◌==◌, List, [], ◌∷◌, length, find, position, Option, option_map, codes}
 use Rattle.std.specs.Cmp.Lexicographic.{pointwise}
 use Rattle.scj_builtins.specs.declared.rows.GivesKind.{GivesKind}
 use Rattle.scj_builtins.specs.declared.rows.GivesKind.TheVariants.{Nothing, Number, Long, Sequencer, Mission}
@@ -147,6 +147,64 @@ framework_methods =
     ∷ called_on_class trace (codes "print") (text_parameter ∷ int_parameter ∷ []) Nothing
     ∷ called_on_class device (codes "read") (int_parameter ∷ []) Number
     ∷ []
+
+-- the numbers of the framework's methods
+abbrev pub runnable_run : ℕ
+runnable_run = 0
+
+abbrev pub safelet_get_sequencer : ℕ
+safelet_get_sequencer = 1
+
+abbrev pub safelet_immortal_memory_size : ℕ
+safelet_immortal_memory_size = 2
+
+abbrev pub safelet_initialize_application : ℕ
+safelet_initialize_application = 3
+
+abbrev pub mission_initialize : ℕ
+mission_initialize = 4
+
+abbrev pub mission_mission_memory_size : ℕ
+mission_mission_memory_size = 5
+
+abbrev pub mission_clean_up : ℕ
+mission_clean_up = 6
+
+abbrev pub mission_request_termination : ℕ
+mission_request_termination = 7
+
+abbrev pub mission_sequencer_get_next_mission : ℕ
+mission_sequencer_get_next_mission = 8
+
+abbrev pub periodic_handler_handle_async_event : ℕ
+periodic_handler_handle_async_event = 9
+
+abbrev pub periodic_handler_register : ℕ
+periodic_handler_register = 10
+
+abbrev pub aperiodic_handler_handle_async_event : ℕ
+aperiodic_handler_handle_async_event = 11
+
+abbrev pub aperiodic_handler_register : ℕ
+aperiodic_handler_register = 12
+
+abbrev pub aperiodic_handler_release : ℕ
+aperiodic_handler_release = 13
+
+abbrev pub managed_memory_enter_private_memory : ℕ
+managed_memory_enter_private_memory = 14
+
+abbrev pub managed_memory_execute_in_area_of : ℕ
+managed_memory_execute_in_area_of = 15
+
+abbrev pub services_set_ceiling : ℕ
+services_set_ceiling = 16
+
+abbrev pub trace_print : ℕ
+trace_print = 17
+
+abbrev pub device_read : ℕ
+device_read = 18
 
 -- the number of the framework class of a name
 unfoldable pub class_named : List ℕ → Option ℕ

@@ -1,6 +1,8 @@
 //! The framework's classes and methods, as rows.
 #![tactic(auto)]
 
+pub mod numbers;
 pub mod rows;
 
+pub use numbers::{builtin_classes, builtin_methods};
 pub use rows::{BuiltinId, GivesKind, MethodRow, builtin_class, builtin_method};

@@ -2,7 +2,7 @@
 -- the rules are this project's profile). A thing whose declaration breaks a rule on annotations has none.
 use Rattle.std.specs.Prelude.{ℕ, Bool, true, false, not, ◌&&◌, ◌||◌, ◌==◌, List, [], ◌∷◌, Option, Some, None, if◌then◌else◌, is_some, option_map, option_and_then, codes}
 use Rattle.std.specs.List.{list_any}
-use Rattle.scj_builtins.specs.Framework.{mission, mission_sequencer, safelet}
+use Rattle.scj_builtins.specs.Framework.{mission, mission_sequencer, safelet, safelet_get_sequencer, safelet_immortal_memory_size, safelet_initialize_application, mission_initialize, mission_mission_memory_size, mission_clean_up, mission_sequencer_get_next_mission, periodic_handler_handle_async_event, aperiodic_handler_handle_async_event, runnable_run}
 use Rattle.scj_rules.specs.declared.scopes.Written.{Written}
 use Rattle.scj_rules.specs.declared.typing.Scope.{Scope}
 use Rattle.scj_rules.specs.declared.typing.Scope.TheVariants.{Any, This, Caller, In}
@@ -112,9 +112,9 @@ differs_from p class current name scope =
 -- and, where it defines one, for run; CALLER for the others
 unfoldable pub fixed_runs_in : Declarations → ℕ → ℕ → Option Scope
 fixed_runs_in p class number =
-    if is_among number (1 ∷ 2 ∷ 3 ∷ 5 ∷ 8 ∷ []) then Some (In immortal_scope)
-    else (if is_among number (4 ∷ 6 ∷ 9 ∷ 11 ∷ []) then elim (defined_by_chain p class) [ None ↦ Some Caller | Some s ↦ Some (In s) ]
-    else (if number == 0 then option_map (λ s. In s) (defined_by_chain p class) else Some Caller))
+    if is_among number (safelet_get_sequencer ∷ safelet_immortal_memory_size ∷ safelet_initialize_application ∷ mission_mission_memory_size ∷ mission_sequencer_get_next_mission ∷ []) then Some (In immortal_scope)
+    else (if is_among number (mission_initialize ∷ mission_clean_up ∷ periodic_handler_handle_async_event ∷ aperiodic_handler_handle_async_event ∷ []) then elim (defined_by_chain p class) [ None ↦ Some Caller | Some s ↦ Some (In s) ]
+    else (if number == runnable_run then option_map (λ s. In s) (defined_by_chain p class) else Some Caller))
 
 -- the fixed one of a method of this name in a class, if it has one
 unfoldable pub fixed_for : Declarations → ℕ → List ℕ → Option Scope

@@ -269,9 +269,6 @@ is_form_part p id = (context p id).in_super_call && holds (context p id).class (
 
 -- ---- statements that always return (as JLS 14.21, but for unreachable statements)
 
-abbrev pub or_false : {A : Type 0} → (A → Bool) → Option A → Bool
-or_false test o = holds o test
-
 unfoldable pub is_true_literal : Node → Option Bool
 is_true_literal (True place) = Some true
 is_true_literal _ = None

@@ -4,6 +4,7 @@ use Rattle.std.specs.Prelude.{ℕ, Bool, true, false, not, ◌&&◌, ◌||◌, �
 use Rattle.scj_base.specs.declared.findings.Found.{Found}
 use Rattle.scj_base.specs.declared.findings.Rule.{Rule}
 use Rattle.scj_base.specs.declared.findings.Rule.TheVariants.{E1, E2, E3, E4, E5, E6, E7, E8, E9, E10}
+use Rattle.scj_builtins.specs.Framework.{managed_memory_enter_private_memory, managed_memory_execute_in_area_of}
 use Rattle.scj_tree.specs.declared.nodes.Node.{Node}
 use Rattle.scj_tree.specs.declared.nodes.Node.TheVariants.{SuperCall, LocalWithValue, Assign, Return, Cast, Parenthesized, SimpleName, FieldAccess, Call, Element, New, NewArray, Null, This as ThisNode}
 use Rattle.scj_tree.specs.Recursion.{rising}
@@ -89,9 +90,6 @@ unfoldable pub scopes_in : Declarations → Types → List (Option Scope)
 scopes_in p types = rising None (scope_of_next p types) (length p.nodes)
 
 -- ---- E1, new: of an annotated class, where another scope is current
-abbrev pub is_current : Declarations → ℕ → Scope → Bool
-is_current p id s = holds (current_at p id) (λ current. are_same_scope current s)
-
 abbrev pub isnt_current : Declarations → ℕ → Scope → Bool
 isnt_current p id s = holds (current_at p id) (λ current. not (are_same_scope current s))
 
@@ -172,12 +170,6 @@ e6 p types scopes id _ = []
 abbrev pub called_builtin : Declarations → Types → ℕ → Option ℕ → List ℕ → Option ℕ
 called_builtin p types id object name = option_and_then (λ (f : FoundMethod). f.method.builtin) (option_and_then (λ r. called_method p r name) (call_receiver p types id object))
 
-abbrev pub enter_private_memory : ℕ
-enter_private_memory = 14
-
-abbrev pub execute_in_area_of : ℕ
-execute_in_area_of = 15
-
 -- the user's `run` of a class
 abbrev pub run_of : Declarations → ℕ → Option FoundMethod
 run_of p class = option_and_then (λ (f : FoundMethod). if is_some f.method.builtin then None else Some f) (method_named p.classes class (codes "run"))
@@ -195,7 +187,7 @@ misfits_enter p id _ = true
 
 unfoldable pub e7 : Declarations → Types → Scopes → ℕ → Node → List Found
 e7 p types scopes id (Call place name object (size ∷ r ∷ [])) =
-    broken (holds (called_builtin p types id object name) (λ number. (number == enter_private_memory) && holds (types r) (misfits_enter p id))) E7 place
+    broken (holds (called_builtin p types id object name) (λ number. (number == managed_memory_enter_private_memory) && holds (types r) (misfits_enter p id))) E7 place
 e7 p types scopes id _ = []
 
 -- E8, execute in area: `o` lies in no named scope, or `r` has no `run` of a user class that runs in it
@@ -212,7 +204,7 @@ misfits_execute p area _ = true
 
 unfoldable pub e8 : Declarations → Types → Scopes → ℕ → Node → List Found
 e8 p types scopes id (Call place name object (o ∷ r ∷ [])) =
-    broken (holds (called_builtin p types id object name) (λ number. (number == execute_in_area_of) && holds (types r) (misfits_execute p (scopes o)))) E8 place
+    broken (holds (called_builtin p types id object name) (λ number. (number == managed_memory_execute_in_area_of) && holds (types r) (misfits_execute p (scopes o)))) E8 place
 e8 p types scopes id _ = []
 
 -- E9, cast scope: to an annotated class, of an operand that lies elsewhere

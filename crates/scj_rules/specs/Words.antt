@@ -1,5 +1,5 @@
 -- Short words that the definitions of the rules share.
-use Rattle.std.specs.Prelude.{ℕ, zero, suc, Bool, false, ◌==◌, List, [], ◌∷◌, ◌++◌, Option, Some, None, if◌then◌else◌}
+use Rattle.std.specs.Prelude.{◌≡◌, ◌<◌, ℕ, zero, suc, Bool, false, ◌==◌, List, [], ◌∷◌, ◌++◌, Option, Some, None, if◌then◌else◌}
 use Rattle.std.specs.List.{list_any}
 use Rattle.std.specs.Cmp.Lexicographic.{pointwise}
 use Rattle.scj_base.specs.declared.findings.Found.{Found}
@@ -35,15 +35,14 @@ chain next (suc bound) a = a ∷ elim (next a) [ None ↦ [] | Some b ↦ chain 
 unfoldable pub chain_behind : (ℕ → Option ℕ) → ℕ → ℕ → List ℕ
 chain_behind next bound a = elim (next a) [ None ↦ [] | Some b ↦ chain next bound b ]
 
+-- each step leads to a number below n
+abbrev pub StaysBelow : (ℕ → Option ℕ) → ℕ → Type 0
+StaysBelow next n = (a b : ℕ) → next a ≡ Some b → b < n
+
 -- the elements of which an earlier one has the name; those before the list are named `earlier`
 unfoldable pub named_twice : {A : Type 0} → (A → List ℕ) → List (List ℕ) → List A → List A
 named_twice name earlier [] = []
 named_twice name earlier (x ∷ xs) = (if is_named_among (name x) earlier then x ∷ [] else []) ++ named_twice name (name x ∷ earlier) xs
-
--- an optional value, or none, each made into a list
-abbrev pub listed_option : {A : Type 0} → Option A → List A
-listed_option None = []
-listed_option (Some x) = x ∷ []
 
 -- the first of two that is there
 abbrev pub or_else : {A : Type 0} → Option A → Option A → Option A

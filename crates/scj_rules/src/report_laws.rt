@@ -1,14 +1,18 @@
 //! Laws of the report of a program, and of the tables that its rules are told from. Each is the contract of a function
 //! that does nothing.
 
-ghost use Rattle.std.specs.Prelude.{◌≡◌, ◌<◌, ℕ, List, Option, None, length, slice_get};
+ghost use Rattle.std.specs.Prelude.{◌↔◌, ◌⊎◌, true, ◌≡◌, ◌<◌, ℕ, List, Option, None, length, slice_get};
 ghost use Rattle.scj_base.specs.declared.findings.Found.{Found as Finding};
 ghost use Rattle.scj_tree.specs.Forest.{Forest, IsForest};
 ghost use Rattle.scj_tree.specs.Recursion.{told, below, above};
-ghost use Rattle.scj_rules.specs.Contexts.{Declarations, outermost, contexts_in, context_of};
+ghost use Rattle.scj_rules.specs.Contexts.{Declarations, outermost, contexts_in, context_of, declarations_of};
 ghost use Rattle.scj_tree.specs.Forest.{joined};
 ghost use Rattle.scj_rules.specs.TypeRules.{Types, types_in, type_of_next};
 ghost use Rattle.scj_rules.specs.UseRules.{scopes_in, scope_of_next};
+ghost use Rattle.scj_rules.specs.Chains.{Follows, ComesBack};
+ghost use Rattle.scj_rules.specs.Words.{is_among};
+ghost use Rattle.scj_rules.specs.Classes.{is_cyclic, superclass_in, superclasses};
+ghost use Rattle.scj_rules.specs.ScopeRules.{is_outer, parent_scope, immortal_scope};
 ghost use Rattle.scj_rules.specs.Phases.{IsAccepted, Reports};
 
 /// Some program breaks no rule.
@@ -34,4 +38,19 @@ pub fn scopes_come_from_below()
 /// The context of a node is told by those of the nodes behind it.
 pub fn contexts_come_from_above()
     ensures { (forest : Forest) (id : ℕ) → id < length forest.nodes → told outermost (contexts_in forest) id ≡ context_of forest.nodes (joined forest.files) id (above outermost id (told outermost (contexts_in forest))) }
+{}
+
+/// A class breaks the rule on cycles exactly where its superclasses come back to it.
+pub fn class_cycles_are_found()
+    ensures { (forest : Forest) (class : ℕ) → (is_cyclic (declarations_of forest).written class ≡ true) ↔ ComesBack (superclass_in (declarations_of forest).written) class }
+{}
+
+/// The chain of a class holds exactly the class and what is reached from it by superclasses.
+pub fn superclasses_are_reached()
+    ensures { (forest : Forest) (a b : ℕ) → a < length (declarations_of forest).classes → (is_among b (superclasses (declarations_of forest).classes a) ≡ true) ↔ ((a ≡ b) ⊎ Follows (superclass_in (declarations_of forest).classes) a b) }
+{}
+
+/// A scope is outer of another one exactly where it is the root, that scope, or reached from it by parents.
+pub fn outer_scopes_are_reached()
+    ensures { (forest : Forest) (a b : ℕ) → b < length (declarations_of forest).classes → (is_outer (declarations_of forest) a b ≡ true) ↔ ((a ≡ immortal_scope) ⊎ ((b ≡ a) ⊎ Follows (parent_scope (declarations_of forest)) b a)) }
 {}
