@@ -1,3 +1,5 @@
+mod Again
+mod ExpressionsAgain
 mod Lexing
 mod Printing
 mod Unfolding
