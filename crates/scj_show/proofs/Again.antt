@@ -10,12 +10,13 @@ use Rattle.scj_tree.specs.Terminals.{closes_name, begins_unary1, is_unary1_start
 use Rattle.scj_tree.specs.Headers.{put}
 use Rattle.scj_tree.specs.Expressions.{PostRead}
 use Rattle.scj_tree.specs.Forest.{ChildrenFirst}
+use Rattle.scj_tree.specs.Shape.{optional}
 use Rattle.scj_show.specs.declared.parts.Part.{Part}
 use Rattle.scj_show.specs.declared.parts.Part.TheVariants.{Whole, Sign}
 use Rattle.scj_show.specs.Parts.{parts_of, listed, each_behind_comma}
 use Rattle.scj_show.specs.Symbols.{Symbol, a_name, a_text, a_word, a_sign, a_number, Written, canonical, own_symbols, symbols_of_part, symbols_of_parts, written_node, written}
 use Rattle.scj_show.specs.Placed.{printed, lexeme_at}
-use Rattle.scj_show.specs.Alike.{counted, Alike, AllAlike, alike, none_alike, one_alike}
+use Rattle.scj_show.specs.Alike.{counted, there, Alike, AllAlike, alike, none_alike, one_alike}
 use Rattle.scj_show.proofs.Unfolding.{written_at}
 
 -- ---- nodes behind others
@@ -204,3 +205,47 @@ pub record PostHere (minimum : Bool) (kind : PostKind) (M : List Node) (i : List
 
 pub post_here : {minimum : Bool} {kind : PostKind} {at : Pos} {M N : List Node} {i o : List Lexeme} {id : ℕ} → PostRead minimum kind at M i N o id → PostHere minimum kind M i N o id
 post_here {at = at} d = record { at = at; read = d }
+
+-- the same where nothing has to be known of the first lexemes
+pub record Told (R : List Node → List Lexeme → List Node → List Lexeme → ℕ → Type 0) (W M : List Node) (i2 o2 : List Lexeme) (id : ℕ) : Type 0 where
+  pub nodes : List Node
+  pub place : ℕ
+  pub grown : Front M nodes
+  pub read : R M i2 nodes o2 place
+  pub alike : (V : List Node) → Front nodes V → Alike W V id place
+
+pub told_of : {R : List Node → List Lexeme → List Node → List Lexeme → ℕ → Type 0} {W M : List Node} {i2 o2 : List Lexeme} {id : ℕ} (nodes : List Node) (place : ℕ) → Front M nodes → R M i2 nodes o2 place → ((V : List Node) → Front nodes V → Alike W V id place) → Told R W M i2 o2 id
+told_of nodes place grown read same = record { nodes = nodes; place = place; grown = grown; read = read; alike = same }
+
+pub told_moved : {R : List Node → List Lexeme → List Node → List Lexeme → ℕ → Type 0} {W M : List Node} {i2 i3 o2 : List Lexeme} {id : ℕ} → i3 ≡ i2 → Told R W M i2 o2 id → Told R W M i3 o2 id
+told_moved {R} {W} {M} {i2} {i3} {o2} {id} e a = subst (λ (t : List Lexeme). Told R W M t o2 id) (sym e) a
+
+-- a part that may be missing
+pub data MaybeAlike (W V : List Node) : Option ℕ → Option ℕ → Type 0 where
+  both_missing : MaybeAlike W V None None
+  both_there : {x y : ℕ} → Alike W V x y → MaybeAlike W V (Some x) (Some y)
+
+pub there-same : {W V : List Node} {x y : Option ℕ} → MaybeAlike W V x y → there x ≡ there y
+there-same both_missing = refl
+there-same (both_there a) = refl
+
+pub optional-alike : {W V : List Node} {x y : Option ℕ} {xs ys : List ℕ} → MaybeAlike W V x y → AllAlike W V xs ys → AllAlike W V (optional x ++ xs) (optional y ++ ys)
+optional-alike both_missing a = a
+optional-alike (both_there b) a = one_alike b a
+
+pub optional-alike-last : {W V : List Node} {x y : Option ℕ} → MaybeAlike W V x y → AllAlike W V (optional x) (optional y)
+optional-alike-last both_missing = none_alike
+optional-alike-last (both_there b) = one_alike b none_alike
+
+pub record MaybeTold (R : List Node → List Lexeme → List Node → List Lexeme → Option ℕ → Type 0) (W M : List Node) (i2 o2 : List Lexeme) (id : Option ℕ) : Type 0 where
+  pub nodes : List Node
+  pub place : Option ℕ
+  pub grown : Front M nodes
+  pub read : R M i2 nodes o2 place
+  pub alike : (V : List Node) → Front nodes V → MaybeAlike W V id place
+
+pub maybe_told_of : {R : List Node → List Lexeme → List Node → List Lexeme → Option ℕ → Type 0} {W M : List Node} {i2 o2 : List Lexeme} {id : Option ℕ} (nodes : List Node) (place : Option ℕ) → Front M nodes → R M i2 nodes o2 place → ((V : List Node) → Front nodes V → MaybeAlike W V id place) → MaybeTold R W M i2 o2 id
+maybe_told_of nodes place grown read same = record { nodes = nodes; place = place; grown = grown; read = read; alike = same }
+
+pub maybe_told_moved : {R : List Node → List Lexeme → List Node → List Lexeme → Option ℕ → Type 0} {W M : List Node} {i2 i3 o2 : List Lexeme} {id : Option ℕ} → i3 ≡ i2 → MaybeTold R W M i2 o2 id → MaybeTold R W M i3 o2 id
+maybe_told_moved {R} {W} {M} {i2} {i3} {o2} {id} e a = subst (λ (t : List Lexeme). MaybeTold R W M t o2 id) (sym e) a

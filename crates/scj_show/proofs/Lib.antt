@@ -1,5 +1,7 @@
 mod Again
 mod ExpressionsAgain
+mod FlagsAgain
+mod HeadersAgain
 mod Lexing
 mod Printing
 mod Unfolding
