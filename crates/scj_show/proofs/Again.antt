@@ -1,6 +1,6 @@
 -- Canonical lexemes laid behind bytes of a file, and what it means that they are read as a tree that is the same.
 use Rattle.std.proofs.Common.{◌≡◌, ℕ, zero, suc, Bool, true, false, ◌==◌, List, [], ◌∷◌, ◌++◌, Option, Some, None, slice_get, length, map, refl, sym, ap, subst, ◌∙◌, append_assoc, append-nil}
-use Rattle.scj_base.specs.Vocabulary.{sign_right_parenthesis, sign_comma}
+use Rattle.scj_base.specs.Vocabulary.{word_implements, sign_right_parenthesis, sign_comma}
 use Rattle.scj_base.specs.declared.places.Pos.{Pos}
 use Rattle.scj_base.specs.Lex.{place_behind}
 use Rattle.scj_tree.specs.declared.nodes.Node.{Node}
@@ -13,8 +13,8 @@ use Rattle.scj_tree.specs.Forest.{ChildrenFirst}
 use Rattle.scj_tree.specs.Shape.{optional}
 use Rattle.scj_show.specs.declared.parts.Part.{Part}
 use Rattle.scj_show.specs.declared.parts.Part.TheVariants.{Whole, Sign}
-use Rattle.scj_show.specs.Parts.{parts_of, listed, each_behind_comma}
-use Rattle.scj_show.specs.Symbols.{Symbol, a_name, a_text, a_word, a_sign, a_number, Written, canonical, own_symbols, symbols_of_part, symbols_of_parts, written_node, written}
+use Rattle.scj_show.specs.Parts.{parts_of, each, listed, each_behind_comma, implemented}
+use Rattle.scj_show.specs.Symbols.{Symbol, a_name, a_text, a_word, a_sign, a_number, Written, canonical, own_symbols, symbols_of_part, symbols_of_parts, written_node, written, symbols_of}
 use Rattle.scj_show.specs.Placed.{printed, lexeme_at}
 use Rattle.scj_show.specs.Alike.{counted, there, Alike, AllAlike, alike, none_alike, one_alike}
 use Rattle.scj_show.proofs.Unfolding.{written_at}
@@ -68,18 +68,28 @@ followed-put W (x ∷ ids) id = ap (λ (t : List Symbol). (whole W x ++ a_sign s
 unfoldable pub arguments_of : List Node → List ℕ → List Symbol
 arguments_of W ids = symbols_of_parts (written W) (listed ids ++ Sign sign_right_parenthesis ∷ [])
 
-commas-turned : (W : List Node) (x : ℕ) (ids : List ℕ) (id : ℕ) → whole W x ++ symbols_of_parts (written W) (each_behind_comma (ids ++ id ∷ []) ++ Sign sign_right_parenthesis ∷ []) ≡ followed W (x ∷ ids) ++ (whole W id ++ a_sign sign_right_parenthesis ∷ [])
+commas-turned : (W : List Node) (x : ℕ) (ids : List ℕ) (id : ℕ) (tail : List Part) → whole W x ++ symbols_of_parts (written W) (each_behind_comma (ids ++ id ∷ []) ++ tail) ≡ followed W (x ∷ ids) ++ (whole W id ++ symbols_of_parts (written W) tail)
 unfolding each_behind_comma symbols_of_parts symbols_of_part followed
-commas-turned W x [] id = sym (append_assoc (whole W x) (a_sign sign_comma ∷ []) (whole W id ++ a_sign sign_right_parenthesis ∷ [])) ∙ ap (λ (t : List Symbol). t ++ (whole W id ++ a_sign sign_right_parenthesis ∷ [])) (sym (append-nil (whole W x ++ a_sign sign_comma ∷ [])))
-commas-turned W x (y ∷ ids) id =
-    let more : whole W y ++ symbols_of_parts (written W) (each_behind_comma (ids ++ id ∷ []) ++ Sign sign_right_parenthesis ∷ []) ≡ followed W (y ∷ ids) ++ (whole W id ++ a_sign sign_right_parenthesis ∷ []) = commas-turned W y ids id in
-    let one : whole W x ++ (a_sign sign_comma ∷ (followed W (y ∷ ids) ++ (whole W id ++ a_sign sign_right_parenthesis ∷ []))) ≡ ((whole W x ++ a_sign sign_comma ∷ []) ++ followed W (y ∷ ids)) ++ (whole W id ++ a_sign sign_right_parenthesis ∷ []) = sym (append_assoc (whole W x ++ a_sign sign_comma ∷ []) (followed W (y ∷ ids)) (whole W id ++ a_sign sign_right_parenthesis ∷ []) ∙ append_assoc (whole W x) (a_sign sign_comma ∷ []) (followed W (y ∷ ids) ++ (whole W id ++ a_sign sign_right_parenthesis ∷ []))) in
+commas-turned W x [] id tail = sym (append_assoc (whole W x) (a_sign sign_comma ∷ []) (whole W id ++ symbols_of_parts (written W) tail)) ∙ ap (λ (t : List Symbol). t ++ (whole W id ++ symbols_of_parts (written W) tail)) (sym (append-nil (whole W x ++ a_sign sign_comma ∷ [])))
+commas-turned W x (y ∷ ids) id tail =
+    let more : whole W y ++ symbols_of_parts (written W) (each_behind_comma (ids ++ id ∷ []) ++ tail) ≡ followed W (y ∷ ids) ++ (whole W id ++ symbols_of_parts (written W) tail) = commas-turned W y ids id tail in
+    let one : whole W x ++ (a_sign sign_comma ∷ (followed W (y ∷ ids) ++ (whole W id ++ symbols_of_parts (written W) tail))) ≡ ((whole W x ++ a_sign sign_comma ∷ []) ++ followed W (y ∷ ids)) ++ (whole W id ++ symbols_of_parts (written W) tail) = sym (append_assoc (whole W x ++ a_sign sign_comma ∷ []) (followed W (y ∷ ids)) (whole W id ++ symbols_of_parts (written W) tail) ∙ append_assoc (whole W x) (a_sign sign_comma ∷ []) (followed W (y ∷ ids) ++ (whole W id ++ symbols_of_parts (written W) tail))) in
     ap (λ (t : List Symbol). whole W x ++ (a_sign sign_comma ∷ t)) more ∙ one
 
 pub arguments_of-put : (W : List Node) (ids : List ℕ) (id : ℕ) → arguments_of W (ids ++ id ∷ []) ≡ followed W ids ++ (whole W id ++ a_sign sign_right_parenthesis ∷ [])
 unfolding arguments_of listed symbols_of_parts symbols_of_part followed each_behind_comma
 arguments_of-put W [] id = refl
-arguments_of-put W (x ∷ ids) id = commas-turned W x ids id
+arguments_of-put W (x ∷ ids) id = commas-turned W x ids id (Sign sign_right_parenthesis ∷ [])
+
+pub implemented-put : (W : List Node) (ids : List ℕ) (id : ℕ) → symbols_of_parts (written W) (implemented (ids ++ id ∷ [])) ≡ a_word word_implements ∷ (followed W ids ++ (whole W id ++ []))
+unfolding implemented symbols_of_parts symbols_of_part followed each_behind_comma
+implemented-put W [] id = refl
+implemented-put W (x ∷ ids) id = ap (λ (ps : List Part). a_word word_implements ∷ (whole W x ++ symbols_of_parts (written W) ps)) (sym (append-nil (each_behind_comma (ids ++ id ∷ [])))) ∙ ap (λ (t : List Symbol). a_word word_implements ∷ t) (commas-turned W x ids id [])
+
+pub each-put : (W : List Node) (ids : List ℕ) (id : ℕ) → symbols_of W (ids ++ id ∷ []) ≡ symbols_of W ids ++ whole W id
+unfolding symbols_of each symbols_of_parts symbols_of_part
+each-put W [] id = append-nil (whole W id)
+each-put W (x ∷ ids) id = ap (λ (t : List Symbol). whole W x ++ t) (each-put W ids id) ∙ sym (append_assoc (whole W x) (symbols_of W ids) (whole W id))
 
 -- ---- lexemes behind bytes of a file, with more lexemes behind them
 

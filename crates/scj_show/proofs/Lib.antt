@@ -1,4 +1,5 @@
 mod Again
+mod DeclarationsAgain
 mod ExpressionsAgain
 mod FlagsAgain
 mod HeadersAgain
