@@ -170,22 +170,26 @@ right_of_heads w p q i j h = right_is w p i ∙ ap right_head h ∙ sym (right_i
 
 -- ---- read again
 
--- from the nodes M and the lexemes i2 something is read up to o2, which is the same as id among W; i are the
--- lexemes from which id was read
-pub record Again (R : List Node → List Lexeme → List Node → List Lexeme → ℕ → Type 0) (W M : List Node) (i i2 o2 : List Lexeme) (id : ℕ) : Type 0 where
+-- what may stand behind an expression: where one row begins no operand of a cast, the other doesn't either
+abbrev pub Calm : List Lexeme → List Lexeme → Type 0
+Calm o o2 = begins_unary1 o ≡ false → begins_unary1 o2 ≡ false
+
+-- from the nodes M and the lexemes i2 something is read up to o2, which is the same as id among W; id was read from
+-- the lexemes i up to o
+pub record Again (R : List Node → List Lexeme → List Node → List Lexeme → ℕ → Type 0) (W M : List Node) (i o i2 o2 : List Lexeme) (id : ℕ) : Type 0 where
   pub nodes : List Node
   pub place : ℕ
   pub grown : Front M nodes
   pub read : R M i2 nodes o2 place
   pub heads : head i ≡ head i2
-  pub closes : closes_name i ≡ closes_name i2
+  pub closes : head o ≡ head o2 → closes_name i ≡ closes_name i2
   pub alike : (V : List Node) → Front nodes V → Alike W V id place
 
-pub again_of : {R : List Node → List Lexeme → List Node → List Lexeme → ℕ → Type 0} {W M : List Node} {i i2 o2 : List Lexeme} {id : ℕ} (nodes : List Node) (place : ℕ) → Front M nodes → R M i2 nodes o2 place → head i ≡ head i2 → closes_name i ≡ closes_name i2 → ((V : List Node) → Front nodes V → Alike W V id place) → Again R W M i i2 o2 id
+pub again_of : {R : List Node → List Lexeme → List Node → List Lexeme → ℕ → Type 0} {W M : List Node} {i o i2 o2 : List Lexeme} {id : ℕ} (nodes : List Node) (place : ℕ) → Front M nodes → R M i2 nodes o2 place → head i ≡ head i2 → (head o ≡ head o2 → closes_name i ≡ closes_name i2) → ((V : List Node) → Front nodes V → Alike W V id place) → Again R W M i o i2 o2 id
 again_of nodes place grown read heads closes same = record { nodes = nodes; place = place; grown = grown; read = read; heads = heads; closes = closes; alike = same }
 
-pub moved : {R : List Node → List Lexeme → List Node → List Lexeme → ℕ → Type 0} {W M : List Node} {i i2 i3 o2 : List Lexeme} {id : ℕ} → i3 ≡ i2 → Again R W M i i2 o2 id → Again R W M i i3 o2 id
-moved {R} {W} {M} {i} {i2} {i3} {o2} {id} e a = subst (λ (t : List Lexeme). Again R W M i t o2 id) (sym e) a
+pub moved : {R : List Node → List Lexeme → List Node → List Lexeme → ℕ → Type 0} {W M : List Node} {i o i2 i3 o2 : List Lexeme} {id : ℕ} → i3 ≡ i2 → Again R W M i o i2 o2 id → Again R W M i o i3 o2 id
+moved {R} {W} {M} {i} {o} {i2} {i3} {o2} {id} e a = subst (λ (t : List Lexeme). Again R W M i o t o2 id) (sym e) a
 
 pub record AllAgain (R : List Node → List Lexeme → List Node → List Lexeme → List ℕ → Type 0) (W M : List Node) (i2 o2 : List Lexeme) (ids : List ℕ) : Type 0 where
   pub nodes : List Node

@@ -1,4 +1,5 @@
 mod Again
+mod AssignmentsAgain
 mod DeclarationsAgain
 mod ExpressionsAgain
 mod FlagsAgain
