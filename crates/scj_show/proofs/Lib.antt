@@ -6,5 +6,6 @@ mod FlagsAgain
 mod HeadersAgain
 mod Lexing
 mod Printing
+mod StatementsAgain
 mod Unfolding
 mod WorkedRows
