@@ -5,6 +5,7 @@ mod ExpressionsAgain
 mod FlagsAgain
 mod HeadersAgain
 mod Lexing
+mod MembersAgain
 mod Printing
 mod StatementsAgain
 mod Unfolding
