@@ -15,12 +15,12 @@ use Rattle.scj_show.specs.declared.parts.Part.{Part}
 use Rattle.scj_show.specs.declared.parts.Part.TheVariants.{Whole, Named, Sign}
 use Rattle.scj_show.specs.Parts.{parts_of, maybe, listed, in_parentheses, extended, implemented, parameters_or_none}
 use Rattle.scj_show.specs.Symbols.{Symbol, a_name, a_word, a_sign, canonical, own_symbols, symbols_of_part, symbols_of_parts, written}
-use Rattle.scj_show.specs.Placed.{printed, lexeme_at}
+use Rattle.scj_show.specs.Placed.{printed, lexeme_at, AreNamed}
 use Rattle.scj_show.specs.Alike.{nowhere, there, counted, shape, in_order, alike, none_alike, one_alike}
 use Rattle.scj_show.proofs.Printing.{symbols_of_parts-append}
 use Rattle.scj_show.proofs.Again.{Front, front-none, front-one, front-then, front-put, front-at, whole, whole_at, laid, laid-append, followed, followed-put, arguments_of, arguments_of-put, implemented-put, Told, told_of, told_moved, AllAgain, all_again_of, all_moved, alike-put, counted-same, MaybeAlike, both_missing, both_there, there-same, optional-alike, optional-alike-last, MaybeTold, maybe_told_of, maybe_told_moved}
 use Rattle.scj_show.proofs.HeadersAgain.{type_front, type_again, super_front, super_again}
-use Rattle.scj_show.proofs.FlagsAgain.{AreNamed, FlagsTold, flags_again, flags_front, row_front, maybe_symbols}
+use Rattle.scj_show.proofs.FlagsAgain.{FlagsTold, flags_again, flags_front, row_front, maybe_symbols}
 
 -- ---- reading puts nodes behind the others
 

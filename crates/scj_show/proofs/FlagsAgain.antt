@@ -16,7 +16,7 @@ use Rattle.scj_tree.specs.Shape.{children, optional}
 use Rattle.scj_show.specs.declared.parts.Part.{Part}
 use Rattle.scj_show.specs.Parts.{parts_of, maybe, annotation, scope_definition, word_if_set, flag_parts}
 use Rattle.scj_show.specs.Symbols.{Symbol, a_name, a_text, a_word, a_sign, canonical, own_symbols, symbols_of_part, symbols_of_parts, written}
-use Rattle.scj_show.specs.Placed.{printed, lexeme_at}
+use Rattle.scj_show.specs.Placed.{printed, lexeme_at, AreNamed}
 use Rattle.scj_show.specs.Alike.{nowhere, there, shape, in_order, Alike, alike, none_alike, one_alike}
 use Rattle.scj_show.proofs.Again.{Front, front-none, front-one, front-then, front-put, front-at, whole, whole_at, laid, laid-append, MaybeAlike, both_missing, both_there, there-same, optional-alike, optional-alike-last}
 use Rattle.scj_show.proofs.Printing.{symbols_of_parts-append}
@@ -279,10 +279,6 @@ bare_flags (scope_flag {flags = flags} {p = p} d h v) e = placed_somewhere p fla
 bare_flags (runs_in_flag {flags = flags} {p = p} d h v) e = placed_somewhere p flags.place e
 bare_flags (define_scope_flag {flags = flags} {p = p} d h v w) e = placed_somewhere p flags.place e
 bare_flags (define_scope_flag_parent_first {flags = flags} {p = p} d h v w) e = placed_somewhere p flags.place e
-
--- each scope's name among W is a name
-pub record AreNamed (W : List Node) : Type 0 where
-  pub at : (id : ℕ) (place : Pos) (name : List ℕ) → slice_get W id ≡ Some (ScopeName place name) → is_name name ≡ true
 
 record Facts (W : List Node) (flags : FlagSet) : Type 0 where
   define : MaybeIs (IsDefinition W) flags.define_scope

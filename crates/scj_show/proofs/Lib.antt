@@ -2,6 +2,7 @@ mod Again
 mod AssignmentsAgain
 mod DeclarationsAgain
 mod ExpressionsAgain
+mod FilesAgain
 mod FlagsAgain
 mod HeadersAgain
 mod Lexing

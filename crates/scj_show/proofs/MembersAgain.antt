@@ -14,13 +14,13 @@ use Rattle.scj_tree.specs.Shape.{children, optional}
 use Rattle.scj_show.specs.declared.parts.Part.TheVariants.{Whole, Bare, Named, Word, Sign}
 use Rattle.scj_show.specs.Parts.{parts_of, bare_parts, maybe, each, sign_if_set, class_parts, field_parts, method_parts, constructor_parts, super_call_parts, block_end, assigned, parameters_or_none, body_or_semicolon, body_with_call, in_parentheses}
 use Rattle.scj_show.specs.Symbols.{Symbol, a_name, a_word, a_sign, a_number, canonical, own_symbols, symbols_of_part, symbols_of_parts, written, symbols_of}
-use Rattle.scj_show.specs.Placed.{printed, lexeme_at}
+use Rattle.scj_show.specs.Placed.{printed, lexeme_at, AreNamed}
 use Rattle.scj_show.specs.Alike.{nowhere, there, counted, Alike, AllAlike, shape, in_order, alike, none_alike, one_alike}
 use Rattle.scj_show.proofs.Printing.{symbols_of_parts-append}
 use Rattle.scj_show.proofs.Again.{Front, front-none, front-one, front-then, front-put, front-at, whole, whole_at, laid, laid-append, arguments_of, each-put, Told, told_of, told_moved, AllAgain, all_again_of, all_moved, alike-put, counted-same, MaybeAlike, both_missing, both_there, there-same, optional-alike, optional-alike-last}
 use Rattle.scj_show.proofs.ExpressionsAgain.{arguments_front, arguments_again}
 use Rattle.scj_show.proofs.HeadersAgain.{type_front, type_again, result_front, result_again}
-use Rattle.scj_show.proofs.FlagsAgain.{AreNamed, FlagsTold, flags_again, flags_front, row_front, maybe_symbols}
+use Rattle.scj_show.proofs.FlagsAgain.{FlagsTold, flags_again, flags_front, row_front, maybe_symbols}
 use Rattle.scj_show.proofs.DeclarationsAgain.{header_front, header_again, parameters_front, parameters_again, parameter_symbols}
 use Rattle.scj_show.proofs.AssignmentsAgain.{bare, bare_at}
 use Rattle.scj_show.proofs.StatementsAgain.{statements_front, statements_again}

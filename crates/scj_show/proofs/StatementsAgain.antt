@@ -19,13 +19,13 @@ use Rattle.scj_tree.specs.Shape.{children, optional}
 use Rattle.scj_show.specs.declared.parts.Part.TheVariants.{Whole, Named, Sign}
 use Rattle.scj_show.specs.Parts.{parts_of, maybe, each, alternative, block_end, return_parts}
 use Rattle.scj_show.specs.Symbols.{Symbol, a_name, a_word, a_sign, canonical, own_symbols, symbols_of_part, symbols_of_parts, written, symbols_of}
-use Rattle.scj_show.specs.Placed.{printed, lexeme_at}
+use Rattle.scj_show.specs.Placed.{printed, lexeme_at, AreNamed}
 use Rattle.scj_show.specs.Alike.{nowhere, there, counted, Alike, AllAlike, shape, in_order, alike, none_alike, one_alike}
 use Rattle.scj_show.proofs.Printing.{symbols_of_parts-append}
 use Rattle.scj_show.proofs.Again.{Front, front-none, front-one, front-then, front-put, front-at, whole, whole_at, laid, laid-append, each-put, Told, told_of, told_moved, AllAgain, all_again_of, all_moved, alike-put, counted-same, MaybeAlike, both_missing, both_there, there-same, optional-alike}
 use Rattle.scj_show.proofs.ExpressionsAgain.{level_front, post_front, level_again, post_again}
 use Rattle.scj_show.proofs.HeadersAgain.{type_front, type_again}
-use Rattle.scj_show.proofs.FlagsAgain.{AreNamed, FlagsTold, flags_again, flags_front, row_front, maybe_symbols}
+use Rattle.scj_show.proofs.FlagsAgain.{FlagsTold, flags_again, flags_front, row_front, maybe_symbols}
 use Rattle.scj_show.proofs.AssignmentsAgain.{bare, assignment_front, assignment_statement, assignment_again}
 
 -- ---- reading puts nodes behind the others
