@@ -1,5 +1,5 @@
 -- Canonical lexemes laid behind bytes of a file, and what it means that they are read as a tree that is the same.
-use Rattle.std.proofs.Common.{◌≡◌, ℕ, zero, suc, Bool, true, false, ◌==◌, List, [], ◌∷◌, ◌++◌, Option, Some, None, slice_get, length, map, refl, sym, ap, subst, ◌∙◌, append_assoc, append-nil}
+use Rattle.std.proofs.Common.{◌≡◌, ℕ, Bool, false, ◌==◌, List, [], ◌∷◌, ◌++◌, Option, Some, None, slice_get, length, refl, sym, ap, subst, ◌∙◌, append_assoc, append-nil}
 use Rattle.scj_base.specs.Vocabulary.{word_implements, sign_right_parenthesis, sign_comma}
 use Rattle.scj_base.specs.declared.places.Pos.{Pos}
 use Rattle.scj_base.specs.Lex.{place_behind}
@@ -12,11 +12,11 @@ use Rattle.scj_tree.specs.Expressions.{PostRead}
 use Rattle.scj_tree.specs.Forest.{ChildrenFirst}
 use Rattle.scj_tree.specs.Shape.{optional}
 use Rattle.scj_show.specs.declared.parts.Part.{Part}
-use Rattle.scj_show.specs.declared.parts.Part.TheVariants.{Whole, Sign}
+use Rattle.scj_show.specs.declared.parts.Part.TheVariants.{Sign}
 use Rattle.scj_show.specs.Parts.{parts_of, each, listed, each_behind_comma, implemented}
 use Rattle.scj_show.specs.Symbols.{Symbol, a_name, a_text, a_word, a_sign, a_number, Written, canonical, own_symbols, symbols_of_part, symbols_of_parts, written_node, written, symbols_of}
 use Rattle.scj_show.specs.Placed.{printed, lexeme_at}
-use Rattle.scj_show.specs.Alike.{counted, there, Alike, AllAlike, alike, none_alike, one_alike}
+use Rattle.scj_show.specs.Alike.{counted, there, Alike, AllAlike, none_alike, one_alike}
 use Rattle.scj_show.proofs.Unfolding.{written_at}
 
 -- ---- nodes behind others

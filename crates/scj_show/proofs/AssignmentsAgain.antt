@@ -1,19 +1,19 @@
 -- The canonical lexemes of an assignment are read as the same assignment.
-use Rattle.std.proofs.Common.{append-nil, append_assoc, ◌≡◌, ℕ, zero, suc, ◌+◌, ◌-◌, ◌≤◌, Bool, true, false, ◌==◌, List, [], ◌∷◌, ◌++◌, Option, Some, None, slice_get, length, refl, sym, ap, subst, ◌∙◌, arith, lit≤}
+use Rattle.std.proofs.Common.{append-nil, append_assoc, ◌≡◌, ℕ, zero, suc, ◌+◌, ◌-◌, ◌≤◌, Bool, true, false, ◌==◌, List, [], ◌∷◌, ◌++◌, Option, Some, None, slice_get, length, refl, sym, ap, subst, ◌∙◌, arith}
 use Rattle.std.specs.Prelude.{if◌then◌else◌, nat_le}
 use Rattle.std.proofs.lemmas.Bool.{false≢true, eqb-true, le-leb}
-use Rattle.scj_base.specs.Vocabulary.{sign_left_parenthesis, sign_right_parenthesis, sign_semicolon, sign_assign, sign_dot, sign_left_bracket, sign_plus, sign_minus, sign_star, sign_slash, sign_percent, sign_and, sign_or, sign_xor, sign_shift_left, sign_shift_right, sign_shift_right_unsigned, sign_plus_plus, sign_minus_minus, sign_plus_assign, sign_minus_assign, sign_star_assign, sign_slash_assign, sign_percent_assign, sign_and_assign, sign_or_assign, sign_xor_assign, sign_shift_left_assign, sign_shift_right_assign, sign_shift_right_unsigned_assign}
+use Rattle.scj_base.specs.Vocabulary.{sign_left_parenthesis, sign_right_parenthesis, sign_semicolon, sign_assign, sign_plus, sign_minus, sign_star, sign_slash, sign_percent, sign_and, sign_or, sign_xor, sign_shift_left, sign_shift_right, sign_shift_right_unsigned, sign_plus_plus, sign_minus_minus, sign_plus_assign, sign_minus_assign, sign_star_assign, sign_slash_assign, sign_percent_assign, sign_and_assign, sign_or_assign, sign_xor_assign, sign_shift_left_assign, sign_shift_right_assign, sign_shift_right_unsigned_assign}
 use Rattle.scj_base.specs.declared.places.Pos.{Pos}
 use Rattle.scj_base.specs.Lex.{place_behind}
 use Rattle.scj_tree.specs.declared.nodes.Node.{Node}
 use Rattle.scj_tree.specs.declared.nodes.Node.TheVariants.{Assign, Binary, Parenthesized, SimpleName, Number}
 use Rattle.scj_tree.specs.declared.readings.PostKind.{PostKind}
-use Rattle.scj_tree.specs.declared.readings.PostKind.TheVariants.{Variable, Value}
+use Rattle.scj_tree.specs.declared.readings.PostKind.TheVariants.{Value}
 use Rattle.scj_tree.specs.Lexemes.{Lexeme, a_name as name_at, a_number as number_at, a_sign as sign_at}
 use Rattle.scj_tree.specs.Terminals.{level, compound, stepping, closes_name, begins_unary1, is_unary1_start}
 use Rattle.scj_tree.specs.Headers.{put}
 use Rattle.scj_tree.specs.Expressions.{Level, UnaryRead, Unary1Read, PostRead, operand, tighter, binary, minus, minimum_unary, plain_unary, negation, complement, cast, post_unary, simple_name, simple_call, field_of, call_of, element_of, number, minimum_number, true_value, false_value, null_value, this_value, parenthesized, parenthesized_name, new_object, new_ints, new_booleans, new_references}
-use Rattle.scj_tree.specs.Statements.{AssignmentRead, assignment, compound_assignment, step_assignment, name_twice, operated}
+use Rattle.scj_tree.specs.Statements.{AssignmentRead, assignment, compound_assignment, step_assignment, name_twice}
 use Rattle.scj_tree.specs.Forest.{ChildrenFirst}
 use Rattle.scj_tree.specs.Shape.{children}
 use Rattle.scj_show.specs.Parts.{parts_of, bare_parts, sign_if_set}
@@ -21,7 +21,7 @@ use Rattle.scj_show.specs.Symbols.{Symbol, a_name, a_sign, a_number, Written, ca
 use Rattle.scj_show.specs.Placed.{printed, lexeme_at}
 use Rattle.scj_show.specs.Alike.{Alike, shape, in_order, alike, none_alike, one_alike}
 use Rattle.scj_show.proofs.Unfolding.{written_at}
-use Rattle.scj_show.proofs.Again.{Front, front-none, front-one, front-then, front-put, front-at, whole, whole_at, laid, laid-append, Told, told_of, told_moved}
+use Rattle.scj_show.proofs.Again.{Front, front-one, front-then, front-put, front-at, whole, whole_at, laid, laid-append, Told, told_of, told_moved}
 use Rattle.scj_show.proofs.ExpressionsAgain.{level_front, post_front, level_again, post_again}
 
 -- ---- an expression that begins with a name and a `)` is that name
@@ -45,6 +45,7 @@ no_operator i o name q p n e h c =
 
 mutual
   unfolding closes_name
+
   level_lone : {n : ℕ} {N N1 : List Node} {i o : List Lexeme} {id : ℕ} → Level n N i N1 o id → closes_name i ≡ true → LoneName N i N1 o id
   level_lone (operand d) c = unary_lone d c
   level_lone (tighter d) c = level_lone d c
@@ -245,9 +246,9 @@ assignment_again W first file M b o2 (compound_assignment {N = N} {N1 = N1} {e =
     let opened : laid file b (bare W (length (put P3 (Binary p op (length (put N (SimpleName q w))) (length N1))))) o2 ≡ name_at w (place_behind file b) ∷ sign_at sign_assign (place_behind file b1) ∷ name_at w (place_behind file b2) ∷ sign_at op (place_behind file b3) ∷ sign_at sign_left_parenthesis (place_behind file b4) ∷ laid file b5 (whole W e ++ a_sign sign_right_parenthesis ∷ []) o2 = ap (λ (ss : List Symbol). laid file b ss o2) said in
     let same : laid file b (bare W (length (put P3 (Binary p op (length (put N (SimpleName q w))) (length N1))))) o2 ≡ i2 = opened ∙ simp laid-append in
     told_moved same (told_of (put (put M3 made) (Assign (place_behind file b1) (length M) (length M3))) (length (put M3 made)) (front-then (front-one _) (front-then (front-one _) (front-then a.grown (front-then (front-one _) (front-then (front-one _) (front-one _)))))) (assignment simple_name (operation op (compound_operator n op k) simple_read paren)) (λ V g.
-      let g3 : Front a.nodes V = front-put _ _ (front-put _ _ (front-put _ _ g)) in
-      let g2 : Front M2 V = front-then a.grown g3 in
-      assign_alike at (front-at _ _ g) (name_alike w at_target (front-at _ _ (front-put _ _ g2))) (binary_alike op at_binary (front-at _ _ (front-put _ _ g)) (name_alike w at_left (front-at _ _ g2)) (paren_alike at_paren (front-at _ _ (front-put _ _ (front-put _ _ g))) (a.alike V g3)))))
+    let g3 : Front a.nodes V = front-put _ _ (front-put _ _ (front-put _ _ g)) in
+    let g2 : Front M2 V = front-then a.grown g3 in
+    assign_alike at (front-at _ _ g) (name_alike w at_target (front-at _ _ (front-put _ _ g2))) (binary_alike op at_binary (front-at _ _ (front-put _ _ g)) (name_alike w at_left (front-at _ _ g2)) (paren_alike at_paren (front-at _ _ (front-put _ _ (front-put _ _ g))) (a.alike V g3)))))
 assignment_again W first file M b o2 (step_assignment {N = N} {w = w} {n = n} {op = op} {p = p} {q = q} k) f u =
     let P3 : List Node = put (name_twice N q w) (Number p 1 false) in
     let f4 : Front P3 W = front-put P3 (Binary p op (length (put N (SimpleName q w))) (length (name_twice N q w))) (front-put _ _ f) in
@@ -275,6 +276,6 @@ assignment_again W first file M b o2 (step_assignment {N = N} {w = w} {n = n} {o
     let one : UnaryRead M2 (number_at 1 (place_behind file b4) ∷ o2) M3 o2 (length M2) = plain_unary (post_unary (number refl)) in
     let made : Node = Binary (place_behind file b3) op (length M1) (length M2) in
     told_moved (ap (λ (ss : List Symbol). laid file b ss o2) said) (told_of (put (put M3 made) (Assign (place_behind file b1) (length M) (length M3))) (length (put M3 made)) (front-then (front-one _) (front-then (front-one _) (front-then (front-one _) (front-then (front-one _) (front-one _))))) (assignment simple_name (operation op (stepping_operator n op k) simple_read one)) (λ V g.
-      let g3 : Front M3 V = front-put _ _ (front-put _ _ g) in
-      let g2 : Front M2 V = front-put _ _ g3 in
-      assign_alike at (front-at _ _ g) (name_alike w at_target (front-at _ _ (front-put _ _ g2))) (binary_alike op at_binary (front-at _ _ (front-put _ _ g)) (name_alike w at_left (front-at _ _ g2)) (number_alike 1 at_one (front-at _ _ g3)))))
+    let g3 : Front M3 V = front-put _ _ (front-put _ _ g) in
+    let g2 : Front M2 V = front-put _ _ g3 in
+    assign_alike at (front-at _ _ g) (name_alike w at_target (front-at _ _ (front-put _ _ g2))) (binary_alike op at_binary (front-at _ _ (front-put _ _ g)) (name_alike w at_left (front-at _ _ g2)) (number_alike 1 at_one (front-at _ _ g3)))))

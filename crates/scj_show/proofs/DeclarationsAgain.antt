@@ -1,26 +1,23 @@
 -- The canonical lexemes of a class's header and of parameters are read as the same.
-use Rattle.std.proofs.Common.{◌≡◌, ℕ, Bool, true, false, List, [], ◌∷◌, ◌++◌, Option, Some, None, slice_get, length, refl, sym, ap, ◌∙◌, append-nil, append_assoc}
+use Rattle.std.proofs.Common.{◌≡◌, ℕ, false, List, [], ◌∷◌, ◌++◌, Option, Some, None, slice_get, length, refl, ap, ◌∙◌, append-nil, append_assoc}
 use Rattle.scj_base.specs.Vocabulary.{word_extends, word_implements, sign_left_brace, sign_left_parenthesis, sign_right_parenthesis, sign_comma}
-use Rattle.scj_base.specs.declared.places.Pos.{Pos}
 use Rattle.scj_base.specs.Lex.{place_behind}
 use Rattle.scj_tree.specs.declared.nodes.Node.{Node}
 use Rattle.scj_tree.specs.declared.nodes.Node.TheVariants.{Supers, Parameters, Parameter}
-use Rattle.scj_tree.specs.declared.readings.FlagSet.{FlagSet}
 use Rattle.scj_tree.specs.Lexemes.{Lexeme, a_name as name_at, a_word as word_at, a_sign as sign_at}
 use Rattle.scj_tree.specs.Terminals.{with_flags, flags_number}
-use Rattle.scj_tree.specs.Headers.{put, FlagRow, TypeRead, ParameterRead, parameter, ParametersBegun, no_parameter_yet, parameter_and_comma, ParametersRead, no_parameters, parameters, SuperRead, InterfacesBegun, no_interface_yet, interface_and_comma, HeaderRead, no_header, extends_header, implements_header, extends_implements_header}
+use Rattle.scj_tree.specs.Headers.{put, ParameterRead, parameter, ParametersBegun, no_parameter_yet, parameter_and_comma, ParametersRead, no_parameters, parameters, InterfacesBegun, no_interface_yet, interface_and_comma, HeaderRead, no_header, extends_header, implements_header, extends_implements_header}
 use Rattle.scj_tree.specs.Forest.{ChildrenFirst}
-use Rattle.scj_tree.specs.Shape.{children, optional}
-use Rattle.scj_show.specs.declared.parts.Part.{Part}
-use Rattle.scj_show.specs.declared.parts.Part.TheVariants.{Whole, Named, Sign}
-use Rattle.scj_show.specs.Parts.{parts_of, maybe, listed, in_parentheses, extended, implemented, parameters_or_none}
+use Rattle.scj_tree.specs.Shape.{children}
+use Rattle.scj_show.specs.declared.parts.Part.TheVariants.{Whole, Named}
+use Rattle.scj_show.specs.Parts.{parts_of, maybe, in_parentheses, extended, implemented, parameters_or_none}
 use Rattle.scj_show.specs.Symbols.{Symbol, a_name, a_word, a_sign, canonical, own_symbols, symbols_of_part, symbols_of_parts, written}
 use Rattle.scj_show.specs.Placed.{printed, lexeme_at, AreNamed}
-use Rattle.scj_show.specs.Alike.{nowhere, there, counted, shape, in_order, alike, none_alike, one_alike}
+use Rattle.scj_show.specs.Alike.{nowhere, shape, in_order, alike, none_alike, one_alike}
 use Rattle.scj_show.proofs.Printing.{symbols_of_parts-append}
-use Rattle.scj_show.proofs.Again.{Front, front-none, front-one, front-then, front-put, front-at, whole, whole_at, laid, laid-append, followed, followed-put, arguments_of, arguments_of-put, implemented-put, Told, told_of, told_moved, AllAgain, all_again_of, all_moved, alike-put, counted-same, MaybeAlike, both_missing, both_there, there-same, optional-alike, optional-alike-last, MaybeTold, maybe_told_of, maybe_told_moved}
+use Rattle.scj_show.proofs.Again.{Front, front-none, front-one, front-then, front-put, front-at, whole, whole_at, laid, laid-append, followed, followed-put, arguments_of, arguments_of-put, implemented-put, Told, told_of, told_moved, AllAgain, all_again_of, all_moved, alike-put, counted-same, both_missing, both_there, there-same, optional-alike, MaybeTold, maybe_told_of, maybe_told_moved}
 use Rattle.scj_show.proofs.HeadersAgain.{type_front, type_again, super_front, super_again}
-use Rattle.scj_show.proofs.FlagsAgain.{FlagsTold, flags_again, flags_front, row_front, maybe_symbols}
+use Rattle.scj_show.proofs.FlagsAgain.{flags_again, flags_front, row_front, maybe_symbols}
 
 -- ---- reading puts nodes behind the others
 

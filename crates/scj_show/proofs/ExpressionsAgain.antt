@@ -1,5 +1,5 @@
 -- The canonical lexemes of an expression are read as the same expression.
-use Rattle.std.proofs.Common.{◌≡◌, ℕ, suc, Bool, true, false, List, [], ◌∷◌, ◌++◌, Option, Some, None, slice_get, length, refl, sym, ap, ◌∙◌}
+use Rattle.std.proofs.Common.{◌≡◌, ℕ, Bool, true, false, List, [], ◌∷◌, ◌++◌, Some, None, slice_get, length, refl, sym, ap, ◌∙◌}
 use Rattle.scj_base.specs.Vocabulary.{word_boolean, word_false, word_int, word_new, word_null, word_this, word_true, sign_left_parenthesis, sign_right_parenthesis, sign_left_bracket, sign_right_bracket, sign_comma, sign_dot, sign_minus, sign_not, sign_tilde}
 use Rattle.scj_base.specs.declared.places.Pos.{Pos}
 use Rattle.scj_base.specs.Lex.{place_behind}
@@ -13,7 +13,7 @@ use Rattle.scj_tree.specs.Expressions.{Level, UnaryRead, Unary1Read, PostRead, A
 use Rattle.scj_tree.specs.Forest.{ChildrenFirst}
 use Rattle.scj_tree.specs.Shape.{children}
 use Rattle.scj_show.specs.Parts.{parts_of, listed, call_parts, in_parentheses, argument_in_brackets, brackets, class_type_parts, object_and_dot, sign_if_set}
-use Rattle.scj_show.specs.Symbols.{Symbol, a_name, a_text, a_word, a_sign, a_number, canonical, own_symbols, symbols_of_part, symbols_of_parts}
+use Rattle.scj_show.specs.Symbols.{Symbol, a_name, a_word, a_sign, a_number, canonical, own_symbols, symbols_of_part, symbols_of_parts}
 use Rattle.scj_show.specs.Placed.{printed, lexeme_at}
 use Rattle.scj_show.specs.Alike.{nowhere, shape, in_order, alike, none_alike, one_alike}
 use Rattle.scj_show.proofs.Again.{Front, front-none, front-one, front-then, front-put, front-at, whole, whole_at, laid, laid-append, head, minimum_of_heads, unary1_of_heads, right_of_heads, Calm, followed, followed-put, arguments_of, arguments_of-put, Again, again_of, moved, AllAgain, all_again_of, all_moved, alike-put, counted-same, PostHere, post_here}
@@ -70,9 +70,9 @@ mutual
 
 -- ---- and again
 
-
 mutual
   unfolding symbols_of_parts symbols_of_part own_symbols parts_of call_parts in_parentheses argument_in_brackets brackets class_type_parts object_and_dot sign_if_set lexeme_at begins_unary1 is_unary1_start shape in_order children laid head closes_name arguments_of followed listed
+
   pub level_again : (W : List Node) → ChildrenFirst 0 W → (file : ℕ) (M : List Node) (b : List ℕ) (o2 : List Lexeme) {n : ℕ} {N N1 : List Node} {i o : List Lexeme} {id : ℕ} → Level n N i N1 o id → Front N1 W → Calm o o2 → Again (Level n) W M i o (laid file b (whole W id) o2) o2 id
   level_again W first file M b o2 (operand d) f h =
       let a = unary_again W first file M b o2 d f h in

@@ -1,6 +1,6 @@
 -- The canonical text of a file is read as the same tree.
-use Rattle.std.proofs.Common.{append-nil, append_assoc, ◌≡◌, ℕ, List, [], ◌∷◌, ◌++◌, refl, sym, ap, subst, ◌∙◌}
-use Rattle.scj_base.specs.Lex.{Lex, place_behind}
+use Rattle.std.proofs.Common.{append-nil, append_assoc, ◌≡◌, ℕ, List, [], ◌∷◌, ◌++◌, sym, ap, subst, ◌∙◌}
+use Rattle.scj_base.specs.Lex.{place_behind}
 use Rattle.scj_tree.specs.declared.nodes.Node.{Node}
 use Rattle.scj_tree.specs.Lexemes.{Lexeme, the_end, lexemes_of}
 use Rattle.scj_tree.specs.Headers.{no_imports}
@@ -10,7 +10,7 @@ use Rattle.scj_show.specs.Symbols.{Symbol, canonical, symbols_of}
 use Rattle.scj_show.specs.Placed.{printed, lexeme_at, AreLexemes, AreNamed, tokens_behind, lexemes_behind}
 use Rattle.scj_show.specs.Reread.{IsRead}
 use Rattle.scj_show.proofs.Lexing.{lexes, reads}
-use Rattle.scj_show.proofs.Again.{Front, front-none, laid, AllAgain}
+use Rattle.scj_show.proofs.Again.{Front, front-none, laid}
 use Rattle.scj_show.proofs.MembersAgain.{classes_again}
 
 behind-is : (at : ℕ) (before : List ℕ) (ss : List Symbol) → lexemes_behind at before ss ≡ laid at before ss (the_end (place_behind at (before ++ canonical ss)) ∷ [])

@@ -1,5 +1,5 @@
 -- The canonical lexemes of annotations and modifiers are read as the same flags.
-use Rattle.std.proofs.Common.{append-nil, ◌≡◌, ℕ, Bool, true, false, ◌||◌, ◌==◌, not, ◌&&◌, List, [], ◌∷◌, ◌++◌, Option, Some, None, slice_get, length, refl, sym, ap, subst, ◌∙◌}
+use Rattle.std.proofs.Common.{append-nil, ◌≡◌, ℕ, Bool, true, false, ◌==◌, not, ◌&&◌, List, [], ◌∷◌, ◌++◌, Option, Some, None, slice_get, length, refl, sym, ap, subst, ◌∙◌}
 use Rattle.std.specs.Prelude.{codes, if◌then◌else◌}
 use Rattle.std.proofs.lemmas.Bool.{false≢true, eqb-true}
 use Rattle.scj_base.specs.Vocabulary.{word_public, word_protected, word_private, word_final, word_static, word_abstract, word_synchronized, sign_at as at_sign, sign_left_parenthesis, sign_right_parenthesis, sign_comma, sign_assign}
@@ -8,14 +8,13 @@ use Rattle.scj_base.specs.Lex.{place_behind}
 use Rattle.scj_tree.specs.declared.nodes.Node.{Node}
 use Rattle.scj_tree.specs.declared.nodes.Node.TheVariants.{Flags, DefineScope, ScopeName}
 use Rattle.scj_tree.specs.declared.readings.FlagSet.{FlagSet}
-use Rattle.scj_tree.specs.Lexemes.{Lexeme, a_name as name_at, a_word as word_at, a_text as text_at, a_sign as sign_at, is_name}
+use Rattle.scj_tree.specs.Lexemes.{Lexeme, a_name as name_at, a_sign as sign_at, is_name}
 use Rattle.scj_tree.specs.Terminals.{no_flags, placed, with_define_scope, with_scope, with_runs_in, add_modifier, with_modifier, has_effect, flags_at, flags_node, with_flags, flags_number}
 use Rattle.scj_tree.specs.Headers.{put, FlagRow, no_flag, modifier, effectless, scope_flag, runs_in_flag, define_scope_flag, define_scope_flag_parent_first, ScopeValue, quoted_scope, bare_scope, qualified_scope}
 use Rattle.scj_tree.specs.Forest.{ChildrenFirst}
-use Rattle.scj_tree.specs.Shape.{children, optional}
-use Rattle.scj_show.specs.declared.parts.Part.{Part}
+use Rattle.scj_tree.specs.Shape.{children}
 use Rattle.scj_show.specs.Parts.{parts_of, maybe, annotation, scope_definition, word_if_set, flag_parts}
-use Rattle.scj_show.specs.Symbols.{Symbol, a_name, a_text, a_word, a_sign, canonical, own_symbols, symbols_of_part, symbols_of_parts, written}
+use Rattle.scj_show.specs.Symbols.{Symbol, a_name, a_text, a_sign, canonical, own_symbols, symbols_of_part, symbols_of_parts, written}
 use Rattle.scj_show.specs.Placed.{printed, lexeme_at, AreNamed}
 use Rattle.scj_show.specs.Alike.{nowhere, there, shape, in_order, Alike, alike, none_alike, one_alike}
 use Rattle.scj_show.proofs.Again.{Front, front-none, front-one, front-then, front-put, front-at, whole, whole_at, laid, laid-append, MaybeAlike, both_missing, both_there, there-same, optional-alike, optional-alike-last}
@@ -461,8 +460,8 @@ some_flags_again is_local W first file M b o2 n p flags fit known effect at =
       grown = row.grown;
       read = row.read;
       alike = λ V.
-        let P : Option Node → Type 0 = λ node. Front (with_node row.nodes node) V → MaybeAlike W V (Some n) (number_of row.nodes node) in
-        subst P (sym found.1) (λ g. both_there (flags_are_alike W V n (length row.nodes) p found.0 flags row.flags at (front-at _ _ g) (row.same_define V (front-put _ _ g)) (row.same_scope V (front-put _ _ g)) (row.same_runs_in V (front-put _ _ g)) row.same_static row.same_abstract row.same_synchronized));
+          let P : Option Node → Type 0 = λ node. Front (with_node row.nodes node) V → MaybeAlike W V (Some n) (number_of row.nodes node) in
+          subst P (sym found.1) (λ g. both_there (flags_are_alike W V n (length row.nodes) p found.0 flags row.flags at (front-at _ _ g) (row.same_define V (front-put _ _ g)) (row.same_scope V (front-put _ _ g)) (row.same_runs_in V (front-put _ _ g)) row.same_static row.same_abstract row.same_synchronized));
     }
 
 flags_at_node : (is_local : Bool) (W : List Node) → ChildrenFirst 0 W → (file : ℕ) (M : List Node) (b : List ℕ) (o2 : List Lexeme) (N1 : List Node) (flags : FlagSet) (node : Option Node) → FitLocal is_local flags → (Front N1 W → Facts W flags) → flags_node flags ≡ node → Front (with_node N1 node) W → FlagsTold is_local W M (laid file b (maybe_symbols W (number_of N1 node)) o2) o2 (number_of N1 node)

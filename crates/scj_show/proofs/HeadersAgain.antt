@@ -1,19 +1,18 @@
 -- The canonical lexemes of types and of what stands behind a class's name are read as the same.
-use Rattle.std.proofs.Common.{◌≡◌, ℕ, Bool, true, false, List, [], ◌∷◌, ◌++◌, Option, Some, None, slice_get, length, refl, sym, ap, ◌∙◌}
-use Rattle.scj_base.specs.Vocabulary.{word_boolean, word_extends, word_implements, word_int, word_long, word_void, sign_left_brace, sign_left_parenthesis, sign_right_parenthesis, sign_left_bracket, sign_right_bracket, sign_comma, sign_less, sign_greater}
-use Rattle.scj_base.specs.declared.places.Pos.{Pos}
+use Rattle.std.proofs.Common.{◌≡◌, ℕ, true, false, List, [], ◌∷◌, ◌++◌, Some, None, slice_get, length, refl, ap, ◌∙◌}
+use Rattle.scj_base.specs.Vocabulary.{word_boolean, word_int, word_long, word_void, sign_left_bracket, sign_right_bracket, sign_less, sign_greater}
 use Rattle.scj_base.specs.Lex.{place_behind}
 use Rattle.scj_tree.specs.declared.nodes.Node.{Node}
-use Rattle.scj_tree.specs.declared.nodes.Node.TheVariants.{Supers, SuperType, TypeArgument, IntType, BooleanType, ClassType, VoidType, LongType}
-use Rattle.scj_tree.specs.Lexemes.{Lexeme, a_name as name_at, a_word as word_at, a_sign as sign_at}
-use Rattle.scj_tree.specs.Headers.{put, TypeRead, int_type, int_array, boolean_type, boolean_array, class_type, class_array, argument_type, argument_array, ResultRead, typed_result, void_result, long_result, SuperRead, super_type, super_type_with_argument, InterfacesBegun, no_interface_yet, interface_and_comma, HeaderRead, no_header, extends_header, implements_header, extends_implements_header}
+use Rattle.scj_tree.specs.declared.nodes.Node.TheVariants.{SuperType, TypeArgument, IntType, BooleanType, ClassType, VoidType, LongType}
+use Rattle.scj_tree.specs.Lexemes.{Lexeme}
+use Rattle.scj_tree.specs.Headers.{put, TypeRead, int_type, int_array, boolean_type, boolean_array, class_type, class_array, argument_type, argument_array, ResultRead, typed_result, void_result, long_result, SuperRead, super_type, super_type_with_argument}
 use Rattle.scj_tree.specs.Forest.{ChildrenFirst}
 use Rattle.scj_tree.specs.Shape.{children}
-use Rattle.scj_show.specs.Parts.{parts_of, maybe, argument_in_brackets, brackets, class_type_parts, extended, implemented, each_behind_comma}
-use Rattle.scj_show.specs.Symbols.{Symbol, a_name, a_word, a_sign, canonical, own_symbols, symbols_of_part, symbols_of_parts, written}
+use Rattle.scj_show.specs.Parts.{parts_of, argument_in_brackets, brackets, class_type_parts}
+use Rattle.scj_show.specs.Symbols.{Symbol, a_name, a_word, a_sign, own_symbols, symbols_of_part, symbols_of_parts}
 use Rattle.scj_show.specs.Placed.{printed, lexeme_at}
-use Rattle.scj_show.specs.Alike.{nowhere, shape, in_order, alike, none_alike, one_alike}
-use Rattle.scj_show.proofs.Again.{Front, front-none, front-one, front-then, front-put, front-at, whole, whole_at, laid, laid-append, Told, told_of, told_moved}
+use Rattle.scj_show.specs.Alike.{shape, in_order, alike, none_alike, one_alike}
+use Rattle.scj_show.proofs.Again.{Front, front-one, front-then, front-put, front-at, whole, whole_at, laid, Told, told_of, told_moved}
 
 -- ---- reading puts nodes behind the others
 
@@ -40,7 +39,6 @@ super_front (super_type_with_argument h) = front-then (front-one _) (front-one _
 
 pub type_again : (W : List Node) → ChildrenFirst 0 W → (file : ℕ) (M : List Node) (b : List ℕ) (o2 : List Lexeme) {N N1 : List Node} {i o : List Lexeme} {id : ℕ} → TypeRead N i N1 o id → Front N1 W → Told TypeRead W M (laid file b (whole W id) o2) o2 id
 unfolding symbols_of_parts symbols_of_part own_symbols parts_of class_type_parts argument_in_brackets brackets lexeme_at shape in_order children laid
-
 type_again W first file M b o2 (int_type {N = N} {p = p}) f =
     let at : slice_get W (length N) ≡ Some (IntType p false) = front-at _ _ f in
     let said : whole W (length N) ≡ a_word word_int ∷ [] = whole_at W _ _ first at in

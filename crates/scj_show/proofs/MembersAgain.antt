@@ -1,26 +1,25 @@
 -- The canonical lexemes of members, classes and files are read as the same.
-use Rattle.std.proofs.Common.{append-nil, append_assoc, ◌≡◌, ℕ, Bool, true, false, List, [], ◌∷◌, ◌++◌, Option, Some, None, slice_get, length, refl, sym, ap, subst, ◌∙◌}
+use Rattle.std.proofs.Common.{append-nil, append_assoc, ◌≡◌, ℕ, true, false, List, [], ◌∷◌, ◌++◌, Option, Some, None, slice_get, length, refl, sym, ap, ◌∙◌}
 use Rattle.scj_base.specs.Vocabulary.{word_class, word_false, word_null, word_super, word_true, sign_left_brace, sign_right_brace, sign_left_parenthesis, sign_semicolon, sign_assign, sign_minus}
-use Rattle.scj_base.specs.declared.places.Pos.{Pos}
 use Rattle.scj_base.specs.Lex.{place_behind}
 use Rattle.scj_tree.specs.declared.nodes.Node.{Node}
 use Rattle.scj_tree.specs.declared.nodes.Node.TheVariants.{Class, Field, Method, Constructor, SuperCall, Block, Number, True, False, Null}
-use Rattle.scj_tree.specs.Lexemes.{Lexeme, a_name as name_at, a_word as word_at, a_number as number_at, a_sign as sign_at}
+use Rattle.scj_tree.specs.Lexemes.{Lexeme, a_name as name_at, a_word as word_at, a_sign as sign_at}
 use Rattle.scj_tree.specs.Terminals.{with_flags, flags_number, begins_unary1, is_unary1_start, begins_with_word}
 use Rattle.scj_tree.specs.Headers.{put}
 use Rattle.scj_tree.specs.Grammar.{LiteralRead, number_literal, negative_literal, true_literal, false_literal, null_literal, MemberRead, field, field_with_value, bare_method, method, constructor, constructor_with_super, MembersRead, no_member, one_member_more, ClassRead, class, ClassesRead, no_class, one_class_more}
 use Rattle.scj_tree.specs.Forest.{ChildrenFirst}
-use Rattle.scj_tree.specs.Shape.{children, optional}
+use Rattle.scj_tree.specs.Shape.{children}
 use Rattle.scj_show.specs.declared.parts.Part.TheVariants.{Whole, Bare, Named, Word, Sign}
 use Rattle.scj_show.specs.Parts.{parts_of, bare_parts, maybe, each, sign_if_set, class_parts, field_parts, method_parts, constructor_parts, super_call_parts, block_end, assigned, parameters_or_none, body_or_semicolon, body_with_call, in_parentheses}
 use Rattle.scj_show.specs.Symbols.{Symbol, a_name, a_word, a_sign, a_number, canonical, own_symbols, symbols_of_part, symbols_of_parts, written, symbols_of}
 use Rattle.scj_show.specs.Placed.{printed, lexeme_at, AreNamed}
-use Rattle.scj_show.specs.Alike.{nowhere, there, counted, Alike, AllAlike, shape, in_order, alike, none_alike, one_alike}
+use Rattle.scj_show.specs.Alike.{nowhere, there, counted, shape, in_order, alike, none_alike, one_alike}
 use Rattle.scj_show.proofs.Printing.{symbols_of_parts-append}
-use Rattle.scj_show.proofs.Again.{Front, front-none, front-one, front-then, front-put, front-at, whole, whole_at, laid, laid-append, arguments_of, each-put, Told, told_of, told_moved, AllAgain, all_again_of, all_moved, alike-put, counted-same, MaybeAlike, both_missing, both_there, there-same, optional-alike, optional-alike-last}
+use Rattle.scj_show.proofs.Again.{Front, front-none, front-one, front-then, front-put, front-at, whole, whole_at, laid, laid-append, arguments_of, each-put, Told, told_of, told_moved, AllAgain, all_again_of, all_moved, alike-put, counted-same, there-same, optional-alike}
 use Rattle.scj_show.proofs.ExpressionsAgain.{arguments_front, arguments_again}
 use Rattle.scj_show.proofs.HeadersAgain.{type_front, type_again, result_front, result_again}
-use Rattle.scj_show.proofs.FlagsAgain.{FlagsTold, flags_again, flags_front, row_front, maybe_symbols}
+use Rattle.scj_show.proofs.FlagsAgain.{flags_again, flags_front, row_front, maybe_symbols}
 use Rattle.scj_show.proofs.DeclarationsAgain.{header_front, header_again, parameters_front, parameters_again, parameter_symbols}
 use Rattle.scj_show.proofs.AssignmentsAgain.{bare, bare_at}
 use Rattle.scj_show.proofs.StatementsAgain.{statements_front, statements_again}

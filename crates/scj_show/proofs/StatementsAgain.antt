@@ -1,5 +1,5 @@
 -- The canonical lexemes of a statement are read as the same statement.
-use Rattle.std.proofs.Common.{append-nil, append_assoc, ◌≡◌, ℕ, Bool, true, false, ◌==◌, not, ◌&&◌, ◌⊎◌, inl, inr, List, [], ◌∷◌, ◌++◌, Option, Some, None, slice_get, length, refl, sym, ap, subst, ◌∙◌}
+use Rattle.std.proofs.Common.{append_assoc, ◌≡◌, ℕ, Bool, true, false, ◌==◌, not, ◌&&◌, ◌⊎◌, inl, inr, List, [], ◌∷◌, ◌++◌, Option, Some, None, slice_get, length, refl, sym, ap, subst, ◌∙◌}
 use Rattle.std.specs.Prelude.{if◌then◌else◌}
 use Rattle.std.proofs.lemmas.Bool.{false≢true, eqb-true}
 use Rattle.scj_base.specs.Vocabulary.{word_else, word_final, word_for, word_if, word_return, word_while, sign_left_brace, sign_right_brace, sign_left_parenthesis, sign_right_parenthesis, sign_semicolon, sign_assign}
@@ -15,17 +15,17 @@ use Rattle.scj_tree.specs.Headers.{put, FlagRow, no_flag, modifier, effectless, 
 use Rattle.scj_tree.specs.Expressions.{PostRead, simple_name, simple_call, field_of, call_of, element_of, number, minimum_number, true_value, false_value, null_value, this_value, parenthesized, parenthesized_name, new_object, new_ints, new_booleans, new_references}
 use Rattle.scj_tree.specs.Statements.{AssignmentRead, assignment, compound_assignment, step_assignment, LocalTypeRead, plain_local, flagged_local, StatementRead, block, empty, local, local_with_value, assign_statement, call_statement, if_alone, if_else, while_statement, for_local, for_assignment, return_alone, return_value, StatementsRead, no_statement, one_statement_more}
 use Rattle.scj_tree.specs.Forest.{ChildrenFirst}
-use Rattle.scj_tree.specs.Shape.{children, optional}
+use Rattle.scj_tree.specs.Shape.{children}
 use Rattle.scj_show.specs.declared.parts.Part.TheVariants.{Whole, Named, Sign}
 use Rattle.scj_show.specs.Parts.{parts_of, maybe, each, alternative, block_end, return_parts}
 use Rattle.scj_show.specs.Symbols.{Symbol, a_name, a_word, a_sign, canonical, own_symbols, symbols_of_part, symbols_of_parts, written, symbols_of}
 use Rattle.scj_show.specs.Placed.{printed, lexeme_at, AreNamed}
-use Rattle.scj_show.specs.Alike.{nowhere, there, counted, Alike, AllAlike, shape, in_order, alike, none_alike, one_alike}
+use Rattle.scj_show.specs.Alike.{nowhere, Alike, shape, in_order, alike, none_alike, one_alike}
 use Rattle.scj_show.proofs.Printing.{symbols_of_parts-append}
-use Rattle.scj_show.proofs.Again.{Front, front-none, front-one, front-then, front-put, front-at, whole, whole_at, laid, laid-append, each-put, Told, told_of, told_moved, AllAgain, all_again_of, all_moved, alike-put, counted-same, MaybeAlike, both_missing, both_there, there-same, optional-alike}
+use Rattle.scj_show.proofs.Again.{Front, front-none, front-one, front-then, front-put, front-at, whole, whole_at, laid, laid-append, each-put, Told, told_of, told_moved, AllAgain, all_again_of, all_moved, alike-put, counted-same, MaybeAlike, both_missing, there-same, optional-alike}
 use Rattle.scj_show.proofs.ExpressionsAgain.{level_front, post_front, level_again, post_again}
 use Rattle.scj_show.proofs.HeadersAgain.{type_front, type_again}
-use Rattle.scj_show.proofs.FlagsAgain.{FlagsTold, flags_again, flags_front, row_front, maybe_symbols}
+use Rattle.scj_show.proofs.FlagsAgain.{flags_again, flags_front, row_front, maybe_symbols}
 use Rattle.scj_show.proofs.AssignmentsAgain.{bare, assignment_front, assignment_statement, assignment_again}
 
 -- ---- reading puts nodes behind the others
@@ -64,6 +64,7 @@ begun_by e h = ap (begins_with_word word_else) e ∙ h
 
 mutual
   unfolding begins_with_word
+
   post_starts : {minimum : Bool} {kind : PostKind} {p : Pos} {N N1 : List Node} {i o : List Lexeme} {id : ℕ} → PostRead minimum kind p N i N1 o id → Starts i
   post_starts simple_name = refl
   post_starts (simple_call d) = refl
@@ -191,6 +192,7 @@ local_type_again W first named file M b o2 (flagged_local {N1 = N1} {flags = fla
 
 mutual
   unfolding maybe_symbols maybe each symbols_of symbols_of_parts symbols_of_part own_symbols parts_of alternative block_end return_parts lexeme_at begins_unary1 is_unary1_start begins_with_word shape in_order children laid
+
   pub statement_again : (W : List Node) → ChildrenFirst 0 W → AreNamed W → (file : ℕ) (M : List Node) (b : List ℕ) (o2 : List Lexeme) {N N1 : List Node} {i o : List Lexeme} {id : ℕ} → StatementRead N i N1 o id → Front N1 W → (Starts o → Starts o2) → Told StatementRead W M (laid file b (whole W id) o2) o2 id
   statement_again W first named file M b o2 (block {N1 = N1} {ids = ids} {p = p} d) f h =
       let at : slice_get W (length N1) ≡ Some (Block p ids) = front-at _ _ f in

@@ -5,7 +5,6 @@ use Rattle.scj_base.specs.Lex.{Lex}
 use Rattle.scj_tree.specs.declared.nodes.Node.{Node}
 use Rattle.scj_tree.specs.Lexemes.{lexemes_of}
 use Rattle.scj_tree.specs.Grammar.{Tree}
-use Rattle.scj_show.specs.Symbols.{canonical, symbols_of}
 use Rattle.scj_show.specs.Alike.{AllAlike}
 
 -- the text lexes, and from the nodes `before` its lexemes are a file whose classes are the same as the classes ids among N
