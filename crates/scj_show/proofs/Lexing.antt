@@ -1,9 +1,8 @@
 -- The canonical text of lexemes lexes to them.
-use Rattle.std.proofs.Common.{◌≡◌, ℕ, zero, suc, ◌+◌, ◌-◌, ◌*◌, ◌/◌, ◌%◌, ◌^◌, ◌<◌, ◌≤◌, ◌⊎◌, inl, inr, Bool, true, false, not, ◌&&◌, ◌||◌, ◌==◌, List, [], ◌∷◌, ◌++◌, length, take, drop, get_or, Option, Some, None, slice_get, refl, sym, ap, subst, ◌∙◌, arith, append_assoc, append-nil, length-append}
-use Rattle.std.specs.Prelude.{decimal, fold, if◌then◌else◌, slice_index_or, nat_le}
+use Rattle.std.proofs.Common.{◌≡◌, ℕ, zero, suc, ◌+◌, ◌-◌, ◌*◌, ◌/◌, ◌%◌, ◌^◌, ◌<◌, ◌≤◌, ◌⊎◌, inl, inr, Bool, true, false, not, ◌&&◌, ◌||◌, ◌==◌, List, [], ◌∷◌, ◌++◌, length, get_or, Some, slice_get, refl, sym, ap, subst, ◌∙◌, arith, append_assoc, length-append}
+use Rattle.std.specs.Prelude.{decimal, if◌then◌else◌, slice_index_or}
 use Rattle.std.specs.List.{list_all}
-use Rattle.std.specs.Cmp.Lexicographic.{pointwise}
-use Rattle.std.proofs.lemmas.Bool.{and_parts, or_cases, not-true, leb-true, eqb-true, eq-eqb, false≢true, cases_Bool}
+use Rattle.std.proofs.lemmas.Bool.{and_parts, not-true, leb-true, eq-eqb, false≢true}
 use Rattle.std.proofs.lemmas.Fmt.{decimal_by_steps, decimal_digit, first_decimal, decimal_nonempty}
 use Rattle.std.proofs.lemmas.List.{take_at, drop_at}
 use Rattle.std.proofs.lemmas.List.Folds.{list_all-append}
@@ -11,13 +10,11 @@ use Rattle.std.proofs.lemmas.List.Sums.{fold-append}
 use Rattle.std.proofs.lemmas.Nat.{div-add-mod'}
 use Rattle.std.proofs.lemmas.Option.{slice_get-get_or}
 use Rattle.scj_base.specs.Vocabulary.{words, signs}
-use Rattle.scj_base.specs.declared.lexemes.Token.{Token}
-use Rattle.scj_base.specs.declared.lexemes.TokenKind.{TokenKind}
-use Rattle.scj_base.specs.declared.lexemes.TokenKind.TheVariants.{Name, Word, Number, Text, Sign, End}
-use Rattle.scj_base.specs.Lexeme.{is_blank, is_letter, is_digit, is_name_byte, is_text_byte, AllOf, EndsHere, IsWordLike, IsNumeral, IsReserved, IsLongestSign, value_of, opens_comment, Lexeme, Piece}
+use Rattle.scj_base.specs.declared.lexemes.TokenKind.TheVariants.{Number}
+use Rattle.scj_base.specs.Lexeme.{is_blank, is_letter, is_digit, is_name_byte, AllOf, IsWordLike, IsNumeral, IsReserved, value_of, opens_comment, Lexeme}
 use Rattle.scj_base.specs.Lexeme.Lexeme.{name, word, number, text, sign}
 use Rattle.scj_base.specs.Lexeme.Piece.{blank, lexeme}
-use Rattle.scj_base.specs.Lex.{Lexes, Lex, token_at, place_behind}
+use Rattle.scj_base.specs.Lex.{Lexes, token_at, place_behind}
 use Rattle.scj_base.specs.Lex.Lexes.{ends, skips, takes}
 use Rattle.scj_tree.specs.Lexemes.{Lexeme as TreeLexeme, is_name, is_one_of, goes_on, begins_a_name, between, same, part_of, lexeme_of, lexemes_of}
 use Rattle.scj_show.specs.Symbols.{Symbol, a_name, a_text, a_word, a_sign, a_number, bytes_of, separator, canonical}

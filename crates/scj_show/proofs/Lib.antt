@@ -1,4 +1,13 @@
+mod Again
+mod AssignmentsAgain
+mod DeclarationsAgain
+mod ExpressionsAgain
+mod FilesAgain
+mod FlagsAgain
+mod HeadersAgain
 mod Lexing
+mod MembersAgain
 mod Printing
+mod StatementsAgain
 mod Unfolding
 mod WorkedRows

@@ -1,4 +1,6 @@
+pub mod Alike
 pub mod Parts
+pub mod Placed
+pub mod Reread
 pub mod Symbols
 pub mod Works
-pub mod Placed

@@ -1,6 +1,6 @@
 -- The canonical text of a file: the lexemes of its classes, each with a space behind it, but a line feed behind
 -- `;`, `{` and `}`.
-use Rattle.std.specs.Prelude.{ℕ, Bool, false, ◌||◌, ◌==◌, List, [], ◌∷◌, ◌++◌, Option, Some, None, slice_get, slice_index_or, decimal, if◌then◌else◌}
+use Rattle.std.specs.Prelude.{ℕ, ◌||◌, ◌==◌, List, [], ◌∷◌, ◌++◌, Option, Some, None, slice_get, slice_index_or, decimal, if◌then◌else◌}
 use Rattle.scj_base.specs.Vocabulary.{words, signs, sign_left_brace, sign_right_brace, sign_semicolon}
 use Rattle.scj_tree.specs.declared.nodes.Node.{Node}
 use Rattle.scj_tree.specs.declared.nodes.Node.TheVariants.{Text}

@@ -1,4 +1,4 @@
-use Rattle.std.proofs.Common.{rules, ◌≡◌, ◌<◌, ◌++◌, [], List, reverse, ap, sym, ◌∙◌, append-nil}
+use Rattle.std.proofs.Common.{rules, ◌≡◌, ◌<◌, ◌++◌, [], List, reverse, ap, sym, ◌∙◌}
 use Rattle.scj_show.specs.declared.parts.Part.{Part}
 use Rattle.scj_show.specs.Symbols.{canonical}
 use Rattle.scj_show.specs.Works.{pending, work}

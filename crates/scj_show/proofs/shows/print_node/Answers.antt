@@ -1,4 +1,4 @@
-use Rattle.std.proofs.Common.{◌≡◌, ◌≤◌, List, ℕ, ◌++◌, length, ap, ◌∙◌, arith}
+use Rattle.std.proofs.Common.{◌≡◌, ◌≤◌, List, ◌++◌, length, ap, arith}
 use Rattle.scj_show.specs.Parts.{parts_of}
 use Rattle.scj_show.specs.Symbols.{canonical}
 use Rattle.scj_show.proofs.Unfolding.{whole_printed, whole_printed_behind, whole_smaller, none_smaller}

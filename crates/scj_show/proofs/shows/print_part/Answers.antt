@@ -1,5 +1,5 @@
 use Rattle.std.proofs.Common.{◌≡◌, [], ◌∷◌, List, ℕ, ap, sym, ◌∙◌}
-use Rattle.scj_show.specs.Symbols.{Symbol, a_name, a_text, a_word, a_sign, a_number, symbols_of_part, written}
+use Rattle.scj_show.specs.Symbols.{a_name, a_text, a_word, a_sign, a_number, symbols_of_part, written}
 use Rattle.scj_show.proofs.Unfolding.{none_smaller, lexeme_printed}
 use Rattle.scj_show.proofs.shows.print_part.Goals as goal
 

@@ -1,4 +1,4 @@
-use Rattle.std.proofs.Common.{◌≡◌, ◌++◌, [], reverse}
+use Rattle.std.proofs.Common.{◌≡◌, reverse}
 use Rattle.scj_show.specs.Parts.{each}
 use Rattle.scj_show.specs.Symbols.{canonical}
 use Rattle.scj_show.specs.Works.{pending}

@@ -1,4 +1,4 @@
-use Rattle.std.proofs.Common.{◌≡◌, ℕ, Bool, true, false, ◌==◌, ◌+◌, ◌≤◌, zero, suc, List, [], ◌∷◌, ◌++◌, None, refl, arith, ◌∙◌, ap, length}
+use Rattle.std.proofs.Common.{◌≡◌, ℕ, Bool, true, false, ◌==◌, ◌+◌, ◌≤◌, List, [], ◌∷◌, None, refl, arith, ◌∙◌, ap, length}
 use Rattle.std.specs.Prelude.{if◌then◌else◌}
 use Rattle.scj_tree.specs.declared.nodes.Node.TheVariants.{Class}
 use Rattle.scj_tree.specs.Counts.{times}
