@@ -204,11 +204,11 @@ after_flags (field {N1 = N1} {flags = flags} f t) cf cp cw ch ids s =
     flags_run f (ClassBody cf cp cw ch ids ∷ s) (type_opens t)
     ∙ (member_type t flags cf cp cw ch ids s N1
     ∙ type_run t (MemberOpen (flags_number N1 flags) ∷ ClassBody cf cp cw ch ids ∷ s))
-after_flags (field_with_value {N1 = N1} {flags = flags} {t = t} {w = w} {p = p} f d v) cf cp cw ch ids s =
+after_flags (field_with_value {N1 = N1} {flags = flags} {t = t} {w = w} {p = p} {q = q} f d v) cf cp cw ch ids s =
     flags_run f (ClassBody cf cp cw ch ids ∷ s) (type_opens d)
     ∙ (member_type d flags cf cp cw ch ids s N1
     ∙ (type_run d (MemberOpen (flags_number N1 flags) ∷ ClassBody cf cp cw ch ids ∷ s)
-    ∙ literal_run v (FieldOpen (flags_number N1 flags) t p w ∷ ClassBody cf cp cw ch ids ∷ s)))
+    ∙ literal_run v (FieldOpen (flags_number N1 flags) t p w q ∷ ClassBody cf cp cw ch ids ∷ s)))
 after_flags (bare_method {N1 = N1} {flags = flags} f t ps) cf cp cw ch ids s =
     flags_run f (ClassBody cf cp cw ch ids ∷ s) (result_opens t)
     ∙ method_head_run N1 flags t ps cf cp cw ch ids s

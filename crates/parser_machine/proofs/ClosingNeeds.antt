@@ -49,7 +49,7 @@ pub data Awaits : Need → List Entry → Type 0 where
   member_open : {f : _} {s : _} → Awaits a_member s → Awaits a_type (MemberOpen f ∷ s)
   parameter_open : {f : _} {s : _} → Awaits a_parameter s → Awaits a_type (ParameterOpen f ∷ s)
   local_open : {f : _} {s : _} → Awaits a_first s → Awaits a_type (LocalOpen f ∷ s)
-  field_open : {f : _} {t : _} {p : _} {w : _} {s : _} → Awaits a_member s → Awaits a_literal (FieldOpen f t p w ∷ s)
+  field_open : {f : _} {t : _} {p : _} {w : _} {q : _} {s : _} → Awaits a_member s → Awaits a_literal (FieldOpen f t p w q ∷ s)
   method_open : {f : _} {t : _} {p : _} {w : _} {s : _} → Awaits a_member s → Awaits a_body_owner (MethodOpen f t p w ∷ s)
   constructor_open : {f : _} {p : _} {w : _} {s : _} → Awaits a_member s → Awaits a_body_owner (ConstructorOpen f p w ∷ s)
   parameters_open : {p : _} {ids : _} {s : _} → Awaits a_body_owner s → Awaits a_parameter (ParametersOpen p ids ∷ s)

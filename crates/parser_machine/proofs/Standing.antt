@@ -143,7 +143,7 @@ mutual
     member_open : {s : _} {N N1 : _} {i o : _} {flags : _} → FlagsGiven flags N i N1 o → Due r for_member s N i → Due r for_type (MemberOpen flags ∷ s) N1 o
     parameter_open : {s : _} {N N1 : _} {i o : _} {flags : _} → FlagsGiven flags N i N1 o → Due r for_parameter s N i → Due r for_type (ParameterOpen flags ∷ s) N1 o
     local_open : {s : _} {k : _} {N N1 : _} {i o : _} {flags : _} → LocalFlags k flags N i N1 o → Due r (for_simple k) s N i → Due r for_type (LocalOpen flags ∷ s) N1 o
-    field_open : {s : _} {N N1 N2 : _} {i i1 o : _} {flags : _} {t : _} {w : _} {p q : _} → FlagsGiven flags N i N1 i1 → TypeRead N1 i1 N2 (a_name w p ∷ a_sign sign_assign q ∷ o) t → Due r for_member s N i → Due r for_literal (FieldOpen flags t p w ∷ s) N2 o
+    field_open : {s : _} {N N1 N2 : _} {i i1 o : _} {flags : _} {t : _} {w : _} {p q : _} → FlagsGiven flags N i N1 i1 → TypeRead N1 i1 N2 (a_name w p ∷ a_sign sign_assign q ∷ o) t → Due r for_member s N i → Due r for_literal (FieldOpen flags t p w q ∷ s) N2 o
     method_open : {s : _} {N N1 N2 : _} {i i1 o : _} {flags : _} {t : _} {w : _} {p : _} → FlagsGiven flags N i N1 i1 → ResultRead N1 i1 N2 (a_name w p ∷ o) t → Due r for_member s N i → Due r for_parameters (MethodOpen flags t p w ∷ s) N2 o
     constructor_open : {s : _} {N N1 : _} {i o : _} {flags : _} {w : _} {p : _} → FlagsGiven flags N i N1 (a_name w p ∷ o) → Due r for_member s N i → Due r for_parameters (ConstructorOpen flags p w ∷ s) N1 o
     parameters_open : {s : _} {N N1 : _} {i o : _} {ids : _} {p : _} → ParametersBegun N i N1 o ids → Due r for_parameters s N (a_sign sign_left_parenthesis p ∷ i) → Due r for_parameter (ParametersOpen p ids ∷ s) N1 o

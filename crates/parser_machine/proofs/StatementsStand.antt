@@ -170,13 +170,13 @@ pub member_read_stands : (r : Source) (id : ℕ) (N : List Node) (s : List Entry
 unfolding machine Leads Stands
 member_read_stands r id N s o v (class_body g h m d) = class_body g h (one_member_more m v) d
 
-field_of_given : {flags : Option ℕ} {t : ℕ} {p q : Pos} {w : List ℕ} {M N : List Node} {j o : List Lexeme} → TypeGiven flags t M j N (a_name w p ∷ a_sign sign_semicolon q ∷ o) → MemberRead M j (put N (Field p w flags t None)) o (length N)
+field_of_given : {flags : Option ℕ} {t : ℕ} {p q : Pos} {w : List ℕ} {M N : List Node} {j o : List Lexeme} → TypeGiven flags t M j N (a_name w p ∷ a_sign sign_semicolon q ∷ o) → MemberRead M j (put N (Field p w flags t None None)) o (length N)
 field_of_given (type_given (given f) x) = field f x
 
-valued_field : {flags : Option ℕ} {t v : ℕ} {p q x : Pos} {w : List ℕ} {M N N1 N2 : List Node} {j i i1 o : List Lexeme} → FlagsGiven flags M j N i → TypeRead N i N1 (a_name w p ∷ a_sign sign_assign q ∷ i1) t → LiteralRead N1 i1 N2 (a_sign sign_semicolon x ∷ o) v → MemberRead M j (put N2 (Field p w flags t (Some v))) o (length N2)
+valued_field : {flags : Option ℕ} {t v : ℕ} {p q x : Pos} {w : List ℕ} {M N N1 N2 : List Node} {j i i1 o : List Lexeme} → FlagsGiven flags M j N i → TypeRead N i N1 (a_name w p ∷ a_sign sign_assign q ∷ i1) t → LiteralRead N1 i1 N2 (a_sign sign_semicolon x ∷ o) v → MemberRead M j (put N2 (Field p w flags t (Some q) (Some v))) o (length N2)
 valued_field (given f) d v = field_with_value f d v
 
-field_begun : (r : Source) {flags : Option ℕ} {t : ℕ} {p q : Pos} {w : List ℕ} {s : List Entry} {M N : List Node} {j o : List Lexeme} → TypeGiven flags t M j N (a_name w p ∷ a_sign sign_assign q ∷ o) → Due r for_member s M j → Due r for_literal (FieldOpen flags t p w ∷ s) N o
+field_begun : (r : Source) {flags : Option ℕ} {t : ℕ} {p q : Pos} {w : List ℕ} {s : List Entry} {M N : List Node} {j o : List Lexeme} → TypeGiven flags t M j N (a_name w p ∷ a_sign sign_assign q ∷ o) → Due r for_member s M j → Due r for_literal (FieldOpen flags t p w q ∷ s) N o
 field_begun r (type_given g x) d = field_open g x d
 
 method_begun : (r : Source) {flags : Option ℕ} {t : ℕ} {p : Pos} {w : List ℕ} {s : List Entry} {M N : List Node} {j o : List Lexeme} → TypeGiven flags t M j N (a_name w p ∷ o) → Due r for_member s M j → Due r for_parameters (MethodOpen flags t p w ∷ s) N o

@@ -23,8 +23,8 @@ member_read id N _ = None
 
 unfoldable pub member_named_step : Option ℕ → ℕ → Pos → List ℕ → List Node → List Entry → Lexeme → Option State
 member_named_step flags t p w N s (a_sign n q) =
-    if n == sign_semicolon then member_read (length N) (put N (Field p w flags t None)) s else
-    if n == sign_assign then Some (at LiteralStart (FieldOpen flags t p w ∷ s) N) else
+    if n == sign_semicolon then member_read (length N) (put N (Field p w flags t None None)) s else
+    if n == sign_assign then Some (at LiteralStart (FieldOpen flags t p w q ∷ s) N) else
     if n == sign_left_parenthesis then Some (at (ParametersFirst q) (MethodOpen flags t p w ∷ s) N) else
     None
 member_named_step flags t p w N s _ = None
@@ -47,7 +47,7 @@ literal_minus_step p N s (a_number n q) = Some (at (LiteralDone (length N)) s (p
 literal_minus_step p N s _ = None
 
 unfoldable pub field_ended : ℕ → List Node → List Entry → Option State
-field_ended id N (FieldOpen flags t p w ∷ s) = member_read (length N) (put N (Field p w flags t (Some id))) s
+field_ended id N (FieldOpen flags t p w q ∷ s) = member_read (length N) (put N (Field p w flags t (Some q) (Some id))) s
 field_ended id N _ = None
 
 unfoldable pub literal_end_step : ℕ → List Node → List Entry → Lexeme → Option State

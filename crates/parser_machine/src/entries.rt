@@ -63,12 +63,13 @@ pub enum Entry {
     LocalOpen {
         flags: Option<NodeId>,
     },
-    /// A field up to the `=`.
+    /// A field up to the `=`, which stands at `equals`.
     FieldOpen {
         flags: Option<NodeId>,
         declared_type: NodeId,
         place: Pos,
         name: Name,
+        equals: Pos,
     },
     /// A method up to its name.
     MethodOpen {

@@ -68,6 +68,7 @@ pub fn member_named_step(
             name,
             flags,
             declared_type,
+            equals: None,
             value: None,
         })?;
         return member_read(nodes, stack, id);
@@ -78,6 +79,7 @@ pub fn member_named_step(
             declared_type,
             place,
             name,
+            equals: *sign_place,
         })?;
         return Ok(Some(Mode::LiteralStart));
     }
@@ -184,12 +186,14 @@ pub fn field_ended(nodes: &mut Nodes, stack: &mut Stack, id: NodeId) -> Result<O
             declared_type,
             place,
             name,
+            equals,
         } => {
             let id = nodes.put(Node::Field {
                 place: *place,
                 name: *name,
                 flags: *flags,
                 declared_type: *declared_type,
+                equals: Some(*equals),
                 value: Some(id),
             })?;
             member_read(nodes, stack, id)

@@ -20,12 +20,12 @@ small_program =
     record {
       nodes =
           IntType (at 0 1 11) false
-          ∷ Field (at 0 1 15) (codes "f") None 0 None
+          ∷ Field (at 0 1 15) (codes "f") None 0 None None
           ∷ Flags (at 0 1 18) None None None true false false
           ∷ IntType (at 0 1 25) false
-          ∷ Field (at 0 1 29) (codes "s") (Some 2) 3 None
+          ∷ Field (at 0 1 29) (codes "s") (Some 2) 3 None None
           ∷ ClassType (at 0 1 32) (codes "Q") None false
-          ∷ Field (at 0 1 34) (codes "q") None 5 None
+          ∷ Field (at 0 1 34) (codes "q") None 5 None None
           ∷ IntType (at 0 1 37) false
           ∷ IntType (at 0 1 43) false
           ∷ Parameter (at 0 1 47) (codes "a") None 8
@@ -63,9 +63,9 @@ small_program =
           ∷ SuperType (at 0 2 17) (codes "Q") None
           ∷ Supers (at 0 2 9) (Some 41) []
           ∷ IntType (at 0 2 21) true
-          ∷ Field (at 0 2 27) (codes "a") None 43 None
+          ∷ Field (at 0 2 27) (codes "a") None 43 None None
           ∷ ClassType (at 0 2 30) (codes "Q") None true
-          ∷ Field (at 0 2 34) (codes "b") None 45 None
+          ∷ Field (at 0 2 34) (codes "b") None 45 None None
           ∷ SuperCall (at 0 2 43) []
           ∷ SimpleName (at 0 2 52) (codes "a")
           ∷ IntType (at 0 2 60) false

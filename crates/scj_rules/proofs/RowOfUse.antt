@@ -42,7 +42,7 @@ controller =
           ∷ SuperType (at 0 6 19) (codes "MissionSequencer") None
           ∷ Supers (at 0 6 11) (Some 16) []
           ∷ IntType (at 0 7 3) false
-          ∷ Field (at 0 7 7) (codes "n") None 18 None
+          ∷ Field (at 0 7 7) (codes "n") None 18 None None
           ∷ Number (at 0 8 40) 5 false
           ∷ New (at 0 8 17) (at 0 8 21) (codes "PriorityParameters") (20 ∷ [])
           ∷ Number (at 0 8 66) 0 false
@@ -117,7 +117,7 @@ controller =
           ∷ ScopeName (at 1 15 8) (codes "M")
           ∷ Flags (at 1 15 1) None (Some 91) None false false false
           ∷ IntType (at 1 16 3) false
-          ∷ Field (at 1 16 7) (codes "level") None 93 None
+          ∷ Field (at 1 16 7) (codes "level") None 93 None None
           ∷ ScopeName (at 1 17 11) (codes "CALLER")
           ∷ Flags (at 1 17 3) None None (Some 95) false false true
           ∷ VoidType (at 1 17 32)
@@ -138,7 +138,7 @@ controller =
           ∷ Method (at 1 18 36) (codes "get") (Some 107) 108 None (Some 111)
           ∷ Class (at 1 15 19) (codes "Tank") (Some 92) None (94 ∷ 105 ∷ 112 ∷ [])
           ∷ IntType (at 1 20 13) false
-          ∷ Field (at 1 20 17) (codes "v") None 114 None
+          ∷ Field (at 1 20 17) (codes "v") None 114 None None
           ∷ IntType (at 1 20 24) false
           ∷ Parameter (at 1 20 28) (codes "a") None 116
           ∷ Parameters (at 1 20 23) (117 ∷ [])
@@ -156,7 +156,7 @@ controller =
           ∷ SuperType (at 1 21 69) (codes "AperiodicEventHandler") None
           ∷ Supers (at 1 21 61) (Some 130) []
           ∷ ClassType (at 1 22 3) (codes "Tank") None false
-          ∷ Field (at 1 22 8) (codes "t") None 132 None
+          ∷ Field (at 1 22 8) (codes "t") None 132 None None
           ∷ ClassType (at 1 23 9) (codes "Tank") None false
           ∷ Parameter (at 1 23 14) (codes "x") None 134
           ∷ Parameters (at 1 23 8) (135 ∷ [])
@@ -189,9 +189,9 @@ controller =
           ∷ SuperType (at 1 26 70) (codes "PeriodicEventHandler") None
           ∷ Supers (at 1 26 62) (Some 163) []
           ∷ ClassType (at 1 27 3) (codes "Tank") None false
-          ∷ Field (at 1 27 8) (codes "t") None 165 None
+          ∷ Field (at 1 27 8) (codes "t") None 165 None None
           ∷ ClassType (at 1 27 11) (codes "Alarm") None false
-          ∷ Field (at 1 27 17) (codes "a") None 167 None
+          ∷ Field (at 1 27 17) (codes "a") None 167 None None
           ∷ ClassType (at 1 28 10) (codes "Tank") None false
           ∷ Parameter (at 1 28 15) (codes "x") None 169
           ∷ ClassType (at 1 28 18) (codes "Alarm") None false
@@ -248,7 +248,7 @@ controller =
           ∷ SuperType (at 1 35 68) (codes "PeriodicEventHandler") None
           ∷ Supers (at 1 35 60) (Some 222) []
           ∷ ClassType (at 1 36 3) (codes "Tank") None false
-          ∷ Field (at 1 36 8) (codes "t") None 224 None
+          ∷ Field (at 1 36 8) (codes "t") None 224 None None
           ∷ ClassType (at 1 37 8) (codes "Tank") None false
           ∷ Parameter (at 1 37 13) (codes "x") None 226
           ∷ Parameters (at 1 37 7) (227 ∷ [])

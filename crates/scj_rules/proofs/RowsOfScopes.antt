@@ -65,7 +65,7 @@ own_field =
           ∷ Class (at 0 1 7) (codes "App") None (Some 1) (6 ∷ 11 ∷ 40 ∷ [])
           ∷ Class (at 1 1 7) (codes "D") None None []
           ∷ ClassType (at 1 3 3) (codes "D") None false
-          ∷ Field (at 1 3 5) (codes "f") None 43 None
+          ∷ Field (at 1 3 5) (codes "f") None 43 None None
           ∷ This (at 1 4 9)
           ∷ FieldAccess (at 1 4 14) (codes "f") 45
           ∷ New (at 1 4 18) (at 1 4 22) (codes "D") []
@@ -148,7 +148,7 @@ own_field_in_constructor =
           ∷ Class (at 0 1 7) (codes "App") None (Some 1) (6 ∷ 11 ∷ 40 ∷ [])
           ∷ Class (at 1 1 7) (codes "D") None None []
           ∷ ClassType (at 1 3 3) (codes "D") None false
-          ∷ Field (at 1 3 5) (codes "f") None 43 None
+          ∷ Field (at 1 3 5) (codes "f") None 43 None None
           ∷ This (at 1 4 9)
           ∷ FieldAccess (at 1 4 14) (codes "f") 45
           ∷ New (at 1 4 18) (at 1 4 22) (codes "D") []

@@ -23,7 +23,7 @@ variable_thing_at p id =
     (variable_at p.nodes id)) (context p id).member) (context p id).class
 
 unfoldable pub thing_at : Declarations → ℕ → Node → Option Thing
-thing_at p id (Field place name flags declared_type value) = option_and_then (λ class. option_map (λ (f : Declared). field_thing p class f) (field_at p.nodes id)) (context p id).class
+thing_at p id (Field place name flags declared_type equals value) = option_and_then (λ class. option_map (λ (f : Declared). field_thing p class f) (field_at p.nodes id)) (context p id).class
 thing_at p id (Method place name flags result_type parameters body) = option_and_then (λ class. option_map (λ (m : DeclaredMethod). result_thing p class m) (method_at p.nodes id)) (context p id).class
 thing_at p id (Parameter place name flags declared_type) = variable_thing_at p id
 thing_at p id (Local place name flags declared_type) = variable_thing_at p id
@@ -66,7 +66,7 @@ field_rule unannotated false = A4
 field_rule _ false = A3
 
 unfoldable pub a3_to_a5 : Declarations → ℕ → Node → List Found
-a3_to_a5 p id (Field place name flags declared_type value) =
+a3_to_a5 p id (Field place name flags declared_type equals value) =
     elim (context p id).class [
       | None ↦ []
       | Some class ↦ elim (field_at p.nodes id) [

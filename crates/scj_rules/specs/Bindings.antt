@@ -77,7 +77,7 @@ unfoldable pub binding_of : Declarations → Types → ℕ → Node → Binding
 binding_of p types id (Parameter place name flags declared_type) = variable_binding p id id
 binding_of p types id (Local place name flags declared_type) = variable_binding p id id
 binding_of p types id (LocalWithValue place name_place name flags declared_type value) = variable_binding p id id
-binding_of p types id (Field place name flags declared_type value) =
+binding_of p types id (Field place name flags declared_type equals value) =
     plain_or (λ (row : FoundField). field_binding p row.field) (option_and_then (λ class. accessed_field p (the_class class) name) (context p id).class)
 binding_of p types id (Class place name flags header members) = class_binding (option_and_then (superclass_in p.classes) (class_number p.names name))
 binding_of p types id (Constructor place name flags parameters super_call body) = class_binding (option_and_then (superclass_in p.classes) (context p id).class)

@@ -154,7 +154,7 @@ at_node p rule id = elim (read p.nodes rule id) [ None ↦ [] | Some found ↦ f
 -- C9, unknown type: a declared type is of no class that a type may name, a type argument of no mission class, and `new`
 -- or a cast names no class (JLS 6.5.5)
 unfoldable pub c9 : Declarations → Node → List Found
-c9 p (Field place name flags declared_type value) = at_node p (c9_type p) declared_type
+c9 p (Field place name flags declared_type equals value) = at_node p (c9_type p) declared_type
 c9 p (Method place name flags result_type parameters body) = at_node p (c9_type p) result_type
 c9 p (Parameter place name flags declared_type) = at_node p (c9_type p) declared_type
 c9 p (Local place name flags declared_type) = at_node p (c9_type p) declared_type
@@ -199,7 +199,7 @@ unfoldable pub c11 : Declarations → ℕ → Node → List Found
 c11 p id (Class place name flags header members) =
     let m = modifiers_at p.nodes flags in
     broken (has_method_words m || m.is_static) C11 place
-c11 p id (Field place name flags declared_type value) =
+c11 p id (Field place name flags declared_type equals value) =
     let m = modifiers_at p.nodes flags in
     broken (has_class_words m || has_method_words m || m.is_abstract) C11 place
 c11 p id (Method place name flags result_type parameters body) =

@@ -57,7 +57,7 @@ declared_before nodes (Constructor place name flags parameters super_call body) 
 declared_before nodes _ child = []
 
 unfoldable pub is_member : Node → Bool
-is_member (Field place name flags declared_type value) = true
+is_member (Field place name flags declared_type equals value) = true
 is_member (Method place name flags result_type parameters body) = true
 is_member (Constructor place name flags parameters super_call body) = true
 is_member _ = false
@@ -140,7 +140,7 @@ variable_named p id name = find (λ v. holds (variable_at p.nodes v) (λ d. is_s
 
 -- the annotations and modifiers of a member
 unfoldable pub member_flags : Node → Option (Option ℕ)
-member_flags (Field place name flags declared_type value) = Some flags
+member_flags (Field place name flags declared_type equals value) = Some flags
 member_flags (Method place name flags result_type parameters body) = Some flags
 member_flags (Constructor place name flags parameters super_call body) = Some flags
 member_flags _ = None

@@ -162,7 +162,7 @@ t7 p types id (Assign place target value) =
     broken (is_some (types target) && (is_some (types value)
     && (misfits_value p (types target) (types value) || holds (read p.nodes (is_length_target p types) target) (λ b. b)))) T7 place
 t7 p types id (LocalWithValue place name_place name flags declared_type value) = broken (misfits_value p (written_type p declared_type) (types value)) T7 place
-t7 p types id (Field place name flags declared_type (Some value)) = broken (misfits_value p (written_type p declared_type) (types value)) T7 place
+t7 p types id (Field place name flags declared_type (Some equals) (Some value)) = broken (misfits_value p (written_type p declared_type) (types value)) T7 equals
 t7 p types id _ = []
 
 -- T8, condition: not boolean (JLS 14.9, 14.12, 14.14)

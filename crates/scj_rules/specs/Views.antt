@@ -90,7 +90,7 @@ abbrev pub variable_at : List Node → ℕ → Option Declared
 variable_at nodes id = read nodes (variable_of nodes id) id
 
 unfoldable pub field_of : List Node → ℕ → Node → Option Declared
-field_of nodes id (Field place name flags declared_type value) = Some (declared nodes id place name flags declared_type)
+field_of nodes id (Field place name flags declared_type equals value) = Some (declared nodes id place name flags declared_type)
 field_of nodes id _ = None
 
 abbrev pub field_at : List Node → ℕ → Option Declared

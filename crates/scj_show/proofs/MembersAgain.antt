@@ -76,7 +76,7 @@ literal_again W first file M b o2 (null_literal {N = N} {p = p}) f =
 pub member_again : (W : List Node) → ChildrenFirst 0 W → AreNamed W → (file : ℕ) (M : List Node) (b : List ℕ) (o2 : List Lexeme) {N N1 : List Node} {i o : List Lexeme} {id : ℕ} → MemberRead N i N1 o id → Front N1 W → Told MemberRead W M (laid file b (whole W id) o2) o2 id
 unfolding maybe_symbols parameter_symbols arguments_of in_parentheses symbols_of symbols_of_parts symbols_of_part own_symbols parts_of bare_parts field_parts method_parts constructor_parts super_call_parts block_end assigned body_or_semicolon body_with_call lexeme_at begins_unary1 is_unary1_start begins_with_word shape in_order children laid
 member_again W first named file M b o2 (field {N1 = N1} {N2 = N2} {flags = flags} {t = t} {w = w} {p = p} d0 d1) f =
-    let at : slice_get W (length (N2)) ≡ Some (Field p w (flags_number N1 flags) t None) = front-at _ _ f in
+    let at : slice_get W (length (N2)) ≡ Some (Field p w (flags_number N1 flags) t None None) = front-at _ _ f in
     let opened : whole W (length N2) ≡ symbols_of_parts (written W) (maybe (flags_number N1 flags) ++ (Whole t ∷ Named w ∷ Sign sign_semicolon ∷ [])) = whole_at W _ _ first at in
     let b1 : List ℕ = b ++ canonical (maybe_symbols W (flags_number N1 flags)) in
     let b2 : List ℕ = b1 ++ canonical (whole W t) in
@@ -89,9 +89,9 @@ member_again W first named file M b o2 (field {N1 = N1} {N2 = N2} {flags = flags
     let a2 = type_again W first file (with_flags a1.nodes a1.flags) b1 t2 d1 (front-put _ _ f) in
     let said : whole W (length (N2)) ≡ maybe_symbols W (flags_number N1 flags) ++ (whole W t ++ (a_name w ∷ (a_sign sign_semicolon ∷ ([])))) = opened ∙ symbols_of_parts-append (written W) (maybe (flags_number N1 flags)) (Whole t ∷ Named w ∷ Sign sign_semicolon ∷ []) in
     let same : laid file b (whole W (length (N2))) o2 ≡ t0 = ap (λ (ss : List Symbol). laid file b ss o2) said ∙ simp laid-append in
-    told_moved same (told_of (put a2.nodes (Field (place_behind file b2) w (flags_number a1.nodes a1.flags) a2.place None)) (length a2.nodes) (front-then a1.grown (front-then (flags_front a1.nodes a1.flags) (front-then a2.grown (front-one _)))) (field a1.read a2.read) (λ V g. let fs = a1.alike V (front-then a2.grown (front-put _ _ g)) in alike at (front-at _ _ g) (ap (λ (x : Option ℕ). Field nowhere w x 0 None) (there-same fs)) (optional-alike fs (one_alike (a2.alike V (front-put _ _ g)) none_alike))))
-member_again W first named file M b o2 (field_with_value {N1 = N1} {N2 = N2} {N3 = N3} {flags = flags} {t = t} {v = v} {w = w} {p = p} d0 d1 d2) f =
-    let at : slice_get W (length (N3)) ≡ Some (Field p w (flags_number N1 flags) t (Some v)) = front-at _ _ f in
+    told_moved same (told_of (put a2.nodes (Field (place_behind file b2) w (flags_number a1.nodes a1.flags) a2.place None None)) (length a2.nodes) (front-then a1.grown (front-then (flags_front a1.nodes a1.flags) (front-then a2.grown (front-one _)))) (field a1.read a2.read) (λ V g. let fs = a1.alike V (front-then a2.grown (front-put _ _ g)) in alike at (front-at _ _ g) (ap (λ (x : Option ℕ). Field nowhere w x 0 None None) (there-same fs)) (optional-alike fs (one_alike (a2.alike V (front-put _ _ g)) none_alike))))
+member_again W first named file M b o2 (field_with_value {N1 = N1} {N2 = N2} {N3 = N3} {flags = flags} {t = t} {v = v} {w = w} {p = p} {q = q} d0 d1 d2) f =
+    let at : slice_get W (length (N3)) ≡ Some (Field p w (flags_number N1 flags) t (Some q) (Some v)) = front-at _ _ f in
     let opened : whole W (length N3) ≡ symbols_of_parts (written W) (maybe (flags_number N1 flags) ++ (Whole t ∷ Named w ∷ Sign sign_assign ∷ Whole v ∷ Sign sign_semicolon ∷ [])) = whole_at W _ _ first at in
     let b1 : List ℕ = b ++ canonical (maybe_symbols W (flags_number N1 flags)) in
     let b2 : List ℕ = b1 ++ canonical (whole W t) in
@@ -109,7 +109,7 @@ member_again W first named file M b o2 (field_with_value {N1 = N1} {N2 = N2} {N3
     let a3 = literal_again W first file a2.nodes b4 t5 d2 (front-put _ _ f) in
     let said : whole W (length (N3)) ≡ maybe_symbols W (flags_number N1 flags) ++ (whole W t ++ (a_name w ∷ (a_sign sign_assign ∷ (whole W v ++ (a_sign sign_semicolon ∷ ([])))))) = opened ∙ symbols_of_parts-append (written W) (maybe (flags_number N1 flags)) (Whole t ∷ Named w ∷ Sign sign_assign ∷ Whole v ∷ Sign sign_semicolon ∷ []) in
     let same : laid file b (whole W (length (N3))) o2 ≡ t0 = ap (λ (ss : List Symbol). laid file b ss o2) said ∙ simp laid-append in
-    told_moved same (told_of (put a3.nodes (Field (place_behind file b2) w (flags_number a1.nodes a1.flags) a2.place (Some a3.place))) (length a3.nodes) (front-then a1.grown (front-then (flags_front a1.nodes a1.flags) (front-then a2.grown (front-then a3.grown (front-one _))))) (field_with_value a1.read a2.read a3.read) (λ V g. let g3 = front-put _ _ g in let g2 = front-then a3.grown g3 in let fs = a1.alike V (front-then a2.grown g2) in alike at (front-at _ _ g) (ap (λ (x : Option ℕ). Field nowhere w x 0 (Some 0)) (there-same fs)) (optional-alike fs (one_alike (a2.alike V g2) (one_alike (a3.alike V g3) none_alike)))))
+    told_moved same (told_of (put a3.nodes (Field (place_behind file b2) w (flags_number a1.nodes a1.flags) a2.place (Some (place_behind file b3)) (Some a3.place))) (length a3.nodes) (front-then a1.grown (front-then (flags_front a1.nodes a1.flags) (front-then a2.grown (front-then a3.grown (front-one _))))) (field_with_value a1.read a2.read a3.read) (λ V g. let g3 = front-put _ _ g in let g2 = front-then a3.grown g3 in let fs = a1.alike V (front-then a2.grown g2) in alike at (front-at _ _ g) (ap (λ (x : Option ℕ). Field nowhere w x 0 None (Some 0)) (there-same fs)) (optional-alike fs (one_alike (a2.alike V g2) (one_alike (a3.alike V g3) none_alike)))))
 member_again W first named file M b o2 (bare_method {N1 = N1} {N2 = N2} {N3 = N3} {flags = flags} {t = t} {ps = ps} {w = w} {p = p} d0 d1 d2) f =
     let at : slice_get W (length (N3)) ≡ Some (Method p w (flags_number N1 flags) t ps None) = front-at _ _ f in
     let opened : whole W (length N3) ≡ symbols_of_parts (written W) (maybe (flags_number N1 flags) ++ ((Whole t ∷ Named w ∷ []) ++ (parameters_or_none ps ++ Sign sign_semicolon ∷ []))) = whole_at W _ _ first at in

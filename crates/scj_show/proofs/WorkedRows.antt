@@ -14,7 +14,7 @@ abbrev p : Pos
 p = record { file = 0; line = 1; col = 1 }
 
 -- `/* c */ public class A{int x;}`
-a_field : text_of_file (forest_of (IntType p false ∷ Field p (codes "x") None 0 None ∷ Class p (codes "A") None None (1 ∷ []) ∷ []) ((2 ∷ []) ∷ [])) 0 ≡ codes "class A {\nint x ;\n}\n"
+a_field : text_of_file (forest_of (IntType p false ∷ Field p (codes "x") None 0 None None ∷ Class p (codes "A") None None (1 ∷ []) ∷ []) ((2 ∷ []) ∷ [])) 0 ≡ codes "class A {\nint x ;\n}\n"
 unfolding text_of_file symbols_of written written_node own_symbols symbols_of_parts symbols_of_part canonical separator bytes_of words signs rising parts_of class_parts field_parts maybe each assigned brackets
 a_field = refl
 

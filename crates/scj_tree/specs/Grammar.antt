@@ -20,8 +20,8 @@ pub data LiteralRead : List Node → List Lexeme → List Node → List Lexeme �
 
 -- what the flags before a member leave: the member without them
 pub data MemberRead : List Node → List Lexeme → List Node → List Lexeme → ℕ → Type 0 where
-  field : {N N1 N2 : _} {i i1 o : _} {flags : _} {t : _} {w : _} {p q : _} → FlagRow false N i N1 i1 flags → TypeRead (with_flags N1 flags) i1 N2 (a_name w p ∷ a_sign sign_semicolon q ∷ o) t → MemberRead N i (put N2 (Field p w (flags_number N1 flags) t None)) o (length N2)
-  field_with_value : {N N1 N2 N3 : _} {i i1 i2 o : _} {flags : _} {t v : _} {w : _} {p q r : _} → FlagRow false N i N1 i1 flags → TypeRead (with_flags N1 flags) i1 N2 (a_name w p ∷ a_sign sign_assign q ∷ i2) t → LiteralRead N2 i2 N3 (a_sign sign_semicolon r ∷ o) v → MemberRead N i (put N3 (Field p w (flags_number N1 flags) t (Some v))) o (length N3)
+  field : {N N1 N2 : _} {i i1 o : _} {flags : _} {t : _} {w : _} {p q : _} → FlagRow false N i N1 i1 flags → TypeRead (with_flags N1 flags) i1 N2 (a_name w p ∷ a_sign sign_semicolon q ∷ o) t → MemberRead N i (put N2 (Field p w (flags_number N1 flags) t None None)) o (length N2)
+  field_with_value : {N N1 N2 N3 : _} {i i1 i2 o : _} {flags : _} {t v : _} {w : _} {p q r : _} → FlagRow false N i N1 i1 flags → TypeRead (with_flags N1 flags) i1 N2 (a_name w p ∷ a_sign sign_assign q ∷ i2) t → LiteralRead N2 i2 N3 (a_sign sign_semicolon r ∷ o) v → MemberRead N i (put N3 (Field p w (flags_number N1 flags) t (Some q) (Some v))) o (length N3)
   bare_method : {N N1 N2 N3 : _} {i i1 i2 o : _} {flags : _} {t : _} {ps : _} {w : _} {p q : _} → FlagRow false N i N1 i1 flags → ResultRead (with_flags N1 flags) i1 N2 (a_name w p ∷ i2) t → ParametersRead N2 i2 N3 (a_sign sign_semicolon q ∷ o) ps → MemberRead N i (put N3 (Method p w (flags_number N1 flags) t ps None)) o (length N3)
   method : {N N1 N2 N3 N4 : _} {i i1 i2 i3 o : _} {flags : _} {t : _} {ps : _} {ids : _} {w : _} {p q r : _} → FlagRow false N i N1 i1 flags → ResultRead (with_flags N1 flags) i1 N2 (a_name w p ∷ i2) t → ParametersRead N2 i2 N3 (a_sign sign_left_brace q ∷ i3) ps → StatementsRead N3 i3 N4 (a_sign sign_right_brace r ∷ o) ids → MemberRead N i (put (put N4 (Block q ids)) (Method p w (flags_number N1 flags) t ps (Some (length N4)))) o (length (put N4 (Block q ids)))
   constructor : {N N1 N2 N3 : _} {i i1 i2 o : _} {flags : _} {ps : _} {ids : _} {w : _} {p q r : _} → FlagRow false N i N1 (a_name w p ∷ i1) flags → ParametersRead (with_flags N1 flags) i1 N2 (a_sign sign_left_brace q ∷ i2) ps → StatementsRead N2 i2 N3 (a_sign sign_right_brace r ∷ o) ids → MemberRead N i (put (put N3 (Block q ids)) (Constructor p w (flags_number N1 flags) ps None (length N3))) o (length (put N3 (Block q ids)))

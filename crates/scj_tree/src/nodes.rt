@@ -88,12 +88,13 @@ pub enum Node {
     LongType {
         place: Pos,
     },
-    /// A field (JLS 8.3), with the literal after `=` if one is written.
+    /// A field (JLS 8.3), with the literal after `=` if one is written; `equals` is the place of that `=`.
     Field {
         place: Pos,
         name: Name,
         flags: Option<NodeId>,
         declared_type: NodeId,
+        equals: Option<Pos>,
         value: Option<NodeId>,
     },
     /// A method (JLS 8.4); without a body where `;` stands in its place. `parameters` is a [`Node::Parameters`],
