@@ -12,7 +12,7 @@ use Rattle.scj_base.specs.contracts.findings.FoundEq.TheImpl.Laws as same_laws
 use Rattle.scj_base.specs.contracts.findings.FoundOrd.TheImpl.Laws as order_laws
 use Rattle.scj_base.specs.Rule.{number_of}
 use Rattle.scj_rules.specs.Report.{report_order}
-use Rattle.scope_tree.proofs.RuleNumbers.{one_rule}
+use Rattle.scj_rules.proofs.RuleNumbers.{one_rule}
 
 abbrev pub is_same_finding : Found → Found → Bool
 is_same_finding = same.ghosts.eq

@@ -1,6 +1,6 @@
 use Rattle.std.proofs.lemmas.List.Filters.{dedup_is}
-use Rattle.scope_tree.proofs.ReportLemmas.{is_same_finding, in_report_order, same_findings}
-use Rattle.scope_tree.proofs.reports.put_in_order.Goals as goal
+use Rattle.scj_rules.proofs.OrderLemmas.{is_same_finding, in_report_order, same_findings}
+use Rattle.scj_rules.proofs.reports.put_in_order.Goals as goal
 
 pub returns-clause-in_order : goal.returns-clause-in_order
 returns-clause-in_order c =
