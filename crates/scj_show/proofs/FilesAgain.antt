@@ -11,7 +11,7 @@ use Rattle.scj_show.specs.Symbols.{Symbol, canonical, symbols_of, text_of_file}
 use Rattle.scj_show.specs.Placed.{printed, lexeme_at, tokens_behind, lexemes_behind}
 use Rattle.scj_show.proofs.Sources.{AreOfSource, lexed_of_source}
 use Rattle.scj_show.proofs.Rests.{imports_rest, named_package_rest}
-use Rattle.scj_show.specs.Reread.{classes_of, WasReadFrom, IsRead}
+use Rattle.scj_show.specs.Reread.{classes_of, IsRead, IsReadAsFile}
 use Rattle.scj_show.proofs.Lexing.{lexes, reads}
 use Rattle.scj_show.proofs.Again.{Front, front-none, laid}
 use Rattle.scj_show.proofs.MembersAgain.{classes_again}
@@ -44,7 +44,8 @@ tree_read start old all more i ids at before (file_of_package c d e) whole first
 pub read_again : (source : List ℕ) (number : ℕ) (tokens : List Token) (start old all more : List Node) (ids : List ℕ) (at : ℕ) (before : List Node) → Lex number source tokens → Tree start (lexemes_of source tokens) old ids → all ≡ old ++ more → ChildrenFirst 0 all → IsRead all ids (canonical (symbols_of all ids)) at before
 read_again source number tokens start old all more ids at before lex d whole first = tree_read start old all more (lexemes_of source tokens) ids at before d whole first (lexed_of_source lex)
 
--- a text that is the canonical text of a file
-pub file_read_again : (forest : Forest) (k : ℕ) (text : List ℕ) → ChildrenFirst 0 forest.nodes → text ≡ text_of_file forest k → (source : List ℕ) → WasReadFrom forest k source → (at : ℕ) (before : List Node) → IsRead forest.nodes (classes_of forest k) text at before
+-- the canonical text of a file
+pub file_read_again : (forest : Forest) (k : ℕ) (text : List ℕ) → ChildrenFirst 0 forest.nodes → text ≡ text_of_file forest k → IsReadAsFile forest k text
 unfolding text_of_file
-file_read_again forest k text first e source w at before = subst (λ (t : List ℕ). IsRead forest.nodes (classes_of forest k) t at before) (sym e) (read_again source w.number w.tokens w.start w.nodes forest.nodes w.others (classes_of forest k) at before w.lex w.tree w.whole first)
+file_read_again forest k text first e =
+    record { read = λ source w at before. subst (λ (t : List ℕ). IsRead forest.nodes (classes_of forest k) t at before) (sym e) (read_again source w.number w.tokens w.start w.nodes forest.nodes w.others (classes_of forest k) at before w.lex w.tree w.whole first) }

@@ -32,3 +32,8 @@ pub record IsRead (N : List Node) (ids text : List ℕ) (file : ℕ) (before : L
   pub classes : List ℕ
   pub tree : Tree before (lexemes_of text tokens) nodes classes
   pub alike : AllAlike N nodes ids classes
+
+-- the text is read as the file, from whatever source that was read, whichever number the text's file is given and
+-- whatever nodes there are before
+pub record IsReadAsFile (forest : Forest) (file : ℕ) (text : List ℕ) : Type 0 where
+  pub read : (source : List ℕ) → WasReadFrom forest file source → (number : ℕ) (before : List Node) → IsRead forest.nodes (classes_of forest file) text number before
