@@ -1,13 +1,20 @@
-mod Again
+pub mod Again
 mod AssignmentsAgain
 mod DeclarationsAgain
+mod DeclarationsLexed
 mod ExpressionsAgain
-mod FilesAgain
+mod ExpressionsLexed
+pub mod FilesAgain
 mod FlagsAgain
 mod HeadersAgain
 mod Lexing
+mod NodesLexed
 mod MembersAgain
+mod MembersLexed
 mod Printing
+mod Rests
+mod Sources
 mod StatementsAgain
+mod StatementsLexed
 mod Unfolding
 mod WorkedRows
