@@ -1,27 +1,23 @@
 //! The mode that checks sources.
 
-ghost use Rattle.std.specs.Prelude.{◌≡◌, [], ◌≤◌, length, map, string_bytes, IfOk, IfErr, Some, true};
+ghost use Rattle.std.specs.Prelude.{[], ◌≤◌, length, map, string_bytes, IfOk, IfErr, Some};
 ghost use Rattle.scj_io.specs.Loads.{ShelfGoes, shelf_run};
 ghost use Rattle.scj_io.specs.Puts.{sink_run};
 ghost use Rattle.command_line.specs.Job.{Check};
 ghost use Rattle.scj_check.specs.Texts.{texts_of};
-ghost use Rattle.scj_cli.specs.Answers.{Answer, status_on, text_on};
-ghost use Rattle.scj_cli.specs.Modes.{IsAnswered, Stops, RefusesForm, RefusesProgram};
-ghost use Rattle.scj_rules.specs.Breaks.{Breaks};
-ghost use Rattle.scj_rules.specs.HeaderForm.{is_header_form};
-ghost use Rattle.scj_rules.specs.Report.{IsReport};
+ghost use Rattle.scj_base.specs.declared.statuses.Status.TheVariants.{Refused};
+ghost use Rattle.scj_cli.specs.Answers.{Answer};
+ghost use Rattle.scj_cli.specs.Modes.{IsAnswered, Stops, RefusesForm};
 
 use crate::loads::load_all;
 use crate::refusals::{Refusal, Stop};
 use crate::reports::report;
-use scj_base::{Found, Status};
-use scj_check::{Reading, Sources, is_header_form, read};
+use scj_base::Status;
+use scj_check::{Sources, Verdict};
 use scj_io::{Shelf, Sink, put_all};
-use scj_tree::Program;
-use scope_tree::check_definitions;
-use std::alloc::{AllocError, Global};
+use std::alloc::Global;
 
-/// Checks the files of these names, and puts `accepted` or the report on `out`.
+/// Checks the files of these names, and puts the report on `out`.
 pub fn check<H: Shelf, K: Sink>(
     alloc: Global,
     names: &[String],
@@ -38,57 +34,18 @@ pub fn check<H: Shelf, K: Sink>(
         (sink_run (K.taken out.old) (K.taken out.new) (K.faults out.old) (K.faults out.new)) stop) }
 {
     let sources = load_all(alloc, names, shelf)?;
-    let verdict = judge(alloc, names, &sources)?;
-    put_all(out, verdict.text.as_bytes())?;
-    Ok(verdict.status)
+    let text = judge(alloc, names, &sources)?;
+    put_all(out, text.as_bytes())?;
+    Ok(Status::Refused)
 }
 
-// What a check answers.
-#[derive(Drop)]
-struct Verdict {
-    status: Status,
-    text: String,
-}
-
-// The answer on the contents of the files.
-fn judge(alloc: Global, names: &[String], sources: &Sources) -> Result<Verdict, Refusal>
-    ensures ok { IfOk result (λ verdict. Answer (Some (Check (map string_bytes names.now))) (texts_of sources.now) verdict.status (string_bytes verdict.text) []) }
+// The report on the contents of the files.
+fn judge(alloc: Global, names: &[String], sources: &Sources) -> Result<String, Refusal>
+    ensures ok { IfOk result (λ text. Answer (Some (Check (map string_bytes names.now))) (texts_of sources.now) Refused (string_bytes text) []) }
     ensures refusal { IfErr result (λ refusal. RefusesForm (Check (map string_bytes names.now)) (texts_of sources.now) refusal) }
 {
-    match read(alloc, sources)? {
-        Reading::Read(program) => {
-            let found = check_program(alloc, &program)?;
-            Ok(verdict_on(alloc, names, &found)?)
-        }
-        Reading::Broken(found) => Ok(verdict_on(alloc, names, &[found])?),
+    match scj_check::check(alloc, sources)? {
+        Verdict::Refused(found) => Ok(report(alloc, names, found.items())?),
+        Verdict::NotBuilt => Err(Refusal::OtherForm),
     }
-}
-
-// The breaks of a program that is of the form that is checked so far.
-fn check_program(alloc: Global, program: &Program) -> Result<Vec<Found>, Refusal>
-    ensures form { IfOk result (λ found. is_header_form program.now ≡ true) }
-    ensures ok { IfOk result (λ found. IsReport (Breaks program.now) found.items) }
-    ensures refusal { IfErr result (λ refusal. RefusesProgram program.now refusal) }
-{
-    if !is_header_form(program) {
-        return Err(Refusal::OtherForm);
-    }
-    Ok(check_definitions(alloc, program)?)
-}
-
-fn verdict_on(alloc: Global, names: &[String], found: &[Found]) -> Result<Verdict, AllocError>
-    ensures { IfOk result (λ verdict. (verdict.status ≡ status_on found.now) × (string_bytes verdict.text ≡ text_on (map string_bytes names.now) found.now)) }
-{
-    if found.is_empty() {
-        let text = String::from_str(alloc, "accepted\n")?;
-        return Ok(Verdict {
-            status: Status::Done,
-            text,
-        });
-    }
-    let text = report(alloc, names, found)?;
-    Ok(Verdict {
-        status: Status::Refused,
-        text,
-    })
 }

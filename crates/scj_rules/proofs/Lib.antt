@@ -10,5 +10,6 @@ pub mod RowOfUse
 pub mod RowsOfClasses
 pub mod RowsOfScopes
 pub mod RuleNumbers
+pub mod VerdictLemmas
 pub mod WithinLemmas
 pub mod WorkedRows
