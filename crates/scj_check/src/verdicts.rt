@@ -55,7 +55,7 @@ pub fn check(alloc: Global, sources: &Sources) -> Result<Verdict, Memory>
     ensures { IfOk result (λ verdict. IsVerdict (texts_of sources.now) verdict) }
 {
     match read(alloc, sources)? {
-        Reading::Read(program) => check_program(alloc, &program),
+        Reading::Read(program) => Ok(check_program(alloc, &program)?),
         Reading::Broken(found) => Ok(Verdict::Refused(report_of_one(alloc, found)?)),
     }
 }
