@@ -17,3 +17,12 @@ found_first {A} read test id more (Some a) e h = rw e (go (test a))
 pub find_read : {A : Type 0} (read : ℕ → Option A) (test : A → Bool) (ids : List ℕ) → find test (filter_map read ids) ≡ option_and_then read (find (λ i. holds (read i) test) ids)
 find_read read test [] = refl
 find_read read test (id ∷ more) = found_first read test id more (read id) refl (find_read read test more)
+
+passes_or_later : (test : ℕ → Bool) (x id : ℕ) (t : Bool) → test x ≡ t → (later : Option ℕ) → cond t (Some x) later ≡ Some id → (later ≡ Some id → test id ≡ true) → test id ≡ true
+passes_or_later test x id true e later h k = let same : x ≡ id = cc in ap test (sym same) ∙ e
+passes_or_later test x id false e later h k = k h
+
+-- what is found passes the test
+pub find_passes : (test : ℕ → Bool) (ids : List ℕ) (id : ℕ) → find test ids ≡ Some id → test id ≡ true
+find_passes test [] id h = cc
+find_passes test (x ∷ xs) id h = passes_or_later test x id (test x) refl (find test xs) h (find_passes test xs id)

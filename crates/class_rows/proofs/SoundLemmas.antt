@@ -49,10 +49,10 @@ sound_append nodes class (x ∷ xs) ys s t =
     let same : class + suc (length xs) ≡ class + 1 + length xs = omega arith in
     (s.0, sound_append nodes (class + 1) xs ys s.1 (let P : ℕ → Type 0 = λ n. AreSound nodes n ys in subst P same t))
 
-first_methods : (nodes : List Node) (class : ℕ) (written : Option WrittenClass) → class < first_user_class → framework_methods_on class 0 framework_methods ≡ methods_of nodes class written
+pub first_methods : (nodes : List Node) (class : ℕ) (written : Option WrittenClass) → class < first_user_class → framework_methods_on class 0 framework_methods ≡ methods_of nodes class written
 first_methods nodes class written h = grind (arith, nat_tests)
 
-other_methods : (nodes : List Node) (class : ℕ) (written : Option WrittenClass) → first_user_class ≤ class → filter_map (method_at nodes) (members_of written) ≡ methods_of nodes class written
+pub other_methods : (nodes : List Node) (class : ℕ) (written : Option WrittenClass) → first_user_class ≤ class → filter_map (method_at nodes) (members_of written) ≡ methods_of nodes class written
 other_methods nodes class written h = grind (arith, nat_tests)
 
 framework_sound : (nodes : List Node) (class : ℕ) (cs : List FrameworkClass) → class + length cs ≤ first_user_class → AreSound nodes class (framework_rows_from class cs)
@@ -125,3 +125,14 @@ class_at_node forest class = go (slice_get (declarations_of forest).written clas
         → option_and_then (class_at forest.nodes) (option_map (λ (c : WrittenClass). c.node) (option_and_then (λ (row : ClassRow). row.written) o)) ≡ option_and_then (λ (row : ClassRow). row.written) o
     go None e = refl
     go (Some row) e = (row_sound forest class row e).node
+
+-- the framework's classes are there
+framework_get : (class : ℕ) (xs ys : List ClassRow) → class < length xs → (row : ClassRow) × (slice_get (xs ++ ys) class ≡ Some row)
+framework_get class [] ys h = absurd (omega (arith, h))
+framework_get zero (x ∷ xs) ys h = (x, refl)
+framework_get (suc class) (x ∷ xs) ys h = framework_get class xs ys (omega (arith, h))
+
+pub framework_there : (forest : Forest) (class : ℕ) → class < first_user_class → (row : ClassRow) × (slice_get (declarations_of forest).written class ≡ Some row)
+unfolding declarations_of written_rows framework_classes
+framework_there forest class h =
+    framework_get class (framework_rows_from 0 framework_classes) (map (user_row forest.nodes (class_names (user_classes forest))) (user_classes forest)) (omega (arith, framework_length 0 framework_classes))

@@ -1,7 +1,7 @@
 -- What a walk along a chain of classes has left after a step.
 use Rattle.std.proofs.Common.{◌≡◌, ℕ, zero, suc, ◌+◌, ◌-◌, List, [], ◌∷◌, length, refl, sym, ap, ◌∙◌, arith, Option, Some, None}
 use Rattle.scj_tree.specs.Forest.{Forest}
-use Rattle.scj_rules.specs.Words.{chain, chain_behind}
+use Rattle.scj_rules.specs.Words.{chain, chain_behind, along}
 use Rattle.scj_rules.specs.Classes.{superclass_in, classes_above}
 use Rattle.scj_rules.specs.Contexts.{declarations_of}
 use Rattle.class_rows.specs.Walks.{chain_from}
@@ -35,3 +35,17 @@ walk_behind forest class o e = go o e
         → chain_from forest (length (declarations_of forest).classes) o ≡ elim (superclass_in (declarations_of forest).classes class) [ None ↦ [] | Some b ↦ chain (superclass_in (declarations_of forest).classes) (length (declarations_of forest).classes) b ]
     go None k = rw (← k) refl
     go (Some b) k = rw (← k) refl
+
+along_at : {A B : Type 0} (f : A → Option B) (x : A) (xs : List A) (o : Option B) → o ≡ f x → along f (x ∷ xs) ≡ elim o [ None ↦ along f xs | Some y ↦ Some y ]
+unfolding along
+along_at {A} {B} f x xs o e = ap (λ (p : Option B). elim p [ None ↦ along f xs | Some y ↦ Some y ]) (sym e)
+
+pub along_found : {A B : Type 0} (f : A → Option B) (x : A) (xs : List A) (y : B) → Some y ≡ f x → along f (x ∷ xs) ≡ Some y
+along_found f x xs y e = along_at f x xs (Some y) e
+
+pub along_next : {A B : Type 0} (f : A → Option B) (x : A) (xs : List A) → None ≡ f x → along f (x ∷ xs) ≡ along f xs
+along_next f x xs e = along_at f x xs None e
+
+pub along_end : {A B : Type 0} (f : A → Option B) → along f [] ≡ None
+unfolding along
+along_end f = refl

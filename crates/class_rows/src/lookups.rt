@@ -1,17 +1,19 @@
 //! Whether a class stands under another, and look-ups of members by name.
 
-ghost use Rattle.std.specs.Prelude.{◌≡◌, option_and_then};
+ghost use Rattle.std.specs.Prelude.{◌≡◌, ◌<◌, ◌≤◌, option_map, option_and_then};
 ghost use Rattle.scj_rules.specs.Words.{is_among};
-ghost use Rattle.scj_rules.specs.Classes.{superclasses, all_interfaces, is_sub, own_field};
+ghost use Rattle.scj_rules.specs.Classes.{superclasses, all_interfaces, is_sub, own_field, field_named, own_method, method_named, method_above, framework_row_named, field_number};
 ghost use Rattle.scj_rules.specs.Views.{field_at};
 ghost use Rattle.scj_rules.specs.Contexts.{declarations_of};
+ghost use Rattle.method_rows.specs.Methods.{found_method};
 ghost use Rattle.class_rows.specs.Tables.{field_among, method_among, members_in};
 
 use crate::classes::Classes;
 use crate::keys::{MemberKey, NameKey};
 
+use method_rows::{MethodRef, MethodSource, framework_method};
 use node_views::field_at;
-use scj_base::{ClassId, Name, NodeId};
+use scj_base::{ClassId, FieldId, Name, NodeId};
 use scj_rules::{Declared, FoundField};
 
 impl<'a> Classes<'a> {
@@ -88,5 +90,112 @@ impl<'a> Classes<'a> {
             name: NameKey::of(*name),
         };
         self.table.methods.get(&key).copied()
+    }
+
+    /// The first method of a name that a class declares itself.
+    pub fn own_method(&self, class: ClassId, name: &Name) -> Option<MethodRef>
+        ensures { option_map (found_method self.now.nodes) result ≡ own_method (declarations_of self.now).classes name.now class }
+    {
+        if class.number() < 16 {
+            self.framework_row(class, name)
+        } else {
+            self.declared_row(class, name)
+        }
+    }
+
+    /// The method of a name that a framework class declares itself.
+    fn framework_row(&self, class: ClassId, name: &Name) -> Option<MethodRef>
+        requires { class < 16 }
+        ensures { option_map (found_method self.now.nodes) result ≡ own_method (declarations_of self.now).classes name.now class }
+    {
+        match framework_method(class, name) {
+            Some(id) => Some(MethodRef {
+                on: class,
+                source: MethodSource::Framework(id),
+            }),
+            None => None,
+        }
+    }
+
+    /// The first method of a name that a user class declares itself.
+    fn declared_row(&self, class: ClassId, name: &Name) -> Option<MethodRef>
+        requires { 16 ≤ class }
+        ensures { option_map (found_method self.now.nodes) result ≡ own_method (declarations_of self.now).classes name.now class }
+    {
+        match self.method_node(class, name) {
+            Some(node) => Some(MethodRef {
+                on: class,
+                source: MethodSource::Declared(node),
+            }),
+            None => None,
+        }
+    }
+
+    /// The field of a name that a class has, its own or the nearest above.
+    #[tactic(auto, using(crate::proofs::WalkLemmas::along_found, crate::proofs::WalkLemmas::along_next, crate::proofs::WalkLemmas::along_end), unfolding(scj_rules::specs::Classes::field_named))]
+    pub fn field_named(&self, class: ClassId, name: &Name) -> Option<FoundField>
+        ensures { result ≡ field_named (declarations_of self.now).classes class name.now }
+    {
+        let mut chain = self.superclasses(class);
+        while let Some(at) = chain.next() {
+            if let Some(field) = self.own_field(at, name) {
+                return Some(field);
+            }
+        }
+        None
+    }
+
+    /// The method of a name that a class has: the nearest declaration above, or else an interface's.
+    #[tactic(auto, using(crate::proofs::WalkLemmas::along_found, crate::proofs::WalkLemmas::along_next, crate::proofs::WalkLemmas::along_end), unfolding(scj_rules::specs::Classes::method_named))]
+    pub fn method_named(&self, class: ClassId, name: &Name) -> Option<MethodRef>
+        ensures { option_map (found_method self.now.nodes) result ≡ method_named (declarations_of self.now).classes class name.now }
+    {
+        let mut ancestors = self.ancestors(class);
+        while let Some(at) = ancestors.next() {
+            if let Some(method) = self.own_method(at, name) {
+                return Some(method);
+            }
+        }
+        None
+    }
+
+    /// What a declaration of the name in the class overrides.
+    #[tactic(auto, using(crate::proofs::WalkLemmas::along_found, crate::proofs::WalkLemmas::along_next, crate::proofs::WalkLemmas::along_end), unfolding(scj_rules::specs::Classes::method_above))]
+    pub fn method_above(&self, class: ClassId, name: &Name) -> Option<MethodRef>
+        ensures { option_map (found_method self.now.nodes) result ≡ method_above (declarations_of self.now).classes class name.now }
+    {
+        let mut ancestors = self.ancestors_above(class);
+        while let Some(at) = ancestors.next() {
+            if let Some(method) = self.own_method(at, name) {
+                return Some(method);
+            }
+        }
+        None
+    }
+
+    /// The framework's own method of the name, where the class stands under the framework class or implements it.
+    #[tactic(auto, using(crate::proofs::WalkLemmas::along_found, crate::proofs::WalkLemmas::along_next, crate::proofs::WalkLemmas::along_end), unfolding(scj_rules::specs::Classes::framework_row_named))]
+    pub fn framework_row_named(&self, class: ClassId, name: &Name) -> Option<MethodRef>
+        ensures { option_map (found_method self.now.nodes) result ≡ framework_row_named (declarations_of self.now).classes class name.now }
+    {
+        let mut ancestors = self.ancestors(class);
+        while let Some(at) = ancestors.next() {
+            if at.number() < 16 {
+                if let Some(method) = self.own_method(at, name) {
+                    return Some(method);
+                }
+            }
+        }
+        None
+    }
+
+    /// The number of the field that a node declares.
+    #[tactic(auto, unfolding(scj_rules::specs::Classes::field_number))]
+    pub fn field_number(&self, node: NodeId) -> Option<FieldId>
+        ensures { result ≡ field_number (declarations_of self.now).classes node }
+    {
+        let place = node.place();
+        let number = self.table.field_numbers.get(&place).copied()?;
+        Some(FieldId::at(number))
     }
 }

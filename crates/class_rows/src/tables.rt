@@ -40,7 +40,7 @@ pub struct ClassTable {
     /// The first method of each name in each class.
     pub(crate) methods: IndexMap<MemberKey, NodeId>,
     /// The number of each field, by its node.
-    pub(crate) field_numbers: IndexMap<u32, u32>,
+    pub(crate) field_numbers: IndexMap<usize, u32>,
     /// The number of each method and constructor among those of the program, by its node.
-    pub(crate) method_numbers: IndexMap<u32, u32>,
+    pub(crate) method_numbers: IndexMap<usize, u32>,
 }

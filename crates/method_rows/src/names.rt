@@ -1,14 +1,14 @@
 //! The framework's methods by the class and the name.
 
-ghost use Rattle.std.specs.Prelude.{◌≡◌, option_and_then};
-ghost use Rattle.method_rows.specs.Methods.{framework_numbered, framework_method_on};
+ghost use Rattle.std.specs.Prelude.{◌≡◌, option_map, unwrap_or};
+ghost use Rattle.method_rows.specs.Methods.{framework_numbered, framework_method_on, no_method};
 
 use scj_base::{ClassId, MethodId, Name};
 
 /// The method of a name of `Runnable`.
 #[tactic(auto, unfolding(crate::specs::Methods::framework_method_on, crate::specs::Methods::framework_numbered, scj_rules::specs::Classes::framework_methods_on, scj_rules::specs::Classes::framework_method, scj_builtins::specs::Framework::framework_methods))]
 fn of_runnable(name: &[u8]) -> Option<MethodId>
-    ensures { option_and_then framework_numbered result ≡ framework_method_on 1 name.now }
+    ensures { option_map (λ number. unwrap_or (framework_numbered number) no_method) result ≡ framework_method_on 1 name.now }
 {
     if name == b"run".as_slice() {
         return Some(MethodId::at(0));
@@ -19,7 +19,7 @@ fn of_runnable(name: &[u8]) -> Option<MethodId>
 /// The method of a name of `Safelet`.
 #[tactic(auto, unfolding(crate::specs::Methods::framework_method_on, crate::specs::Methods::framework_numbered, scj_rules::specs::Classes::framework_methods_on, scj_rules::specs::Classes::framework_method, scj_builtins::specs::Framework::framework_methods))]
 fn of_safelet(name: &[u8]) -> Option<MethodId>
-    ensures { option_and_then framework_numbered result ≡ framework_method_on 2 name.now }
+    ensures { option_map (λ number. unwrap_or (framework_numbered number) no_method) result ≡ framework_method_on 2 name.now }
 {
     if name == b"getSequencer".as_slice() {
         return Some(MethodId::at(1));
@@ -36,7 +36,7 @@ fn of_safelet(name: &[u8]) -> Option<MethodId>
 /// The method of a name of `Mission`.
 #[tactic(auto, unfolding(crate::specs::Methods::framework_method_on, crate::specs::Methods::framework_numbered, scj_rules::specs::Classes::framework_methods_on, scj_rules::specs::Classes::framework_method, scj_builtins::specs::Framework::framework_methods))]
 fn of_mission(name: &[u8]) -> Option<MethodId>
-    ensures { option_and_then framework_numbered result ≡ framework_method_on 3 name.now }
+    ensures { option_map (λ number. unwrap_or (framework_numbered number) no_method) result ≡ framework_method_on 3 name.now }
 {
     if name == b"initialize".as_slice() {
         return Some(MethodId::at(4));
@@ -56,7 +56,7 @@ fn of_mission(name: &[u8]) -> Option<MethodId>
 /// The method of a name of `MissionSequencer`.
 #[tactic(auto, unfolding(crate::specs::Methods::framework_method_on, crate::specs::Methods::framework_numbered, scj_rules::specs::Classes::framework_methods_on, scj_rules::specs::Classes::framework_method, scj_builtins::specs::Framework::framework_methods))]
 fn of_sequencer(name: &[u8]) -> Option<MethodId>
-    ensures { option_and_then framework_numbered result ≡ framework_method_on 4 name.now }
+    ensures { option_map (λ number. unwrap_or (framework_numbered number) no_method) result ≡ framework_method_on 4 name.now }
 {
     if name == b"getNextMission".as_slice() {
         return Some(MethodId::at(8));
@@ -67,7 +67,7 @@ fn of_sequencer(name: &[u8]) -> Option<MethodId>
 /// The method of a name of `PeriodicEventHandler`.
 #[tactic(auto, unfolding(crate::specs::Methods::framework_method_on, crate::specs::Methods::framework_numbered, scj_rules::specs::Classes::framework_methods_on, scj_rules::specs::Classes::framework_method, scj_builtins::specs::Framework::framework_methods))]
 fn of_periodic(name: &[u8]) -> Option<MethodId>
-    ensures { option_and_then framework_numbered result ≡ framework_method_on 5 name.now }
+    ensures { option_map (λ number. unwrap_or (framework_numbered number) no_method) result ≡ framework_method_on 5 name.now }
 {
     if name == b"handleAsyncEvent".as_slice() {
         return Some(MethodId::at(9));
@@ -81,7 +81,7 @@ fn of_periodic(name: &[u8]) -> Option<MethodId>
 /// The method of a name of `AperiodicEventHandler`.
 #[tactic(auto, unfolding(crate::specs::Methods::framework_method_on, crate::specs::Methods::framework_numbered, scj_rules::specs::Classes::framework_methods_on, scj_rules::specs::Classes::framework_method, scj_builtins::specs::Framework::framework_methods))]
 fn of_aperiodic(name: &[u8]) -> Option<MethodId>
-    ensures { option_and_then framework_numbered result ≡ framework_method_on 6 name.now }
+    ensures { option_map (λ number. unwrap_or (framework_numbered number) no_method) result ≡ framework_method_on 6 name.now }
 {
     if name == b"handleAsyncEvent".as_slice() {
         return Some(MethodId::at(11));
@@ -98,7 +98,7 @@ fn of_aperiodic(name: &[u8]) -> Option<MethodId>
 /// The method of a name of `ManagedMemory`.
 #[tactic(auto, unfolding(crate::specs::Methods::framework_method_on, crate::specs::Methods::framework_numbered, scj_rules::specs::Classes::framework_methods_on, scj_rules::specs::Classes::framework_method, scj_builtins::specs::Framework::framework_methods))]
 fn of_memory(name: &[u8]) -> Option<MethodId>
-    ensures { option_and_then framework_numbered result ≡ framework_method_on 7 name.now }
+    ensures { option_map (λ number. unwrap_or (framework_numbered number) no_method) result ≡ framework_method_on 7 name.now }
 {
     if name == b"enterPrivateMemory".as_slice() {
         return Some(MethodId::at(14));
@@ -112,7 +112,7 @@ fn of_memory(name: &[u8]) -> Option<MethodId>
 /// The method of a name of `Services`.
 #[tactic(auto, unfolding(crate::specs::Methods::framework_method_on, crate::specs::Methods::framework_numbered, scj_rules::specs::Classes::framework_methods_on, scj_rules::specs::Classes::framework_method, scj_builtins::specs::Framework::framework_methods))]
 fn of_services(name: &[u8]) -> Option<MethodId>
-    ensures { option_and_then framework_numbered result ≡ framework_method_on 8 name.now }
+    ensures { option_map (λ number. unwrap_or (framework_numbered number) no_method) result ≡ framework_method_on 8 name.now }
 {
     if name == b"setCeiling".as_slice() {
         return Some(MethodId::at(16));
@@ -123,7 +123,7 @@ fn of_services(name: &[u8]) -> Option<MethodId>
 /// The method of a name of `Trace`.
 #[tactic(auto, unfolding(crate::specs::Methods::framework_method_on, crate::specs::Methods::framework_numbered, scj_rules::specs::Classes::framework_methods_on, scj_rules::specs::Classes::framework_method, scj_builtins::specs::Framework::framework_methods))]
 fn of_trace(name: &[u8]) -> Option<MethodId>
-    ensures { option_and_then framework_numbered result ≡ framework_method_on 9 name.now }
+    ensures { option_map (λ number. unwrap_or (framework_numbered number) no_method) result ≡ framework_method_on 9 name.now }
 {
     if name == b"print".as_slice() {
         return Some(MethodId::at(17));
@@ -134,7 +134,7 @@ fn of_trace(name: &[u8]) -> Option<MethodId>
 /// The method of a name of `Device`.
 #[tactic(auto, unfolding(crate::specs::Methods::framework_method_on, crate::specs::Methods::framework_numbered, scj_rules::specs::Classes::framework_methods_on, scj_rules::specs::Classes::framework_method, scj_builtins::specs::Framework::framework_methods))]
 fn of_device(name: &[u8]) -> Option<MethodId>
-    ensures { option_and_then framework_numbered result ≡ framework_method_on 10 name.now }
+    ensures { option_map (λ number. unwrap_or (framework_numbered number) no_method) result ≡ framework_method_on 10 name.now }
 {
     if name == b"read".as_slice() {
         return Some(MethodId::at(18));
@@ -145,7 +145,7 @@ fn of_device(name: &[u8]) -> Option<MethodId>
 /// The method of a name that a framework class declares itself.
 #[tactic(auto, unfolding(crate::specs::Methods::framework_method_on, crate::specs::Methods::framework_numbered, scj_rules::specs::Classes::framework_methods_on, scj_rules::specs::Classes::framework_method, scj_builtins::specs::Framework::framework_methods))]
 pub fn framework_method(class: ClassId, name: &Name) -> Option<MethodId>
-    ensures { option_and_then framework_numbered result ≡ framework_method_on class name.now }
+    ensures { option_map (λ number. unwrap_or (framework_numbered number) no_method) result ≡ framework_method_on class name.now }
 {
     let name = name.bytes();
     match class.number() {
