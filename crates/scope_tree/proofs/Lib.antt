@@ -4,3 +4,4 @@ pub mod JumpLemmas
 pub mod NameLemmas
 pub mod ParentLemmas
 pub mod SampleLemmas
+pub mod UserLemmas

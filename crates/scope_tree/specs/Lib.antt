@@ -2,3 +2,4 @@ pub mod Findings
 pub mod Index
 pub mod Jumps
 pub mod Samples
+pub mod Trees
