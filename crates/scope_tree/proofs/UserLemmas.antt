@@ -275,9 +275,7 @@ module _ (forest : Forest) (whole : IsForest forest) where
 
   owners_so_far : (k : ℕ) → k ≤ length nodes_of → map (λ (n : ℕ). Some n) (owners_below p (16 + k)) ≡ map number_for (definitions_in forest.nodes (take k nodes_of))
   unfolding owners_below joined_below definitions_in
-  owners_so_far zero h =
-      let e : 16 + 0 ≡ 16 = omega arith in
-      rw e (rw (owners_before_users 16 (omega arith)) refl)
+  owners_so_far zero h = ap (map (λ (n : ℕ). Some n)) (owners_before_users 16 (omega arith))
   owners_so_far (suc k) h =
       let there = there_below nodes_of k (omega (arith, h)) in
       let x : ℕ = there.0 in
