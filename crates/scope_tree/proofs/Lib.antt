@@ -3,5 +3,6 @@ pub mod FindingLemmas
 pub mod JumpLemmas
 pub mod NameLemmas
 pub mod ParentLemmas
+pub mod PhaseLemmas
 pub mod SampleLemmas
 pub mod UserLemmas
