@@ -11,12 +11,13 @@ use Rattle.scj_tree.specs.Counts.{times}
 use Rattle.scj_tree.specs.Forest.{Forest, IsForest, IsClass, is_class, AllClasses, joined, placed, all_children}
 use Rattle.scj_rules.specs.declared.scopes.Definition.{Definition}
 use Rattle.scj_rules.specs.declared.scopes.Written.{Written}
-use Rattle.scj_rules.specs.Definitions.{read, definition, in_front, definition_with, definition_of, definitions_in, definitions, written_of, values_of, define_scope_of, flags_of}
+use Rattle.scj_rules.specs.Definitions.{read, definition, in_front, scope_named, definition_with, definition_of, definitions_in, definitions, written_of, values_of, define_scope_of, flags_of}
 use Rattle.scj_rules.specs.Views.{WrittenClass, class_at, class_of}
 use Rattle.scj_rules.specs.Classes.{ClassRow, class_nodes, user_classes, class_names, user_row, framework_row, framework_rows_from, written_rows, is_well_headed, counted_row, counted_from}
 use Rattle.scj_rules.specs.Contexts.{Declarations, declarations_of, number_of_class}
 use Rattle.scj_rules.specs.ScopeRules.{definition_in, scope_of_definition}
 use Rattle.scope_tree.proofs.DefinitionLemmas.{definitions_in-append}
+use Rattle.scope_tree.specs.Index.{IsIndex}
 use Rattle.scope_tree.specs.Trees.{owner_at, owners_below}
 use Rattle.scj_tree.specs.Recursion.{joined_below}
 
@@ -37,6 +38,21 @@ nodes_of_users nodes [] h = refl
 nodes_of_users nodes (x ∷ ids) h =
     let there = class_there nodes x h.0.0 h.0.1 h.0.2 in
     rw there.1 (let rest = nodes_of_users nodes ids h.1 in let same = there.2 in cc)
+
+user_in_tree : (nodes : List Node) (ids : List ℕ) (k : ℕ) (c : WrittenClass) → AllClasses nodes ids → slice_get (filter_map (class_at nodes) ids) k ≡ Some c → class_at nodes c.node ≡ Some c
+unfolding AllClasses
+user_in_tree nodes [] k c h e = cc
+user_in_tree nodes (x ∷ ids) k c h e =
+    let there = class_there nodes x h.0.0 h.0.1 h.0.2 in
+    at_place there.0 there.1 there.2 k ((rw there.1 at e)) (λ j. user_in_tree nodes ids j c h.1)
+  where
+    at_place : (d : WrittenClass) → class_at nodes x ≡ Some d → d.node ≡ x → (k : ℕ) → slice_get (d ∷ filter_map (class_at nodes) ids) k ≡ Some c
+        → ((j : ℕ) → slice_get (filter_map (class_at nodes) ids) j ≡ Some c → class_at nodes c.node ≡ Some c) → class_at nodes c.node ≡ Some c
+    at_place d f g zero e rest =
+        let same : d ≡ c = cc in
+        let node : c.node ≡ x = sym (ap (λ (w : WrittenClass). w.node) same) ∙ g in
+        ap (class_at nodes) node ∙ f ∙ ap (λ (w : WrittenClass). Some w) same
+    at_place d f g (suc j) e rest = rest j e
 
 -- ---- a class at its number
 
@@ -228,6 +244,17 @@ module _ (forest : Forest) (whole : IsForest forest) where
       go None e = refl
       go (Some c) e = found_definition forest.nodes nodes_of c.node (among_at nodes_of (class - 16) c.node (node_there class c e))
 
+  -- a user class is read from its node
+  pub class_by_node : (class : ℕ) → option_and_then (class_at forest.nodes) (option_map (λ (c : WrittenClass). c.node) (written_in p.classes class)) ≡ written_in p.classes class
+  unfolding user_classes
+  class_by_node class = go (written_in p.classes class) refl
+    where
+      go : (o : Option WrittenClass) → written_in p.classes class ≡ o → option_and_then (class_at forest.nodes) (option_map (λ (c : WrittenClass). c.node) o) ≡ o
+      go None e = refl
+      go (Some c) e =
+          let back : 16 + (class - 16) ≡ class = omega (arith, user_number class c e) in
+          user_in_tree forest.nodes nodes_of (class - 16) c whole.classes (sym (user_at forest (class - 16)) ∙ ap (written_in p.classes) back ∙ e)
+
   abbrev number_for : Definition → Option ℕ
   number_for d = number_of_class nodes_of d.class
 
@@ -325,3 +352,12 @@ module _ (forest : Forest) (whole : IsForest forest) where
       each (slice_get (owners_below p (length p.classes)) k) (slice_get p.scopes k)
       (sym (slice_get-map (λ (n : ℕ). Some n) (owners_below p (length p.classes)) k) ∙ ap (λ t. slice_get t k) owners_are ∙ slice_get-map number_for p.scopes k)
       ∙ ap (λ (ids : List ℕ). option_and_then (λ (d : Definition). number_of_class ids d.class) (slice_get p.scopes k)) (sym users_are)
+
+  -- the scope of a name that isn't the root's
+  pub named_owner : (owners : List ℕ) (find : List ℕ → Option ℕ) (name : List ℕ) → owners ≡ owners_below p (length p.classes) → IsIndex p.scopes find
+      → option_and_then (λ k. slice_get owners k) (find name) ≡ option_and_then (scope_of_definition p) (scope_named p.scopes name)
+  named_owner owners find name e index = ap (option_and_then (λ k. slice_get owners k)) (index.finds name) ∙ go (scope_named p.scopes name)
+    where
+      go : (o : Option ℕ) → option_and_then (λ k. slice_get owners k) o ≡ option_and_then (scope_of_definition p) o
+      go None = refl
+      go (Some k) = ap (λ (t : List ℕ). slice_get t k) e ∙ owner_there k

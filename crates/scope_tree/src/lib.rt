@@ -5,6 +5,7 @@ mod cycles;
 mod definitions;
 mod headers;
 mod names;
+pub mod trees;
 
 pub use definitions::check_definitions;
 
