@@ -5,4 +5,5 @@ pub mod NameLemmas
 pub mod ParentLemmas
 pub mod PhaseLemmas
 pub mod SampleLemmas
+pub mod TreeLemmas
 pub mod UserLemmas

@@ -205,6 +205,27 @@ among_at (y ∷ xs) (suc k) x h = rw (among_at xs k x h) (or-true (eqb x y))
     or-true true = refl
     or-true false = refl
 
+-- how many classes there are
+counted-length : (names : List (List ℕ)) (rows : List ClassRow) (class : ℕ) (more : List ClassRow) → length (counted_from names rows class more) ≡ length more
+unfolding counted_from
+counted-length names rows class [] = refl
+counted-length names rows class (row ∷ more) = ap suc (counted-length names rows (class + 1) more)
+
+framework-length : (number : ℕ) (cs : List FrameworkClass) → length (framework_rows_from number cs) ≡ length cs
+unfolding framework_rows_from
+framework-length number [] = refl
+framework-length number (c ∷ cs) = ap suc (framework-length (number + 1) cs)
+
+pub framework_first : (forest : Forest) → 16 ≤ length (declarations_of forest).classes
+unfolding declarations_of written_rows framework_classes
+framework_first forest =
+    let users = user_classes forest in
+    let rows = map (user_row forest.nodes (class_names users)) users in
+    let a = counted-length (class_names users) (written_rows forest.nodes users) 0 (written_rows forest.nodes users) in
+    let b = length-append (framework_rows_from 0 framework_classes) rows in
+    let c = framework-length 0 framework_classes in
+    rw (a, b, c) (omega arith)
+
 module _ (forest : Forest) (whole : IsForest forest) where
   abbrev p : Declarations
   p = declarations_of forest
@@ -314,17 +335,6 @@ module _ (forest : Forest) (whole : IsForest forest) where
       ∙ ap (λ t. t ++ map (λ (n : ℕ). Some n) (owner_at p (16 + k))) (owners_so_far k (omega (arith, h)))
       ∙ ap (λ t. map number_for (definitions_in forest.nodes (take k nodes_of)) ++ t) (owners_step k x there.1)
       ∙ sym (map-append number_for (definitions_in forest.nodes (take k nodes_of)) (in_front (definition_of forest.nodes x) [])))
-
-  -- how many classes there are
-  counted-length : (names : List (List ℕ)) (rows : List ClassRow) (class : ℕ) (more : List ClassRow) → length (counted_from names rows class more) ≡ length more
-  unfolding counted_from
-  counted-length names rows class [] = refl
-  counted-length names rows class (row ∷ more) = ap suc (counted-length names rows (class + 1) more)
-
-  framework-length : (number : ℕ) (cs : List FrameworkClass) → length (framework_rows_from number cs) ≡ length cs
-  unfolding framework_rows_from
-  framework-length number [] = refl
-  framework-length number (c ∷ cs) = ap suc (framework-length (number + 1) cs)
 
   pub class_count : length p.classes ≡ 16 + length nodes_of
   unfolding declarations_of written_rows framework_classes

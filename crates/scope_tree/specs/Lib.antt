@@ -1,3 +1,4 @@
+pub mod Annotated
 pub mod Findings
 pub mod Index
 pub mod Jumps

@@ -9,8 +9,6 @@ use Rattle.scj_rules.specs.Words.{chain}
 use Rattle.scj_rules.specs.Contexts.{Declarations, declarations_of}
 use Rattle.scj_rules.specs.ScopeRules.{definition_in, defined_by, defined_by_chain, parent_scope}
 use Rattle.scj_rules.specs.StaticScopes.{class_scope}
-use Rattle.scj_rules.specs.declared.scopes.ClassScope.{ClassScope}
-use Rattle.scj_rules.specs.declared.scopes.ClassScope.TheVariants.{Unannotated as unannotated, Annotated as annotated, Unknown as unknown}
 use Rattle.scope_tree.specs.Index.{IsIndex}
 use Rattle.scope_tree.specs.declared.trees.ScopeNames.{ScopeNames}
 use Rattle.scope_tree.specs.declared.trees.ScopeTree.{ScopeTree}
@@ -40,9 +38,3 @@ pub record IsTreeOf (forest : Forest) (tree : ScopeTree) : Type 0 where
 abbrev pub chain_from : (ℕ → Option ℕ) → ℕ → Option ℕ → List ℕ
 chain_from next bound None = []
 chain_from next bound (Some a) = chain next bound a
-
--- the scope of an annotated class
-abbrev pub annotated_scope : ClassScope → Option ℕ
-annotated_scope unannotated = None
-annotated_scope (annotated s) = Some s
-annotated_scope unknown = None
