@@ -1,12 +1,13 @@
 -- What the tables of a tree tell.
-use Rattle.std.proofs.Common.{◌≡◌, ◌-◌, not, ◌&&◌, ℕ, zero, suc, ◌+◌, ◌<◌, ◌≤◌, Bool, true, false, ◌||◌, List, [], ◌∷◌, length, slice_get, nat_lt, Option, Some, None, refl, sym, ap, ◌∙◌, arith, ◌⊎◌, ⊎_elim, option_and_then, ◌==◌, subst}
+use Rattle.std.proofs.Common.{◌≡◌, ◌++◌, append_assoc, append-nil, true≢false, is_some, ◌-◌, drop, get_or, not, ◌&&◌, ℕ, zero, suc, ◌+◌, ◌<◌, ◌≤◌, Bool, true, false, ◌||◌, List, [], ◌∷◌, length, slice_get, nat_lt, Option, Some, None, refl, sym, ap, ◌∙◌, arith, ◌⊎◌, ⊎_elim, option_and_then, ◌==◌, subst}
 use Rattle.std.proofs.lemmas.Bool.Decides.{nat_tests}
 use Rattle.std.proofs.lemmas.Bool.{cases_lt, ne_eqb}
+use Rattle.std.proofs.lemmas.List.{drop_all}
 use Rattle.std.proofs.lemmas.Option.{slice_get_past}
 use Rattle.scj_tree.specs.Forest.{Forest}
 use Rattle.scj_tree.specs.Recursion.{told, listed, below}
 use Rattle.scj_tree.proofs.RecursionLemmas.{listed-at, length-listed}
-use Rattle.scj_rules.specs.Words.{is_among, chain, along}
+use Rattle.scj_rules.specs.Words.{is_among, chain, along, or_else}
 use Rattle.scj_rules.specs.Classes.{ClassRow, superclasses}
 use Rattle.scj_rules.specs.Contexts.{Declarations, declarations_of}
 use Rattle.scj_rules.specs.ScopeRules.{immortal_scope, definition_in, defined_by, defined_by_chain, parent_scope, is_outer}
@@ -15,6 +16,7 @@ use Rattle.scj_rules.specs.Classes.{superclass_in, interfaces_in, all_interfaces
 use Rattle.scj_rules.specs.StaticScopes.{is_implied_immortal, class_scope, class_scope_on, class_scope_under, differs_from_above, scope_of_right_class}
 use Rattle.scj_rules.specs.declared.scopes.ClassScope.{ClassScope}
 use Rattle.scj_rules.specs.declared.scopes.ClassScope.TheVariants.{Unannotated as unannotated}
+use Rattle.scope_tree.proofs.DefinitionLemmas.{drop_here}
 use Rattle.scope_tree.proofs.UserLemmas.{framework_first}
 use Rattle.scope_tree.specs.declared.trees.ScopeTree.{ScopeTree}
 use Rattle.scope_tree.specs.Trees.{IsTreeOf, chain_from}
@@ -113,3 +115,41 @@ pub class_scope_by_table : (forest : Forest) (tree : ScopeTree) (a : ℕ) → Is
 class_scope_by_table forest tree a h =
     let p : Declarations = declarations_of forest in
     table_tells unannotated (class_scope p) (length p.classes) (no_scope_past p (framework_first forest)) tree.class_scopes.items h.class_scopes a
+
+-- a chain that is put into a list, one more, and at its end
+pub chain_more : (next : ℕ → Option ℕ) (left a : ℕ) (all whole : List ℕ) → 0 < left → all ++ chain next left a ≡ whole → (all ++ a ∷ []) ++ chain_from next (left - 1) (next a) ≡ whole
+chain_more next left a all whole h e = append_assoc all (a ∷ []) (chain_from next (left - 1) (next a)) ∙ ap (λ (t : List ℕ). all ++ t) (sym (chain_here next left a h)) ∙ e
+
+pub chain_done : (next : ℕ → Option ℕ) (left : ℕ) (o : Option ℕ) (all whole : List ℕ) → left ≤ 0 → all ++ chain_from next left o ≡ whole → all ≡ whole
+chain_done next left o all whole h e = sym (append-nil all) ∙ ap (λ (t : List ℕ). all ++ t) (sym (chain_ended next left o h)) ∙ e
+
+-- the first that f finds in a list, from an element on, and at the end
+along_here : {B : Type 0} (f : ℕ → Option B) (xs : List ℕ) (i x : ℕ) → i < length xs → x ≡ get_or xs i x → along f (drop i xs) ≡ or_else (f x) (along f (drop (i + 1) xs))
+unfolding along
+along_here {B} f xs i x h e = rw (drop_here xs i x h ∙ ap (λ (y : ℕ). y ∷ drop (i + 1) xs) (sym e)) (go (f x) (along f (drop (i + 1) xs)))
+  where
+    go : (o rest : Option B) → elim o as (λ _. Option B) [ None ↦ rest | Some y ↦ Some y ] ≡ or_else o rest
+    go None rest = refl
+    go (Some y) rest = refl
+
+found_first : {B : Type 0} (o rest : Option B) → is_some o ≡ true → or_else o rest ≡ o
+found_first None rest h = absurd (true≢false (sym h))
+found_first (Some y) rest h = refl
+
+found_later : {B : Type 0} (o rest : Option B) → is_some o ≡ false → or_else o rest ≡ rest
+found_later None rest h = refl
+found_later (Some y) rest h = absurd (true≢false h)
+
+pub along_found : {B : Type 0} (f : ℕ → Option B) (xs : List ℕ) (i x : ℕ) (o : Option B) → i < length xs → x ≡ get_or xs i x → o ≡ f x → true ≡ is_some o
+    → along f (drop i xs) ≡ along f xs → o ≡ along f xs
+along_found f xs i x o h e k t w =
+    sym (found_first o (along f (drop (i + 1) xs)) (sym t)) ∙ ap (λ z. or_else z (along f (drop (i + 1) xs))) k ∙ sym (along_here f xs i x h e) ∙ w
+
+pub along_more : {B : Type 0} (f : ℕ → Option B) (xs : List ℕ) (i x : ℕ) (o : Option B) → i < length xs → x ≡ get_or xs i x → o ≡ f x → false ≡ is_some o
+    → along f (drop i xs) ≡ along f xs → along f (drop (i + 1) xs) ≡ along f xs
+along_more f xs i x o h e k t w =
+    sym (found_later o (along f (drop (i + 1) xs)) (sym t)) ∙ ap (λ z. or_else z (along f (drop (i + 1) xs))) k ∙ sym (along_here f xs i x h e) ∙ w
+
+pub along_ended : {B : Type 0} (f : ℕ → Option B) (xs : List ℕ) (i : ℕ) → length xs ≤ i → along f (drop i xs) ≡ None
+unfolding along
+along_ended f xs i h = rw (drop_all i xs h) refl

@@ -17,6 +17,7 @@ use Rattle.scj_rules.specs.Classes.{ClassRow, class_nodes, user_classes, class_n
 use Rattle.scj_rules.specs.Contexts.{Declarations, declarations_of, number_of_class}
 use Rattle.scj_rules.specs.ScopeRules.{definition_in, scope_of_definition}
 use Rattle.scope_tree.proofs.DefinitionLemmas.{definitions_in-append}
+use Rattle.class_rows.specs.Tables.{class_written}
 use Rattle.scope_tree.specs.Index.{IsIndex}
 use Rattle.scope_tree.specs.Trees.{owner_at, owners_below}
 use Rattle.scj_tree.specs.Recursion.{joined_below}
@@ -38,21 +39,6 @@ nodes_of_users nodes [] h = refl
 nodes_of_users nodes (x ∷ ids) h =
     let there = class_there nodes x h.0.0 h.0.1 h.0.2 in
     rw there.1 (let rest = nodes_of_users nodes ids h.1 in let same = there.2 in cc)
-
-user_in_tree : (nodes : List Node) (ids : List ℕ) (k : ℕ) (c : WrittenClass) → AllClasses nodes ids → slice_get (filter_map (class_at nodes) ids) k ≡ Some c → class_at nodes c.node ≡ Some c
-unfolding AllClasses
-user_in_tree nodes [] k c h e = cc
-user_in_tree nodes (x ∷ ids) k c h e =
-    let there = class_there nodes x h.0.0 h.0.1 h.0.2 in
-    at_place there.0 there.1 there.2 k ((rw there.1 at e)) (λ j. user_in_tree nodes ids j c h.1)
-  where
-    at_place : (d : WrittenClass) → class_at nodes x ≡ Some d → d.node ≡ x → (k : ℕ) → slice_get (d ∷ filter_map (class_at nodes) ids) k ≡ Some c
-        → ((j : ℕ) → slice_get (filter_map (class_at nodes) ids) j ≡ Some c → class_at nodes c.node ≡ Some c) → class_at nodes c.node ≡ Some c
-    at_place d f g zero e rest =
-        let same : d ≡ c = cc in
-        let node : c.node ≡ x = sym (ap (λ (w : WrittenClass). w.node) same) ∙ g in
-        ap (class_at nodes) node ∙ f ∙ ap (λ (w : WrittenClass). Some w) same
-    at_place d f g (suc j) e rest = rest j e
 
 -- ---- a class at its number
 
@@ -226,6 +212,11 @@ framework_first forest =
     let c = framework-length 0 framework_classes in
     rw (a, b, c) (omega arith)
 
+-- how a user class is written stays, however it counts
+pub written_stays : (forest : Forest) (class : ℕ) → class_written (declarations_of forest) class ≡ written_in (declarations_of forest).classes class
+unfolding declarations_of class_written
+written_stays forest class = sym (counted_at (class_names (user_classes forest)) (written_rows forest.nodes (user_classes forest)) 0 (written_rows forest.nodes (user_classes forest)) class)
+
 module _ (forest : Forest) (whole : IsForest forest) where
   abbrev p : Declarations
   p = declarations_of forest
@@ -264,17 +255,6 @@ module _ (forest : Forest) (whole : IsForest forest) where
           → option_and_then (λ (c : WrittenClass). find (is_class_of c.node) (definitions_in forest.nodes (joined forest.files))) o ≡ option_and_then (definition_of forest.nodes) (option_map (λ (c : WrittenClass). c.node) o)
       go None e = refl
       go (Some c) e = found_definition forest.nodes nodes_of c.node (among_at nodes_of (class - 16) c.node (node_there class c e))
-
-  -- a user class is read from its node
-  pub class_by_node : (class : ℕ) → option_and_then (class_at forest.nodes) (option_map (λ (c : WrittenClass). c.node) (written_in p.classes class)) ≡ written_in p.classes class
-  unfolding user_classes
-  class_by_node class = go (written_in p.classes class) refl
-    where
-      go : (o : Option WrittenClass) → written_in p.classes class ≡ o → option_and_then (class_at forest.nodes) (option_map (λ (c : WrittenClass). c.node) o) ≡ o
-      go None e = refl
-      go (Some c) e =
-          let back : 16 + (class - 16) ≡ class = omega (arith, user_number class c e) in
-          user_in_tree forest.nodes nodes_of (class - 16) c whole.classes (sym (user_at forest (class - 16)) ∙ ap (written_in p.classes) back ∙ e)
 
   abbrev number_for : Definition → Option ℕ
   number_for d = number_of_class nodes_of d.class
@@ -371,3 +351,9 @@ module _ (forest : Forest) (whole : IsForest forest) where
       go : (o : Option ℕ) → option_and_then (λ k. slice_get owners k) o ≡ option_and_then (scope_of_definition p) o
       go None = refl
       go (Some k) = ap (λ (t : List ℕ). slice_get t k) e ∙ owner_there k
+
+-- the definition of a class is read from its node
+pub definition_of_class : (forest : Forest) (class : ℕ) (node : Option ℕ) → IsForest forest → node ≡ option_map (λ (c : WrittenClass). c.node) (class_written (declarations_of forest) class)
+    → option_and_then (definition_of forest.nodes) node ≡ definition_in (declarations_of forest) class
+definition_of_class forest class node whole e =
+    ap (option_and_then (definition_of forest.nodes)) (e ∙ ap (option_map (λ (c : WrittenClass). c.node)) (written_stays forest class)) ∙ sym (definition_by_node forest whole class)

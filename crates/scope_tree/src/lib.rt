@@ -1,6 +1,8 @@
 //! The checks on the tree of scopes.
 #![tactic(auto)]
 
+mod chains;
+mod classes;
 mod cycles;
 mod definitions;
 mod headers;
