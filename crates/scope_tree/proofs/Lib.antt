@@ -1,3 +1,4 @@
+pub mod ClassScopeLemmas
 pub mod DefinitionLemmas
 pub mod FindingLemmas
 pub mod JumpLemmas

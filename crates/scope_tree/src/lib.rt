@@ -2,6 +2,7 @@
 #![tactic(auto)]
 
 mod chains;
+mod class_scopes;
 mod classes;
 mod cycles;
 mod definitions;
