@@ -8,6 +8,7 @@ mod cycles;
 mod definitions;
 mod headers;
 mod names;
+mod tables;
 pub mod trees;
 
 pub use definitions::check_definitions;
