@@ -353,7 +353,7 @@ module _ (forest : Forest) (whole : IsForest forest) where
       go (Some k) = ap (λ (t : List ℕ). slice_get t k) e ∙ owner_there k
 
 -- the definition of a class is read from its node
-pub definition_of_class : (forest : Forest) (class : ℕ) (node : Option ℕ) → IsForest forest → node ≡ option_map (λ (c : WrittenClass). c.node) (class_written (declarations_of forest) class)
-    → option_and_then (definition_of forest.nodes) node ≡ definition_in (declarations_of forest) class
-definition_of_class forest class node whole e =
+pub definition_of_class : (forest : Forest) (class : ℕ) (at : Option ℕ) → IsForest forest → at ≡ option_map (λ (c : WrittenClass). c.node) (class_written (declarations_of forest) class)
+    → option_and_then (definition_of forest.nodes) at ≡ definition_in (declarations_of forest) class
+definition_of_class forest class at whole e =
     ap (option_and_then (definition_of forest.nodes)) (e ∙ ap (option_map (λ (c : WrittenClass). c.node)) (written_stays forest class)) ∙ sym (definition_by_node forest whole class)

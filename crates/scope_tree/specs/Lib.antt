@@ -2,5 +2,6 @@ pub mod Annotated
 pub mod Findings
 pub mod Index
 pub mod Jumps
+pub mod Rules
 pub mod Samples
 pub mod Trees

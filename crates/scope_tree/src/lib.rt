@@ -1,6 +1,7 @@
 //! The checks on the tree of scopes.
 #![tactic(auto)]
 
+mod builds;
 mod chains;
 mod class_scopes;
 mod classes;
@@ -8,10 +9,9 @@ mod cycles;
 mod definitions;
 mod headers;
 mod names;
+mod rules;
 mod tables;
 pub mod trees;
 
-pub use definitions::check_definitions;
-
-#[cfg(test)]
-mod tests;
+pub use builds::build;
+pub use trees::{ScopeNames, ScopeTree};
