@@ -153,3 +153,20 @@ along_more f xs i x o h e k t w =
 pub along_ended : {B : Type 0} (f : ℕ → Option B) (xs : List ℕ) (i : ℕ) → length xs ≤ i → along f (drop i xs) ≡ None
 unfolding along
 along_ended f xs i h = rw (drop_all i xs h) refl
+
+pub parent_by_table : (forest : Forest) (tree : ScopeTree) (a : ℕ) → IsTreeOf forest tree → told None tree.parents.items a ≡ parent_scope (declarations_of forest) a
+parent_by_table forest tree a h =
+    let p : Declarations = declarations_of forest in
+    table_tells None (parent_scope p) (length p.classes) (no_parent_past p) tree.parents.items h.parents a
+
+nothing_chained_past : (p : Declarations) → 16 ≤ length p.classes → (a : ℕ) → length p.classes ≤ a → defined_by_chain p a ≡ None
+unfolding defined_by_chain along
+nothing_chained_past p many a h =
+    let one : superclasses p.classes a ≡ a ∷ [] = chain_past p a h (omega (arith, many)) in
+    let none : defined_by p a ≡ None = nothing_defined_past p a h in
+    rw one (rw (none, along) refl)
+
+pub chained_by_table : (forest : Forest) (tree : ScopeTree) (a : ℕ) → IsTreeOf forest tree → told None tree.chained.items a ≡ defined_by_chain (declarations_of forest) a
+chained_by_table forest tree a h =
+    let p : Declarations = declarations_of forest in
+    table_tells None (defined_by_chain p) (length p.classes) (nothing_chained_past p (framework_first forest)) tree.chained.items h.chained a

@@ -10,8 +10,10 @@ mod definitions;
 mod headers;
 mod names;
 mod rules;
+pub mod scopes;
 mod tables;
 pub mod trees;
 
 pub use builds::build;
+pub use scopes::Scopes;
 pub use trees::{ScopeNames, ScopeTree};
