@@ -3,4 +3,5 @@
 
 pub mod limits;
 pub mod parts;
+pub mod repeats;
 pub mod twice;
