@@ -1,2 +1,5 @@
+pub mod CountingLemmas
+pub mod FindingLemmas
+pub mod LateLemmas
 pub mod NameLemmas
 pub mod TwiceLemmas
