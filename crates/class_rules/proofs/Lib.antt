@@ -1,5 +1,6 @@
 pub mod CountingLemmas
 pub mod FindingLemmas
+pub mod HeaderLemmas
 pub mod LateLemmas
 pub mod NameLemmas
 pub mod TwiceLemmas

@@ -1,4 +1,5 @@
 pub mod Counting
+pub mod Headers
 pub mod Limits
 pub mod Parts
 pub mod Twice

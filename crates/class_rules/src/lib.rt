@@ -5,4 +5,4 @@ pub mod limits;
 pub mod parts;
 pub mod repeats;
 pub mod twice;
-mod trial;
+pub mod headers;
