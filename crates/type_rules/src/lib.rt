@@ -5,5 +5,6 @@ pub mod arguments;
 pub mod forms;
 pub mod known;
 pub mod names;
+pub mod statements;
 
 pub use known::Known;
