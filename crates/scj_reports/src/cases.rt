@@ -1,5 +1,6 @@
 //! One case: its files, and what goes wrong outside.
 
+use crate::edits::Edit;
 use crate::lines::add_line;
 use crate::stops::Stop;
 use scj_io::{MemShelf, MemSink};
@@ -7,12 +8,13 @@ use std::alloc::Global;
 
 const ROOM: usize = 65_536;
 
-/// The shelf of a case, the file that is being written (none where its name is empty), and its two outputs.
+/// The shelf of a case, the last file that was written and whether it is still open, and the case's two outputs.
 #[derive(Drop)]
 pub struct Case {
     alloc: Global,
     pub shelf: MemShelf,
-    name: String,
+    pub name: String,
+    is_open: bool,
     source: Vec<u8>,
     room: usize,
     out_fails: Option<u64>,
@@ -26,6 +28,7 @@ impl Case {
             alloc,
             shelf: MemShelf::new(alloc),
             name: String::new(alloc),
+            is_open: false,
             source: Vec::new(alloc),
             room: ROOM,
             out_fails: None,
@@ -38,12 +41,13 @@ impl Case {
         self.end_file()?;
         self.name = String::from_str(self.alloc, name)?;
         self.source = Vec::new(self.alloc);
+        self.is_open = true;
         Ok(())
     }
 
     /// Takes a line of the file that is being written; elsewhere the line is a comment.
     pub fn add_line(&mut self, line: &str) -> Result<(), Stop> {
-        if !self.name.is_empty() {
+        if self.is_open {
             add_line(&mut self.source, line)?;
         }
         Ok(())
@@ -51,11 +55,23 @@ impl Case {
 
     /// Puts the file that is being written on the shelf.
     pub fn end_file(&mut self) -> Result<(), Stop> {
-        if !self.name.is_empty() {
+        if self.is_open {
             self.shelf.add(&self.name, &self.source)?;
-            self.name = String::new(self.alloc);
+            self.is_open = false;
         }
         Ok(())
+    }
+
+    /// The case of the last written file alone, changed by an edit.
+    pub fn edited(&self, edit: &Edit<'_>) -> Result<Case, Stop> {
+        let front = self.source.get(..edit.from).ok_or(Stop::BadLine)?;
+        let behind = self.source.get(edit.to..).ok_or(Stop::BadLine)?;
+        let mut source = Vec::from_slice(self.alloc, front)?;
+        source.extend_from_slice(edit.text.as_bytes())?;
+        source.extend_from_slice(behind)?;
+        let mut case = Case::new(self.alloc);
+        case.shelf.add(&self.name, &source)?;
+        Ok(case)
     }
 
     /// Adds a file of blanks: `COUNT NAME`.

@@ -4,12 +4,14 @@
 //! next line of these kinds; `-< FILE` takes the file of that name from where the program runs; `-* COUNT FILE` is a
 //! file of so many blanks. `! load N`, `! out N` and `! err N` make that load or put fail, counted from 1, and
 //! `! room N` leaves room for so many bytes on the output. `$ WORDS` calls the checker, with words parted by single
-//! blanks. Lines outside a file and outside these kinds are comments. In a file `\xNN` is one byte, by two digits
-//! from 0 to 9 and a to f, and a line that ends in `\` has no line feed behind it.
+//! blanks. `~ FROM TO TEXT` checks the last written file alone, with the text in the place of the bytes from FROM up to
+//! TO. Lines outside a file and outside these kinds are comments. In a file `\xNN` is one byte, by two digits from 0 to 9
+//! and a to f, and a line that ends in `\` has no line feed behind it.
 #![tactic(auto)]
 
 mod calls;
 mod cases;
+mod edits;
 mod lines;
 mod runs;
 mod stops;

@@ -2,6 +2,7 @@
 
 use crate::calls::Ending;
 use crate::cases::Case;
+use crate::edits::Edit;
 use crate::stops::Stop;
 use scj_io::Shelf;
 use std::alloc::Global;
@@ -38,6 +39,7 @@ impl<S: Shelf + Drop, W: Write + Drop> Run<S, W> {
             Some(("-*", words)) => self.case.add_blanks(words),
             Some(("!", words)) => self.case.add_fault(words),
             Some(("$", words)) => self.call(words),
+            Some(("~", words)) => self.change(words),
             _ => self.case.add_line(line),
         }
     }
@@ -65,6 +67,16 @@ impl<S: Shelf + Drop, W: Write + Drop> Run<S, W> {
         self.case.end_file()?;
         let ending = Ending::of(self.alloc, words, &mut self.case)?;
         writeln!(self.out, "$ {words}")?;
+        ending.print(&mut self.out)
+    }
+
+    fn change(&mut self, words: &str) -> Result<(), Stop> {
+        self.case.end_file()?;
+        let edit = Edit::parse(words)?;
+        let mut case = self.case.edited(&edit)?;
+        let call = format!(in self.alloc; "check {}", self.case.name)?;
+        let ending = Ending::of(self.alloc, &call, &mut case)?;
+        writeln!(self.out, "~ {words}")?;
         ending.print(&mut self.out)
     }
 }
