@@ -5,6 +5,10 @@ use Rattle.std.specs.Cmp.Lexicographic.{pointwise}
 use Rattle.scj_builtins.specs.declared.rows.GivesKind.{GivesKind}
 use Rattle.scj_builtins.specs.declared.rows.GivesKind.TheVariants.{Nothing, Number, Long, Sequencer, Mission}
 use Rattle.scj_builtins.specs.declared.rows.MethodRow.{MethodRow}
+use Rattle.scj_builtins.specs.declared.kinds.ClassKind.{ClassKind}
+use Rattle.scj_builtins.specs.declared.kinds.ClassKind.TheVariants.{Concrete as concrete_class, Abstract as abstract_class, Interface as interface_type, Static as static_only, Form as form_only}
+use Rattle.scj_builtins.specs.declared.kinds.ParameterKind.{ParameterKind}
+use Rattle.scj_builtins.specs.declared.kinds.ParameterKind.TheVariants.{Int as int_parameter, Text as text_parameter, Object as object_parameter, Runnable as runnable_parameter}
 
 -- the numbers of the framework's classes
 abbrev pub object : ℕ
@@ -55,11 +59,6 @@ storage_parameters = 14
 abbrev pub relative_time : ℕ
 relative_time = 15
 
--- what a class may be used for: a class that has objects or is extended, an interface, static calls alone, or a part of
--- the form with which the constructor of a handler or a sequencer begins
-pub data ClassKind : Type 0 where
-  concrete_class abstract_class interface_type static_only form_only : ClassKind
-
 pub record FrameworkClass : Type 0 where
   pub name : List ℕ
   pub kind : ClassKind
@@ -87,10 +86,6 @@ framework_classes =
     ∷ class_row (codes "StorageParameters") form_only
     ∷ class_row (codes "RelativeTime") form_only
     ∷ []
-
--- the type of a parameter: `int`, a text, or a reference of a framework class
-pub data ParameterKind : Type 0 where
-  int_parameter text_parameter object_parameter runnable_parameter : ParameterKind
 
 -- a method of a class: callable where a program may call the framework's own method, overridable where a user class may
 -- declare it, abstract where a concrete class has to

@@ -2,11 +2,13 @@ pub mod AcceptedLemmas
 pub mod ChainLemmas
 pub mod Computing
 pub mod ForestTests
+pub mod OrderLemmas
 pub mod ReportLemmas
 pub mod ReportsLemmas
 pub mod RowOfBindings
 pub mod RowOfUse
 pub mod RowsOfClasses
 pub mod RowsOfScopes
+pub mod RuleNumbers
 pub mod WithinLemmas
 pub mod WorkedRows

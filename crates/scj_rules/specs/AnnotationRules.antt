@@ -10,11 +10,15 @@ use Rattle.scj_rules.specs.declared.scopes.Written.{Written}
 use Rattle.scj_rules.specs.declared.typing.Scope.{Scope}
 use Rattle.scj_rules.specs.declared.typing.Scope.TheVariants.{This}
 use Rattle.scj_rules.specs.Words.{broken, holds}
-use Rattle.scj_rules.specs.Views.{Declared, DeclaredMethod, variable_at, field_at, method_at}
+use Rattle.scj_rules.specs.Views.{DeclaredMethod, variable_at, field_at, method_at}
 use Rattle.scj_rules.specs.Classes.{FoundMethod, class_number, superclass_in, is_user_class, method_above}
 use Rattle.scj_rules.specs.Contexts.{Declarations, context, is_static_member}
 use Rattle.scj_rules.specs.ScopeRules.{scope_written_in}
-use Rattle.scj_rules.specs.StaticScopes.{are_same_scope, ClassScope, unannotated, has_unknown_scope, differs_from_above, is_implied_immortal, class_scope, this_in, runs_in, current_in, has_unknown_runs_in, has_other_runs_in, Thing, is_unknown_scope, contradicts, variable_thing, result_thing, parameter_scope, field_thing, thing_scope, misfits_field}
+use Rattle.scj_rules.specs.StaticScopes.{are_same_scope, has_unknown_scope, differs_from_above, is_implied_immortal, class_scope, this_in, runs_in, current_in, has_unknown_runs_in, has_other_runs_in, is_unknown_scope, contradicts, variable_thing, result_thing, parameter_scope, field_thing, thing_scope, misfits_field}
+use Rattle.scj_rules.specs.declared.scopes.ClassScope.{ClassScope}
+use Rattle.scj_rules.specs.declared.scopes.ClassScope.TheVariants.{Unannotated as unannotated}
+use Rattle.scj_rules.specs.declared.scopes.Thing.{Thing}
+use Rattle.scj_rules.specs.declared.views.Declared.{Declared}
 
 -- the thing that a node declares
 unfoldable pub variable_thing_at : Declarations → ℕ → Option Thing

@@ -9,13 +9,19 @@ use Rattle.scj_rules.specs.declared.typing.Ty.TheVariants.{Class as ClassTy, Int
 use Rattle.scj_rules.specs.declared.typing.Binding.{Binding}
 use Rattle.scj_rules.specs.declared.typing.Binding.TheVariants.{Plain, Local as LocalVariable, Field as InstanceField, Static, Length, Class as ClassNamed, Method, StaticMethod, Builtin}
 use Rattle.scj_rules.specs.declared.typing.Target.{Target}
-use Rattle.scj_rules.specs.Views.{void_type, Declared}
-use Rattle.scj_rules.specs.Classes.{FoundField, FoundMethod, class_number, superclass_in, field_number, method_number}
+use Rattle.scj_rules.specs.Classes.{FoundMethod, class_number, superclass_in, field_number, method_number}
 use Rattle.scj_rules.specs.LimitRules.{variables_of}
 use Rattle.scj_rules.specs.ClassRules.{is_same_type}
 use Rattle.scj_rules.specs.Contexts.{Declarations, context}
-use Rattle.scj_rules.specs.Types.{array_of, Meaning, a_variable, a_field, a_class, nothing, meaning, Receiver, the_class, receiver, call_receiver, class_of_receiver, is_array_value, accessed_field, called_method, is_length, is_form_part}
+use Rattle.scj_rules.specs.Types.{array_of, meaning, receiver, call_receiver, class_of_receiver, is_array_value, accessed_field, called_method, is_length, is_form_part}
 use Rattle.scj_rules.specs.TypeRules.{Types, written_type, types_in}
+use Rattle.scj_rules.specs.declared.typing.FoundField.{FoundField}
+use Rattle.scj_rules.specs.declared.typing.Meaning.{Meaning}
+use Rattle.scj_rules.specs.declared.typing.Meaning.TheVariants.{Class as a_class, Field as a_field, Nothing as nothing, Variable as a_variable}
+use Rattle.scj_rules.specs.declared.typing.Receiver.{Receiver}
+use Rattle.scj_rules.specs.declared.typing.Receiver.TheVariants.{Class as the_class}
+use Rattle.scj_rules.specs.declared.views.Declared.{Declared}
+use Rattle.scj_rules.specs.declared.views.WrittenType.TheVariants.{Void as void_type}
 
 -- the number of an array's class: behind the classes, first of int, then of boolean, then of each class
 unfoldable pub array_class : Declarations → Ty → Option ℕ
@@ -63,7 +69,7 @@ called_on types r f arguments =
     else (if f.method.declared.modifiers.is_static then f.on else unwrap_or (class_of_receiver r) f.on)
 
 unfoldable pub target : Types → Receiver → FoundMethod → List ℕ → ℕ → Target
-target types r f arguments id = record { id = id; on = called_on types r f arguments; gives = not (is_same_type f.method.declared.type void_type) }
+target types r f arguments id = record { id = id; on = called_on types r f arguments; gives = not (is_same_type f.method.declared.declared_type void_type) }
 
 unfoldable pub method_binding : Declarations → Types → Receiver → List ℕ → FoundMethod → Binding
 method_binding p types r arguments f =

@@ -12,9 +12,13 @@ use Rattle.scj_tree.specs.declared.nodes.Node.TheVariants.{Class, TypeArgument, 
 use Rattle.scj_rules.specs.declared.scopes.Written.{Written}
 use Rattle.scj_rules.specs.Definitions.{read}
 use Rattle.scj_rules.specs.Words.{is_same, is_among, broken, named_twice, holds}
-use Rattle.scj_rules.specs.Views.{Modifiers, modifiers_at, WrittenType, int_type, boolean_type, void_type, long_type, text_type, int_array, boolean_array, class_type, class_array, Declared, DeclaredMethod, WrittenClass, callable_name}
+use Rattle.scj_rules.specs.Views.{modifiers_at, DeclaredMethod, WrittenClass, callable_name}
 use Rattle.scj_rules.specs.Classes.{ClassRow, FoundMethod, is_user_class, class_number, superclasses, all_interfaces, is_sub, field_named, method_named, method_above, framework_row_named, own_method, superclass_in, unknown_supers, is_cyclic, forbidden_supers}
 use Rattle.scj_rules.specs.Contexts.{Declarations, context}
+use Rattle.scj_rules.specs.declared.views.Declared.{Declared}
+use Rattle.scj_rules.specs.declared.views.Modifiers.{Modifiers}
+use Rattle.scj_rules.specs.declared.views.WrittenType.{WrittenType}
+use Rattle.scj_rules.specs.declared.views.WrittenType.TheVariants.{Boolean as boolean_type, BooleanArray as boolean_array, Class as class_type, ClassArray as class_array, Int as int_type, IntArray as int_array, Long as long_type, Text as text_type, Void as void_type}
 
 -- the rule is broken at each of these names
 abbrev pub broken_at : Rule → List Written → List Found
@@ -56,7 +60,7 @@ is_same_type (class_array a) (class_array b) = is_same a b
 is_same_type _ _ = false
 
 abbrev pub have_same_types : List Declared → List Declared → Bool
-have_same_types xs ys = pointwise (λ (x : Declared) (y : Declared). is_same_type x.type y.type) xs ys
+have_same_types xs ys = pointwise (λ (x : Declared) (y : Declared). is_same_type x.declared_type y.declared_type) xs ys
 
 -- the class of a written type, where it is a class type
 unfoldable pub class_written : List (List ℕ) → WrittenType → Option ℕ
@@ -68,7 +72,7 @@ class_written names _ = None
 unfoldable pub narrower_kind : Declarations → ℕ → List ℕ → Option ℕ
 narrower_kind p class name =
     option_and_then (λ (f : FoundMethod). option_and_then (λ kind. if is_among kind (mission_sequencer ∷ mission ∷ []) then Some kind else None)
-    (class_written p.names f.method.declared.type)) (framework_row_named p.classes class name)
+    (class_written p.names f.method.declared.declared_type)) (framework_row_named p.classes class name)
 
 -- a result of an override: that of the method above, or a user class of the kind that stands under that result
 unfoldable pub is_result_of : Declarations → ℕ → List ℕ → WrittenType → WrittenType → Bool
@@ -80,7 +84,7 @@ is_result_of p class name result above =
 -- a method of the class has the types of the one above, and is static where that one is (JLS 8.4.5, 8.4.8)
 unfoldable pub has_types_of : Declarations → ℕ → DeclaredMethod → DeclaredMethod → Bool
 has_types_of p class m above =
-    have_same_types m.parameters above.parameters && is_result_of p class m.declared.name m.declared.type above.declared.type
+    have_same_types m.parameters above.parameters && is_result_of p class m.declared.name m.declared.declared_type above.declared.declared_type
 
 abbrev pub both_static : DeclaredMethod → DeclaredMethod → Bool
 both_static m n = if m.declared.modifiers.is_static then n.declared.modifiers.is_static else not n.declared.modifiers.is_static

@@ -3,12 +3,20 @@ use Rattle.std.specs.Prelude.{ℕ, ◌+◌, nat_lt, Bool, true, false, not, ◌&
 use Rattle.std.specs.List.{list_any}
 use Rattle.scj_builtins.specs.declared.rows.GivesKind.{GivesKind}
 use Rattle.scj_builtins.specs.declared.rows.GivesKind.TheVariants.{Nothing, Number, Long, Sequencer, Mission}
-use Rattle.scj_builtins.specs.Framework.{ClassKind, concrete_class, abstract_class, interface_type, FrameworkClass, FrameworkMethod, ParameterKind, int_parameter, text_parameter, object_parameter, runnable_parameter, framework_classes, framework_methods, object, runnable, safelet, mission, mission_sequencer, periodic_handler, aperiodic_handler}
+use Rattle.scj_builtins.specs.Framework.{FrameworkClass, FrameworkMethod, framework_classes, framework_methods, object, runnable, safelet, mission, mission_sequencer, periodic_handler, aperiodic_handler}
 use Rattle.scj_tree.specs.declared.nodes.Node.{Node}
 use Rattle.scj_tree.specs.Forest.{Forest, joined}
 use Rattle.scj_rules.specs.declared.scopes.Written.{Written}
 use Rattle.scj_rules.specs.Words.{is_same, is_among, along, chain, chain_behind, holds}
-use Rattle.scj_rules.specs.Views.{nowhere, no_modifiers, WrittenType, int_type, void_type, long_type, text_type, class_type, Declared, DeclaredMethod, DeclaredConstructor, WrittenClass, class_at, field_at, method_at, constructor_at}
+use Rattle.scj_rules.specs.Views.{nowhere, no_modifiers, DeclaredMethod, DeclaredConstructor, WrittenClass, class_at, field_at, method_at, constructor_at}
+use Rattle.scj_builtins.specs.declared.kinds.ClassKind.{ClassKind}
+use Rattle.scj_builtins.specs.declared.kinds.ClassKind.TheVariants.{Abstract as abstract_class, Concrete as concrete_class, Interface as interface_type}
+use Rattle.scj_builtins.specs.declared.kinds.ParameterKind.{ParameterKind}
+use Rattle.scj_builtins.specs.declared.kinds.ParameterKind.TheVariants.{Int as int_parameter, Object as object_parameter, Runnable as runnable_parameter, Text as text_parameter}
+use Rattle.scj_rules.specs.declared.views.Declared.{Declared}
+use Rattle.scj_rules.specs.declared.views.WrittenType.{WrittenType}
+use Rattle.scj_rules.specs.declared.views.WrittenType.TheVariants.{Class as class_type, Int as int_type, Long as long_type, Text as text_type, Void as void_type}
+use Rattle.scj_rules.specs.declared.typing.FoundField.{FoundField}
 
 -- ---- numbers of classes: the framework's in their order, then the user classes in the order of the sources, then the
 -- arrays of int, of boolean and of each of these classes
@@ -63,7 +71,7 @@ parameter_written runnable_parameter = class_type (codes "Runnable")
 
 abbrev pub of_framework : List ℕ → Bool → Bool → WrittenType → Declared
 of_framework name is_static is_abstract type =
-    record { node = 0; place = nowhere; name = name; modifiers = record no_modifiers { is_static = is_static; is_abstract = is_abstract }; type = type }
+    record { node = 0; place = nowhere; name = name; modifiers = record no_modifiers { is_static = is_static; is_abstract = is_abstract }; declared_type = type }
 
 unfoldable pub framework_method : ℕ → FrameworkMethod → DeclaredMethod
 framework_method number m =
@@ -151,11 +159,6 @@ unfoldable pub is_sub : List ClassRow → ℕ → ℕ → Bool
 is_sub rows a b = is_among b (superclasses rows a) || is_among b (all_interfaces rows a)
 
 -- ---- members
-
--- a field of a class that stands on the chain, with that class (HasField)
-pub record FoundField : Type 0 where
-  pub on : ℕ
-  pub field : Declared
 
 unfoldable pub own_field : List ClassRow → List ℕ → ℕ → Option FoundField
 own_field rows name class =

@@ -11,15 +11,7 @@ use Rattle.scj_rules.specs.Definitions.{read, definitions}
 use Rattle.scj_rules.specs.Words.{is_same, is_among, chain, holds, or_else}
 use Rattle.scj_rules.specs.Views.{variable_at, modifiers_at, WrittenClass}
 use Rattle.scj_rules.specs.Classes.{ClassRow, first_user_class, class_nodes, user_classes, class_names, written_rows, counted_from}
-
--- the class in which a node stands, the member, the last variable that is known at the node, whether it stands in the
--- arguments of a super call, and whether it stands directly before a dot
-pub record Context : Type 0 where
-  pub class : Option ℕ
-  pub member : Option ℕ
-  pub last : Option ℕ
-  pub in_super_call : Bool
-  pub before_dot : Bool
+use Rattle.scj_rules.specs.declared.contexts.Context.{Context}
 
 abbrev pub outermost : Context
 outermost = record { class = None; member = None; last = None; in_super_call = false; before_dot = false }

@@ -5,10 +5,11 @@ use Rattle.scj_base.specs.declared.findings.Rule.TheVariants.{K1, K2, K3, K4}
 use Rattle.scj_tree.specs.declared.nodes.Node.{Node}
 use Rattle.scj_tree.specs.declared.nodes.Node.TheVariants.{Method, Constructor}
 use Rattle.scj_rules.specs.Words.{broken, holds}
-use Rattle.scj_rules.specs.Views.{Declared, WrittenClass, variable_at, parameters_at}
+use Rattle.scj_rules.specs.Views.{WrittenClass, variable_at, parameters_at}
 use Rattle.scj_rules.specs.Classes.{first_user_class, instance_fields}
 use Rattle.scj_rules.specs.Contexts.{Declarations, context}
 use Rattle.scj_rules.specs.ClassRules.{numbers_from}
+use Rattle.scj_rules.specs.declared.views.Declared.{Declared}
 
 abbrev pub most_classes : ℕ
 most_classes = 256

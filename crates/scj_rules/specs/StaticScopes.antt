@@ -7,11 +7,17 @@ use Rattle.scj_rules.specs.declared.scopes.Written.{Written}
 use Rattle.scj_rules.specs.declared.typing.Scope.{Scope}
 use Rattle.scj_rules.specs.declared.typing.Scope.TheVariants.{Any, This, Caller, In}
 use Rattle.scj_rules.specs.Words.{is_same, is_among, holds}
-use Rattle.scj_rules.specs.Views.{WrittenType, int_type, boolean_type, void_type, long_type, text_type, Declared, DeclaredMethod, method_at}
+use Rattle.scj_rules.specs.Views.{DeclaredMethod, method_at}
 use Rattle.scj_rules.specs.Classes.{FoundMethod, is_user_class, superclasses, all_interfaces, framework_row_named}
 use Rattle.scj_rules.specs.ClassRules.{class_written, inherits_as, numbers_from}
 use Rattle.scj_rules.specs.Contexts.{Declarations}
 use Rattle.scj_rules.specs.ScopeRules.{immortal_scope, scope_number, defined_by_chain, is_outer, scope_written_in}
+use Rattle.scj_rules.specs.declared.views.Declared.{Declared}
+use Rattle.scj_rules.specs.declared.views.WrittenType.{WrittenType}
+use Rattle.scj_rules.specs.declared.views.WrittenType.TheVariants.{Boolean as boolean_type, Int as int_type, Long as long_type, Text as text_type, Void as void_type}
+use Rattle.scj_rules.specs.declared.scopes.ClassScope.{ClassScope}
+use Rattle.scj_rules.specs.declared.scopes.ClassScope.TheVariants.{Unannotated as unannotated, Annotated as annotated, Unknown as unknown}
+use Rattle.scj_rules.specs.declared.scopes.Thing.{Thing}
 
 unfoldable pub are_same_scope : Scope → Scope → Bool
 are_same_scope Any Any = true
@@ -39,12 +45,6 @@ abbrev pub caller_name : List ℕ
 caller_name = codes "CALLER"
 
 -- ---- scopes of classes
-
--- the instances of a class lie anywhere, or in one scope; or its declaration breaks a rule, and nobody knows
-pub data ClassScope : Type 0 where
-  unannotated : ClassScope
-  annotated : ℕ → ClassScope
-  unknown : ClassScope
 
 -- the user classes under Mission, MissionSequencer and Safelet lie in IMMORTAL without writing it
 unfoldable pub is_implied_immortal : Declarations → ℕ → Bool
@@ -158,17 +158,6 @@ current_in p class member =
 
 -- ---- scopes of things: variables, fields and results
 
--- a thing: the class where it stands, the scope that is current there, the scope that it has where none is written,
--- whether it is a field, whether it is a static member's, its type and the scope that is written
-pub record Thing : Type 0 where
-  pub class : ℕ
-  pub current : Option Scope
-  pub default : Option Scope
-  pub is_field : Bool
-  pub is_static : Bool
-  pub type : WrittenType
-  pub scope : Option Written
-
 unfoldable pub has_no_scope : WrittenType → Bool
 has_no_scope int_type = true
 has_no_scope boolean_type = true
@@ -195,7 +184,7 @@ is_unknown_scope p t w =
 -- A9: the thing's type has no scope, or is a class that lies in another one
 unfoldable pub contradicts : Declarations → Thing → Written → Bool
 contradicts p t w =
-    has_no_scope t.type || elim (type_scope p t.type) [ unannotated ↦ false | annotated s ↦ differs_from p t.class t.current w.name (In s) | unknown ↦ false ]
+    has_no_scope t.declared_type || elim (type_scope p t.declared_type) [ unannotated ↦ false | annotated s ↦ differs_from p t.class t.current w.name (In s) | unknown ↦ false ]
 
 abbrev pub is_right_thing : Declarations → Thing → Bool
 is_right_thing p t = not (holds t.scope (λ w. is_unknown_scope p t w || contradicts p t w))
@@ -206,12 +195,12 @@ free_thing_scope p t = elim t.scope [ None ↦ t.default | Some w ↦ written_sc
 
 unfoldable pub thing_scope : Declarations → Thing → Option Scope
 thing_scope p t =
-    if has_no_scope t.type then None
-    else (if is_right_thing p t then elim (type_scope p t.type) [ unannotated ↦ free_thing_scope p t | annotated s ↦ Some (In s) | unknown ↦ None ] else None)
+    if has_no_scope t.declared_type then None
+    else (if is_right_thing p t then elim (type_scope p t.declared_type) [ unannotated ↦ free_thing_scope p t | annotated s ↦ Some (In s) | unknown ↦ None ] else None)
 
 -- a parameter or local of a member, and a method's result
 abbrev pub variable_thing : ℕ → Option Scope → Bool → Declared → Thing
-variable_thing class current is_static d = record { class = class; current = current; default = current; is_field = false; is_static = is_static; type = d.type; scope = d.modifiers.scope }
+variable_thing class current is_static d = record { class = class; current = current; default = current; is_field = false; is_static = is_static; declared_type = d.declared_type; scope = d.modifiers.scope }
 
 abbrev pub result_thing : Declarations → ℕ → DeclaredMethod → Thing
 result_thing p class m = variable_thing class (runs_in p class m) m.declared.modifiers.is_static m.declared
@@ -231,7 +220,7 @@ field_thing p class f =
       default = if f.modifiers.is_static then Some (In immortal_scope) else this_in p class;
       is_field = true;
       is_static = f.modifiers.is_static;
-      type = f.type;
+      declared_type = f.declared_type;
       scope = f.modifiers.scope;
     }
 

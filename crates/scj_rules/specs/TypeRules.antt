@@ -4,7 +4,7 @@ use Rattle.std.specs.Prelude.{ℕ, suc, nat_lt, Bool, true, false, not, ◌&&◌
 use Rattle.std.specs.List.{list_any}
 use Rattle.scj_base.specs.declared.findings.Found.{Found}
 use Rattle.scj_base.specs.declared.findings.Rule.TheVariants.{T1, T2, T3, T4, T5, T6, T7, T8, T9, T10, T11, T12, T13, T14}
-use Rattle.scj_builtins.specs.Framework.{ClassKind, object, safelet}
+use Rattle.scj_builtins.specs.Framework.{object, safelet}
 use Rattle.scj_tree.specs.declared.nodes.Node.{Node}
 use Rattle.scj_tree.specs.declared.nodes.Node.TheVariants.{Class, ClassType, Field, Method, Parameter, SuperCall, Block, Local, LocalWithValue, Assign, If, While, For, Return, Binary, Unary, Cast, Parenthesized, SimpleName, FieldAccess, Call, Element, New, NewArray, Text, Number, True, False, Null, This}
 use Rattle.scj_tree.specs.Recursion.{told, rising}
@@ -12,11 +12,19 @@ use Rattle.scj_rules.specs.declared.typing.Ty.{Ty}
 use Rattle.scj_rules.specs.declared.typing.Ty.TheVariants.{Int, Bool as Boolean, NullTy, Label, Class as ClassTy}
 use Rattle.scj_rules.specs.Definitions.{read}
 use Rattle.scj_rules.specs.Words.{is_among, broken, holds}
-use Rattle.scj_rules.specs.Views.{place_at, WrittenType, void_type, long_type, type_at, Declared, DeclaredConstructor, variable_at}
-use Rattle.scj_rules.specs.Classes.{ClassRow, FoundField, FoundMethod, is_user_class, class_number, superclass_in, all_interfaces, framework_row_named, is_empty}
+use Rattle.scj_rules.specs.Views.{place_at, type_at, DeclaredConstructor, variable_at}
+use Rattle.scj_rules.specs.Classes.{ClassRow, FoundMethod, is_user_class, class_number, superclass_in, all_interfaces, framework_row_named, is_empty}
 use Rattle.scj_rules.specs.ClassRules.{is_same_type}
 use Rattle.scj_rules.specs.Contexts.{Declarations, context, variable_named, has_object}
-use Rattle.scj_rules.specs.Types.{type_written, is_int, is_boolean, is_reference, is_array, assigns, element_type, array_of, binary_type, unary_type, Meaning, a_variable, a_field, a_class, nothing, meaning, Receiver, receiver, call_receiver, names_class, is_value, is_no_reference, is_array_value, accessed_field, called_method, is_length, is_callable, take_arguments, all_types, constructor_in, constructor_parameters, kind_is, is_concrete, is_form, has_form, form_in, is_form_part, returns_of}
+use Rattle.scj_rules.specs.Types.{type_written, is_int, is_boolean, is_reference, is_array, assigns, element_type, array_of, binary_type, unary_type, meaning, receiver, call_receiver, names_class, is_value, is_no_reference, is_array_value, accessed_field, called_method, is_length, is_callable, take_arguments, all_types, constructor_in, constructor_parameters, kind_is, is_concrete, is_form, has_form, form_in, is_form_part, returns_of}
+use Rattle.scj_builtins.specs.declared.kinds.ClassKind.{ClassKind}
+use Rattle.scj_rules.specs.declared.typing.FoundField.{FoundField}
+use Rattle.scj_rules.specs.declared.typing.Meaning.{Meaning}
+use Rattle.scj_rules.specs.declared.typing.Meaning.TheVariants.{Class as a_class, Field as a_field, Nothing as nothing, Variable as a_variable}
+use Rattle.scj_rules.specs.declared.typing.Receiver.{Receiver}
+use Rattle.scj_rules.specs.declared.views.Declared.{Declared}
+use Rattle.scj_rules.specs.declared.views.WrittenType.{WrittenType}
+use Rattle.scj_rules.specs.declared.views.WrittenType.TheVariants.{Long as long_type, Void as void_type}
 
 abbrev pub Types : Type 0
 Types = ℕ → Option Ty
@@ -27,18 +35,18 @@ written_type p node = type_written p.names (type_at p.nodes node)
 -- ---- the type of a node that breaks no rule, where its children have the types that it needs
 
 unfoldable pub type_of_meaning : Declarations → Meaning → Option Ty
-type_of_meaning p (a_variable v) = option_and_then (λ (d : Declared). type_written p.names d.type) (variable_at p.nodes v)
-type_of_meaning p (a_field f) = type_written p.names f.field.type
+type_of_meaning p (a_variable v) = option_and_then (λ (d : Declared). type_written p.names d.declared_type) (variable_at p.nodes v)
+type_of_meaning p (a_field f) = type_written p.names f.field.declared_type
 type_of_meaning p (a_class class) = None
 type_of_meaning p nothing = None
 
 -- the type of a field or of an array's length
 unfoldable pub access_type : Declarations → Receiver → List ℕ → Option Ty
-access_type p r name = if is_array_value r && is_length name then Some Int else option_and_then (λ (f : FoundField). type_written p.names f.field.type) (accessed_field p r name)
+access_type p r name = if is_array_value r && is_length name then Some Int else option_and_then (λ (f : FoundField). type_written p.names f.field.declared_type) (accessed_field p r name)
 
 -- the type of a call: the method's result
 unfoldable pub call_type : Declarations → Receiver → List ℕ → Option Ty
-call_type p r name = option_and_then (λ (f : FoundMethod). type_written p.names f.method.declared.type) (called_method p r name)
+call_type p r name = option_and_then (λ (f : FoundMethod). type_written p.names f.method.declared.declared_type) (called_method p r name)
 
 unfoldable pub type_of : Declarations → Types → ℕ → Node → Option Ty
 type_of p types id (Number place value is_negative) = Some Int
@@ -261,7 +269,7 @@ is_size_body nodes _ = None
 -- a method of result `long` is one of the framework's size methods, without a body or with that one
 unfoldable pub misfits_size : Declarations → ℕ → List ℕ → Option ℕ → Bool
 misfits_size p id name body =
-    not (holds (context p id).class (λ class. holds (framework_row_named p.classes class name) (λ (row : FoundMethod). is_same_type row.method.declared.type long_type)))
+    not (holds (context p id).class (λ class. holds (framework_row_named p.classes class name) (λ (row : FoundMethod). is_same_type row.method.declared.declared_type long_type)))
     || holds body (λ b. not (holds (read p.nodes (is_size_body p.nodes) b) (λ right. right)))
 
 unfoldable pub t14 : Declarations → Types → ℕ → Node → List Found

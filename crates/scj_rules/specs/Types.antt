@@ -2,7 +2,7 @@
 -- is judged by itself, from the types of its children: a node with an ill-typed child has no type and breaks nothing.
 use Rattle.std.specs.Prelude.{ℕ, Bool, true, false, not, ◌&&◌, ◌||◌, ◌==◌, List, [], ◌∷◌, length, slice_get, Option, Some, None, if◌then◌else◌, is_some, option_map, option_and_then, codes}
 use Rattle.std.specs.List.{list_any}
-use Rattle.scj_builtins.specs.Framework.{ClassKind, concrete_class, form_only, object, periodic_handler, aperiodic_handler, mission_sequencer, priority_parameters, periodic_parameters, aperiodic_parameters, storage_parameters, relative_time}
+use Rattle.scj_builtins.specs.Framework.{object, periodic_handler, aperiodic_handler, mission_sequencer, priority_parameters, periodic_parameters, aperiodic_parameters, storage_parameters, relative_time}
 use Rattle.scj_base.specs.Vocabulary.{sign_equal, sign_not_equal, sign_less, sign_greater, sign_less_equal, sign_greater_equal, sign_and_and, sign_or_or, sign_not}
 use Rattle.scj_tree.specs.declared.nodes.Node.{Node}
 use Rattle.scj_tree.specs.declared.nodes.Node.TheVariants.{Block, If, While, Return, SimpleName, New, True}
@@ -10,10 +10,20 @@ use Rattle.scj_rules.specs.declared.typing.Ty.{Ty}
 use Rattle.scj_rules.specs.declared.typing.Ty.TheVariants.{Int, Bool as Boolean, Void, NullTy, Label, Class as ClassTy, IntArray, BoolArray, ClassArray}
 use Rattle.scj_rules.specs.Definitions.{read}
 use Rattle.scj_rules.specs.Words.{is_same, is_among, holds}
-use Rattle.scj_rules.specs.Views.{WrittenType, int_type, boolean_type, void_type, long_type, text_type, int_array, boolean_array, class_type, class_array, Declared, DeclaredConstructor}
-use Rattle.scj_rules.specs.Classes.{ClassRow, FoundField, FoundMethod, class_number, superclass_in, is_sub, field_named, method_named, framework_row_named}
+use Rattle.scj_rules.specs.Views.{DeclaredConstructor}
+use Rattle.scj_rules.specs.Classes.{ClassRow, FoundMethod, class_number, superclass_in, is_sub, field_named, method_named, framework_row_named}
 use Rattle.scj_rules.specs.ClassRules.{is_same_type}
 use Rattle.scj_rules.specs.Contexts.{Declarations, context, variable_named}
+use Rattle.scj_builtins.specs.declared.kinds.ClassKind.{ClassKind}
+use Rattle.scj_builtins.specs.declared.kinds.ClassKind.TheVariants.{Concrete as concrete_class, Form as form_only}
+use Rattle.scj_rules.specs.declared.typing.FoundField.{FoundField}
+use Rattle.scj_rules.specs.declared.views.Declared.{Declared}
+use Rattle.scj_rules.specs.declared.views.WrittenType.{WrittenType}
+use Rattle.scj_rules.specs.declared.views.WrittenType.TheVariants.{Boolean as boolean_type, BooleanArray as boolean_array, Class as class_type, ClassArray as class_array, Int as int_type, IntArray as int_array, Long as long_type, Text as text_type, Void as void_type}
+use Rattle.scj_rules.specs.declared.typing.Meaning.{Meaning}
+use Rattle.scj_rules.specs.declared.typing.Meaning.TheVariants.{Variable as a_variable, Field as a_field, Class as a_class, Nothing as nothing}
+use Rattle.scj_rules.specs.declared.typing.Receiver.{Receiver}
+use Rattle.scj_rules.specs.declared.typing.Receiver.TheVariants.{Class as the_class, Value as the_value, Own as own_object}
 
 -- ---- types
 
@@ -97,13 +107,6 @@ unary_type operator a = if operator == sign_not then (if is_boolean a then Some 
 
 -- ---- names (JLS 6.5)
 
--- what a name stands for where it stands alone: a variable, by its node; a field; directly before a dot, a class
-pub data Meaning : Type 0 where
-  a_variable : ℕ → Meaning
-  a_field : FoundField → Meaning
-  a_class : ℕ → Meaning
-  nothing : Meaning
-
 unfoldable pub class_meaning : Declarations → ℕ → List ℕ → Meaning
 class_meaning p id name = if (context p id).before_dot then (elim (class_number p.names name) [ None ↦ nothing | Some class ↦ a_class class ]) else nothing
 
@@ -125,13 +128,6 @@ class_in _ = None
 unfoldable pub class_at_name : Declarations → ℕ → Node → Option ℕ
 class_at_name p id (SimpleName place name) = class_in (meaning p id name)
 class_at_name p id _ = None
-
--- what an access or a call is asked of: a class, a value of a type, or an object that isn't written; none where the
--- object is ill-typed
-pub data Receiver : Type 0 where
-  the_class : ℕ → Receiver
-  the_value : Ty → Receiver
-  own_object : ℕ → Receiver
 
 unfoldable pub receiver : Declarations → (ℕ → Option Ty) → ℕ → Option Receiver
 receiver p types object =
@@ -183,8 +179,8 @@ is_length name = is_same name (codes "length")
 -- a method that nobody calls: one of the framework that isn't callable, and the size methods
 abbrev pub is_size_method : Declarations → FoundMethod → Bool
 is_size_method p f =
-    is_same_type f.method.declared.type long_type
-    && holds (framework_row_named p.classes f.on f.method.declared.name) (λ (row : FoundMethod). is_same_type row.method.declared.type long_type)
+    is_same_type f.method.declared.declared_type long_type
+    && holds (framework_row_named p.classes f.on f.method.declared.name) (λ (row : FoundMethod). is_same_type row.method.declared.declared_type long_type)
 
 abbrev pub is_callable : Declarations → FoundMethod → Bool
 is_callable p f = f.method.callable && not (is_size_method p f)
@@ -194,7 +190,7 @@ unfoldable pub take_arguments : Declarations → List Declared → List Ty → B
 take_arguments p [] [] = true
 take_arguments p [] (t ∷ ts) = false
 take_arguments p (d ∷ ds) [] = false
-take_arguments p (d ∷ ds) (t ∷ ts) = holds (type_written p.names d.type) (assigns p.classes t) && take_arguments p ds ts
+take_arguments p (d ∷ ds) (t ∷ ts) = holds (type_written p.names d.declared_type) (assigns p.classes t) && take_arguments p ds ts
 
 -- the types of all these nodes, if each has one
 unfoldable pub all_types : (ℕ → Option Ty) → List ℕ → Option (List Ty)

@@ -14,14 +14,19 @@ use Rattle.scj_rules.specs.declared.typing.Scope.{Scope}
 use Rattle.scj_rules.specs.declared.typing.Scope.TheVariants.{Any, This, Caller, In}
 use Rattle.scj_rules.specs.Definitions.{read}
 use Rattle.scj_rules.specs.Words.{broken, holds}
-use Rattle.scj_rules.specs.Views.{place_at, Declared, DeclaredMethod, method_at}
-use Rattle.scj_rules.specs.Classes.{FoundField, FoundMethod, is_user_class, class_number, method_named}
+use Rattle.scj_rules.specs.Views.{place_at, DeclaredMethod, method_at}
+use Rattle.scj_rules.specs.Classes.{FoundMethod, is_user_class, class_number, method_named}
 use Rattle.scj_rules.specs.Contexts.{Declarations, context}
-use Rattle.scj_rules.specs.Types.{Meaning, a_variable, a_field, a_class, nothing, meaning, receiver, call_receiver, accessed_field, called_method, constructor_parameters}
+use Rattle.scj_rules.specs.Types.{meaning, receiver, call_receiver, accessed_field, called_method, constructor_parameters}
 use Rattle.scj_rules.specs.TypeRules.{Types, written_type, superclass_at}
 use Rattle.scj_rules.specs.ScopeRules.{defined_by_chain, parent_scope, is_outer}
-use Rattle.scj_rules.specs.StaticScopes.{are_same_scope, fits, substitute, unannotated, annotated, unknown, class_scope, this_in, runs_in, current_in, thing_scope, parameter_scope, constructor_parameter_scope, field_scope}
+use Rattle.scj_rules.specs.StaticScopes.{are_same_scope, fits, substitute, class_scope, this_in, runs_in, current_in, thing_scope, parameter_scope, constructor_parameter_scope, field_scope}
 use Rattle.scj_rules.specs.AnnotationRules.{variable_thing_at, result_scope}
+use Rattle.scj_rules.specs.declared.scopes.ClassScope.TheVariants.{Annotated as annotated, Unannotated as unannotated, Unknown as unknown}
+use Rattle.scj_rules.specs.declared.typing.FoundField.{FoundField}
+use Rattle.scj_rules.specs.declared.typing.Meaning.{Meaning}
+use Rattle.scj_rules.specs.declared.typing.Meaning.TheVariants.{Class as a_class, Field as a_field, Nothing as nothing, Variable as a_variable}
+use Rattle.scj_rules.specs.declared.views.Declared.{Declared}
 
 abbrev pub Scopes : Type 0
 Scopes = ℕ → Option Scope

@@ -7,6 +7,10 @@ use Rattle.scj_tree.specs.declared.nodes.Node.TheVariants.{Class, Flags, Supers,
 use Rattle.scj_tree.specs.Shape.{place_of}
 use Rattle.scj_rules.specs.declared.scopes.Written.{Written}
 use Rattle.scj_rules.specs.Definitions.{read, written_of}
+use Rattle.scj_rules.specs.declared.views.Modifiers.{Modifiers}
+use Rattle.scj_rules.specs.declared.views.WrittenType.{WrittenType}
+use Rattle.scj_rules.specs.declared.views.WrittenType.TheVariants.{Int as int_type, Boolean as boolean_type, Void as void_type, Long as long_type, Text as text_type, IntArray as int_array, BooleanArray as boolean_array, Class as class_type, ClassArray as class_array}
+use Rattle.scj_rules.specs.declared.views.Declared.{Declared}
 
 -- a place that stands for none
 abbrev pub nowhere : Pos
@@ -14,15 +18,6 @@ nowhere = record { file = 0; line = 0; col = 0 }
 
 abbrev pub place_at : List Node → ℕ → Pos
 place_at nodes id = elim (slice_get nodes id) [ None ↦ nowhere | Some node ↦ place_of node ]
-
--- the annotations and modifiers before a declaration
-pub record Modifiers : Type 0 where
-  pub defines_scope : Bool
-  pub scope : Option Written
-  pub runs_in : Option Written
-  pub is_static : Bool
-  pub is_abstract : Bool
-  pub is_synchronized : Bool
 
 abbrev pub no_modifiers : Modifiers
 no_modifiers = record { defines_scope = false; scope = None; runs_in = None; is_static = false; is_abstract = false; is_synchronized = false }
@@ -41,11 +36,6 @@ modifiers_of nodes _ = None
 
 abbrev pub modifiers_at : List Node → Option ℕ → Modifiers
 modifiers_at nodes flags = unwrap_or (option_and_then (read nodes (modifiers_of nodes)) flags) no_modifiers
-
--- a type as it is written; a text is the type of a framework's parameter alone
-pub data WrittenType : Type 0 where
-  int_type boolean_type void_type long_type text_type int_array boolean_array : WrittenType
-  class_type class_array : List ℕ → WrittenType
 
 unfoldable pub type_of_node : Node → Option WrittenType
 type_of_node (IntType place is_array) = Some (if is_array then int_array else int_type)
@@ -68,16 +58,8 @@ unfoldable pub named_supers : List Node → Node → Option (Option Written × L
 named_supers nodes (Supers place superclass interfaces) = Some (option_and_then (read nodes named_super) superclass, filter_map (read nodes named_super) interfaces)
 named_supers nodes _ = None
 
--- a variable or a member that is declared: its node, where it is named, its name, modifiers and type
-pub record Declared : Type 0 where
-  pub node : ℕ
-  pub place : Pos
-  pub name : List ℕ
-  pub modifiers : Modifiers
-  pub type : WrittenType
-
 abbrev pub declared : List Node → ℕ → Pos → List ℕ → Option ℕ → ℕ → Declared
-declared nodes node place name flags declared_type = record { node = node; place = place; name = name; modifiers = modifiers_at nodes flags; type = type_at nodes declared_type }
+declared nodes node place name flags declared_type = record { node = node; place = place; name = name; modifiers = modifiers_at nodes flags; declared_type = type_at nodes declared_type }
 
 -- a parameter or a local
 unfoldable pub variable_of : List Node → ℕ → Node → Option Declared

@@ -1,6 +1,8 @@
 //! The definitions of scopes, as a class writes them.
 
-use scj_base::{Name, NodeId, Pos};
+use crate::typing::Scope;
+use crate::views::WrittenType;
+use scj_base::{ClassId, Name, NodeId, Pos, ScopeId};
 
 /// The name of a scope, where an annotation writes it.
 #[derive(Clone, Copy, Debug)]
@@ -20,4 +22,34 @@ pub struct Definition {
     pub scope: Written,
     /// The parent that it names.
     pub parent: Written,
+}
+
+/// Where the instances of a class lie.
+#[derive(Clone, Copy, Debug)]
+pub enum ClassScope {
+    /// Anywhere.
+    Unannotated,
+    /// In this scope.
+    Annotated(ScopeId),
+    /// Nobody knows, since the declaration breaks a rule on annotations.
+    Unknown,
+}
+
+/// A local, a parameter, a field or a result, as far as its scope is asked for.
+#[derive(Clone, Copy, Debug)]
+pub struct Thing {
+    /// The class where it stands.
+    pub class: ClassId,
+    /// The scope that is current there.
+    pub current: Option<Scope>,
+    /// The scope that it has where none is written.
+    pub default: Option<Scope>,
+    /// Whether it is a field.
+    pub is_field: bool,
+    /// Whether it is static, or stands in a static member.
+    pub is_static: bool,
+    /// Its type.
+    pub declared_type: WrittenType,
+    /// The scope that is written.
+    pub scope: Option<Written>,
 }

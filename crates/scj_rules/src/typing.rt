@@ -1,6 +1,7 @@
 //! The types of expressions, what a name stands for, and static scopes.
 
-use scj_base::{ClassId, FieldId, MethodId, ScopeId};
+use crate::views::Declared;
+use scj_base::{ClassId, FieldId, MethodId, NodeId, ScopeId};
 
 /// The type of an expression (JLS, chapter 4).
 #[derive(Clone, Copy, Debug)]
@@ -71,4 +72,37 @@ pub enum Scope {
     Caller,
     /// In a named scope, or in `IMMORTAL`.
     In(ScopeId),
+}
+
+/// A field that a class has, its own or one of a class above (JLS 8.3).
+#[derive(Clone, Copy, Debug)]
+pub struct FoundField {
+    /// The class that declares it.
+    pub on: ClassId,
+    /// The field.
+    pub field: Declared,
+}
+
+/// What a name stands for where it stands alone (JLS 6.5).
+#[derive(Clone, Copy, Debug)]
+pub enum Meaning {
+    /// The local or parameter that this node declares.
+    Variable(NodeId),
+    /// A field.
+    Field(FoundField),
+    /// A class, directly before a dot.
+    Class(ClassId),
+    /// Nothing.
+    Nothing,
+}
+
+/// What an access or a call is asked of.
+#[derive(Clone, Copy, Debug)]
+pub enum Receiver {
+    /// A class that is named.
+    Class(ClassId),
+    /// A value of this type.
+    Value(Ty),
+    /// The object of this class in which a call without an object stands.
+    Own(ClassId),
 }

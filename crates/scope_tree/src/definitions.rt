@@ -11,9 +11,8 @@ ghost use Rattle.scope_tree.specs.Findings.{makes_scope, is_parent, unless, find
 use crate::cycles::returning;
 use crate::headers::definitions_of;
 use crate::names::index_of;
-use crate::reports::put_in_order;
 use scj_base::{Found, Memory, Name, Pos, Rule};
-use scj_rules::Definition;
+use scj_rules::{Definition, put_in_order};
 use scj_tree::Program;
 use std::alloc::Global;
 use std::collections::BTreeMap;

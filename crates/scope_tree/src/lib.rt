@@ -5,7 +5,6 @@ mod cycles;
 mod definitions;
 mod headers;
 mod names;
-mod reports;
 
 pub use definitions::check_definitions;
 
