@@ -1,0 +1,11 @@
+//! The rules on classes and members, and the limits.
+#![tactic(auto)]
+
+pub mod limits;
+pub mod members;
+pub mod overrides;
+pub mod parts;
+pub mod repeats;
+pub mod twice;
+pub mod types;
+pub mod headers;

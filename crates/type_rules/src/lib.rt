@@ -1,0 +1,9 @@
+//! The rules on types, node by node.
+#![tactic(auto)]
+
+pub mod arguments;
+pub mod forms;
+pub mod known;
+pub mod names;
+
+pub use known::Known;
