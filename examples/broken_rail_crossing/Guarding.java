@@ -2,13 +2,10 @@
 
 @DefineScope(name="Guarding", parent="IMMORTAL")
 class Guarding extends Mission {
-  Section section;
-
-  Guarding() { section = new Section(); }
-
   public long missionMemorySize() { return 800; }
 
   public void initialize() {
+    Section section = new Section();
     Services.setCeiling(section, 20);
     Barrier barrier = new Barrier(section);
     barrier.register();
@@ -53,7 +50,7 @@ class Detector extends PeriodicEventHandler {
 }
 
 @Scope("Guarding") @DefineScope(name="Movement", parent="Guarding")
-class Barrier extends AperiodicEventHandler {
+class Barrier extends AperiodicHandler {
   Section section;
 
   Barrier(Section section) {

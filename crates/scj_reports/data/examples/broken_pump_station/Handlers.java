@@ -4,7 +4,6 @@
 class Sensor extends PeriodicEventHandler {
   Tank tank;
   Alarm alarm;
-  Samples samples;
 
   Sensor(Tank tank, Alarm alarm) {
     super(new PriorityParameters(12), new PeriodicParameters(new RelativeTime(0, 0), new RelativeTime(2, 0)), new StorageParameters(200));
@@ -13,11 +12,10 @@ class Sensor extends PeriodicEventHandler {
   }
 
   public void handleAsyncEvent() {
-    if (samples == null) samples = new Samples(3);
-    samples.count = 0;
+    Samples samples = new Samples(3);
     for (int i = 0; i < 3; i++) samples.add(Device.read(1));
     int level = samples.middle();
-    tank.measured(level);
+    tank.measured(samples);
     if (level > 95) alarm.release();
   }
 }
@@ -45,7 +43,7 @@ class Pump extends PeriodicEventHandler {
   }
 
   public void handleAsyncEvent() {
-    if (tank.isDraining()) runs++;
+    if (tank.isDraining() == 1) runs++;
     Trace.print("pump", runs);
   }
 }
