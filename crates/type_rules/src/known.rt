@@ -1,16 +1,20 @@
 //! What is told of a program before its types are.
 
-ghost use Rattle.std.specs.Prelude.{◌≡◌, option_and_then};
-ghost use Rattle.scj_rules.specs.Classes.{class_number};
+ghost use Rattle.std.specs.Prelude.{◌≡◌, slice_get, option_map, option_and_then};
+ghost use Rattle.scj_rules.specs.Classes.{ClassRow, class_number, superclass_in, all_interfaces, framework_row_named};
 ghost use Rattle.scj_rules.specs.Contexts.{declarations_of, contexts_in, context, variable_named, has_object};
 ghost use Rattle.scj_rules.specs.Types.{constructor_in};
 ghost use Rattle.scj_rules.specs.Views.{constructor_at};
 ghost use Rattle.scj_rules.specs.TypeRules.{result_at, always_returns};
+ghost use Rattle.scj_rules.specs.Words.{is_among};
+ghost use Rattle.method_rows.specs.Methods.{found_method};
 ghost use Rattle.type_words.specs.Returns.{all_returns};
 
 use class_rows::Classes;
+use method_rows::MethodRef;
 use node_contexts::Contexts;
 use scj_base::{ClassId, Name, NodeId};
+use scj_builtins::ClassKind;
 use scj_rules::{Context, WrittenType};
 use scj_tree::Program;
 use std::marker::Model;
@@ -56,6 +60,13 @@ impl<'a> Known<'a> {
         self.classes.program()
     }
 
+    /// The classes.
+    pub fn classes(&self) -> &Classes<'a>
+        ensures { result.now ≡ self.now }
+    {
+        &self.classes
+    }
+
     /// Where a node stands.
     #[tactic(auto, unfolding(scj_rules::specs::Contexts::declarations_of))]
     pub fn context(&self, id: NodeId) -> Context
@@ -69,6 +80,34 @@ impl<'a> Known<'a> {
         ensures { result ≡ class_number (declarations_of self.now).names name.now }
     {
         self.classes.class_of(name)
+    }
+
+    /// The superclass as it counts.
+    pub fn superclass(&self, class: ClassId) -> Option<ClassId>
+        ensures { result ≡ superclass_in (declarations_of self.now).classes class }
+    {
+        self.classes.superclass(class)
+    }
+
+    /// The framework's own method of a name, for a class.
+    pub fn framework_row_named(&self, class: ClassId, name: &Name) -> Option<MethodRef>
+        ensures { option_map (found_method self.now.nodes) result ≡ framework_row_named (declarations_of self.now).classes class name.now }
+    {
+        self.classes.framework_row_named(class, name)
+    }
+
+    /// What a class may be used for.
+    pub fn kind(&self, class: ClassId) -> Option<ClassKind>
+        ensures { result ≡ option_map (λ (row : ClassRow). row.kind) (slice_get (declarations_of self.now).classes class) }
+    {
+        self.classes.kind(class)
+    }
+
+    /// Whether a class of the chain implements the interface.
+    pub fn implements(&self, class: ClassId, interface: ClassId) -> bool
+        ensures { result ≡ is_among interface (all_interfaces (declarations_of self.now).classes class) }
+    {
+        self.classes.implements(class, interface)
     }
 
     /// The node of the first constructor of a class.

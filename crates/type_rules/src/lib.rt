@@ -2,8 +2,11 @@
 #![tactic(auto)]
 
 pub mod arguments;
+pub mod calls;
+pub mod expressions;
 pub mod forms;
 pub mod known;
 pub mod names;
+pub mod statements;
 
 pub use known::Known;
