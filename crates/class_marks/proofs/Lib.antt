@@ -1,0 +1,4 @@
+pub mod ColumnLemmas
+pub mod KindLemmas
+pub mod SuperLemmas
+pub mod WalkLemmas
