@@ -7,6 +7,8 @@ use Rattle.scj_rules.specs.Classes.{ClassRow, superclass_in, interfaces_in}
 use Rattle.scj_rules.specs.Contexts.{Declarations, declarations_of}
 use Rattle.class_headers.specs.declared.headers.Header.{Header}
 use Rattle.class_headers.specs.declared.headers.Headers.{Headers}
+use Rattle.scj_rules.specs.Views.{WrittenClass}
+use Rattle.class_marks.specs.Members.{class_written}
 use Rattle.class_headers.specs.Columns.{IsHeadersOf, header_of}
 
 pub count_is : (forest : Forest) (headers : Headers) → IsHeadersOf forest headers → length headers.rows.items ≡ length (declarations_of forest).written
@@ -23,6 +25,16 @@ kind_of (Some row) = refl
 pub kind_is : (forest : Forest) (class : ℕ)
     → option_map (λ (h : Header). h.kind) (option_map header_of (slice_get (declarations_of forest).written class)) ≡ option_map (λ (row : ClassRow). row.kind) (slice_get (declarations_of forest).written class)
 kind_is forest class = kind_of (slice_get (declarations_of forest).written class)
+
+node_of : (o : Option ClassRow) → option_and_then (λ (h : Header). h.node) (option_map header_of o) ≡ option_map (λ (c : WrittenClass). c.node) (option_and_then (λ (row : ClassRow). row.written) o)
+unfolding header_of
+node_of None = refl
+node_of (Some row) = refl
+
+pub node_is : (forest : Forest) (class : ℕ)
+    → option_and_then (λ (h : Header). h.node) (option_map header_of (slice_get (declarations_of forest).written class)) ≡ option_map (λ (c : WrittenClass). c.node) (class_written (declarations_of forest) class)
+unfolding class_written
+node_is forest class = node_of (slice_get (declarations_of forest).written class)
 
 superclass_of : (o : Option ClassRow) → option_and_then (λ (h : Header). h.superclass) (option_map header_of o) ≡ option_and_then (λ (row : ClassRow). row.superclass) o
 unfolding header_of

@@ -1,12 +1,14 @@
 //! The classes of a program as they are written.
 
-ghost use Rattle.std.specs.Prelude.{◌≡◌, length, slice_get, option_copied, option_map};
+ghost use Rattle.std.specs.Prelude.{◌≡◌, length, slice_get, option_copied, option_map, option_and_then};
+ghost use Rattle.scj_rules.specs.Views.{WrittenClass, class_at};
 ghost use Rattle.scj_rules.specs.Classes.{ClassRow, class_number, superclass_in, interfaces_in};
 ghost use Rattle.scj_rules.specs.Contexts.{declarations_of};
 ghost use Rattle.class_headers.specs.Columns.{header_of};
 
 use class_headers::{Header, Headers, NameKey};
-use scj_base::{ClassId, Name};
+use node_views::class_members;
+use scj_base::{ClassId, Name, NodeId};
 use scj_builtins::ClassKind;
 use scj_tree::Program;
 use std::marker::Model;
@@ -32,6 +34,7 @@ impl<'a> Model for WrittenClasses<'a> {
 
 impl<'a> WrittenClasses<'a> {
     ghost use Rattle.class_headers.specs.Columns.{IsHeadersOf};
+    ghost use Rattle.class_marks.specs.Members.{class_written, members_in};
 
     /// The classes of a program, from the table of their headers.
     pub fn new(program: &'a Program, headers: &'a Headers) -> WrittenClasses<'a>
@@ -110,5 +113,34 @@ impl<'a> WrittenClasses<'a> {
         }
         let interfaces = &self.headers.interfaces[at];
         interfaces.as_slice()
+    }
+
+    /// The node that the table has of a class.
+    #[tactic(auto, using(crate::proofs::ColumnLemmas::node_is))]
+    fn node(&self, class: ClassId) -> Option<NodeId>
+        ensures { result ≡ option_map (λ (c : WrittenClass). c.node) (class_written (declarations_of self.now) class) }
+    {
+        let header = self.header(class)?;
+        header.node
+    }
+
+    /// The node of a user class.
+    #[tactic(auto, using(crate::proofs::SoundLemmas::class_at_node))]
+    pub fn class_node(&self, class: ClassId) -> Option<NodeId>
+        ensures node { result ≡ option_map (λ (c : WrittenClass). c.node) (class_written (declarations_of self.now) class) }
+        ensures class { option_and_then (class_at self.now.nodes) result ≡ class_written (declarations_of self.now) class }
+    {
+        self.node(class)
+    }
+
+    /// The members of a user class, in the order of the source.
+    #[tactic(auto, unfolding(crate::specs::Members::members_in))]
+    pub fn members(&self, class: ClassId) -> &'a [NodeId]
+        ensures { result.now ≡ members_in (declarations_of self.now) class }
+    {
+        match self.class_node(class) {
+            Some(node) => class_members(self.program, node),
+            None => &[],
+        }
     }
 }
