@@ -13,6 +13,38 @@ trap 'rm -rf "$work"' EXIT
 
 per() { awk "BEGIN { printf \"%.$3f\", $1 / $2 }"; }
 
+# Makes COUNT files of a SHAPE, each a part 1/SHARE of its whole size, and names them in `files`.
+make() {
+    local shape=$1 count=$2 share=$3 k
+    files=()
+    bytes=0
+    rm -f "$work"/*.java
+    for ((k = 0; k < count; k++)); do
+        python3 "$top/bench/syntax_sources.py" "$shape" "$share" $((k * 100000)) >"$work/F$k.java"
+        bytes=$((bytes + $(stat -c %s "$work/F$k.java")))
+        files+=("$work/F$k.java")
+    done
+}
+
+# Times the program on `files`, and says how the time grew: since the size before, and since the first.
+measure() {
+    local name=$1 peak
+    spent=$(least 7 "$program" check "${files[@]}")
+    peak=$(/usr/bin/time -f %M "$program" check "${files[@]}" 2>&1 >/dev/null | tail -1)
+    line="$name: $bytes bytes, $spent us, $(per "$bytes" "$spent" 1) MB/s, peak $(per "$((peak * 1024))" "$bytes" 0) bytes a byte"
+    if [ "$before" -gt 0 ]; then
+        line="$line, growth $(per "$((spent * before_bytes / 1000))" "$((before * bytes / 1000))" 2) times the size's"
+    else
+        first=$spent
+        first_bytes=$bytes
+    fi
+    if [ "$before" -gt "$first" ]; then
+        line="$line, since the first $(per "$((spent * first_bytes / 1000))" "$((first * bytes / 1000))" 2)"
+    fi
+    before=$spent
+    before_bytes=$bytes
+}
+
 compiler=''
 if command -v javac >/dev/null 2>&1; then
     mkdir "$work/stubs"
@@ -23,46 +55,32 @@ fi
 
 echo "cores: $(nproc)"
 before=0
-for size in 65536 262144 1048576 16777216; do
-    files=()
-    count=$(((size + 1048575) / 1048576))
-    each=$((size / count))
-    bytes=0
-    for ((k = 0; k < count; k++)); do
-        python3 "$top/bench/syntax_sources.py" ordinary "$each" $((k * 100000)) >"$work/F$k.java"
-        bytes=$((bytes + $(stat -c %s "$work/F$k.java")))
-        files+=("$work/F$k.java")
-    done
+for parts in "1 16" "1 4" "1 1" "16 1"; do
+    read -r count share <<<"$parts"
+    make ordinary "$count" "$share"
     other=0
-    if [ -n "$compiler" ] && [ "$size" -le 1048576 ]; then
+    if [ -n "$compiler" ] && [ "$parts" = "1 1" ]; then
         mkdir -p "$work/classes"
         other=$(least 2 javac -proc:none -cp "$work/stubs" -d "$work/classes" "${files[@]}")
         rm -rf "$work/classes"
     fi
     printf '}' >>"$work/F$((count - 1)).java"
-    spent=$(least 7 "$program" check "${files[@]}")
-    line="ordinary: $bytes bytes, $spent us, $(per "$bytes" "$spent" 1) MB/s"
-    if [ "$before" -gt 0 ]; then
-        line="$line, growth $(per "$((spent * before_bytes / 1000))" "$((before * bytes / 1000))" 2) times the size's"
-    fi
-    before=$spent
-    before_bytes=$bytes
+    measure ordinary
     if [ "$other" -gt 0 ]; then line="$line, javac $other us, ratio 1/$(per "$other" "$spent" 0)"; fi
-    peak=$(/usr/bin/time -f %M "$program" check "${files[@]}" 2>&1 >/dev/null | tail -1)
-    echo "$line, peak $(per "$((peak * 1024))" "$bytes" 0) bytes a byte"
+    echo "$line"
 done
 for shape in operators parentheses comment line empty_classes else_if; do
     before=0
-    for size in 262144 1048576; do
-        python3 "$top/bench/syntax_sources.py" "$shape" "$size" >"$work/F.java"
-        bytes=$(stat -c %s "$work/F.java")
-        spent=$(least 7 "$program" check "$work/F.java")
-        line="$shape: $bytes bytes, $spent us"
-        if [ "$before" -gt 0 ]; then
-            line="$line, growth $(per "$((spent * before_bytes / 1000))" "$((before * bytes / 1000))" 2) times the size's"
-        fi
-        before=$spent
-        before_bytes=$bytes
-        echo "$line: $("$program" check "$work/F.java" 2>&1 | tail -2 | head -1 | sed "s|$work/||")"
+    # A break of the grammar ends the reading: of further files behind it the lexemes alone would be read.
+    case $shape in
+        comment | line | empty_classes) sizes=("1 4" "1 1" "16 1") ;;
+        *) sizes=("1 4" "1 1") ;;
+    esac
+    for parts in "${sizes[@]}"; do
+        read -r count share <<<"$parts"
+        make "$shape" "$count" "$share"
+        printf '}' >>"$work/F$((count - 1)).java"
+        measure "$shape"
+        echo "$line: $("$program" check "${files[@]}" 2>&1 | tail -2 | head -1 | sed "s|$work/||")"
     done
 done

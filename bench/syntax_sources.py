@@ -1,11 +1,14 @@
-"""Makes sources of whole classes from a number: python3 syntax_sources.py SHAPE BYTES [FIRST] > FILE.
+"""Makes sources of whole classes from a number: python3 syntax_sources.py SHAPE SHARE [FIRST] > FILE.
 
-Shapes: `ordinary` (classes as a controller has them, numbered from FIRST, at most BYTES bytes), and hostile ones of
-about BYTES bytes: `operators` (one expression of binary operators), `parentheses` (opening parentheses alone),
-`comment` (one comment), `line` (ordinary classes in one line), `empty_classes` and `else_if` (one chain of 20,000).
+Each is a part 1/SHARE of a whole. Shapes: `ordinary` (1 MiB of classes as a controller has them, numbered from FIRST),
+and hostile ones: `operators` (one expression of 300,000 operators), `parentheses` (500,000 opening ones), `comment`
+(one of 1 MiB), `line` (1 MiB of ordinary classes in one line), `empty_classes` (100,000 of them) and `else_if` (one chain of 20,000).
 """
 
 import sys
+
+# A byte is left for a token behind the last.
+LONGEST = 1_048_575
 
 
 def ordinary_class(number):
@@ -39,7 +42,7 @@ def ordinary(limit, first):
     size = 0
     while True:
         more = ordinary_class(number)
-        if size + len(more) > limit - 2:
+        if size + len(more) > limit:
             return "".join(text)
         text.append(more)
         size += len(more)
@@ -47,23 +50,26 @@ def ordinary(limit, first):
 
 
 def main():
-    shape, limit = sys.argv[1], int(sys.argv[2])
+    shape, share = sys.argv[1], int(sys.argv[2])
     first = int(sys.argv[3]) if len(sys.argv) > 3 else 0
+    limit = LONGEST // share
     if shape == "ordinary":
         text = ordinary(limit, first)
     elif shape == "line":
-        text = "\n".join(l for l in ordinary(limit, first).split("\n") if not l.startswith("//")).replace("\n", " ")
+        lines = ordinary(limit + limit // 12, first).split("\n")
+        text = " ".join(line for line in lines if not line.startswith("//"))[:limit]
+        text = text[: text.rindex(" class ")]
     elif shape == "operators":
-        text = "class A { int m() { return 1" + "+1" * ((limit - 40) // 2) + "; } }"
+        text = "class A { int m() { return 1" + "+1" * (300_000 // share) + "; } }"
     elif shape == "parentheses":
-        text = "class A { int m() { return " + "(" * (limit - 40)
+        text = "class A { int m() { return " + "(" * (500_000 // share)
     elif shape == "comment":
-        text = "/*" + "c" * (limit - 30) + "*/ class A { }"
+        text = "/*" + "c" * (limit - 16) + "*/ class A { }"
     elif shape == "empty_classes":
-        text = "".join(f"class A{number}{{}}" for number in range(first, first + limit // 14))
+        letters = "ABCDEFGHIJKLMNOPQRSTUVWXYZ"
+        text = "".join(f"class {letters[k // 26 % 26]}{letters[k % 26]}{{}}" for k in range(100_000 // share))
     else:
-        count = min(20_000, (limit - 60) // 25)
-        text = "class A { void m(int x) { " + "if(x==1){x=2;}else " * count + "x=3; } }"
+        text = "class A { void m(int x) { " + "if(x==1){x=2;}else " * (20_000 // share) + "x=3; } }"
     sys.stdout.write(text)
 
 

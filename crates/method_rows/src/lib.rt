@@ -3,9 +3,11 @@
 
 pub mod facts;
 mod framework;
+pub mod names;
 pub mod refs;
 
 pub use facts::{
     body, builtin, declared, is_callable_row, is_overridable, parameter, parameter_count,
 };
+pub use names::framework_method;
 pub use refs::{MethodRef, MethodSource};

@@ -1,6 +1,5 @@
 pub mod Blocks
 pub mod Closing
-pub mod ClosingEnds
 pub mod Declarations
 pub mod Files
 pub mod Machine

@@ -1,9 +1,7 @@
 //! The parser as a machine that takes one lexeme a step: what it has in hand and what it has put aside.
 #![tactic(auto)]
 
-pub mod closing_laws;
 pub mod entries;
-pub mod laws;
 pub mod modes;
 
 pub use entries::Entry;

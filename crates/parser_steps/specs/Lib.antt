@@ -1,4 +1,1 @@
-pub mod Growing
-pub mod Told
-pub mod Enclosing
 pub mod Outcomes

@@ -10,10 +10,10 @@ ghost use Rattle.scj_base.specs.declared.places.Pos.{Pos as Place};
 ghost use Rattle.scj_tree.specs.Lexemes.{lexemes_of};
 ghost use Rattle.scj_tree.specs.declared.nodes.Node.{Node};
 
-use crate::growing_nodes::Nodes;
 use crate::runs::{Outcome, read};
-use crate::stacks::Stack;
 use parser_machine::{Entry, Mode};
+use parser_nodes::growing_nodes::Nodes;
+use parser_nodes::stacks::Stack;
 use scj_base::{Memory, Pos, Token};
 use scj_tree::NodeList;
 use std::alloc::Global;

@@ -4,14 +4,14 @@ ghost use Rattle.std.specs.Prelude.{◌≡◌};
 ghost use Rattle.parser_machine.specs.States.{at};
 ghost use Rattle.parser_machine.specs.declared.modes.Mode.TheVariants.{FileStart};
 ghost use Rattle.parser_steps.specs.Outcomes.{way, leads, Fits, AllFit};
-ghost use Rattle.parser_steps.specs.Told.{seen};
+ghost use Rattle.parser_nodes.specs.Told.{seen};
 ghost use Rattle.scj_tree.specs.Lexemes.{lexeme_of, lexemes_of};
 
-use crate::growing_nodes::Nodes;
-use crate::stacks::Stack;
 use crate::steps::step_mode;
-use crate::views::View;
 use parser_machine::Mode;
+use parser_nodes::growing_nodes::Nodes;
+use parser_nodes::stacks::Stack;
+use parser_nodes::views::View;
 use scj_base::{Memory, Name, Pos, Token, TokenKind};
 
 /// How far a run comes.

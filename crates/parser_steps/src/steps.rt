@@ -2,56 +2,56 @@
 
 ghost use Rattle.std.specs.Prelude.{◌≡◌};
 ghost use Rattle.parser_machine.specs.Machine.{step_mode};
-ghost use Rattle.parser_steps.specs.Told.{gives, seen};
+ghost use Rattle.parser_nodes.specs.Told.{gives, seen};
 
-use crate::annotations::{
+use declaration_steps::annotations::{
     at_step, plain_assigned_step, plain_dot_step, plain_end_step, plain_first_step,
     plain_name_step, plain_next_step, plain_open_step, plain_path_step,
 };
-use crate::arguments::{
-    argument_first_step, argument_start, new_element_step, new_name_step, new_step, text_step,
-};
-use crate::blocks::{
-    first_start, local_named_step, name_bracket_step, name_first_step, return_step,
-    statement_start, statements_step, target_start, test_open_step,
-};
-use crate::closing::assigned;
-use crate::declarations::flags_step;
-use crate::endings::{members_step, statement_ended};
-use crate::files::{
+use declaration_steps::files::{
     classes_step, file_start_step, import_dot_step, import_end_step, import_name_step,
     import_star_step, import_start_step, imports_step, package_end_step, package_name_step,
 };
-use crate::growing_nodes::Nodes;
-use crate::heads::{
+use declaration_steps::heads::{
     class_name_step, class_named_step, super_argument_end_step, super_argument_name_step,
     super_ended, super_name_step, super_named_step,
 };
-use crate::members::{
+use declaration_steps::members::{
     literal_end_step, literal_minus_step, literal_step, member_named_step, method_named_step,
     result_step,
 };
-use crate::operands::{
-    closed_name_step, dot_name_step, dot_step, minus_step, name_step, opened_name_step,
-    opened_step, operand_start, post_step,
-};
-use crate::parameters::{
-    constructor_start_step, parameter_end_step, parameters_end_step, parameters_first_step,
-    super_end_step, super_open_step,
-};
-use crate::scope_values::{
+use declaration_steps::scope_values::{
     define_assign_step, define_name_step, define_open_step, define_other_assign_step,
     define_other_step, value_dot_step, value_end_step, value_open_step, value_scope_step,
     value_start_step,
 };
-use crate::stacks::Stack;
-use crate::types::{
+use expression_steps::arguments::{
+    argument_first_step, argument_start, new_element_step, new_name_step, new_step, text_step,
+};
+use expression_steps::closing::assigned;
+use expression_steps::operands::{
+    closed_name_step, dot_name_step, dot_step, minus_step, name_step, opened_name_step,
+    opened_step, operand_start, post_step,
+};
+use parser_machine::{Entry, Mode};
+use parser_nodes::growing_nodes::Nodes;
+use parser_nodes::stacks::Stack;
+use parser_nodes::views::View;
+use scj_base::Memory;
+use statement_steps::blocks::{
+    first_start, local_named_step, name_bracket_step, name_first_step, return_step,
+    statement_start, statements_step, target_start, test_open_step,
+};
+use statement_steps::endings::{members_step, statement_ended};
+use statement_steps::parameters::{
+    constructor_start_step, parameter_end_step, parameters_end_step, parameters_first_step,
+    super_end_step, super_open_step,
+};
+use type_steps::declarations::flags_step;
+use type_steps::types::{
     type_argument_end_step, type_argument_name_step, type_bracket_step, type_end_step,
     type_name_step, typed,
 };
-use crate::views::View;
-use parser_machine::{Entry, Mode};
-use scj_base::Memory;
 
 /// Takes one lexeme; none where it may not stand here.
 #[tactic(auto, unfolding(parser_machine::specs::Machine::step_mode))]

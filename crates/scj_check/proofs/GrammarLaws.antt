@@ -8,7 +8,7 @@ use Rattle.scj_tree.specs.Forest.{Forest, forest_of}
 use Rattle.scj_tree.specs.Lexemes.{Lexeme, place_of_lexeme}
 use Rattle.scj_tree.specs.Grammar.{Tree, BeginsFile, RefusedAt}
 use Rattle.scj_tree.specs.Heights.{too_deep}
-use Rattle.parser_machine.proofs.Whole.{one_tree_nodes, one_tree_classes}
+use Rattle.machine_laws.proofs.Whole.{one_tree_nodes, one_tree_classes}
 use Rattle.scj_rules.specs.Syntax.{FileRead, BreaksGrammar}
 use Rattle.scj_rules.specs.Syntax.BreaksGrammar.{not_in_the_grammar, too_high}
 

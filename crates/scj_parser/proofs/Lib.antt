@@ -1,3 +1,4 @@
 pub mod HeightLemmas
 pub mod ParsingLemmas
 pub mod Within
+mod WholeWays

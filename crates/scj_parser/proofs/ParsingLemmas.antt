@@ -2,11 +2,11 @@
 use Rattle.std.proofs.Common.{◌≡◌, ℕ, ◌+◌, ◌<◌, ◌≤◌, ◌^◌, List, [], ◌∷◌, ◌++◌, length, Some, None, Result, Err, refl, sym, ap, ◌∙◌, subst, arith, append_assoc, length-append}
 use Rattle.parser_machine.specs.Machine.{answer, finished, parsed, run, start, step}
 use Rattle.parser_machine.specs.States.{State}
-use Rattle.parser_machine.proofs.ClassesRun.{file_run}
-use Rattle.parser_machine.proofs.ClosingPlaces.{refused_at, run_begins}
-use Rattle.parser_machine.proofs.Soundness.{answer_is_tree}
-use Rattle.parser_steps.proofs.BehindEnds.{nothing_behind}
-use Rattle.parser_steps.proofs.WholeWays.{answer_behind, no_answer, way_run, way_stops}
+use Rattle.machine_laws.proofs.ClassesRun.{file_run}
+use Rattle.machine_laws.proofs.ClosingPlaces.{refused_at, run_begins}
+use Rattle.machine_laws.proofs.Soundness.{answer_is_tree}
+use Rattle.machine_laws.proofs.BehindEnds.{nothing_behind}
+use Rattle.scj_parser.proofs.WholeWays.{answer_behind, no_answer, way_run, way_stops}
 use Rattle.parser_steps.specs.Outcomes.{AllFit, Fits, to, up_to, way}
 use Rattle.scj_base.specs.Lex.{Lexes, ends, skips, takes, token_at}
 use Rattle.scj_base.specs.Lexeme.{Lexeme as Shape, Piece, lexeme, name, number, sign, text, word}
@@ -18,7 +18,7 @@ use Rattle.scj_base.specs.declared.findings.Found.{Found}
 use Rattle.scj_base.specs.declared.findings.Rule.TheVariants.{P1}
 use Rattle.scj_parser.specs.declared.parse_answers.ParseAnswer.{ParseAnswer}
 use Rattle.scj_parser.specs.declared.parse_answers.ParseAnswer.TheVariants.{Bad}
-use Rattle.parser_machine.proofs.GrowthOfFiles.{forest_kept}
+use Rattle.machine_laws.proofs.GrowthOfFiles.{forest_kept}
 use Rattle.scj_tree.specs.Forest.{IsForest, forest_of}
 use Rattle.scj_tree.specs.Grammar.{RefusedAt, Tree}
 use Rattle.scj_tree.specs.Heights.{too_deep}

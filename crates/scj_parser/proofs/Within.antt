@@ -1,8 +1,8 @@
 -- The children of a file's nodes are nodes of the file.
 use Rattle.std.proofs.Common.{◌≡◌, ℕ, ◌+◌, ◌<◌, ◌≤◌, suc, Bool, true, false, nat_lt, List, [], ◌∷◌, ◌++◌, length, drop, refl, sym, ap, ◌∙◌, subst, arith, length-append, zero-add}
 use Rattle.std.proofs.lemmas.Bool.Decides.{nat_tests}
-use Rattle.parser_machine.proofs.Growth.{below, below-grows, below-low, below-one}
-use Rattle.parser_machine.proofs.GrowthOfFiles.{tree_grown}
+use Rattle.machine_laws.proofs.Growth.{below, below-grows, below-low, below-one}
+use Rattle.machine_laws.proofs.GrowthOfFiles.{tree_grown}
 use Rattle.scj_tree.proofs.ForestLemmas.{all_children-append, times-append}
 use Rattle.scj_tree.specs.Counts.{times}
 use Rattle.scj_tree.specs.Forest.{AllBelow, ChildrenFirst, all_children}

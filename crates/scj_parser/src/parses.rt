@@ -12,8 +12,8 @@ ghost use Rattle.scj_tree.specs.Lexemes.{lexemes_of};
 
 use crate::heights::too_deep;
 use crate::parse_answers::ParseAnswer;
+use parser_nodes::growing_nodes::Nodes;
 use parser_steps::file_reads::{FileRead, read_file};
-use parser_steps::growing_nodes::Nodes;
 use scj_base::{Found, NodeId, Rule, Token, Tokens};
 use scj_tree::{NodeList, Program};
 use std::alloc::Global;

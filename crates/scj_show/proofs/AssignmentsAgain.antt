@@ -1,5 +1,5 @@
 -- The canonical lexemes of an assignment are read as the same assignment.
-use Rattle.std.proofs.Common.{append-nil, append_assoc, ◌≡◌, ℕ, zero, suc, ◌+◌, ◌-◌, ◌≤◌, Bool, true, false, ◌==◌, List, [], ◌∷◌, ◌++◌, Option, Some, None, slice_get, length, refl, sym, ap, subst, ◌∙◌, arith}
+use Rattle.std.proofs.Common.{nat_lt, append-nil, append_assoc, ◌≡◌, ℕ, zero, suc, ◌+◌, ◌-◌, ◌≤◌, Bool, true, false, ◌==◌, List, [], ◌∷◌, ◌++◌, Option, Some, None, slice_get, length, refl, sym, ap, subst, ◌∙◌, arith}
 use Rattle.std.specs.Prelude.{if◌then◌else◌, nat_le}
 use Rattle.std.proofs.lemmas.Bool.{false≢true, eqb-true, le-leb}
 use Rattle.scj_base.specs.Vocabulary.{sign_left_parenthesis, sign_right_parenthesis, sign_semicolon, sign_assign, sign_plus, sign_minus, sign_star, sign_slash, sign_percent, sign_and, sign_or, sign_xor, sign_shift_left, sign_shift_right, sign_shift_right_unsigned, sign_plus_plus, sign_minus_minus, sign_plus_assign, sign_minus_assign, sign_star_assign, sign_slash_assign, sign_percent_assign, sign_and_assign, sign_or_assign, sign_xor_assign, sign_shift_left_assign, sign_shift_right_assign, sign_shift_right_unsigned_assign}
@@ -93,9 +93,10 @@ in_parentheses_read M nodes i2 o2 place p q true e d u =
 
 -- ---- the operators of assignments
 
-record IsOperator (op : ℕ) : Type 0 where
-  low : 1 ≤ level op
-  high : level op ≤ 10
+pub record IsOperator (op : ℕ) : Type 0 where
+  pub low : 1 ≤ level op
+  pub high : level op ≤ 10
+  pub listed : nat_lt op 50 ≡ true
 
 operator_at : (n op : ℕ) → IsOperator n → Some n ≡ Some op → IsOperator op
 operator_at n op k e = let same : n ≡ op = cc in subst IsOperator same k
@@ -107,27 +108,27 @@ choose false x y r f g e = g e
 some_is_none : {A : Type 0} {B : Type 0} (a : A) → None ≡ Some a → B
 some_is_none {A} {B} a e = let P : Option A → Type 0 = λ x. elim x [ None ↦ Unit {0} | Some y ↦ B ] in subst P e tt
 
-compound_operator : (n op : ℕ) → compound n ≡ Some op → IsOperator op
+pub compound_operator : (n op : ℕ) → compound n ≡ Some op → IsOperator op
 unfolding compound level
 compound_operator n op =
-    choose (n == sign_plus_assign) _ _ (Some op) (operator_at sign_plus op (record { low = omega arith; high = omega arith }))
-    (choose (n == sign_minus_assign) _ _ (Some op) (operator_at sign_minus op (record { low = omega arith; high = omega arith }))
-    (choose (n == sign_star_assign) _ _ (Some op) (operator_at sign_star op (record { low = omega arith; high = omega arith }))
-    (choose (n == sign_slash_assign) _ _ (Some op) (operator_at sign_slash op (record { low = omega arith; high = omega arith }))
-    (choose (n == sign_percent_assign) _ _ (Some op) (operator_at sign_percent op (record { low = omega arith; high = omega arith }))
-    (choose (n == sign_and_assign) _ _ (Some op) (operator_at sign_and op (record { low = omega arith; high = omega arith }))
-    (choose (n == sign_or_assign) _ _ (Some op) (operator_at sign_or op (record { low = omega arith; high = omega arith }))
-    (choose (n == sign_xor_assign) _ _ (Some op) (operator_at sign_xor op (record { low = omega arith; high = omega arith }))
-    (choose (n == sign_shift_left_assign) _ _ (Some op) (operator_at sign_shift_left op (record { low = omega arith; high = omega arith }))
-    (choose (n == sign_shift_right_assign) _ _ (Some op) (operator_at sign_shift_right op (record { low = omega arith; high = omega arith }))
-    (choose (n == sign_shift_right_unsigned_assign) _ _ (Some op) (operator_at sign_shift_right_unsigned op (record { low = omega arith; high = omega arith }))
+    choose (n == sign_plus_assign) _ _ (Some op) (operator_at sign_plus op (record { low = omega arith; high = omega arith; listed = refl }))
+    (choose (n == sign_minus_assign) _ _ (Some op) (operator_at sign_minus op (record { low = omega arith; high = omega arith; listed = refl }))
+    (choose (n == sign_star_assign) _ _ (Some op) (operator_at sign_star op (record { low = omega arith; high = omega arith; listed = refl }))
+    (choose (n == sign_slash_assign) _ _ (Some op) (operator_at sign_slash op (record { low = omega arith; high = omega arith; listed = refl }))
+    (choose (n == sign_percent_assign) _ _ (Some op) (operator_at sign_percent op (record { low = omega arith; high = omega arith; listed = refl }))
+    (choose (n == sign_and_assign) _ _ (Some op) (operator_at sign_and op (record { low = omega arith; high = omega arith; listed = refl }))
+    (choose (n == sign_or_assign) _ _ (Some op) (operator_at sign_or op (record { low = omega arith; high = omega arith; listed = refl }))
+    (choose (n == sign_xor_assign) _ _ (Some op) (operator_at sign_xor op (record { low = omega arith; high = omega arith; listed = refl }))
+    (choose (n == sign_shift_left_assign) _ _ (Some op) (operator_at sign_shift_left op (record { low = omega arith; high = omega arith; listed = refl }))
+    (choose (n == sign_shift_right_assign) _ _ (Some op) (operator_at sign_shift_right op (record { low = omega arith; high = omega arith; listed = refl }))
+    (choose (n == sign_shift_right_unsigned_assign) _ _ (Some op) (operator_at sign_shift_right_unsigned op (record { low = omega arith; high = omega arith; listed = refl }))
     (some_is_none op)))))))))))
 
-stepping_operator : (n op : ℕ) → stepping n ≡ Some op → IsOperator op
+pub stepping_operator : (n op : ℕ) → stepping n ≡ Some op → IsOperator op
 unfolding stepping level
 stepping_operator n op =
-    choose (n == sign_plus_plus) _ _ (Some op) (operator_at sign_plus op (record { low = omega arith; high = omega arith }))
-    (choose (n == sign_minus_minus) _ _ (Some op) (operator_at sign_minus op (record { low = omega arith; high = omega arith }))
+    choose (n == sign_plus_plus) _ _ (Some op) (operator_at sign_plus op (record { low = omega arith; high = omega arith; listed = refl }))
+    (choose (n == sign_minus_minus) _ _ (Some op) (operator_at sign_minus op (record { low = omega arith; high = omega arith; listed = refl }))
     (some_is_none op))
 
 -- an operand is an expression of any level

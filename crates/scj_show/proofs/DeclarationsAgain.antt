@@ -12,16 +12,18 @@ use Rattle.scj_tree.specs.Shape.{children}
 use Rattle.scj_show.specs.declared.parts.Part.TheVariants.{Whole, Named}
 use Rattle.scj_show.specs.Parts.{parts_of, maybe, in_parentheses, extended, implemented, parameters_or_none}
 use Rattle.scj_show.specs.Symbols.{Symbol, a_name, a_word, a_sign, canonical, own_symbols, symbols_of_part, symbols_of_parts, written}
-use Rattle.scj_show.specs.Placed.{printed, lexeme_at, AreNamed}
+use Rattle.scj_show.specs.Placed.{printed, lexeme_at}
 use Rattle.scj_show.specs.Alike.{nowhere, shape, in_order, alike, none_alike, one_alike}
 use Rattle.scj_show.proofs.Printing.{symbols_of_parts-append}
 use Rattle.scj_show.proofs.Again.{Front, front-none, front-one, front-then, front-put, front-at, whole, whole_at, laid, laid-append, followed, followed-put, arguments_of, arguments_of-put, implemented-put, Told, told_of, told_moved, AllAgain, all_again_of, all_moved, alike-put, counted-same, both_missing, both_there, there-same, optional-alike, MaybeTold, maybe_told_of, maybe_told_moved}
 use Rattle.scj_show.proofs.HeadersAgain.{type_front, type_again, super_front, super_again}
+use Rattle.scj_show.proofs.Sources.{AreOfSource, behind}
+use Rattle.scj_show.proofs.Rests.{parameters_begun_rest}
 use Rattle.scj_show.proofs.FlagsAgain.{flags_again, flags_front, row_front, maybe_symbols}
 
 -- ---- reading puts nodes behind the others
 
-interfaces_front : {N N1 : List Node} {i o : List Lexeme} {ids : List ℕ} → InterfacesBegun N i N1 o ids → Front N N1
+pub interfaces_front : {N N1 : List Node} {i o : List Lexeme} {ids : List ℕ} → InterfacesBegun N i N1 o ids → Front N N1
 interfaces_front no_interface_yet = front-none
 interfaces_front (interface_and_comma d e) = front-then (interfaces_front d) (super_front e)
 
@@ -110,9 +112,9 @@ header_again W first file M b o2 (extends_implements_header {N3 = N3} {super = s
 
 -- ---- parameters
 
-pub parameter_again : (W : List Node) → ChildrenFirst 0 W → AreNamed W → (file : ℕ) (M : List Node) (b : List ℕ) (o2 : List Lexeme) {N N1 : List Node} {i o : List Lexeme} {id : ℕ} → ParameterRead N i N1 o id → Front N1 W → Told ParameterRead W M (laid file b (whole W id) o2) o2 id
+pub parameter_again : (W : List Node) → ChildrenFirst 0 W → (file : ℕ) (M : List Node) (b : List ℕ) (o2 : List Lexeme) {N N1 : List Node} {i o : List Lexeme} {id : ℕ} → ParameterRead N i N1 o id → AreOfSource i → Front N1 W → Told ParameterRead W M (laid file b (whole W id) o2) o2 id
 unfolding maybe_symbols symbols_of_parts symbols_of_part own_symbols parts_of lexeme_at shape in_order children laid
-parameter_again W first named file M b o2 (parameter {N1 = N1} {N2 = N2} {flags = flags} {t = t} {w = w} {p = p} d1 d2) f =
+parameter_again W first file M b o2 (parameter {N1 = N1} {N2 = N2} {flags = flags} {t = t} {w = w} {p = p} d1 d2) src f =
     let fl : Option ℕ = flags_number N1 flags in
     let at : slice_get W (length N2) ≡ Some (Parameter p w fl t) = front-at _ _ f in
     let said0 : whole W (length N2) ≡ symbols_of_parts (written W) (maybe fl ++ (Whole t ∷ Named w ∷ [])) = whole_at W _ _ first at in
@@ -121,21 +123,21 @@ parameter_again W first named file M b o2 (parameter {N1 = N1} {N2 = N2} {flags 
     let b2 : List ℕ = b1 ++ canonical (whole W t) in
     let t2 : List Lexeme = name_at w (place_behind file b2) ∷ o2 in
     let t1 : List Lexeme = laid file b1 (whole W t) t2 in
-    let a1 = flags_again false W first named file M b t1 d1 (front-then (type_front d2) (front-put _ _ f)) in
+    let a1 = flags_again false W first file M b t1 d1 src (front-then (type_front d2) (front-put _ _ f)) in
     let a2 = type_again W first file (with_flags a1.nodes a1.flags) b1 t2 d2 (front-put _ _ f) in
     let same : laid file b (whole W (length N2)) o2 ≡ laid file b (maybe_symbols W fl) t1 = ap (λ (ss : List Symbol). laid file b ss o2) said ∙ simp laid-append in
     told_moved same (told_of (put a2.nodes (Parameter (place_behind file b2) w (flags_number a1.nodes a1.flags) a2.place)) (length a2.nodes) (front-then a1.grown (front-then (flags_front a1.nodes a1.flags) (front-then a2.grown (front-one _)))) (parameter a1.read a2.read) (λ V g. let fs = a1.alike V (front-then a2.grown (front-put _ _ g)) in alike at (front-at _ _ g) (ap (λ (x : Option ℕ). Parameter nowhere w x 0) (there-same fs)) (optional-alike fs (one_alike (a2.alike V (front-put _ _ g)) none_alike))))
 
-parameters_begun_again : (W : List Node) → ChildrenFirst 0 W → AreNamed W → (file : ℕ) (M : List Node) (b : List ℕ) (o2 : List Lexeme) {N N1 : List Node} {i o : List Lexeme} {ids : List ℕ} → ParametersBegun N i N1 o ids → Front N1 W → AllAgain ParametersBegun W M (laid file b (followed W ids) o2) o2 ids
+parameters_begun_again : (W : List Node) → ChildrenFirst 0 W → (file : ℕ) (M : List Node) (b : List ℕ) (o2 : List Lexeme) {N N1 : List Node} {i o : List Lexeme} {ids : List ℕ} → ParametersBegun N i N1 o ids → AreOfSource i → Front N1 W → AllAgain ParametersBegun W M (laid file b (followed W ids) o2) o2 ids
 unfolding laid lexeme_at followed
-parameters_begun_again W first named file M b o2 no_parameter_yet f = all_again_of M [] front-none no_parameter_yet (λ V g. none_alike)
-parameters_begun_again W first named file M b o2 (parameter_and_comma {ids = ids} {id = id} d1 d2) f =
+parameters_begun_again W first file M b o2 no_parameter_yet src f = all_again_of M [] front-none no_parameter_yet (λ V g. none_alike)
+parameters_begun_again W first file M b o2 (parameter_and_comma {ids = ids} {id = id} d1 d2) src f =
     let b1 : List ℕ = b ++ canonical (followed W ids) in
     let b2 : List ℕ = b1 ++ canonical (whole W id) in
     let t2 : List Lexeme = sign_at sign_comma (place_behind file b2) ∷ o2 in
     let t1 : List Lexeme = laid file b1 (whole W id) t2 in
-    let a1 = parameters_begun_again W first named file M b t1 d1 (front-then (parameter_front d2) f) in
-    let a2 = parameter_again W first named file a1.nodes b1 t2 d2 f in
+    let a1 = parameters_begun_again W first file M b t1 d1 src (front-then (parameter_front d2) f) in
+    let a2 = parameter_again W first file a1.nodes b1 t2 d2 (parameters_begun_rest d1 src) f in
     let same : laid file b (followed W (ids ++ id ∷ [])) o2 ≡ laid file b (followed W ids) t1 = ap (λ (ss : List Symbol). laid file b ss o2) (followed-put W ids id) ∙ simp laid-append in
     all_moved same (all_again_of a2.nodes (a1.places ++ a2.place ∷ []) (front-then a1.grown a2.grown) (parameter_and_comma a1.read a2.read) (λ V g. alike-put (a1.alike V (front-then a2.grown g)) (a2.alike V g)))
 
@@ -143,10 +145,10 @@ parameters_begun_again W first named file M b o2 (parameter_and_comma {ids = ids
 unfoldable pub parameter_symbols : List Node → Option ℕ → List Symbol
 parameter_symbols W id = symbols_of_parts (written W) (parameters_or_none id)
 
-pub parameters_again : (W : List Node) → ChildrenFirst 0 W → AreNamed W → (file : ℕ) (M : List Node) (b : List ℕ) (o2 : List Lexeme) {N N1 : List Node} {i o : List Lexeme} {id : Option ℕ} → ParametersRead N i N1 o id → Front N1 W → MaybeTold ParametersRead W M (laid file b (parameter_symbols W id) o2) o2 id
+pub parameters_again : (W : List Node) → ChildrenFirst 0 W → (file : ℕ) (M : List Node) (b : List ℕ) (o2 : List Lexeme) {N N1 : List Node} {i o : List Lexeme} {id : Option ℕ} → ParametersRead N i N1 o id → AreOfSource i → Front N1 W → MaybeTold ParametersRead W M (laid file b (parameter_symbols W id) o2) o2 id
 unfolding parameter_symbols parameters_or_none symbols_of_parts symbols_of_part own_symbols parts_of in_parentheses arguments_of lexeme_at shape in_order children laid
-parameters_again W first named file M b o2 no_parameters f = maybe_told_of M None front-none no_parameters (λ V g. both_missing)
-parameters_again W first named file M b o2 (parameters {N2 = N2} {ids = ids} {id = id} {p = p} d1 d2) f =
+parameters_again W first file M b o2 no_parameters src f = maybe_told_of M None front-none no_parameters (λ V g. both_missing)
+parameters_again W first file M b o2 (parameters {N2 = N2} {ids = ids} {id = id} {p = p} d1 d2) src f =
     let at : slice_get W (length N2) ≡ Some (Parameters p (ids ++ id ∷ [])) = front-at _ _ f in
     let said0 : whole W (length N2) ≡ a_sign sign_left_parenthesis ∷ arguments_of W (ids ++ id ∷ []) = whole_at W _ _ first at in
     let said : whole W (length N2) ≡ a_sign sign_left_parenthesis ∷ (followed W ids ++ (whole W id ++ a_sign sign_right_parenthesis ∷ [])) = said0 ∙ ap (λ (ss : List Symbol). a_sign sign_left_parenthesis ∷ ss) (arguments_of-put W ids id) in
@@ -156,7 +158,7 @@ parameters_again W first named file M b o2 (parameters {N2 = N2} {ids = ids} {id
     let t3 : List Lexeme = sign_at sign_right_parenthesis (place_behind file b3) ∷ o2 in
     let t2 : List Lexeme = laid file b2 (whole W id) t3 in
     let t1 : List Lexeme = laid file b1 (followed W ids) t2 in
-    let a1 = parameters_begun_again W first named file M b1 t2 d1 (front-then (parameter_front d2) (front-put _ _ f)) in
-    let a2 = parameter_again W first named file a1.nodes b2 t3 d2 (front-put _ _ f) in
+    let a1 = parameters_begun_again W first file M b1 t2 d1 (behind src) (front-then (parameter_front d2) (front-put _ _ f)) in
+    let a2 = parameter_again W first file a1.nodes b2 t3 d2 (parameters_begun_rest d1 (behind src)) (front-put _ _ f) in
     let same : laid file b (parameter_symbols W (Some (length N2))) o2 ≡ sign_at sign_left_parenthesis (place_behind file b) ∷ t1 = ap (λ (ss : List Symbol). laid file b ss o2) (append-nil (whole W (length N2)) ∙ said) ∙ simp laid-append in
     maybe_told_moved same (maybe_told_of (put a2.nodes (Parameters (place_behind file b) (a1.places ++ a2.place ∷ []))) (Some (length a2.nodes)) (front-then a1.grown (front-then a2.grown (front-one _))) (parameters a1.read a2.read) (λ V g. let all = alike-put (a1.alike V (front-then a2.grown (front-put _ _ g))) (a2.alike V (front-put _ _ g)) in both_there (alike at (front-at _ _ g) (ap (λ (t : List ℕ). Parameters nowhere t) (counted-same all)) all)))

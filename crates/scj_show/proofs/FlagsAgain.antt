@@ -15,7 +15,9 @@ use Rattle.scj_tree.specs.Forest.{ChildrenFirst}
 use Rattle.scj_tree.specs.Shape.{children}
 use Rattle.scj_show.specs.Parts.{parts_of, maybe, annotation, scope_definition, word_if_set, flag_parts}
 use Rattle.scj_show.specs.Symbols.{Symbol, a_name, a_text, a_sign, canonical, own_symbols, symbols_of_part, symbols_of_parts, written}
-use Rattle.scj_show.specs.Placed.{printed, lexeme_at, AreNamed}
+use Rattle.scj_show.specs.Placed.{printed, lexeme_at}
+use Rattle.scj_show.proofs.Sources.{AreOfSource, behind2, behind3, name_first}
+use Rattle.scj_show.proofs.Rests.{value_rest, row_rest}
 use Rattle.scj_show.specs.Alike.{nowhere, there, shape, in_order, Alike, alike, none_alike, one_alike}
 use Rattle.scj_show.proofs.Again.{Front, front-none, front-one, front-then, front-put, front-at, whole, whole_at, laid, laid-append, MaybeAlike, both_missing, both_there, there-same, optional-alike, optional-alike-last}
 use Rattle.scj_show.proofs.Printing.{symbols_of_parts-append}
@@ -279,20 +281,20 @@ bare_flags (runs_in_flag {flags = flags} {p = p} d h v) e = placed_somewhere p f
 bare_flags (define_scope_flag {flags = flags} {p = p} d h v w) e = placed_somewhere p flags.place e
 bare_flags (define_scope_flag_parent_first {flags = flags} {p = p} d h v w) e = placed_somewhere p flags.place e
 
-record Facts (W : List Node) (flags : FlagSet) : Type 0 where
-  define : MaybeIs (IsDefinition W) flags.define_scope
-  scope : MaybeIs (IsScope W) flags.scope
-  runs_in : MaybeIs (IsScope W) flags.runs_in
+pub record Facts (W : List Node) (flags : FlagSet) : Type 0 where
+  pub define : MaybeIs (IsDefinition W) flags.define_scope
+  pub scope : MaybeIs (IsScope W) flags.scope
+  pub runs_in : MaybeIs (IsScope W) flags.runs_in
 
 value_front : {N N1 : List Node} {i o : List Lexeme} {id : ℕ} → ScopeValue N i N1 o id → Front N N1
 value_front (quoted_scope h) = front-one _
 value_front bare_scope = front-one _
 value_front qualified_scope = front-one _
 
-value_is : {W N N1 : List Node} {i o : List Lexeme} {id : ℕ} → AreNamed W → ScopeValue N i N1 o id → Front N1 W → IsScope W id
-value_is named (quoted_scope h) f = record { place = _; name = _; there = front-at _ _ f; is = h }
-value_is named bare_scope f = record { place = _; name = _; there = front-at _ _ f; is = named.at _ _ _ (front-at _ _ f) }
-value_is named qualified_scope f = record { place = _; name = _; there = front-at _ _ f; is = named.at _ _ _ (front-at _ _ f) }
+value_is : {W N N1 : List Node} {i o : List Lexeme} {id : ℕ} → ScopeValue N i N1 o id → AreOfSource i → Front N1 W → IsScope W id
+value_is (quoted_scope h) src f = record { place = _; name = _; there = front-at _ _ f; is = h }
+value_is bare_scope src f = record { place = _; name = _; there = front-at _ _ f; is = name_first src }
+value_is qualified_scope src f = record { place = _; name = _; there = front-at _ _ f; is = name_first (behind2 src) }
 
 pub row_front : {is_local : Bool} {N N1 : List Node} {i o : List Lexeme} {flags : FlagSet} → FlagRow is_local N i N1 o flags → Front N N1
 row_front no_flag = front-none
@@ -311,23 +313,25 @@ same_facts {W} flags more e f =
     let r : flags.runs_in ≡ more.runs_in = cc in
     record { define = subst (MaybeIs (IsDefinition W)) d f.define; scope = subst (MaybeIs (IsScope W)) s f.scope; runs_in = subst (MaybeIs (IsScope W)) r f.runs_in }
 
-facts : {is_local : Bool} {W N N1 : List Node} {i o : List Lexeme} {flags : FlagSet} → AreNamed W → FlagRow is_local N i N1 o flags → Front N1 W → Facts W flags
+pub facts : {is_local : Bool} {W N N1 : List Node} {i o : List Lexeme} {flags : FlagSet} → FlagRow is_local N i N1 o flags → AreOfSource i → Front N1 W → Facts W flags
 unfolding placed with_scope with_runs_in with_define_scope
-facts named no_flag f = record { define = not_there; scope = not_there; runs_in = not_there }
-facts {is_local} named (modifier {flags = flags} {more = more} {w = w} d h) f =
-    let k = same_facts flags more (added_annotations is_local w flags more h) (facts named d f) in
+facts no_flag src f = record { define = not_there; scope = not_there; runs_in = not_there }
+facts {is_local} (modifier {flags = flags} {more = more} {w = w} d h) src f =
+    let k = same_facts flags more (added_annotations is_local w flags more h) (facts d src f) in
     record { define = k.define; scope = k.scope; runs_in = k.runs_in }
-facts named (effectless d h a) f = let k = facts named d f in record { define = k.define; scope = k.scope; runs_in = k.runs_in }
-facts named (scope_flag d h v) f = let k = facts named d (front-then (value_front v) f) in record { define = k.define; scope = is_there (value_is named v f); runs_in = k.runs_in }
-facts named (runs_in_flag d h v) f = let k = facts named d (front-then (value_front v) f) in record { define = k.define; scope = k.scope; runs_in = is_there (value_is named v f) }
-facts named (define_scope_flag d h v w) f =
+facts (effectless d h a) src f = let k = facts d src f in record { define = k.define; scope = k.scope; runs_in = k.runs_in }
+facts (scope_flag d h v) src f = let k = facts d src (front-then (value_front v) f) in record { define = k.define; scope = is_there (value_is v (behind3 (row_rest d src)) f); runs_in = k.runs_in }
+facts (runs_in_flag d h v) src f = let k = facts d src (front-then (value_front v) f) in record { define = k.define; scope = k.scope; runs_in = is_there (value_is v (behind3 (row_rest d src)) f) }
+facts (define_scope_flag d h v w) src f =
     let f2 = front-put _ _ f in
-    let k = facts named d (front-then (value_front v) (front-then (value_front w) f2)) in
-    record { define = is_there (record { place = _; first = _; second = _; parent_first = _; there = front-at _ _ f; of_first = value_is named v (front-then (value_front w) f2); of_second = value_is named w f2 }); scope = k.scope; runs_in = k.runs_in }
-facts named (define_scope_flag_parent_first d h v w) f =
+    let k = facts d src (front-then (value_front v) (front-then (value_front w) f2)) in
+    let src2 = behind2 (behind3 (row_rest d src)) in
+    record { define = is_there (record { place = _; first = _; second = _; parent_first = _; there = front-at _ _ f; of_first = value_is v src2 (front-then (value_front w) f2); of_second = value_is w (behind3 (value_rest v src2)) f2 }); scope = k.scope; runs_in = k.runs_in }
+facts (define_scope_flag_parent_first d h v w) src f =
     let f2 = front-put _ _ f in
-    let k = facts named d (front-then (value_front v) (front-then (value_front w) f2)) in
-    record { define = is_there (record { place = _; first = _; second = _; parent_first = _; there = front-at _ _ f; of_first = value_is named v (front-then (value_front w) f2); of_second = value_is named w f2 }); scope = k.scope; runs_in = k.runs_in }
+    let k = facts d src (front-then (value_front v) (front-then (value_front w) f2)) in
+    let src2 = behind2 (behind3 (row_rest d src)) in
+    record { define = is_there (record { place = _; first = _; second = _; parent_first = _; there = front-at _ _ f; of_first = value_is v src2 (front-then (value_front w) f2); of_second = value_is w (behind3 (value_rest v src2)) f2 }); scope = k.scope; runs_in = k.runs_in }
 
 -- ---- flags
 
@@ -383,17 +387,17 @@ same_effect f g d s r a b c =
     effect_is f ∙ ap has_effect same ∙ sym (effect_is g)
 
 -- the node of flags that have an effect
-record HasNode (flags : FlagSet) (node : Node) : Type 0 where
-  effect : has_effect flags ≡ true
-  at : Pos
-  is : node ≡ flags_at at flags
+pub record HasNode (flags : FlagSet) (node : Node) : Type 0 where
+  pub effect : has_effect flags ≡ true
+  pub at : Pos
+  pub is : node ≡ flags_at at flags
 
 has_node_at : (flags : FlagSet) (node : Node) (e : Bool) (place : Option Pos) → has_effect flags ≡ e → (if e then elim place [ None ↦ None | Some p ↦ Some (flags_at p flags) ] else None) ≡ Some node → HasNode flags node
 has_node_at flags node false place is h = some_is_none node h
 has_node_at flags node true None is h = some_is_none node h
 has_node_at flags node true (Some p) is h = let same : node ≡ flags_at p flags = cc in record { effect = is; at = p; is = same }
 
-has_node : (flags : FlagSet) (node : Node) → flags_node flags ≡ Some node → HasNode flags node
+pub has_node : (flags : FlagSet) (node : Node) → flags_node flags ≡ Some node → HasNode flags node
 unfolding flags_node
 has_node flags node h = has_node_at flags node (has_effect flags) flags.place refl h
 
@@ -402,10 +406,10 @@ unfolding flags_node
 node_at_place flags None is e none = absurd (false≢true (sym (none refl) ∙ e))
 node_at_place flags (Some p) is e none = (p, ap (λ (t : Bool). if t then elim flags.place [ None ↦ None | Some q ↦ Some (flags_at q flags) ] else None) e ∙ ap (λ (t : Option Pos). elim t [ None ↦ None | Some q ↦ Some (flags_at q flags) ]) is)
 
-abbrev with_node : List Node → Option Node → List Node
+abbrev pub with_node : List Node → Option Node → List Node
 with_node N node = elim node [ None ↦ N | Some made ↦ N ++ made ∷ [] ]
 
-abbrev number_of : List Node → Option Node → Option ℕ
+abbrev pub number_of : List Node → Option Node → Option ℕ
 number_of N node = elim node [ None ↦ None | Some made ↦ Some (length N) ]
 
 -- flags that are read again, as the node whose number they have
@@ -472,9 +476,9 @@ flags_at_node is_local W first file M b o2 N1 flags (Some node) fit known is f =
     some_flags_again is_local W first file M b o2 (length N1) h.at flags fit (known (front-put _ _ f)) h.effect (front-at _ _ f ∙ ap Some h.is)
 
 -- flags are read again as the same flags
-pub flags_again : (is_local : Bool) (W : List Node) → ChildrenFirst 0 W → AreNamed W → (file : ℕ) (M : List Node) (b : List ℕ) (o2 : List Lexeme) {N N1 : List Node} {i o : List Lexeme} {flags : FlagSet} → FlagRow is_local N i N1 o flags → Front (with_flags N1 flags) W → FlagsTold is_local W M (laid file b (maybe_symbols W (flags_number N1 flags)) o2) o2 (flags_number N1 flags)
+pub flags_again : (is_local : Bool) (W : List Node) → ChildrenFirst 0 W → (file : ℕ) (M : List Node) (b : List ℕ) (o2 : List Lexeme) {N N1 : List Node} {i o : List Lexeme} {flags : FlagSet} → FlagRow is_local N i N1 o flags → AreOfSource i → Front (with_flags N1 flags) W → FlagsTold is_local W M (laid file b (maybe_symbols W (flags_number N1 flags)) o2) o2 (flags_number N1 flags)
 unfolding with_flags flags_number
-flags_again is_local W first named file M b o2 {N1 = N1} {flags = flags} d f = flags_at_node is_local W first file M b o2 N1 flags (flags_node flags) (fit_local is_local d) (λ g. facts named d g) refl f
+flags_again is_local W first file M b o2 {N1 = N1} {flags = flags} d src f = flags_at_node is_local W first file M b o2 N1 flags (flags_node flags) (fit_local is_local d) (λ g. facts d src g) refl f
 
 pub flags_front : (N : List Node) (flags : FlagSet) → Front N (with_flags N flags)
 unfolding with_flags

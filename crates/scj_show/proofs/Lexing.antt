@@ -103,7 +103,7 @@ or-swap true false = refl
 or-swap false true = refl
 or-swap false false = refl
 
-letter_is : (b : ℕ) → begins_a_name b ≡ is_letter b
+pub letter_is : (b : ℕ) → begins_a_name b ≡ is_letter b
 unfolding is_letter
 letter_is b = ap (λ (t : Bool). between 65 90 b || (between 97 122 b || t)) (or-swap (b == 95) (b == 36))
 
@@ -127,12 +127,12 @@ one_of w (v ∷ vs) zero e =
     rw (here, same_itself w) refl
 one_of w (v ∷ vs) (suc n) e = ap (λ (t : Bool). same w v || t) (one_of w vs n e) ∙ or-swap (same w v) true
 
-record NameFacts (w : List ℕ) : Type 0 where
-  like : IsWordLike w
-  short : length w ≤ 64
-  free : IsReserved w → ⊥
+pub record NameFacts (w : List ℕ) : Type 0 where
+  pub like : IsWordLike w
+  pub short : length w ≤ 64
+  pub free : IsReserved w → ⊥
 
-name_facts : (w : List ℕ) → is_name w ≡ true → NameFacts w
+pub name_facts : (w : List ℕ) → is_name w ≡ true → NameFacts w
 unfolding is_name
 name_facts [] h = absurd (false≢true h)
 name_facts (b ∷ bs) h =
@@ -213,16 +213,18 @@ lexes file before (s ∷ ss) h =
     rw (append_assoc (bytes_of s) (separator s ∷ []) (canonical ss)) (takes file before (bytes_of s) ((separator s ∷ []) ++ canonical ss) (kind_of s) _ (lexeme _ _ _ (one_lexeme s (canonical ss) h.0)) space)
 
 -- the part of a text behind some bytes
-part_behind : (before w rest : List ℕ) (n m : ℕ) → length before ≡ n → length w ≡ m → part_of (before ++ (w ++ rest)) n m ≡ w
+pub part_behind : (before w rest : List ℕ) (n m : ℕ) → length before ≡ n → length w ≡ m → part_of (before ++ (w ++ rest)) n m ≡ w
 unfolding part_of
 part_behind before w rest n m e q = rw (drop_at before (w ++ rest) n e) (take_at w rest m q)
+
+-- the part of a text between the quotes of a text behind some bytes
+pub text_behind : (before w rest : List ℕ) → part_of (before ++ ((34 ∷ (w ++ 34 ∷ [])) ++ rest)) (length before + 1) (length (34 ∷ (w ++ 34 ∷ [])) - 2) ≡ w
+text_behind before w rest = ap (λ (t : List ℕ). part_of t (length before + 1) (length (34 ∷ (w ++ 34 ∷ [])) - 2)) (sym (append_assoc before (34 ∷ []) _) ∙ ap (λ (t : List ℕ). (before ++ 34 ∷ []) ++ t) (append_assoc w (34 ∷ []) rest)) ∙ part_behind (before ++ 34 ∷ []) w ((34 ∷ []) ++ rest) _ _ (omega (arith, length-append before (34 ∷ []))) (omega (arith, length-append w (34 ∷ [])))
 
 one_read : (file : ℕ) (before : List ℕ) (s : Symbol) (rest : List ℕ) → lexeme_of (before ++ (bytes_of s ++ rest)) (token_at file before (kind_of s) (length (bytes_of s))) ≡ lexeme_at s (place_behind file before)
 unfolding lexeme_of kind_of lexeme_at bytes_of
 one_read file before (a_name w) rest = ap (λ (t : List ℕ). TreeLexeme.a_name t (place_behind file before)) (part_behind before w rest _ _ refl refl)
-one_read file before (a_text w) rest =
-    let inside : part_of (before ++ ((34 ∷ (w ++ 34 ∷ [])) ++ rest)) (length before + 1) (length (34 ∷ (w ++ 34 ∷ [])) - 2) ≡ w = ap (λ (t : List ℕ). part_of t (length before + 1) (length (34 ∷ (w ++ 34 ∷ [])) - 2)) (sym (append_assoc before (34 ∷ []) _) ∙ ap (λ (t : List ℕ). (before ++ 34 ∷ []) ++ t) (append_assoc w (34 ∷ []) rest)) ∙ part_behind (before ++ 34 ∷ []) w ((34 ∷ []) ++ rest) _ _ (omega (arith, length-append before (34 ∷ []))) (omega (arith, length-append w (34 ∷ []))) in
-    ap (λ (t : List ℕ). TreeLexeme.a_text t (place_behind file before)) inside
+one_read file before (a_text w) rest = ap (λ (t : List ℕ). TreeLexeme.a_text t (place_behind file before)) (text_behind before w rest)
 one_read file before (a_word n) rest = refl
 one_read file before (a_sign n) rest = refl
 one_read file before (a_number n) rest = refl

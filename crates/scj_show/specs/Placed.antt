@@ -1,13 +1,11 @@
 -- Lexemes that a text may hold, and where they stand in their canonical text.
-use Rattle.std.specs.Prelude.{◌≡◌, ℕ, ◌<◌, ◌≤◌, true, List, [], ◌∷◌, ◌++◌, length, slice_get, Some}
+use Rattle.std.specs.Prelude.{◌≡◌, ℕ, ◌<◌, ◌≤◌, true, List, [], ◌∷◌, ◌++◌, length}
 use Rattle.scj_base.specs.declared.places.Pos.{Pos}
 use Rattle.scj_base.specs.declared.lexemes.Token.{Token}
 use Rattle.scj_base.specs.declared.lexemes.TokenKind.{TokenKind}
 use Rattle.scj_base.specs.declared.lexemes.TokenKind.TheVariants.{Name, Word, Number, Text, Sign, End}
 use Rattle.scj_base.specs.Lexeme.{AllOf, is_text_byte}
 use Rattle.scj_base.specs.Lex.{place_behind, token_at}
-use Rattle.scj_tree.specs.declared.nodes.Node.{Node}
-use Rattle.scj_tree.specs.declared.nodes.Node.TheVariants.{ScopeName}
 use Rattle.scj_tree.specs.Lexemes.{Lexeme, a_name as name_at, a_word as word_at, a_number as number_at, a_text as text_at, a_sign as sign_at, the_end, is_name}
 use Rattle.scj_show.specs.Symbols.{Symbol, a_name, a_text, a_word, a_sign, a_number, bytes_of, separator}
 
@@ -49,7 +47,3 @@ tokens_behind file before (s ∷ ss) = token_at file before (kind_of s) (length 
 unfoldable pub lexemes_behind : ℕ → List ℕ → List Symbol → List Lexeme
 lexemes_behind file before [] = the_end (place_behind file before) ∷ []
 lexemes_behind file before (s ∷ ss) = lexeme_at s (place_behind file before) ∷ lexemes_behind file (before ++ printed s) ss
-
--- each scope's name among the nodes is a name
-pub record AreNamed (nodes : List Node) : Type 0 where
-  pub at : (id : ℕ) (place : Pos) (name : List ℕ) → slice_get nodes id ≡ Some (ScopeName place name) → is_name name ≡ true

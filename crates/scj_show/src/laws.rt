@@ -2,12 +2,13 @@
 
 ghost use Rattle.std.specs.Prelude.{◌≡◌, ◌++◌, ℕ, List, []};
 ghost use Rattle.scj_base.specs.Lex.{Lex};
-ghost use Rattle.scj_tree.specs.Lexemes.{Lexeme, lexemes_of};
+ghost use Rattle.scj_base.specs.declared.lexemes.Token.{Token};
+ghost use Rattle.scj_tree.specs.Lexemes.{lexemes_of};
 ghost use Rattle.scj_tree.specs.declared.nodes.Node.{Node};
 ghost use Rattle.scj_tree.specs.Forest.{ChildrenFirst};
 ghost use Rattle.scj_tree.specs.Grammar.{Tree};
 ghost use Rattle.scj_show.specs.Symbols.{Symbol, canonical, symbols_of};
-ghost use Rattle.scj_show.specs.Placed.{AreLexemes, AreNamed, tokens_behind, lexemes_behind};
+ghost use Rattle.scj_show.specs.Placed.{AreLexemes, tokens_behind, lexemes_behind};
 ghost use Rattle.scj_show.specs.Reread.{IsRead};
 
 /// The canonical text of lexemes has them as its tokens.
@@ -18,10 +19,11 @@ pub fn canonical_text_lexes()
         → lexemes_of (canonical ss) (tokens_behind file [] ss) ≡ lexemes_behind file [] ss }
 {}
 
-/// The canonical text of a file whose tree is in the grammar is read as the same tree, from whatever nodes there are
-/// before: where what it prints are lexemes, and the names of scopes are names.
+/// What was read from a source that lexes is read again from its canonical text, from whatever nodes there are before:
+/// the text lexes, and its lexemes are the same tree up to places.
 pub fn canonical_text_is_read_again()
-    ensures { (start old all more : List Node) (lexemes : List Lexeme) (ids : List ℕ) (file : ℕ) (before : List Node)
-        → Tree start lexemes old ids → all ≡ old ++ more → ChildrenFirst 0 all → AreNamed all
-        → AreLexemes (symbols_of all ids) → IsRead all ids (canonical (symbols_of all ids)) file before }
+    ensures { (source : List ℕ) (number : ℕ) (tokens : List Token) (start old all more : List Node) (ids : List ℕ)
+        (file : ℕ) (before : List Node) → Lex number source tokens → Tree start (lexemes_of source tokens) old ids
+        → all ≡ old ++ more → ChildrenFirst 0 all
+        → IsRead all ids (canonical (symbols_of all ids)) file before }
 {}

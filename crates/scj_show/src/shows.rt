@@ -2,6 +2,7 @@
 
 ghost use Rattle.std.specs.Prelude.{◌≡◌, ◌<◌, ◌++◌, [], length, reverse, IfOk, OnOk};
 ghost use Rattle.scj_show.specs.Symbols.{canonical, text_of_file, own_symbols, symbols_of_part, symbols_of_parts, written};
+ghost use Rattle.scj_show.specs.Reread.{IsReadAsFile};
 ghost use Rattle.scj_show.specs.Works.{pending, size_of_part, size, work};
 
 use crate::nodes::{put_bare_parts, put_parts};
@@ -12,12 +13,15 @@ use scj_tree::{Node, Program};
 use std::alloc::Global;
 
 /// The canonical source of a file: each lexeme of its classes followed by a space, but `;`, `{` and `}` by a line
-/// feed.
+/// feed. Where the file was read from a source, this text is read as the same tree, up to places.
 #[tactic(auto, unfolding(crate::specs::Symbols::text_of_file, crate::specs::Symbols::symbols_of))]
 pub fn show(alloc: Global, program: &Program, file: u8) -> Result<Vec<u8>, Memory>
     requires { file < length program.now.files }
-    ensures { IfOk result (λ text. text.items ≡ text_of_file program.now file) }
+    ensures text { IfOk result (λ text. text.items ≡ text_of_file program.now file) }
+    ensures read_again { IfOk result (λ text. IsReadAsFile program.now file text.items) }
 {
+    let count = program.file_count();
+    prove!((file as usize) < count);
     let mut text = Vec::new(alloc);
     let mut parts = Vec::new(alloc);
     let mut waiting = Vec::new(alloc);

@@ -1,0 +1,5 @@
+pub mod FindLemmas
+pub mod MemberLemmas
+pub mod RowLemmas
+pub mod SoundLemmas
+pub mod WalkLemmas

@@ -1,0 +1,11 @@
+//! The classes of a program, and look-ups among them and their members.
+#![tactic(auto)]
+
+pub mod chains;
+pub mod classes;
+pub mod keys;
+pub mod lookups;
+pub mod tables;
+
+pub use classes::Classes;
+pub use tables::ClassTable;

@@ -1,0 +1,7 @@
+//! Steps of the parser over expressions.
+#![tactic(auto)]
+
+pub mod arguments;
+pub mod closing;
+pub mod levels;
+pub mod operands;

@@ -1,0 +1,27 @@
+pub mod Begins
+pub mod BehindEnds
+pub mod BlocksRun
+pub mod ClassesRun
+pub mod ClosingEnds
+pub mod ClosingModes
+pub mod ClosingNeeds
+pub mod ClosingOnce
+pub mod ClosingPlaces
+pub mod ClosingRuns
+pub mod ClosingSteps
+pub mod DeclarationsStand
+pub mod Ends
+mod Examples
+pub mod ExpressionsRun
+pub mod ExpressionsStand
+pub mod FilesStand
+pub mod Growth
+pub mod GrowthOfFiles
+pub mod HeadersRun
+pub mod Soundness
+pub mod Standing
+pub mod Stands
+pub mod StatementsRun
+pub mod StatementsStand
+pub mod Tools
+pub mod Whole

@@ -1,5 +1,0 @@
-use Rattle.parser_machine.proofs.ClosingEnds.{end_read}
-use Rattle.parser_machine.proofs.closing_laws.each_end_is_of_a_file.Goals as goal
-
-pub returns : goal.returns
-returns c = λ before lexemes place last e. end_read before lexemes place last e

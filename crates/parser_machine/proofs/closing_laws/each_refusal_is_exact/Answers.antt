@@ -1,5 +1,0 @@
-use Rattle.parser_machine.proofs.ClosingPlaces.{refused_at}
-use Rattle.parser_machine.proofs.closing_laws.each_refusal_is_exact.Goals as goal
-
-pub returns : goal.returns
-returns c = λ before taken behind refused last e f. refused_at before taken behind refused last e f

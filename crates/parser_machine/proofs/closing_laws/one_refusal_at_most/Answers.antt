@@ -1,8 +1,0 @@
-use Rattle.parser_machine.proofs.ClosingOnce.{one_place, tree_not_refused}
-use Rattle.parser_machine.proofs.closing_laws.one_refusal_at_most.Goals as goal
-
-pub returns-clause-place : goal.returns-clause-place
-returns-clause-place c = λ before lexemes one other r s. one_place before lexemes one other r s
-
-pub returns-clause-file : goal.returns-clause-file
-returns-clause-file c = λ before after lexemes classes place d r. tree_not_refused before after lexemes classes place d r

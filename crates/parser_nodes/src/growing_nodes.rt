@@ -1,0 +1,108 @@
+//! The nodes of a program while a file is read.
+
+ghost use Rattle.std.specs.Prelude.{◌≡◌, ◌<◌, ◌^◌, IfOk, OnOk, length, []};
+ghost use Rattle.scj_tree.specs.Headers.{put};
+
+use scj_base::{Memory, NodeId};
+use scj_tree::{Node, NodeList, TextBytes};
+use std::alloc::Global;
+use std::marker::Model;
+
+/// The nodes of the files before, and behind them those of the file that is read.
+#[derive(Drop)]
+pub struct Nodes {
+    alloc: Global,
+    items: Vec<Node>,
+    kept: usize,
+}
+
+impl Model for Nodes {
+    ghost use Rattle.std.specs.Prelude.{List, take, length, ◌≤◌, ◌<◌, ◌^◌};
+    ghost use Rattle.parser_nodes.specs.Growing.{Growing, growing};
+
+    ghost Value = { Growing };
+
+    ghost view = { λ a. growing (take a.kept a.items.items) a.items.items };
+
+    ghost invariant = { λ a. (a.kept ≤ length a.items.items) × (length a.items.items < 2 ^ 32) };
+}
+
+impl Nodes {
+    /// No nodes behind those of the files before.
+    pub fn over(alloc: Global, items: Vec<Node>) -> Nodes
+        requires { length items.items < 2 ^ 32 }
+        ensures all { result.all ≡ items.items }
+        ensures kept { result.kept ≡ items.items }
+    {
+        let kept = items.len();
+        Nodes { alloc, items, kept }
+    }
+
+    /// A list without a child.
+    pub fn empty_list(&self) -> NodeList
+        ensures { result ≡ [] }
+    {
+        NodeList(Vec::new(self.alloc))
+    }
+
+    /// The bytes of a text.
+    pub fn text(&self, bytes: &[u8]) -> Result<TextBytes, Memory>
+        ensures { IfOk result (λ text. text ≡ bytes.now) }
+    {
+        Ok(TextBytes(bytes.to_vec(self.alloc)?))
+    }
+
+    /// Puts a node last, and tells its number.
+    pub fn put(&mut self, node: Node) -> Result<NodeId, Memory>
+        ensures number { IfOk result (λ id. id ≡ length self.old.all) }
+        ensures all { OnOk result (self.new.all ≡ put self.old.all node) }
+        ensures kept { self.new.kept ≡ self.old.kept }
+    {
+        let place = self.items.len();
+        if place >= u32::MAX as usize {
+            return Err(Memory);
+        }
+        self.items.push(node)?;
+        Ok(NodeId::at(place as u32))
+    }
+
+    /// The nodes in order.
+    pub fn items(&self) -> &[Node]
+        ensures all { result.now ≡ self.now.all }
+        ensures few { length self.now.all < 2 ^ 32 }
+    {
+        self.items.as_slice()
+    }
+
+    /// The number of the nodes of the files before.
+    pub fn kept_len(&self) -> usize
+        ensures { result ≡ length self.now.kept }
+    {
+        self.kept
+    }
+
+    /// All nodes.
+    pub fn into_all(self) -> Vec<Node>
+        ensures { result.items ≡ self.all }
+    {
+        let Nodes {
+            alloc: _,
+            items,
+            kept: _,
+        } = self;
+        items
+    }
+
+    /// The nodes of the files before.
+    pub fn into_kept(self) -> Vec<Node>
+        ensures { result.items ≡ self.kept }
+    {
+        let Nodes {
+            alloc: _,
+            mut items,
+            kept,
+        } = self;
+        items.truncate(kept);
+        items
+    }
+}

@@ -1,0 +1,423 @@
+//! Statements.
+
+ghost use Rattle.std.specs.Prelude.{◌≡◌, ◌∷◌};
+ghost use Rattle.parser_machine.specs.Blocks.{block_ended, first_start, local_ended, local_named_step, name_bracket_step, name_first_step, return_step, statement_sign, statement_start, statement_word, statements_step, target_start, test_open_step};
+ghost use Rattle.parser_machine.specs.Operands.{operand_start};
+ghost use Rattle.parser_machine.specs.declared.entries.Entry.TheVariants.{IndexOpen, Target};
+ghost use Rattle.parser_nodes.specs.Told.{gives, seen};
+ghost use Rattle.scj_tree.specs.Lexemes.{a_sign};
+ghost use Rattle.scj_tree.specs.Headers.{put};
+ghost use Rattle.scj_tree.specs.declared.nodes.Node.TheVariants.{SimpleName};
+ghost use Rattle.std.specs.Prelude.{length};
+
+use expression_steps::operands::{name_step, operand_start};
+use parser_machine::{ElementType, Entry, Mode};
+use parser_nodes::growing_nodes::Nodes;
+use parser_nodes::stacks::Stack;
+use parser_nodes::views::View;
+use scj_base::vocabulary::{
+    ASSIGN, AT, BOOLEAN, FINAL, FOR, IF, INT, LEFT_BRACE, LEFT_BRACKET, LEFT_PARENTHESIS, LESS,
+    RETURN, RIGHT_BRACE, RIGHT_BRACKET, SEMICOLON, WHILE,
+};
+use scj_base::{Memory, Name, NodeId, Pos};
+use scj_tree::Node;
+use type_steps::declarations::flags_step;
+use type_steps::flags::no_flags;
+use type_steps::names::takes_argument;
+use type_steps::types::typed;
+
+/// Where a target is due.
+#[tactic(auto, unfolding(parser_machine::specs::Blocks::target_start))]
+pub fn target_start(
+    nodes: &mut Nodes,
+    stack: &mut Stack,
+    view: &View,
+) -> Result<Option<Mode>, Memory>
+    ensures step { let awaited = target_start nodes.old.all stack.old (seen view.now) in gives result nodes.new.all stack.new awaited ≡ awaited }
+    ensures kept { nodes.new.kept ≡ nodes.old.kept }
+{
+    if let View::Sign(sign, place) = view {
+        if *sign == LEFT_PARENTHESIS {
+            stack.push(Entry::Target)?;
+            return Ok(Some(Mode::Opened { place: *place }));
+        }
+        return Ok(None);
+    }
+    stack.push(Entry::Target)?;
+    operand_start(nodes, stack, view)
+}
+
+/// Where a local without flags, an assignment or a call is due.
+#[tactic(auto, unfolding(parser_machine::specs::Blocks::first_start))]
+pub fn first_start(
+    nodes: &mut Nodes,
+    stack: &mut Stack,
+    view: &View,
+) -> Result<Option<Mode>, Memory>
+    ensures step { let awaited = first_start nodes.old.all stack.old (seen view.now) in gives result nodes.new.all stack.new awaited ≡ awaited }
+    ensures kept { nodes.new.kept ≡ nodes.old.kept }
+{
+    match view {
+        View::Name(name, place) => Ok(Some(Mode::NameFirst {
+            place: *place,
+            name: *name,
+        })),
+        View::Word(word, place) => {
+            if *word == INT {
+                stack.push(Entry::LocalOpen { flags: None })?;
+                return Ok(Some(Mode::TypeEnd {
+                    place: *place,
+                    element: ElementType::Int,
+                }));
+            }
+            if *word == BOOLEAN {
+                stack.push(Entry::LocalOpen { flags: None })?;
+                return Ok(Some(Mode::TypeEnd {
+                    place: *place,
+                    element: ElementType::Boolean,
+                }));
+            }
+            target_start(nodes, stack, view)
+        }
+        _ => target_start(nodes, stack, view),
+    }
+}
+
+/// Behind a name where a statement is due, and a sign, which is the lexeme.
+#[tactic(auto, unfolding(parser_machine::specs::Blocks::name_first_step))]
+pub fn name_first_sign(
+    nodes: &mut Nodes,
+    stack: &mut Stack,
+    place: Pos,
+    name: Name,
+    sign: u8,
+    sign_place: Pos,
+) -> Result<Option<Mode>, Memory>
+    ensures step { let awaited = name_first_step place name nodes.old.all stack.old (a_sign sign sign_place) in gives result nodes.new.all stack.new awaited ≡ awaited }
+    ensures kept { nodes.new.kept ≡ nodes.old.kept }
+{
+    if sign == LESS {
+        if takes_argument(&name) {
+            stack.push(Entry::LocalOpen { flags: None })?;
+            return Ok(Some(Mode::TypeArgumentName { place, name }));
+        }
+        return Ok(None);
+    }
+    if sign == LEFT_BRACKET {
+        return Ok(Some(Mode::NameBracket {
+            place,
+            name,
+            bracket: sign_place,
+        }));
+    }
+    stack.push(Entry::Target)?;
+    let view = View::Sign(sign, sign_place);
+    name_step(nodes, stack, &view, place, name)
+}
+
+/// Behind a name where a statement is due.
+#[tactic(auto, unfolding(parser_machine::specs::Blocks::name_first_step))]
+pub fn name_first_step(
+    nodes: &mut Nodes,
+    stack: &mut Stack,
+    view: &View,
+    place: Pos,
+    name: Name,
+) -> Result<Option<Mode>, Memory>
+    ensures step { let awaited = name_first_step place name nodes.old.all stack.old (seen view.now) in gives result nodes.new.all stack.new awaited ≡ awaited }
+    ensures kept { nodes.new.kept ≡ nodes.old.kept }
+{
+    match view {
+        View::Name(_, _) => {
+            let id = nodes.put(Node::ClassType {
+                place,
+                name,
+                argument: None,
+                is_array: false,
+            })?;
+            stack.push(Entry::LocalOpen { flags: None })?;
+            typed(nodes, stack, view, id)
+        }
+        View::Sign(sign, sign_place) => name_first_sign(
+            nodes,
+            stack,
+            place,
+            name,
+            *sign,
+            *sign_place,
+        ),
+        _ => Ok(None),
+    }
+}
+
+/// Behind such a name and `[`, which is no `]`: an index.
+#[tactic(auto, unfolding(parser_machine::specs::Operands::operand_start))]
+pub fn name_index(
+    nodes: &mut Nodes,
+    stack: &mut Stack,
+    view: &View,
+    place: Pos,
+    name: Name,
+    bracket: Pos,
+) -> Result<Option<Mode>, Memory>
+    ensures step { let awaited = operand_start (put nodes.old.all (SimpleName place name)) (IndexOpen bracket (length nodes.old.all) ∷ Target ∷ stack.old) (seen view.now) in gives result nodes.new.all stack.new awaited ≡ awaited }
+    ensures kept { nodes.new.kept ≡ nodes.old.kept }
+{
+    let array = nodes.put(Node::SimpleName { place, name })?;
+    stack.push(Entry::Target)?;
+    stack.push(Entry::IndexOpen {
+        place: bracket,
+        array,
+    })?;
+    operand_start(nodes, stack, view)
+}
+
+/// Behind a name where a statement is due, and `[`.
+#[tactic(auto, unfolding(parser_machine::specs::Blocks::name_bracket_step))]
+pub fn name_bracket_step(
+    nodes: &mut Nodes,
+    stack: &mut Stack,
+    view: &View,
+    place: Pos,
+    name: Name,
+    bracket: Pos,
+) -> Result<Option<Mode>, Memory>
+    ensures step { let awaited = name_bracket_step place name bracket nodes.old.all stack.old (seen view.now) in gives result nodes.new.all stack.new awaited ≡ awaited }
+    ensures kept { nodes.new.kept ≡ nodes.old.kept }
+{
+    if let View::Sign(sign, _) = view {
+        if *sign == RIGHT_BRACKET {
+            let id = nodes.put(Node::ClassType {
+                place,
+                name,
+                argument: None,
+                is_array: true,
+            })?;
+            stack.push(Entry::LocalOpen { flags: None })?;
+            return Ok(Some(Mode::TypeDone { id }));
+        }
+        return name_index(nodes, stack, view, place, name, bracket);
+    }
+    name_index(nodes, stack, view, place, name, bracket)
+}
+
+/// Behind a local without a value.
+#[tactic(auto, unfolding(parser_machine::specs::Blocks::local_ended))]
+pub fn local_ended(
+    nodes: &mut Nodes,
+    stack: &mut Stack,
+    flags: Option<NodeId>,
+    declared_type: NodeId,
+    place: Pos,
+    name: Name,
+) -> Result<Option<Mode>, Memory>
+    ensures step { let awaited = local_ended flags declared_type place name nodes.old.all stack.old in gives result nodes.new.all stack.new awaited ≡ awaited }
+    ensures kept { nodes.new.kept ≡ nodes.old.kept }
+{
+    let Some(entry) = stack.pop() else {
+        return Ok(None);
+    };
+    match &entry {
+        Entry::Simple => {
+            let id = nodes.put(Node::Local {
+                place,
+                name,
+                flags,
+                declared_type,
+            })?;
+            Ok(Some(Mode::StatementEnd { id }))
+        }
+        _ => Ok(None),
+    }
+}
+
+/// Behind the type and the name of a local.
+#[tactic(auto, unfolding(parser_machine::specs::Blocks::local_named_step))]
+pub fn local_named_step(
+    nodes: &mut Nodes,
+    stack: &mut Stack,
+    view: &View,
+    flags: Option<NodeId>,
+    declared_type: NodeId,
+    place: Pos,
+    name: Name,
+) -> Result<Option<Mode>, Memory>
+    ensures step { let awaited = local_named_step flags declared_type place name nodes.old.all stack.old (seen view.now) in gives result nodes.new.all stack.new awaited ≡ awaited }
+    ensures kept { nodes.new.kept ≡ nodes.old.kept }
+{
+    let View::Sign(sign, sign_place) = view else {
+        return Ok(None);
+    };
+    if *sign == ASSIGN {
+        stack.push(Entry::LocalValue {
+            place: *sign_place,
+            name_place: place,
+            name,
+            flags,
+            declared_type,
+        })?;
+        return Ok(Some(Mode::Operand));
+    }
+    if *sign == SEMICOLON {
+        return local_ended(nodes, stack, flags, declared_type, place, name);
+    }
+    Ok(None)
+}
+
+/// Behind `if`, `while` and `for`.
+#[tactic(auto, unfolding(parser_machine::specs::Blocks::test_open_step))]
+pub fn test_open_step(
+    nodes: &mut Nodes,
+    stack: &mut Stack,
+    view: &View,
+    mode: Mode,
+    entry: Entry,
+) -> Result<Option<Mode>, Memory>
+    ensures step { let awaited = test_open_step mode entry nodes.old.all stack.old (seen view.now) in gives result nodes.new.all stack.new awaited ≡ awaited }
+    ensures kept { nodes.new.kept ≡ nodes.old.kept }
+{
+    let View::Sign(sign, _) = view else {
+        return Ok(None);
+    };
+    if *sign != LEFT_PARENTHESIS {
+        return Ok(None);
+    }
+    stack.push(entry)?;
+    Ok(Some(mode))
+}
+
+/// Behind `return`.
+#[tactic(auto, unfolding(parser_machine::specs::Blocks::return_step))]
+pub fn return_step(
+    nodes: &mut Nodes,
+    stack: &mut Stack,
+    view: &View,
+    place: Pos,
+) -> Result<Option<Mode>, Memory>
+    ensures step { let awaited = return_step place nodes.old.all stack.old (seen view.now) in gives result nodes.new.all stack.new awaited ≡ awaited }
+    ensures kept { nodes.new.kept ≡ nodes.old.kept }
+{
+    if let View::Sign(sign, _) = view {
+        if *sign == SEMICOLON {
+            let id = nodes.put(Node::Return { place, value: None })?;
+            return Ok(Some(Mode::StatementEnd { id }));
+        }
+        stack.push(Entry::ReturnValue { place })?;
+        return operand_start(nodes, stack, view);
+    }
+    stack.push(Entry::ReturnValue { place })?;
+    operand_start(nodes, stack, view)
+}
+
+/// A word where a statement is due.
+#[tactic(auto, unfolding(parser_machine::specs::Blocks::statement_word))]
+pub fn statement_word(
+    nodes: &mut Nodes,
+    stack: &mut Stack,
+    word: u8,
+    place: Pos,
+) -> Result<Option<Mode>, Memory>
+    ensures step { let awaited = statement_word word place nodes.old.all stack.old in gives result nodes.new.all stack.new awaited ≡ awaited }
+    ensures kept { nodes.new.kept ≡ nodes.old.kept }
+{
+    match word {
+        IF => return Ok(Some(Mode::IfOpen { place })),
+        WHILE => return Ok(Some(Mode::WhileOpen { place })),
+        FOR => return Ok(Some(Mode::ForOpen { place })),
+        RETURN => return Ok(Some(Mode::ReturnStart { place })),
+        _ => {}
+    }
+    stack.push(Entry::Simple)?;
+    let view = View::Word(word, place);
+    if word == FINAL {
+        return flags_step(nodes, stack, &view, true, no_flags());
+    }
+    first_start(nodes, stack, &view)
+}
+
+/// A sign where a statement is due.
+#[tactic(auto, unfolding(parser_machine::specs::Blocks::statement_sign))]
+pub fn statement_sign(
+    nodes: &mut Nodes,
+    stack: &mut Stack,
+    sign: u8,
+    place: Pos,
+) -> Result<Option<Mode>, Memory>
+    ensures step { let awaited = statement_sign sign place nodes.old.all stack.old in gives result nodes.new.all stack.new awaited ≡ awaited }
+    ensures kept { nodes.new.kept ≡ nodes.old.kept }
+{
+    if sign == LEFT_BRACE {
+        stack.push(Entry::BlockOpen {
+            place,
+            statements: nodes.empty_list(),
+        })?;
+        return Ok(Some(Mode::InStatements));
+    }
+    if sign == SEMICOLON {
+        let id = nodes.put(Node::Empty { place })?;
+        return Ok(Some(Mode::StatementEnd { id }));
+    }
+    stack.push(Entry::Simple)?;
+    let view = View::Sign(sign, place);
+    if sign == AT {
+        return flags_step(nodes, stack, &view, true, no_flags());
+    }
+    first_start(nodes, stack, &view)
+}
+
+/// Where a statement is due.
+#[tactic(auto, unfolding(parser_machine::specs::Blocks::statement_start))]
+pub fn statement_start(
+    nodes: &mut Nodes,
+    stack: &mut Stack,
+    view: &View,
+) -> Result<Option<Mode>, Memory>
+    ensures step { let awaited = statement_start nodes.old.all stack.old (seen view.now) in gives result nodes.new.all stack.new awaited ≡ awaited }
+    ensures kept { nodes.new.kept ≡ nodes.old.kept }
+{
+    match view {
+        View::Word(word, place) => statement_word(nodes, stack, *word, *place),
+        View::Sign(sign, place) => statement_sign(nodes, stack, *sign, *place),
+        _ => {
+            stack.push(Entry::Simple)?;
+            first_start(nodes, stack, view)
+        }
+    }
+}
+
+/// Behind the brace that closes a block.
+#[tactic(auto, unfolding(parser_machine::specs::Blocks::block_ended))]
+pub fn block_ended(nodes: &mut Nodes, stack: &mut Stack) -> Result<Option<Mode>, Memory>
+    ensures step { let awaited = block_ended nodes.old.all stack.old in gives result nodes.new.all stack.new awaited ≡ awaited }
+    ensures kept { nodes.new.kept ≡ nodes.old.kept }
+{
+    let Some(entry) = stack.pop() else {
+        return Ok(None);
+    };
+    match entry {
+        Entry::BlockOpen { place, statements } => {
+            let id = nodes.put(Node::Block { place, statements })?;
+            Ok(Some(Mode::StatementEnd { id }))
+        }
+        _other => Ok(None),
+    }
+}
+
+/// Where a statement or the end of a block is due.
+#[tactic(auto, unfolding(parser_machine::specs::Blocks::statements_step))]
+pub fn statements_step(
+    nodes: &mut Nodes,
+    stack: &mut Stack,
+    view: &View,
+) -> Result<Option<Mode>, Memory>
+    ensures step { let awaited = statements_step nodes.old.all stack.old (seen view.now) in gives result nodes.new.all stack.new awaited ≡ awaited }
+    ensures kept { nodes.new.kept ≡ nodes.old.kept }
+{
+    if let View::Sign(sign, _) = view {
+        if *sign == RIGHT_BRACE {
+            return block_ended(nodes, stack);
+        }
+        return statement_start(nodes, stack, view);
+    }
+    statement_start(nodes, stack, view)
+}

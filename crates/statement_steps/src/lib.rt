@@ -1,0 +1,7 @@
+//! Steps of the parser over statements and bodies.
+#![tactic(auto)]
+
+pub mod blocks;
+pub mod enclosing_statements;
+pub mod endings;
+pub mod parameters;

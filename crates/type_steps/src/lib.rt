@@ -1,0 +1,8 @@
+//! Steps of the parser over types, and over the flags of what is declared.
+#![tactic(auto)]
+
+pub mod declarations;
+pub mod elements;
+pub mod flags;
+pub mod names;
+pub mod types;

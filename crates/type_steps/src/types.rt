@@ -1,0 +1,268 @@
+//! Types, and the names behind them.
+
+ghost use Rattle.std.specs.Prelude.{◌≡◌};
+ghost use Rattle.parser_machine.specs.Declarations.{constructor_step, type_argument_end_step, type_argument_name_step, type_bracket_step, type_end_step, type_name_step, type_start, typed};
+ghost use Rattle.parser_nodes.specs.Told.{gives, seen};
+ghost use Rattle.scj_tree.specs.Lexemes.{a_sign};
+
+use crate::elements::element_node;
+use crate::names::takes_argument;
+use parser_machine::{ElementType, Entry, Mode};
+use parser_nodes::growing_nodes::Nodes;
+use parser_nodes::stacks::Stack;
+use parser_nodes::views::View;
+use scj_base::vocabulary::{
+    BOOLEAN, GREATER, INT, LEFT_BRACKET, LEFT_PARENTHESIS, LESS, RIGHT_BRACKET,
+};
+use scj_base::{Memory, Name, NodeId, Pos};
+use scj_tree::Node;
+
+/// Behind a type.
+#[tactic(auto, unfolding(parser_machine::specs::Declarations::typed))]
+pub fn typed(
+    nodes: &mut Nodes,
+    stack: &mut Stack,
+    view: &View,
+    id: NodeId,
+) -> Result<Option<Mode>, Memory>
+    ensures step { let awaited = typed id nodes.old.all stack.old (seen view.now) in gives result nodes.new.all stack.new awaited ≡ awaited }
+    ensures kept { nodes.new.kept ≡ nodes.old.kept }
+{
+    let View::Name(name, place) = view else {
+        return Ok(None);
+    };
+    let Some(entry) = stack.pop() else {
+        return Ok(None);
+    };
+    match &entry {
+        Entry::MemberOpen { flags } => Ok(Some(Mode::MemberNamed {
+            flags: *flags,
+            declared_type: id,
+            place: *place,
+            name: *name,
+        })),
+        Entry::ParameterOpen { flags } => {
+            let id = nodes.put(Node::Parameter {
+                place: *place,
+                name: *name,
+                flags: *flags,
+                declared_type: id,
+            })?;
+            Ok(Some(Mode::ParameterDone { id }))
+        }
+        Entry::LocalOpen { flags } => Ok(Some(Mode::LocalNamed {
+            flags: *flags,
+            declared_type: id,
+            place: *place,
+            name: *name,
+        })),
+        _ => Ok(None),
+    }
+}
+
+/// Behind a type without brackets.
+#[tactic(auto, unfolding(parser_machine::specs::Declarations::type_end_step))]
+pub fn type_end_step(
+    nodes: &mut Nodes,
+    stack: &mut Stack,
+    view: &View,
+    place: Pos,
+    element: ElementType,
+) -> Result<Option<Mode>, Memory>
+    ensures step { let awaited = type_end_step place element nodes.old.all stack.old (seen view.now) in gives result nodes.new.all stack.new awaited ≡ awaited }
+    ensures kept { nodes.new.kept ≡ nodes.old.kept }
+{
+    if let View::Sign(sign, _) = view {
+        if *sign == LEFT_BRACKET {
+            return Ok(Some(Mode::TypeBracket { place, element }));
+        }
+        return Ok(None);
+    }
+    let id = nodes.put(element_node(place, element, false))?;
+    typed(nodes, stack, view, id)
+}
+
+/// Behind the `[` of a type.
+#[tactic(auto, unfolding(parser_machine::specs::Declarations::type_bracket_step))]
+pub fn type_bracket_step(
+    nodes: &mut Nodes,
+    stack: &mut Stack,
+    view: &View,
+    place: Pos,
+    element: ElementType,
+) -> Result<Option<Mode>, Memory>
+    ensures step { let awaited = type_bracket_step place element nodes.old.all stack.old (seen view.now) in gives result nodes.new.all stack.new awaited ≡ awaited }
+    ensures kept { nodes.new.kept ≡ nodes.old.kept }
+{
+    let View::Sign(sign, _) = view else {
+        return Ok(None);
+    };
+    if *sign != RIGHT_BRACKET {
+        return Ok(None);
+    }
+    let id = nodes.put(element_node(place, element, true))?;
+    Ok(Some(Mode::TypeDone { id }))
+}
+
+/// Behind the name of a member and `(`, which stands at `parenthesis`.
+#[tactic(auto, unfolding(parser_machine::specs::Declarations::constructor_step))]
+pub fn constructor_step(
+    nodes: &mut Nodes,
+    stack: &mut Stack,
+    place: Pos,
+    name: Name,
+    parenthesis: Pos,
+) -> Result<Option<Mode>, Memory>
+    ensures step { let awaited = constructor_step place name parenthesis nodes.old.all stack.old in gives result nodes.new.all stack.new awaited ≡ awaited }
+    ensures kept { nodes.new.kept ≡ nodes.old.kept }
+{
+    let Some(entry) = stack.pop() else {
+        return Ok(None);
+    };
+    match &entry {
+        Entry::MemberOpen { flags } => {
+            stack.push(Entry::ConstructorOpen {
+                flags: *flags,
+                place,
+                name,
+            })?;
+            Ok(Some(Mode::ParametersFirst { place: parenthesis }))
+        }
+        _ => Ok(None),
+    }
+}
+
+/// Behind a name where a type is due, and a sign.
+#[tactic(auto, unfolding(parser_machine::specs::Declarations::type_name_step))]
+pub fn type_name_sign(
+    nodes: &mut Nodes,
+    stack: &mut Stack,
+    place: Pos,
+    name: Name,
+    sign: u8,
+    sign_place: Pos,
+) -> Result<Option<Mode>, Memory>
+    ensures step { let awaited = type_name_step place name nodes.old.all stack.old (a_sign sign sign_place) in gives result nodes.new.all stack.new awaited ≡ awaited }
+    ensures kept { nodes.new.kept ≡ nodes.old.kept }
+{
+    if sign == LESS {
+        if takes_argument(&name) {
+            return Ok(Some(Mode::TypeArgumentName { place, name }));
+        }
+        return Ok(None);
+    }
+    if sign == LEFT_BRACKET {
+        return Ok(Some(Mode::TypeBracket {
+            place,
+            element: ElementType::Reference {
+                name,
+                argument: None,
+            },
+        }));
+    }
+    if sign == LEFT_PARENTHESIS {
+        return constructor_step(nodes, stack, place, name, sign_place);
+    }
+    Ok(None)
+}
+
+/// Behind a name where a type is due.
+#[tactic(auto, unfolding(parser_machine::specs::Declarations::type_name_step))]
+pub fn type_name_step(
+    nodes: &mut Nodes,
+    stack: &mut Stack,
+    view: &View,
+    place: Pos,
+    name: Name,
+) -> Result<Option<Mode>, Memory>
+    ensures step { let awaited = type_name_step place name nodes.old.all stack.old (seen view.now) in gives result nodes.new.all stack.new awaited ≡ awaited }
+    ensures kept { nodes.new.kept ≡ nodes.old.kept }
+{
+    if let View::Sign(sign, sign_place) = view {
+        return type_name_sign(nodes, stack, place, name, *sign, *sign_place);
+    }
+    let id = nodes.put(Node::ClassType {
+        place,
+        name,
+        argument: None,
+        is_array: false,
+    })?;
+    typed(nodes, stack, view, id)
+}
+
+/// Behind the `<` of a type.
+#[tactic(auto, unfolding(parser_machine::specs::Declarations::type_argument_name_step))]
+pub fn type_argument_name_step(
+    nodes: &mut Nodes,
+    stack: &mut Stack,
+    view: &View,
+    place: Pos,
+    name: Name,
+) -> Result<Option<Mode>, Memory>
+    ensures step { let awaited = type_argument_name_step place name nodes.old.all stack.old (seen view.now) in gives result nodes.new.all stack.new awaited ≡ awaited }
+    ensures kept { nodes.new.kept ≡ nodes.old.kept }
+{
+    let View::Name(argument, argument_place) = view else {
+        return Ok(None);
+    };
+    let argument = nodes.put(Node::TypeArgument {
+        place: *argument_place,
+        name: *argument,
+    })?;
+    Ok(Some(Mode::TypeArgumentEnd {
+        place,
+        name,
+        argument,
+    }))
+}
+
+/// Behind the argument of a type.
+#[tactic(auto, unfolding(parser_machine::specs::Declarations::type_argument_end_step))]
+pub fn type_argument_end_step(
+    nodes: &mut Nodes,
+    stack: &mut Stack,
+    view: &View,
+    place: Pos,
+    name: Name,
+    argument: NodeId,
+) -> Result<Option<Mode>, Memory>
+    ensures step { let awaited = type_argument_end_step place name argument nodes.old.all stack.old (seen view.now) in gives result nodes.new.all stack.new awaited ≡ awaited }
+    ensures kept { nodes.new.kept ≡ nodes.old.kept }
+{
+    let View::Sign(sign, _) = view else {
+        return Ok(None);
+    };
+    if *sign == GREATER {
+        return Ok(Some(Mode::TypeEnd {
+            place,
+            element: ElementType::Reference {
+                name,
+                argument: Some(argument),
+            },
+        }));
+    }
+    Ok(None)
+}
+
+/// Where a type is due.
+#[tactic(auto, unfolding(parser_machine::specs::Declarations::type_start))]
+pub fn type_start(nodes: &mut Nodes, stack: &mut Stack, view: &View) -> Result<Option<Mode>, Memory>
+    ensures step { let awaited = type_start nodes.old.all stack.old (seen view.now) in gives result nodes.new.all stack.new awaited ≡ awaited }
+    ensures kept { nodes.new.kept ≡ nodes.old.kept }
+{
+    match view {
+        View::Name(name, place) => Ok(Some(Mode::TypeName {
+            place: *place,
+            name: *name,
+        })),
+        View::Word(INT, place) => Ok(Some(Mode::TypeEnd {
+            place: *place,
+            element: ElementType::Int,
+        })),
+        View::Word(BOOLEAN, place) => Ok(Some(Mode::TypeEnd {
+            place: *place,
+            element: ElementType::Boolean,
+        })),
+        _ => Ok(None),
+    }
+}
