@@ -1,6 +1,10 @@
 //! Static scopes: where the objects lie that classes, methods, variables and fields speak of.
 #![tactic(auto)]
 
+mod framework;
+mod methods;
+mod names;
+mod things;
 mod words;
 
 pub use words::{are_same_scope, fits, substitute};
