@@ -4,7 +4,9 @@
 mod framework;
 mod methods;
 mod names;
+pub mod runs;
 mod things;
 mod words;
 
+pub use runs::Runs;
 pub use words::{are_same_scope, fits, substitute};
