@@ -14,13 +14,9 @@ use Rattle.scj_rules.specs.StaticScopes.{runs_in, this_in, current_in}
 use Rattle.method_rows.specs.declared.refs.MethodRef.{MethodRef}
 use Rattle.method_rows.specs.declared.refs.MethodSource.TheVariants.{Declared as declared_source}
 use Rattle.method_rows.specs.Methods.{found_method, method_from, no_method}
-use Rattle.static_scopes.specs.Found.{method_in}
+use Rattle.static_scopes.specs.Found.{method_in, at_node}
 use Rattle.static_scopes.specs.Runs.{AreRuns, run_at, runs_in_at}
 use Rattle.static_scopes.specs.declared.runs.Runs.{Runs}
-
--- the row of the method that a node declares, in a class
-abbrev pub at_node : ℕ → ℕ → MethodRef
-at_node class id = record { on = class; source = declared_source id }
 
 pub method_at_node : (forest : Forest) (class id : ℕ) (m : DeclaredMethod) → method_at forest.nodes id ≡ Some m → method_in forest (at_node class id) ≡ m
 unfolding found_method method_from
