@@ -7,6 +7,7 @@ pub mod expressions;
 pub mod forms;
 pub mod known;
 pub mod names;
+pub mod results;
 pub mod statements;
 
 pub use known::Known;
