@@ -2,18 +2,18 @@
 
 ghost use Rattle.std.specs.Prelude.{◌≡◌, ◌<◌, ◌≤◌, option_map, option_and_then};
 ghost use Rattle.scj_rules.specs.Words.{is_among};
-ghost use Rattle.scj_rules.specs.Classes.{superclasses, all_interfaces, is_sub, own_field, field_named, own_method, method_named, method_above, framework_row_named, field_number};
+ghost use Rattle.scj_rules.specs.Classes.{superclasses, all_interfaces, is_sub, own_field, field_named, own_method, method_named, method_above, framework_row_named, field_number, method_number};
 ghost use Rattle.scj_rules.specs.Views.{field_at};
 ghost use Rattle.scj_rules.specs.Contexts.{declarations_of};
 ghost use Rattle.method_rows.specs.Methods.{found_method};
 ghost use Rattle.class_rows.specs.Tables.{field_among, method_among, members_in};
 
 use crate::classes::Classes;
-use crate::keys::{MemberKey, NameKey};
+use class_headers::{MemberKey, NameKey};
 
 use method_rows::{MethodRef, MethodSource, framework_method};
 use node_views::field_at;
-use scj_base::{ClassId, FieldId, Name, NodeId};
+use scj_base::{ClassId, FieldId, MethodId, Name, NodeId};
 use scj_rules::{Declared, FoundField};
 
 impl<'a> Classes<'a> {
@@ -190,12 +190,20 @@ impl<'a> Classes<'a> {
     }
 
     /// The number of the field that a node declares.
-    #[tactic(auto, unfolding(scj_rules::specs::Classes::field_number))]
     pub fn field_number(&self, node: NodeId) -> Option<FieldId>
         ensures { result ≡ field_number (declarations_of self.now).classes node }
     {
         let place = node.place();
         let number = self.table.field_numbers.get(&place).copied()?;
         Some(FieldId::at(number))
+    }
+
+    /// The number of the method or constructor that a node declares.
+    pub fn method_number(&self, node: NodeId) -> Option<MethodId>
+        ensures { result ≡ method_number self.now.nodes (declarations_of self.now).users node }
+    {
+        let place = node.place();
+        let number = self.table.method_numbers.get(&place).copied()?;
+        Some(MethodId::at(number))
     }
 }
