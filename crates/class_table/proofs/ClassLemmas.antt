@@ -62,17 +62,17 @@ at_user forest class c h = go (slice_get p.written class) refl h
         let written : counts.written ≡ Some c = kept (λ (r : ClassRow). r.written) row t refl ∙ w in
         let s = row_sound forest class row e in
         let fields : counts.fields ≡ filter_map (field_at forest.nodes) c.members = kept (λ (r : ClassRow). r.fields) row t refl ∙ s.fields ∙ ap (λ o. filter_map (field_at forest.nodes) (members_of o)) w in
-        let user : first_user_class ≤ class = is_behind (cases_lt class first_user_class) s.framework w in
+        let user : first_user_class ≤ class = is_behind row (cases_lt class first_user_class) s.framework w in
         let methods : counts.methods ≡ filter_map (method_at forest.nodes) c.members =
         kept (λ (r : ClassRow). r.methods) row t refl ∙ s.methods ∙ sym (other_methods forest.nodes class row.written user) ∙ ap (λ o. filter_map (method_at forest.nodes) (members_of o)) w in
         ap (at_row p class) at ∙ ap (at_written p class counts) written ∙ same_members p class c counts (user_row forest.nodes p.names c) fields methods
       where
-        is_behind : {row : ClassRow} → (class < first_user_class) ⊎ (first_user_class ≤ class) → (class < first_user_class → row.written ≡ None) → row.written ≡ Some c → first_user_class ≤ class
-        is_behind (inl l) f w = absurd (no_class (sym (f l) ∙ w))
+        is_behind : (row : ClassRow) → (class < first_user_class) ⊎ (first_user_class ≤ class) → (class < first_user_class → row.written ≡ None) → row.written ≡ Some c → first_user_class ≤ class
+        is_behind row (inl l) f w = absurd (no_class (sym (f l) ∙ w))
           where
             no_class : None ≡ Some c → ⊥
             no_class e = cc
-        is_behind (inr l) f w = l
+        is_behind row (inr l) f w = l
 
     go : (o : Option ClassRow) → slice_get p.written class ≡ o → option_and_then (λ (row : ClassRow). row.written) o ≡ Some c → at_row p class (slice_get p.classes class) ≡ class_found p class (user_row forest.nodes p.names c) c
     go None e w = cc
@@ -93,6 +93,9 @@ at_other forest class h = go (slice_get (declarations_of forest).written class) 
         let at : slice_get p.classes class ≡ Some counts = class_get forest class ∙ ap (option_map (counted p class)) e ∙ ap Some (counted_is p class row) in
         let written : counts.written ≡ None = kept (λ (r : ClassRow). r.written) row t refl ∙ w in
         ap (at_row p class) at ∙ ap (at_written p class counts) written
+
+pub added_nothing : (found xs : List Found) → xs ≡ [] → found ≡ found ++ xs
+added_nothing found xs e = sym (ap (λ ys. found ++ ys) e ∙ append-nil found)
 
 -- the classes from one number on, and from the next
 flat_next : {A : Type 0} (f : ℕ → List Found) (k : ℕ) (xs : List A) → k < length xs → flat_map f (numbers_from k (drop k xs)) ≡ f k ++ flat_map f (numbers_from (k + 1) (drop (k + 1) xs))
