@@ -10,11 +10,11 @@ ghost use Rattle.method_rows.specs.Methods.{found_method};
 ghost use Rattle.class_rows.specs.Tables.{field_among, method_among, members_in};
 
 use crate::classes::Classes;
-use crate::keys::{MemberKey, NameKey};
+use class_headers::{MemberKey, NameKey};
 
 use method_rows::{MethodRef, MethodSource, framework_method};
 use node_views::field_at;
-use scj_base::{ClassId, FieldId, Name, NodeId};
+use scj_base::{ClassId, FieldId, MethodId, Name, NodeId};
 use scj_rules::{Declared, FoundField};
 
 impl<'a> Classes<'a> {
@@ -191,7 +191,6 @@ impl<'a> Classes<'a> {
     }
 
     /// The number of the field that a node declares.
-    #[tactic(auto, unfolding(scj_rules::specs::Classes::field_number))]
     pub fn field_number(&self, node: NodeId) -> Option<FieldId>
         ensures { result ≡ field_number (declarations_of self.now).classes node }
     {
@@ -200,6 +199,7 @@ impl<'a> Classes<'a> {
         Some(FieldId::at(number))
     }
 
+<<<<<<< HEAD
     /// The place of the method or constructor that a node declares among those of the program; the framework's methods
     /// have the numbers before these.
     #[tactic(auto, unfolding(scj_rules::specs::Classes::method_number))]
@@ -208,5 +208,14 @@ impl<'a> Classes<'a> {
     {
         let place = node.place();
         self.table.method_numbers.get(&place).copied()
+=======
+    /// The number of the method or constructor that a node declares.
+    pub fn method_number(&self, node: NodeId) -> Option<MethodId>
+        ensures { result ≡ method_number self.now.nodes (declarations_of self.now).users node }
+    {
+        let place = node.place();
+        let number = self.table.method_numbers.get(&place).copied()?;
+        Some(MethodId::at(number))
+>>>>>>> a95bcf4a1410c2e257c097da9284ae85a8bd1103
     }
 }
