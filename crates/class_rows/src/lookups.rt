@@ -1,7 +1,6 @@
 //! Whether a class stands under another, and look-ups of members by name.
 
-ghost use Rattle.std.specs.Prelude.{◌≡◌, ◌+◌, ◌<◌, ◌≤◌, length, option_map, option_and_then};
-ghost use Rattle.scj_builtins.specs.Framework.{framework_methods};
+ghost use Rattle.std.specs.Prelude.{◌≡◌, ◌<◌, ◌≤◌, option_map, option_and_then};
 ghost use Rattle.scj_rules.specs.Words.{is_among};
 ghost use Rattle.scj_rules.specs.Classes.{superclasses, all_interfaces, is_sub, own_field, field_named, own_method, method_named, method_above, framework_row_named, field_number, method_number};
 ghost use Rattle.scj_rules.specs.Views.{field_at};
@@ -199,16 +198,6 @@ impl<'a> Classes<'a> {
         Some(FieldId::at(number))
     }
 
-<<<<<<< HEAD
-    /// The place of the method or constructor that a node declares among those of the program; the framework's methods
-    /// have the numbers before these.
-    #[tactic(auto, unfolding(scj_rules::specs::Classes::method_number))]
-    pub fn method_place(&self, node: NodeId) -> Option<u32>
-        ensures { option_map (λ place. length framework_methods + place) result ≡ method_number self.now.nodes (declarations_of self.now).users node }
-    {
-        let place = node.place();
-        self.table.method_numbers.get(&place).copied()
-=======
     /// The number of the method or constructor that a node declares.
     pub fn method_number(&self, node: NodeId) -> Option<MethodId>
         ensures { result ≡ method_number self.now.nodes (declarations_of self.now).users node }
@@ -216,6 +205,5 @@ impl<'a> Classes<'a> {
         let place = node.place();
         let number = self.table.method_numbers.get(&place).copied()?;
         Some(MethodId::at(number))
->>>>>>> a95bcf4a1410c2e257c097da9284ae85a8bd1103
     }
 }
