@@ -1,0 +1,79 @@
+//! The types of the nodes of a program, and what breaks the rules on types.
+
+ghost use Rattle.std.specs.Prelude.{◌≡◌, None, IfOk};
+ghost use Rattle.scj_tree.specs.Recursion.{told};
+ghost use Rattle.scj_rules.specs.Contexts.{declarations_of};
+ghost use Rattle.scj_rules.specs.Report.{IsReport};
+ghost use Rattle.scj_rules.specs.Phases.{BreaksTypeRules};
+ghost use Rattle.scj_rules.specs.TypeRules.{types_in};
+ghost use Rattle.class_rows.specs.Tables.{IsTableOf};
+
+use crate::passes::{breaks_of, types_of};
+use class_rows::{ClassTable, Classes};
+use node_contexts::Contexts;
+use scj_base::{Found, Memory, NodeId};
+use scj_rules::{Ty, put_in_order};
+use scj_tree::Program;
+use std::alloc::Global;
+use std::marker::Model;
+use type_rules::Known;
+use type_rules::names::told;
+use type_words::returning;
+
+/// The types of the nodes of a program. A contract sees the type of each node that has one.
+#[derive(Drop)]
+pub struct Types {
+    types: Vec<Option<Ty>>,
+}
+
+impl Model for Types {
+    ghost use Rattle.std.specs.Prelude.{List, Option};
+    ghost use Rattle.scj_rules.specs.declared.typing.Ty.{Ty as NodeType};
+
+    ghost Value = { List (Option NodeType) };
+
+    ghost view = { λ a. a.types.items };
+}
+
+impl Types {
+    /// The type of a node, if it has one.
+    pub fn of(&self, node: NodeId) -> Option<Ty>
+        ensures { result ≡ told None self.now node }
+    {
+        told(&self.types, node)
+    }
+
+    /// The types of all nodes.
+    pub fn all(&self) -> &[Option<Ty>]
+        ensures { result.now ≡ self.now }
+    {
+        self.types.as_slice()
+    }
+}
+
+/// The types of what is known, and what breaks the rules on types, in the order of a report.
+fn check_known(alloc: Global, known: &Known<'_>) -> Result<(Types, Vec<Found>), Memory>
+    ensures types { IfOk result (λ r. r.0 ≡ types_in (declarations_of known.now)) }
+    ensures report { IfOk result (λ r. IsReport (BreaksTypeRules known.now) r.1.items) }
+{
+    let types = types_of(alloc, known)?;
+    let mut found = breaks_of(alloc, known, &types)?;
+    put_in_order(&mut found);
+    Ok((Types { types }, found))
+}
+
+/// The types of the nodes of a program, and what breaks the rules on types, in the order of a report.
+pub fn check_types(
+    alloc: Global,
+    program: &Program,
+    table: &ClassTable,
+) -> Result<(Types, Vec<Found>), Memory>
+    requires { IsTableOf program.now table.now }
+    ensures types { IfOk result (λ r. r.0 ≡ types_in (declarations_of program.now)) }
+    ensures report { IfOk result (λ r. IsReport (BreaksTypeRules program.now) r.1.items) }
+{
+    let contexts = Contexts::of(alloc, program)?;
+    let returns = returning(alloc, program)?;
+    let known = Known::new(Classes::new(program, table), &contexts, &returns);
+    check_known(alloc, &known)
+}
