@@ -1,5 +1,5 @@
 -- A call of a method of the framework, and of one of the program.
-use Rattle.std.proofs.Common.{◌≡◌, ℕ, List, refl, ap, Option, Some, None}
+use Rattle.std.proofs.Common.{◌≡◌, ℕ, List, ap, Option, Some, None}
 use Rattle.scj_rules.specs.declared.typing.Binding.{Binding}
 use Rattle.scj_rules.specs.declared.typing.Binding.TheVariants.{Builtin}
 use Rattle.scj_rules.specs.declared.typing.Receiver.{Receiver}

@@ -1,12 +1,12 @@
 -- Members are nodes, and the place of a variable is the count of those before it.
-use Rattle.std.proofs.Common.{◌≡◌, ℕ, ◌+◌, ◌-◌, ◌<◌, ◌≤◌, zero, suc, List, [], ◌∷◌, ◌++◌, length, filter, replicate, refl, sym, ap, ◌∙◌, subst, arith, Option, Some, None, Bool, true, false, ◌&&◌, if◌then◌else◌, ◌==◌, nat_lt, cond, option_map, position, set, get_or, is_some, option_and_then, slice_get, ⊎_elim}
-use Rattle.std.proofs.lemmas.Bool.{cases_Bool, lt-ltb, eq-eqb, ne_eqb, cases_eq}
+use Rattle.std.proofs.Common.{◌≡◌, ℕ, ◌+◌, ◌-◌, ◌<◌, ◌≤◌, zero, suc, List, [], ◌∷◌, ◌++◌, length, filter, replicate, refl, sym, ap, ◌∙◌, subst, arith, Option, Some, None, Bool, true, false, ◌&&◌, if◌then◌else◌, ◌==◌, nat_lt, position, set, is_some, option_and_then, slice_get, ⊎_elim}
+use Rattle.std.proofs.lemmas.Bool.{lt-ltb, eq-eqb, ne_eqb, cases_eq}
 use Rattle.std.proofs.lemmas.Bool.Decides.{nat_tests}
 use Rattle.std.proofs.lemmas.Option.{slice_get_within}
 use Rattle.std.proofs.lemmas.List.{get_or-set_same, get_or-set_other}
 use Rattle.scj_tree.specs.declared.nodes.Node.{Node}
 use Rattle.scj_tree.specs.Forest.{Forest, joined}
-use Rattle.scj_tree.specs.Recursion.{told, above, below, listed, falling}
+use Rattle.scj_tree.specs.Recursion.{told, above, listed, falling}
 use Rattle.scj_tree.proofs.RecursionLemmas.{listed-at, told-behind}
 use Rattle.scj_rules.specs.declared.contexts.Context.{Context}
 use Rattle.scj_rules.specs.Words.{holds}

@@ -1,7 +1,7 @@
 -- Parts of what a call stands for.
-use Rattle.std.specs.Prelude.{ℕ, List, Option, None, if◌then◌else◌}
+use Rattle.std.specs.Prelude.{ℕ, List, Option, if◌then◌else◌}
 use Rattle.scj_rules.specs.declared.typing.Binding.{Binding}
-use Rattle.scj_rules.specs.declared.typing.Binding.TheVariants.{Plain, Method, StaticMethod}
+use Rattle.scj_rules.specs.declared.typing.Binding.TheVariants.{Method, StaticMethod}
 use Rattle.scj_rules.specs.declared.typing.Receiver.{Receiver}
 use Rattle.scj_rules.specs.Classes.{FoundMethod, method_number}
 use Rattle.scj_rules.specs.Contexts.{Declarations}

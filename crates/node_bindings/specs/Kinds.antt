@@ -1,5 +1,5 @@
 -- What nodes of some kinds stand for.
-use Rattle.std.specs.Prelude.{ℕ, List, Option, None, if◌then◌else◌, option_and_then}
+use Rattle.std.specs.Prelude.{ℕ, List, if◌then◌else◌, option_and_then}
 use Rattle.scj_rules.specs.declared.typing.Binding.{Binding}
 use Rattle.scj_rules.specs.declared.typing.Binding.TheVariants.{Plain}
 use Rattle.scj_rules.specs.declared.typing.FoundField.{FoundField}

@@ -1,4 +1,4 @@
-use Rattle.std.proofs.Common.{◌≡◌, ℕ, ◌<◌, sym, ◌∙◌, subst, length}
+use Rattle.std.proofs.Common.{ℕ, ◌<◌, sym, ◌∙◌, subst}
 use Rattle.scj_rules.specs.Contexts.{declarations_of}
 use Rattle.node_bindings.proofs.CountLemmas.{number_without_member, no_member, member_below}
 use Rattle.node_bindings.proofs.numbers.count.Goals as goal

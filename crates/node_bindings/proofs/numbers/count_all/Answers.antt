@@ -1,4 +1,4 @@
-use Rattle.std.proofs.Common.{◌≡◌, ℕ, ◌+◌, List, length, sym, ap, ◌∙◌, subst, arith}
+use Rattle.std.proofs.Common.{◌≡◌, ℕ, ◌+◌, length, ap, ◌∙◌, subst, arith}
 use Rattle.scj_tree.specs.Recursion.{listed}
 use Rattle.scj_rules.specs.Contexts.{declarations_of}
 use Rattle.node_bindings.specs.Numbers.{number_before, numbers_before, AreCounted}

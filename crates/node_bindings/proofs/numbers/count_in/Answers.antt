@@ -1,4 +1,4 @@
-use Rattle.std.proofs.Common.{◌≡◌, sym, ◌∙◌}
+use Rattle.std.proofs.Common.{sym, ◌∙◌}
 use Rattle.scj_rules.specs.Contexts.{declarations_of}
 use Rattle.node_bindings.proofs.CountLemmas.{number_at_member, no_variable}
 use Rattle.node_bindings.proofs.numbers.count_in.Goals as goal

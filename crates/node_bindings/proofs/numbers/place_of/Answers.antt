@@ -1,4 +1,4 @@
-use Rattle.std.proofs.Common.{◌≡◌, Some, sym, ap, ◌∙◌}
+use Rattle.std.proofs.Common.{Some, sym, ap, ◌∙◌}
 use Rattle.node_bindings.proofs.CountLemmas.{own_place, no_place}
 use Rattle.node_bindings.proofs.numbers.place_of.Goals as goal
 

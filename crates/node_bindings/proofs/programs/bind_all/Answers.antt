@@ -1,4 +1,4 @@
-use Rattle.std.proofs.Common.{◌≡◌, ℕ, None, length, sym, ap, ◌∙◌, arith}
+use Rattle.std.proofs.Common.{◌≡◌, None, length, ap, ◌∙◌, arith}
 use Rattle.scj_tree.specs.Forest.{Forest}
 use Rattle.scj_tree.specs.Recursion.{told, listed}
 use Rattle.scj_rules.specs.Contexts.{declarations_of}
