@@ -1,5 +1,5 @@
 -- The method that a node declares, as a row.
-use Rattle.std.proofs.Common.{◌≡◌, ℕ, Bool, true, false, List, [], ◌++◌, Option, Some, None, is_some, option_map, refl, sym, ap, ◌∙◌, true≢false}
+use Rattle.std.proofs.Common.{◌≡◌, ℕ, Bool, true, false, List, [], ◌++◌, length, Option, Some, None, is_some, option_map, refl, sym, ap, ◌∙◌, true≢false}
 use Rattle.scj_base.specs.declared.findings.Found.{Found}
 use Rattle.scj_tree.specs.Forest.{Forest}
 use Rattle.scj_rules.specs.declared.scopes.Thing.{Thing}
@@ -7,11 +7,13 @@ use Rattle.scj_rules.specs.Views.{DeclaredMethod, method_at}
 use Rattle.scj_rules.specs.Classes.{FoundMethod}
 use Rattle.scj_rules.specs.Contexts.{declarations_of}
 use Rattle.scj_rules.specs.StaticScopes.{result_thing}
-use Rattle.scj_rules.specs.AnnotationRules.{a6_of, a7_and_a8_of}
+use Rattle.scj_rules.specs.AnnotationRules.{a6_of, a7_and_a8_of, annotation_breaks}
+use Rattle.scj_rules.specs.Phases.{over_nodes}
+use Rattle.scj_tree.specs.Recursion.{joined_below}
 use Rattle.method_rows.specs.Methods.{found_method}
 use Rattle.static_scopes.specs.Found.{at_node}
 use Rattle.static_scopes.proofs.RunLemmas.{method_at_node}
-use Rattle.annotation_rules.specs.Parts.{method_breaks}
+use Rattle.annotation_rules.specs.Parts.{method_breaks, found_at}
 
 abbrev row : Forest → ℕ → ℕ → FoundMethod
 row forest class id = found_method forest.nodes (at_node class id)
@@ -54,3 +56,8 @@ no_breaks_at_node forest class id h = go (method_at forest.nodes id) h
     go : (o : Option DeclaredMethod) → false ≡ is_some o → method_breaks (declarations_of forest) class o ≡ []
     go None h = refl
     go (Some m) h = absurd (true≢false (sym h))
+
+-- what is broken at all nodes, one after the other
+pub nodes_joined : (forest : Forest) → over_nodes (declarations_of forest) (annotation_breaks (declarations_of forest)) ≡ joined_below (found_at (declarations_of forest)) (length forest.nodes)
+unfolding over_nodes found_at declarations_of
+nodes_joined forest = refl

@@ -1,5 +1,5 @@
 -- Parts of what is broken at a node.
-use Rattle.std.specs.Prelude.{ℕ, List, [], ◌++◌, Option, Some, None}
+use Rattle.std.specs.Prelude.{ℕ, List, [], ◌++◌, slice_get, Option, Some, None}
 use Rattle.scj_base.specs.declared.findings.Found.{Found}
 use Rattle.scj_base.specs.declared.findings.Rule.TheVariants.{A1, A2, A9}
 use Rattle.scj_base.specs.declared.places.Pos.{Pos}
@@ -8,7 +8,7 @@ use Rattle.scj_rules.specs.Views.{DeclaredMethod}
 use Rattle.scj_rules.specs.Contexts.{Declarations}
 use Rattle.scj_rules.specs.ScopeRules.{scope_written_in}
 use Rattle.scj_rules.specs.StaticScopes.{has_unknown_scope, differs_from_above, is_implied_immortal, is_unknown_scope, contradicts}
-use Rattle.scj_rules.specs.AnnotationRules.{a6_of, a7_and_a8_of, broken_value, scope_above, a2_place}
+use Rattle.scj_rules.specs.AnnotationRules.{a6_of, a7_and_a8_of, broken_value, scope_above, a2_place, annotation_breaks}
 use Rattle.scj_rules.specs.declared.scopes.Thing.{Thing}
 
 -- A6 to A8 at a method of a class
@@ -34,3 +34,7 @@ abbrev pub other_of_class : Declarations → Pos → Option ℕ → List Found
 other_of_class p place None = []
 other_of_class p place (Some class) =
     broken (differs_from_above p (scope_written_in p class) (scope_above p class) (is_implied_immortal p class)) A2 (a2_place place (scope_written_in p class))
+
+-- what is broken at the node of a number
+unfoldable pub found_at : Declarations → ℕ → List Found
+found_at p id = elim (slice_get p.nodes id) [ None ↦ [] | Some node ↦ annotation_breaks p id node ]

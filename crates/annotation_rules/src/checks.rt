@@ -7,7 +7,7 @@ ghost use Rattle.scj_rules.specs.Contexts.{declarations_of};
 ghost use Rattle.scj_rules.specs.AnnotationRules.{thing_at, a1, a2, a9, annotation_breaks};
 ghost use Rattle.scj_rules.specs.Phases.{over_nodes, IsFound};
 ghost use Rattle.scj_rules.specs.Report.{IsReport};
-ghost use Rattle.annotation_rules.specs.Parts.{unknown_at, contradiction_at, unknown_of_class, other_of_class};
+ghost use Rattle.annotation_rules.specs.Parts.{unknown_at, contradiction_at, unknown_of_class, other_of_class, found_at};
 
 use crate::classes;
 use crate::fields::note_misfit;
@@ -118,7 +118,8 @@ fn note_contradiction(
     requires { thing.now ≡ thing_at (declarations_of scoped.now) id node.now }
     ensures { OnOk result (found.new.items ≡ found.old.items ++ a9 (declarations_of scoped.now) id node.now) }
 {
-    let _ = (id, node);
+    let _ = id;
+    let _ = node;
     match thing {
         Some(thing) => things::note_contradiction(found, scoped, thing),
         None => Ok(()),
@@ -144,14 +145,24 @@ pub fn note_annotation(
     Ok(())
 }
 
+/// Notes what is broken at the node of a number.
+#[tactic(auto, unfolding(crate::specs::Parts::found_at, scj_rules::specs::Contexts::declarations_of))]
+fn note_node(found: &mut Vec<Found>, scoped: &Scoped, id: NodeId) -> Result<(), Memory>
+    ensures { OnOk result (found.new.items ≡ found.old.items ++ found_at (declarations_of scoped.now) id) }
+{
+    match scoped.program().get(id) {
+        Some(node) => note_annotation(found, scoped, id, node),
+        None => Ok(()),
+    }
+}
+
 /// Notes what is broken at the nodes of a program.
+#[tactic(auto, using(crate::proofs::MethodLemmas::nodes_joined), unfolding(scj_tree::specs::Recursion::joined_below))]
 pub fn note_annotations(found: &mut Vec<Found>, scoped: &Scoped) -> Result<(), Memory>
     ensures { OnOk result (found.new.items ≡ found.old.items ++ over_nodes (declarations_of scoped.now) (annotation_breaks (declarations_of scoped.now))) }
 {
-    let program = scoped.program();
-    for place in 0..program.len() {
-        let id = NodeId::at(place as u32);
-        note_annotation(found, scoped, id, program.node(id))?;
+    for place in 0..scoped.program().len() {
+        note_node(found, scoped, NodeId::at(place as u32))?;
     }
     Ok(())
 }

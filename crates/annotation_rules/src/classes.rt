@@ -17,11 +17,10 @@ pub fn note_unknown(found: &mut Vec<Found>, scoped: &Scoped, class: ClassId) -> 
     ensures { OnOk result (found.new.items ≡ found.old.items ++ broken_value (scope_written_in (declarations_of scoped.now) class) (λ w. has_unknown_scope (declarations_of scoped.now) (Some w)) A1) }
 {
     let scopes = scoped.scopes();
-    match scopes.scope_written_in(class) {
-        Some(written) => {
-            let test = scopes.has_unknown_scope(&Some(written));
-            note(found, test, Rule::A1, written.place)
-        }
+    let written = scopes.scope_written_in(class);
+    let test = scopes.has_unknown_scope(&written);
+    match &written {
+        Some(written) => note(found, test, Rule::A1, written.place),
         None => Ok(()),
     }
 }

@@ -30,14 +30,15 @@ fn field_in(scoped: &Scoped, class: ClassId, id: NodeId) -> Option<Thing>
 fn result_in(scoped: &Scoped, class: ClassId, id: NodeId) -> Option<Thing>
     ensures { result ≡ option_map (λ (m : DeclaredMethod). result_thing (declarations_of scoped.now) class m) (method_at scoped.now.nodes id) }
 {
-    if !is_method(scoped.program(), id) {
-        return None;
+    if is_method(scoped.program(), id) {
+        let method = MethodRef {
+            on: class,
+            source: MethodSource::Declared(id),
+        };
+        Some(scoped.result_thing(&method))
+    } else {
+        None
     }
-    let method = MethodRef {
-        on: class,
-        source: MethodSource::Declared(id),
-    };
-    Some(scoped.result_thing(&method))
 }
 
 /// The field that a node declares, as a thing.
