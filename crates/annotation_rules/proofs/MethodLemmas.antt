@@ -1,8 +1,6 @@
 -- The method that a node declares, as a row.
-use Rattle.std.proofs.Common.{◌≡◌, ℕ, Bool, true, false, List, [], ◌++◌, length, Option, Some, None, is_some, option_map, refl, sym, ap, ◌∙◌, true≢false}
-use Rattle.scj_base.specs.declared.findings.Found.{Found}
+use Rattle.std.proofs.Common.{◌≡◌, ℕ, true, false, [], ◌++◌, length, Option, Some, None, is_some, option_map, refl, sym, ap, true≢false}
 use Rattle.scj_tree.specs.Forest.{Forest}
-use Rattle.scj_rules.specs.declared.scopes.Thing.{Thing}
 use Rattle.scj_rules.specs.Views.{DeclaredMethod, method_at}
 use Rattle.scj_rules.specs.Classes.{FoundMethod}
 use Rattle.scj_rules.specs.Contexts.{declarations_of}

@@ -30,11 +30,7 @@ fn is_other_override(scoped: &Scoped, method: &MethodRef) -> bool
 
 /// Notes A6 at a method.
 #[tactic(auto, unfolding(scj_rules::specs::AnnotationRules::a6_of))]
-fn note_override(
-    found: &mut Vec<Found>,
-    scoped: &Scoped,
-    method: &MethodRef,
-) -> Result<(), Memory>
+fn note_override(found: &mut Vec<Found>, scoped: &Scoped, method: &MethodRef) -> Result<(), Memory>
     ensures { let f = found_method scoped.now.nodes method.now in OnOk result (found.new.items ≡ found.old.items ++ a6_of (declarations_of scoped.now) f.on f.method) }
 {
     let test = is_other_override(scoped, method);
@@ -52,11 +48,7 @@ fn runs_in_written(scoped: &Scoped, method: &MethodRef) -> Option<Written>
 }
 
 /// Notes A7 at a method.
-fn note_unknown(
-    found: &mut Vec<Found>,
-    scoped: &Scoped,
-    method: &MethodRef,
-) -> Result<(), Memory>
+fn note_unknown(found: &mut Vec<Found>, scoped: &Scoped, method: &MethodRef) -> Result<(), Memory>
     ensures { let m = (found_method scoped.now.nodes method.now).method in OnOk result (found.new.items ≡ found.old.items ++ broken_value m.declared.modifiers.runs_in (has_unknown_runs_in (declarations_of scoped.now) m) A7) }
 {
     match &runs_in_written(scoped, method) {

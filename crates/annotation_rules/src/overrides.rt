@@ -6,7 +6,6 @@ ghost use Rattle.scj_rules.specs.Words.{holds};
 ghost use Rattle.scj_rules.specs.Classes.{FoundMethod, is_user_class, method_above};
 ghost use Rattle.scj_rules.specs.Contexts.{declarations_of};
 ghost use Rattle.scj_rules.specs.AnnotationRules.{seen_in, differ, result_scope, scopes_differ};
-
 ghost use Rattle.scj_rules.specs.StaticScopes.{runs_in};
 ghost use Rattle.annotation_rules.specs.Overrides.{parameter_differs, differs_at, parameters_from};
 
@@ -72,7 +71,10 @@ fn differs_at(scoped: &Scoped, method: &MethodRef, above: &MethodRef, i: usize) 
     ensures { let f = found_method scoped.now.nodes method.now in let g = found_method scoped.now.nodes above.now in result ≡ differs_at (declarations_of scoped.now) f g i }
 {
     let program = scoped.program();
-    match (&parameter(program, method, i), &parameter(program, above, i)) {
+    match (
+        &parameter(program, method, i),
+        &parameter(program, above, i),
+    ) {
         (Some(own), Some(other)) => Some(parameter_differs(scoped, method, above, own, other)),
         _ => None,
     }
