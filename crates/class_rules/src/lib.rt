@@ -2,5 +2,14 @@
 #![tactic(auto)]
 
 pub mod limits;
+pub mod members;
+pub mod openings;
+pub mod overrides;
 pub mod parts;
+pub mod repeats;
+pub mod rules;
+pub mod safelets;
 pub mod twice;
+pub mod types;
+pub mod fields;
+pub mod headers;

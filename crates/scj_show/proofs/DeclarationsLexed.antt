@@ -1,21 +1,19 @@
 -- A text may hold the lexemes of types, flags, parameters and the heads of classes that were read from a source.
 use Rattle.std.proofs.Common.{◌≡◌, ℕ, nat_lt, Bool, true, false, List, Option, Some, None, slice_get, refl, ap, ◌∙◌}
 use Rattle.scj_tree.specs.declared.nodes.Node.TheVariants.{DefineScope}
-use Rattle.std.specs.Prelude.{codes}
 use Rattle.scj_base.specs.Vocabulary.{words, word_abstract, word_static, word_synchronized}
-use Rattle.scj_base.specs.declared.places.Pos.{Pos}
 use Rattle.scj_tree.specs.declared.nodes.Node.{Node}
 use Rattle.scj_tree.specs.declared.readings.FlagSet.{FlagSet}
 use Rattle.scj_tree.specs.Lexemes.{Lexeme, is_name, is_one_of, goes_on}
 use Rattle.scj_tree.specs.Terminals.{with_flags, flags_number, flags_node, flags_at}
 use Rattle.scj_tree.specs.Headers.{FlagRow, TypeRead, int_type, int_array, boolean_type, boolean_array, class_type, class_array, argument_type, argument_array, ResultRead, typed_result, void_result, long_result, ParameterRead, parameter, ParametersBegun, no_parameter_yet, parameter_and_comma, ParametersRead, no_parameters, parameters, SuperRead, super_type, super_type_with_argument, InterfacesBegun, no_interface_yet, interface_and_comma, HeaderRead, no_header, extends_header, implements_header, extends_implements_header}
 use Rattle.scj_tree.specs.Forest.{ChildrenFirst}
-use Rattle.scj_show.specs.Parts.{parts_of, annotation, scope_definition, word_if_set, flag_parts, argument_in_brackets, brackets, class_type_parts, extended, implemented}
+use Rattle.scj_show.specs.Parts.{parts_of, annotation, scope_definition, word_if_set, flag_parts, argument_in_brackets, brackets, class_type_parts, extended}
 use Rattle.scj_show.specs.Symbols.{own_symbols}
 use Rattle.scj_show.proofs.Sources.{AreOfSource, behind, behind2, name_first, name_is_text}
 use Rattle.scj_show.proofs.Rests.{row_rest, type_rest, parameters_begun_rest, super_rest, interfaces_rest}
 use Rattle.scj_show.proofs.Again.{Front, front-then, front-put, front-at}
-use Rattle.scj_show.proofs.FlagsAgain.{IsScope, IsDefinition, MaybeIs, not_there, is_there, Facts, facts, HasNode, has_node, flags_front, row_front, with_node, number_of}
+use Rattle.scj_show.proofs.FlagsAgain.{IsScope, IsDefinition, MaybeIs, not_there, is_there, Facts, facts, has_node, with_node, number_of}
 use Rattle.scj_show.proofs.HeadersAgain.{type_front, super_front}
 use Rattle.scj_show.proofs.DeclarationsAgain.{parameter_front, interfaces_front}
 use Rattle.scj_show.proofs.NodesLexed.{IsLexed, AllLexed, none_lexed, MaybeLexed, not_lexed, is_lexed, PartsLexed, last, whole_part, name_part, text_part, word_part, sign_part, node_lexed, and_then, all-put, maybe_lexed, in_parentheses_lexed, implemented_lexed}

@@ -1,5 +1,5 @@
 -- A text may hold the lexemes of an expression that was read from a source.
-use Rattle.std.proofs.Common.{◌≡◌, ℕ, Bool, List, slice_get, Some, refl}
+use Rattle.std.proofs.Common.{ℕ, Bool, List, refl}
 use Rattle.scj_base.specs.declared.places.Pos.{Pos}
 use Rattle.scj_tree.specs.declared.nodes.Node.{Node}
 use Rattle.scj_tree.specs.declared.readings.PostKind.{PostKind}

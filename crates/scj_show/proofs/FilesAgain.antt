@@ -5,7 +5,7 @@ use Rattle.scj_base.specs.Lex.{Lex, place_behind}
 use Rattle.scj_tree.specs.declared.nodes.Node.{Node}
 use Rattle.scj_tree.specs.Lexemes.{Lexeme, the_end, lexemes_of}
 use Rattle.scj_tree.specs.Headers.{no_imports}
-use Rattle.scj_tree.specs.Grammar.{Tree, file, file_of_package, ClassesRead}
+use Rattle.scj_tree.specs.Grammar.{Tree, file, file_of_package, ClassesRead, no_class, one_class_more}
 use Rattle.scj_tree.specs.Forest.{Forest, ChildrenFirst}
 use Rattle.scj_show.specs.Symbols.{Symbol, canonical, symbols_of, text_of_file}
 use Rattle.scj_show.specs.Placed.{printed, lexeme_at, tokens_behind, lexemes_behind}
@@ -13,8 +13,8 @@ use Rattle.scj_show.proofs.Sources.{AreOfSource, lexed_of_source}
 use Rattle.scj_show.proofs.Rests.{imports_rest, named_package_rest}
 use Rattle.scj_show.specs.Reread.{classes_of, IsRead, IsReadAsFile}
 use Rattle.scj_show.proofs.Lexing.{lexes, reads}
-use Rattle.scj_show.proofs.Again.{Front, front-none, laid}
-use Rattle.scj_show.proofs.MembersAgain.{classes_again}
+use Rattle.scj_show.proofs.Again.{Front, front-none, front-then, laid}
+use Rattle.scj_show.proofs.MembersAgain.{class_front, classes_again}
 use Rattle.scj_show.proofs.NodesLexed.{classes_are}
 use Rattle.scj_show.proofs.MembersLexed.{classes_lexed}
 
@@ -22,6 +22,15 @@ behind-is : (at : ℕ) (before : List ℕ) (ss : List Symbol) → lexemes_behind
 unfolding lexemes_behind laid canonical
 behind-is at before [] = ap (λ (t : List ℕ). the_end (place_behind at t) ∷ []) (sym (append-nil before))
 behind-is at before (s ∷ ss) = ap (λ (t : List Lexeme). lexeme_at s (place_behind at before) ∷ t) (behind-is at (before ++ printed s) ss ∙ ap (λ (t : List ℕ). laid at (before ++ printed s) ss (the_end (place_behind at t) ∷ [])) (append_assoc before (printed s) (canonical ss)))
+
+-- the nodes that were there before a file was read come first
+classes_front : {N N1 : List Node} {i o : List Lexeme} {ids : List ℕ} → ClassesRead N i N1 o ids → Front N N1
+classes_front no_class = front-none
+classes_front (one_class_more d e) = front-then (classes_front d) (class_front e)
+
+pub tree_front : {N N1 : List Node} {i : List Lexeme} {ids : List ℕ} → Tree N i N1 ids → Front N N1
+tree_front (file d e) = classes_front e
+tree_front (file_of_package c d e) = classes_front e
 
 classes_read : (W : List Node) → ChildrenFirst 0 W → (at : ℕ) (before : List Node) {N N1 : List Node} {i o : List Lexeme} {ids : List ℕ} → ClassesRead N i N1 o ids → AreOfSource i → Front N1 W → IsRead W ids (canonical (symbols_of W ids)) at before
 classes_read W first at before {ids = ids} d src f =

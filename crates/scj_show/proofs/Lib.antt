@@ -1,10 +1,10 @@
-mod Again
+pub mod Again
 mod AssignmentsAgain
 mod DeclarationsAgain
 mod DeclarationsLexed
 mod ExpressionsAgain
 mod ExpressionsLexed
-mod FilesAgain
+pub mod FilesAgain
 mod FlagsAgain
 mod HeadersAgain
 mod Lexing

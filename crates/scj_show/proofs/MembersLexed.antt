@@ -1,5 +1,5 @@
 -- A text may hold the lexemes of the classes that were read from a source.
-use Rattle.std.proofs.Common.{◌≡◌, ℕ, List, Option, Some, None, refl}
+use Rattle.std.proofs.Common.{ℕ, List, refl}
 use Rattle.scj_tree.specs.declared.nodes.Node.{Node}
 use Rattle.scj_tree.specs.Lexemes.{Lexeme}
 use Rattle.scj_tree.specs.Grammar.{LiteralRead, number_literal, negative_literal, true_literal, false_literal, null_literal, MemberRead, field, field_with_value, bare_method, method, constructor, constructor_with_super, MembersRead, no_member, one_member_more, ClassRead, class, ClassesRead, no_class, one_class_more}
@@ -10,7 +10,6 @@ use Rattle.scj_show.proofs.Sources.{AreOfSource, behind, behind2, behind3, name_
 use Rattle.scj_show.proofs.Rests.{row_rest, type_rest, result_rest, parameters_rest, header_rest, arguments_rest, members_rest, classes_rest}
 use Rattle.scj_show.proofs.Again.{Front, front-then, front-put, front-at}
 use Rattle.scj_show.proofs.ExpressionsAgain.{arguments_front}
-use Rattle.scj_show.proofs.FlagsAgain.{flags_front}
 use Rattle.scj_show.proofs.HeadersAgain.{type_front, result_front}
 use Rattle.scj_show.proofs.DeclarationsAgain.{header_front, parameters_front}
 use Rattle.scj_show.proofs.StatementsAgain.{statements_front}

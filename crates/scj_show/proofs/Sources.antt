@@ -1,11 +1,13 @@
 -- What is true of the lexemes of a source: names are names, and words, signs and numbers are those of the language.
-use Rattle.std.proofs.Common.{◌≡◌, ℕ, zero, suc, ◌+◌, ◌-◌, ◌<◌, ◌≤◌, nat_lt, nat_le, Bool, true, false, not, ◌&&◌, ◌||◌, ◌==◌, List, [], ◌∷◌, ◌++◌, length, Some, slice_get, refl, sym, ap, subst, ◌∙◌, arith, append_assoc, length-append}
+use Rattle.std.proofs.Common.{◌≡◌, ℕ, suc, ◌<◌, ◌≤◌, nat_lt, nat_le, Bool, true, false, ◌||◌, List, [], ◌∷◌, ◌++◌, length, Some, slice_get, refl, sym, ap, subst, ◌∙◌, arith, append_assoc}
 use Rattle.std.proofs.lemmas.Bool.{and_parts, eqb-true, false≢true}
 use Rattle.std.proofs.lemmas.Bool.Decides.{nat_tests}
 use Rattle.std.proofs.lemmas.Option.{slice_get_within}
 use Rattle.scj_base.specs.Vocabulary.{words, signs}
 use Rattle.scj_base.specs.declared.lexemes.Token.{Token}
 use Rattle.scj_base.specs.declared.lexemes.TokenKind.{TokenKind}
+use Rattle.scj_base.specs.declared.lexemes.TokenKind.TheVariants.{Name}
+use Rattle.std.specs.Prelude.{◌↔◌}
 use Rattle.scj_base.specs.declared.places.Pos.{Pos}
 use Rattle.scj_base.specs.Lexeme.{is_letter, is_digit, is_name_byte, is_text_byte, AllOf, IsWordLike, IsReserved, Lexeme as Shape, Piece}
 use Rattle.scj_base.specs.Lexeme.Lexeme.{name, word, number, text, sign}
@@ -69,6 +71,20 @@ is_a_name (b ∷ bs) h l r =
     let free : is_one_of (b ∷ bs) words ≡ false = none_of (b ∷ bs) words (λ n e. r (n, e)) in
     let begins : begins_a_name b ≡ true = letter_is b ∙ h.0 in
     rw (begins, goes bs h.1, short, free) refl
+
+-- the grammar's names are the lexemes that are names
+name_lexeme : (w : List ℕ) → is_name w ≡ true → Shape w [] Name
+name_lexeme w h = let f = name_facts w h in name w [] f.like f.short f.free tt
+
+lexeme_name : (w rest : List ℕ) (kind : TokenKind) → Shape w rest kind → kind ≡ Name → is_name w ≡ true
+lexeme_name _ _ _ (name w rest h l r e) q = is_a_name w h l r
+lexeme_name _ _ _ (word w rest n h e) q = absurd (cc)
+lexeme_name _ _ _ (number w rest h l e) q = absurd (cc)
+lexeme_name _ _ _ (text inside rest a) q = absurd (cc)
+lexeme_name _ _ _ (sign w rest n e h o) q = absurd (cc)
+
+pub names_alike : (w : List ℕ) → (is_name w ≡ true) ↔ Shape w [] Name
+names_alike w = (name_lexeme w, λ d. lexeme_name w [] Name d refl)
 
 -- the bytes of a name may stand between quotes
 name_byte : (b : ℕ) → is_name_byte b ≡ true → is_text_byte b ≡ true

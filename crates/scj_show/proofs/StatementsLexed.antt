@@ -11,7 +11,7 @@ use Rattle.scj_show.specs.Symbols.{own_symbols}
 use Rattle.scj_show.proofs.Sources.{AreOfSource, behind, behind2, name_first}
 use Rattle.scj_show.proofs.Rests.{row_rest, type_rest, level_rest, post_rest, assignment_rest, local_type_rest, statement_rest, statements_rest}
 use Rattle.scj_show.proofs.Again.{Front, front-then, front-put, front-at}
-use Rattle.scj_show.proofs.ExpressionsAgain.{level_front, post_front}
+use Rattle.scj_show.proofs.ExpressionsAgain.{level_front}
 use Rattle.scj_show.proofs.HeadersAgain.{type_front}
 use Rattle.scj_show.proofs.AssignmentsAgain.{assignment_front, compound_operator, stepping_operator}
 use Rattle.scj_show.proofs.StatementsAgain.{statement_front}

@@ -1,15 +1,22 @@
 //! What is true of every canonical text.
 
-ghost use Rattle.std.specs.Prelude.{◌≡◌, ◌++◌, ℕ, List, []};
+ghost use Rattle.std.specs.Prelude.{◌≡◌, ◌↔◌, ◌++◌, ℕ, List, [], true};
 ghost use Rattle.scj_base.specs.Lex.{Lex};
 ghost use Rattle.scj_base.specs.declared.lexemes.Token.{Token};
-ghost use Rattle.scj_tree.specs.Lexemes.{lexemes_of};
+ghost use Rattle.scj_base.specs.declared.lexemes.TokenKind.TheVariants.{Name};
+ghost use Rattle.scj_base.specs.Lexeme.{Lexeme};
+ghost use Rattle.scj_tree.specs.Lexemes.{is_name, lexemes_of};
 ghost use Rattle.scj_tree.specs.declared.nodes.Node.{Node};
 ghost use Rattle.scj_tree.specs.Forest.{ChildrenFirst};
 ghost use Rattle.scj_tree.specs.Grammar.{Tree};
 ghost use Rattle.scj_show.specs.Symbols.{Symbol, canonical, symbols_of};
 ghost use Rattle.scj_show.specs.Placed.{AreLexemes, tokens_behind, lexemes_behind};
 ghost use Rattle.scj_show.specs.Reread.{IsRead};
+
+/// A row of bytes passes the grammar's test of a name exactly where it is a lexeme that is a name.
+pub fn names_are_lexemes()
+    ensures { (w : List ℕ) → (is_name w ≡ true) ↔ Lexeme w [] Name }
+{}
 
 /// The canonical text of lexemes has them as its tokens.
 pub fn canonical_text_lexes()

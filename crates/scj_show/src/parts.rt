@@ -6,7 +6,7 @@ ghost use Rattle.scj_show.specs.Parts.{maybe, each as each_node, each_behind_com
 use scj_base::{Memory, Name, NodeId, vocabulary};
 
 /// A part of a printed node.
-#[derive(Clone, Copy, Debug)]
+#[derive(Clone, Copy, Debug, PartialEq, Eq)]
 pub enum Part {
     /// A node below it.
     Whole(NodeId),

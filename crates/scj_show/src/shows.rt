@@ -129,3 +129,6 @@ fn put_own(text: &mut Vec<u8>, node: &Node) -> Result<(), Memory>
         _ => Ok(()),
     }
 }
+
+#[cfg(test)]
+mod tests;

@@ -1,0 +1,6 @@
+//! The pass that finds the types of the nodes of a program, and what breaks the rules on types.
+#![tactic(auto)]
+
+mod breaks;
+mod passes;
+mod values;
