@@ -1,0 +1,8 @@
+//! The static scopes of expressions, and the checks on uses.
+#![tactic(auto)]
+
+pub mod scopes;
+pub mod uses;
+pub mod words;
+
+pub use uses::Uses;
