@@ -1,0 +1,10 @@
+//! The rules on types, node by node.
+#![tactic(auto)]
+
+pub mod arguments;
+pub mod forms;
+pub mod known;
+pub mod names;
+pub mod statements;
+
+pub use known::Known;
