@@ -1,15 +1,18 @@
 -- Names of which an earlier one is the same.
-use Rattle.std.proofs.Common.{◌≡◌, ◌<◌, ◌≤◌, ◌-◌, ℕ, ◌||◌, Bool, true, false, cond, List, [], ◌∷◌, ◌++◌, length, take, drop, get_or, arith, subst, Option, Some, refl, sym, ap, ◌∙◌, append_assoc, append-nil, if◌then◌else◌}
+use Rattle.std.proofs.Common.{◌≡◌, ◌<◌, ◌≤◌, ◌-◌, ℕ, ◌||◌, Bool, true, false, cond, List, [], ◌∷◌, ◌++◌, length, take, drop, get_or, map, arith, subst, Option, Some, refl, sym, ap, ◌∙◌, append_assoc, append-nil, if◌then◌else◌}
 use Rattle.std.specs.Option.{is_some}
 use Rattle.std.specs.Cmp.Lexicographic.{slice_cmp}
 use Rattle.std.specs.Ordering.{nat_cmp, is_eq}
 use Rattle.std.proofs.lemmas.List.{take_all}
 use Rattle.scj_base.specs.declared.findings.Found.{Found}
 use Rattle.scj_base.specs.declared.findings.Rule.{Rule}
+use Rattle.scj_base.specs.declared.findings.Rule.TheVariants.{C4}
+use Rattle.scj_rules.specs.declared.views.Declared.{Declared}
+use Rattle.node_views.specs.Parts.{naming}
 use Rattle.scj_rules.specs.declared.scopes.Written.{Written}
 use Rattle.scj_rules.specs.Words.{is_same, is_named_among, named_twice, broken}
 use Rattle.scj_rules.specs.ClassRules.{broken_at}
-use Rattle.class_rules.specs.Twice.{name_of, StillTwice}
+use Rattle.class_rules.specs.Twice.{name_of, StillTwice, repeated}
 use Rattle.class_rules.proofs.NameLemmas.{same-sym, ordered_same}
 
 pub none_yet : (known : List ℕ → Bool) (found : List Found) (rule : Rule) (names : List Written) → ((name : List ℕ) → known name ≡ false)
@@ -54,3 +57,21 @@ pub all_compared : (known : List ℕ → Bool) (found whole : List Found) (rule 
 unfolding named_twice
 all_compared known found whole rule [] h s = sym (append-nil found) ∙ s.left
 all_compared known found whole rule (w ∷ ws) h s = absurd (omega (arith, h))
+
+-- fields by their names alone
+named : (earlier : List (List ℕ)) (fields : List Declared) → named_twice name_of earlier (map naming fields) ≡ map naming (named_twice (λ (f : Declared). f.name) earlier fields)
+unfolding named_twice
+named earlier [] = refl
+named earlier (f ∷ fs) =
+    ap (λ xs. (if is_named_among f.name earlier then naming f ∷ [] else []) ++ xs) (named (f.name ∷ earlier) fs) ∙ front (is_named_among f.name earlier) f (named_twice (λ (g : Declared). g.name) (f.name ∷ earlier) fs)
+  where
+    front : (b : Bool) (f : Declared) (gs : List Declared) → (if b then naming f ∷ [] else []) ++ map naming gs ≡ map naming ((if b then f ∷ [] else []) ++ gs)
+    front true f gs = refl
+    front false f gs = refl
+
+placed : (fs : List Declared) → broken_at C4 (map naming fs) ≡ map (λ (f : Declared). record { pos = f.place; rule = C4 }) fs
+placed [] = refl
+placed (f ∷ fs) = ap (λ xs. (record { pos = f.place; rule = C4 }) ∷ xs) (placed fs)
+
+pub repeated_names : (fields : List Declared) → broken_at C4 (named_twice name_of [] (map naming fields)) ≡ repeated fields
+repeated_names fields = ap (broken_at C4) (named [] fields) ∙ placed (named_twice (λ (f : Declared). f.name) [] fields)

@@ -1,3 +1,6 @@
+pub mod Counting
+pub mod Headers
 pub mod Limits
+pub mod Overrides
 pub mod Parts
 pub mod Twice

@@ -2,5 +2,10 @@
 #![tactic(auto)]
 
 pub mod limits;
+pub mod members;
+pub mod overrides;
 pub mod parts;
+pub mod repeats;
 pub mod twice;
+pub mod types;
+pub mod headers;

@@ -1,5 +1,6 @@
 pub mod AcceptedLemmas
 pub mod ChainLemmas
+pub mod CheckedLemmas
 pub mod Computing
 pub mod ForestTests
 pub mod OrderLemmas

@@ -2,6 +2,7 @@ pub mod AnnotationRules
 pub mod Bindings
 pub mod Breaks
 pub mod Chains
+pub mod CheckedProgram
 pub mod ClassRules
 pub mod Classes
 pub mod Contexts
