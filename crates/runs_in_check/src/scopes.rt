@@ -9,11 +9,12 @@ ghost use Rattle.scj_rules.specs.UseRules.{current_at, receiver_scope, scope_of_
 ghost use Rattle.method_rows.specs.Methods.{found_method};
 
 use crate::uses::Uses;
-use crate::words::{substitute, told};
+use crate::words::told;
 use method_rows::MethodRef;
 use scj_base::{ClassId, Memory, Name, NodeId};
 use scj_rules::{ClassScope, FoundField, Meaning, Scope, Ty};
 use scj_tree::Node;
+use static_scopes::substitute;
 use std::alloc::Global;
 
 /// The scope of a receiver: of the value, or of `this`.
@@ -39,6 +40,20 @@ fn scope_of_field(uses: &Uses<'_>, object: &Option<Scope>, field: &FoundField) -
 {
     let scope = uses.field_scope(field)?;
     substitute(object, &None, &scope)
+}
+
+/// The scope of a field, if there is one.
+fn scope_of_found(
+    uses: &Uses<'_>,
+    object: &Option<Scope>,
+    field: &Option<FoundField>,
+) -> Option<Scope>
+    ensures { result ≡ option_and_then (scope_of_field (declarations_of uses.now) object.now) field.now }
+{
+    match field {
+        Some(field) => scope_of_field(uses, object, field),
+        None => None,
+    }
 }
 
 /// The scope of what a name stands for.
@@ -92,6 +107,21 @@ fn scope_of_call(
     substitute(object, current, &scope)
 }
 
+/// The scope of the value of a method, if there is one.
+fn scope_of_called(
+    uses: &Uses<'_>,
+    object: &Option<Scope>,
+    current: &Option<Scope>,
+    method: &Option<MethodRef>,
+) -> Option<Scope>
+    ensures { let p = declarations_of uses.now in result ≡ option_and_then (scope_of_call p object.now current.now) (option_map (found_method uses.now.nodes) method.now) }
+{
+    match method {
+        Some(method) => scope_of_call(uses, object, current, method),
+        None => None,
+    }
+}
+
 /// The scope of an array's elements.
 #[tactic(auto, unfolding(scj_rules::specs::UseRules::scope_of_element))]
 fn scope_of_element(uses: &Uses<'_>, array: &Option<Scope>, t: &Ty) -> Option<Scope>
@@ -124,8 +154,8 @@ fn scope_of_access(
     ensures { let p = declarations_of uses.now in result ≡ option_and_then (λ r. option_and_then (scope_of_field p (told None scopes.now object)) (accessed_field p r name.now)) (receiver p (told None types.now) object) }
 {
     let receiver = uses.receiver(types, object)?;
-    let field = uses.accessed_field(&receiver, name)?;
-    scope_of_field(uses, &told(scopes, object), &field)
+    let field = uses.accessed_field(&receiver, name);
+    scope_of_found(uses, &told(scopes, object), &field)
 }
 
 /// The method that a call stands for.
@@ -155,9 +185,9 @@ fn scope_of_value(
     ensures { let p = declarations_of uses.now in result ≡ option_and_then (λ r. option_and_then (scope_of_call p (receiver_scope p (told None scopes.now) id object.now) (current_at p id)) (called_method p r name.now)) (call_receiver p (told None types.now) id object.now) }
 {
     let receiver = uses.call_receiver(types, id, object)?;
-    let method = uses.called_method(&receiver, name)?;
+    let method = uses.called_method(&receiver, name);
     let object = receiver_scope(uses, scopes, id, object);
-    scope_of_call(uses, &object, &uses.current_at(id), &method)
+    scope_of_called(uses, &object, &uses.current_at(id), &method)
 }
 
 /// The scope of a new object of a class of this name.

@@ -1,30 +1,30 @@
 //! What is told of a program before the scopes of its expressions are.
 
-ghost use Rattle.std.specs.Prelude.{◌≡◌, None, length, slice_get, option_map, option_and_then};
+ghost use Rattle.std.specs.Prelude.{◌≡◌, None, slice_get, option_map, option_and_then};
 ghost use Rattle.scj_tree.specs.Recursion.{told};
 ghost use Rattle.scj_rules.specs.Classes.{class_number, method_named};
-ghost use Rattle.scj_rules.specs.Contexts.{declarations_of, contexts_in, context};
+ghost use Rattle.scj_rules.specs.Contexts.{declarations_of, context};
 ghost use Rattle.scj_rules.specs.Types.{meaning, receiver, call_receiver, accessed_field, called_method, constructor_parameters};
 ghost use Rattle.scj_rules.specs.TypeRules.{written_type, superclass_at};
 ghost use Rattle.scj_rules.specs.ScopeRules.{defined_by_chain, parent_scope, is_outer};
 ghost use Rattle.scj_rules.specs.StaticScopes.{class_scope, this_in, runs_in, current_in, thing_scope, field_scope, parameter_scope, constructor_parameter_scope};
 ghost use Rattle.scj_rules.specs.AnnotationRules.{variable_thing_at, result_scope};
-ghost use Rattle.scj_rules.specs.UseRules.{this_at, current_at};
+ghost use Rattle.scj_rules.specs.UseRules.{this_at, current_at, result_scope_at};
 ghost use Rattle.method_rows.specs.Methods.{found_method};
 
-use class_rows::Classes;
 use method_rows::MethodRef;
-use node_contexts::Contexts;
 use scj_base::{ClassId, Name, NodeId, ScopeId};
 use scj_rules::{ClassScope, Context, Declared, FoundField, Meaning, Receiver, Scope, Ty};
 use scj_tree::Program;
+use scope_tree::Scopes;
 use std::marker::Model;
+use type_rules::{Known, names};
 
 /// A program with its classes, its scopes and the contexts of its nodes. A contract sees the program.
 #[derive(Drop)]
 pub struct Uses<'a> {
-    classes: Classes<'a>,
-    contexts: &'a Contexts,
+    known: Known<'a>,
+    scopes: Scopes<'a>,
 }
 
 impl<'a> Model for Uses<'a> {
@@ -32,63 +32,69 @@ impl<'a> Model for Uses<'a> {
 
     ghost Value = { Forest };
 
-    ghost use Rattle.scj_rules.specs.Contexts.{contexts_in};
     ghost use Rattle.std.specs.Prelude.{◌≡◌};
 
-    ghost view = { λ a. a.classes };
+    ghost view = { λ a. a.known };
 
-    ghost invariant = { λ a. a.contexts.now ≡ contexts_in a.classes };
+    ghost invariant = { λ a. a.scopes ≡ a.known };
 }
 
 impl<'a> Uses<'a> {
+    /// What is told of a program, from what is known before its types are and from its scopes.
+    pub fn new(known: Known<'a>, scopes: Scopes<'a>) -> Uses<'a>
+        requires { scopes ≡ known }
+        ensures { result ≡ known.entry }
+    {
+        Uses { known, scopes }
+    }
+
     /// The program.
     pub fn program(&self) -> &'a Program
         ensures { result.now ≡ self.now }
     {
-        self.classes.program()
+        self.known.program()
     }
 
     /// Where a node stands.
-    #[tactic(auto, unfolding(scj_rules::specs::Contexts::declarations_of))]
     pub fn context(&self, id: NodeId) -> Context
         ensures { result ≡ context (declarations_of self.now) id }
     {
-        self.contexts.get(id)
+        self.known.context(id)
     }
 
     /// The class of a name: the first one that has it.
     pub fn class_of(&self, name: &Name) -> Option<ClassId>
         ensures { result ≡ class_number (declarations_of self.now).names name.now }
     {
-        self.classes.class_of(name)
+        self.known.class_of(name)
     }
 
     /// Where the instances of a class lie.
     pub fn class_scope(&self, class: ClassId) -> ClassScope
         ensures { result ≡ class_scope (declarations_of self.now) class }
     {
-        ClassScope::Unannotated
+        self.scopes.class_scope(class)
     }
 
     /// The scope that the chain of a class defines.
     pub fn defined_by_chain(&self, class: ClassId) -> Option<ScopeId>
         ensures { result ≡ defined_by_chain (declarations_of self.now) class }
     {
-        None
+        self.scopes.defined_by_chain(class)
     }
 
     /// The parent of a scope.
     pub fn parent_scope(&self, scope: ScopeId) -> Option<ScopeId>
         ensures { result ≡ parent_scope (declarations_of self.now) scope }
     {
-        None
+        self.scopes.parent_scope(scope)
     }
 
     /// Whether the first scope is the second one, or lies outside it.
     pub fn is_outer(&self, a: ScopeId, b: ScopeId) -> bool
         ensures { result ≡ is_outer (declarations_of self.now) a b }
     {
-        false
+        self.scopes.is_outer(a, b)
     }
 
     /// THIS in a class.
@@ -173,21 +179,29 @@ impl<'a> Uses<'a> {
         ensures { result ≡ superclass_at (declarations_of self.now) id }
     {
         let class = self.context(id).class?;
-        self.classes.superclass(class)
+        self.scopes.classes().superclass(class)
+    }
+
+    /// The scope of the result of the method in which a node stands.
+    #[tactic(auto, unfolding(scj_rules::specs::UseRules::result_scope_at, scj_rules::specs::Contexts::declarations_of))]
+    pub fn result_scope_at(&self, id: NodeId) -> Option<Scope>
+        ensures { result ≡ result_scope_at (declarations_of self.now) id }
+    {
+        None
     }
 
     /// What a name stands for at a node (JLS 6.5).
     pub fn meaning(&self, id: NodeId, name: &Name) -> Meaning
         ensures { result ≡ meaning (declarations_of self.now) id name.now }
     {
-        Meaning::Nothing
+        names::meaning(&self.known, id, name)
     }
 
     /// What stands before a dot.
     pub fn receiver(&self, types: &[Option<Ty>], object: NodeId) -> Option<Receiver>
         ensures { result ≡ receiver (declarations_of self.now) (told None types.now) object }
     {
-        None
+        names::receiver(&self.known, types, object)
     }
 
     /// What a call is asked of.
@@ -199,42 +213,42 @@ impl<'a> Uses<'a> {
     ) -> Option<Receiver>
         ensures { result ≡ call_receiver (declarations_of self.now) (told None types.now) id object.now }
     {
-        None
+        names::call_receiver(&self.known, types, id, object)
     }
 
     /// The field of a name that a receiver has.
     pub fn accessed_field(&self, receiver: &Receiver, name: &Name) -> Option<FoundField>
         ensures { result ≡ accessed_field (declarations_of self.now) receiver.now name.now }
     {
-        None
+        names::accessed_field(&self.known, receiver, name)
     }
 
     /// The method of a name that a receiver has.
     pub fn called_method(&self, receiver: &Receiver, name: &Name) -> Option<MethodRef>
         ensures { option_map (found_method self.now.nodes) result ≡ called_method (declarations_of self.now) receiver.now name.now }
     {
-        None
+        names::called_method(&self.known, receiver, name)
     }
 
     /// The method of a name that a class has.
     pub fn method_named(&self, class: ClassId, name: &Name) -> Option<MethodRef>
         ensures { option_map (found_method self.now.nodes) result ≡ method_named (declarations_of self.now).classes class name.now }
     {
-        self.classes.method_named(class, name)
+        self.scopes.classes().method_named(class, name)
     }
 
     /// The type that a node writes.
     pub fn written_type(&self, node: NodeId) -> Option<Ty>
         ensures { result ≡ written_type (declarations_of self.now) node }
     {
-        None
+        names::written_type(&self.known, node)
     }
 
     /// A parameter of a class's constructor: there is none where no constructor is written (JLS 8.8.9).
     pub fn constructor_parameter(&self, class: ClassId, i: usize) -> Option<Declared>
         ensures { result ≡ slice_get (constructor_parameters (declarations_of self.now).classes class) i }
     {
-        let node = self.classes.constructor_in(class)?;
+        let node = self.known.constructor_in(class)?;
         let parameters = node_views::constructor_parameters(self.program(), node);
         node_views::parameter(self.program(), parameters, i)
     }
