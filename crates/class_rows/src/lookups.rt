@@ -1,8 +1,9 @@
 //! Whether a class stands under another, and look-ups of members by name.
 
-ghost use Rattle.std.specs.Prelude.{◌≡◌, ◌<◌, ◌≤◌, option_map, option_and_then};
+ghost use Rattle.std.specs.Prelude.{◌≡◌, ◌+◌, ◌<◌, ◌≤◌, length, option_map, option_and_then};
+ghost use Rattle.scj_builtins.specs.Framework.{framework_methods};
 ghost use Rattle.scj_rules.specs.Words.{is_among};
-ghost use Rattle.scj_rules.specs.Classes.{superclasses, all_interfaces, is_sub, own_field, field_named, own_method, method_named, method_above, framework_row_named, field_number};
+ghost use Rattle.scj_rules.specs.Classes.{superclasses, all_interfaces, is_sub, own_field, field_named, own_method, method_named, method_above, framework_row_named, field_number, method_number};
 ghost use Rattle.scj_rules.specs.Views.{field_at};
 ghost use Rattle.scj_rules.specs.Contexts.{declarations_of};
 ghost use Rattle.method_rows.specs.Methods.{found_method};
@@ -197,5 +198,15 @@ impl<'a> Classes<'a> {
         let place = node.place();
         let number = self.table.field_numbers.get(&place).copied()?;
         Some(FieldId::at(number))
+    }
+
+    /// The place of the method or constructor that a node declares among those of the program; the framework's methods
+    /// have the numbers before these.
+    #[tactic(auto, unfolding(scj_rules::specs::Classes::method_number))]
+    pub fn method_place(&self, node: NodeId) -> Option<u32>
+        ensures { option_map (λ place. length framework_methods + place) result ≡ method_number self.now.nodes (declarations_of self.now).users node }
+    {
+        let place = node.place();
+        self.table.method_numbers.get(&place).copied()
     }
 }

@@ -1,8 +1,9 @@
-pub mod CountingLemmas
-pub mod FindingLemmas
+pub mod FieldLemmas
 pub mod HeaderLemmas
-pub mod LateLemmas
 pub mod MemberLemmas
 pub mod NameLemmas
+pub mod OpeningLemmas
 pub mod OverrideLemmas
+pub mod RowFacts
+pub mod SafeletLemmas
 pub mod TwiceLemmas

@@ -1,6 +1,7 @@
-pub mod Counting
+pub mod Fields
 pub mod Headers
-pub mod Limits
+pub mod Openings
 pub mod Overrides
 pub mod Parts
+pub mod Safelets
 pub mod Twice

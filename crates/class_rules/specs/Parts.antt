@@ -1,7 +1,10 @@
 -- A class as its parts write it.
 use Rattle.std.specs.Prelude.{ℕ, List, filter_map}
 use Rattle.scj_tree.specs.declared.nodes.Node.{Node}
+use Rattle.scj_tree.specs.Forest.{Forest}
 use Rattle.scj_rules.specs.Definitions.{read}
+use Rattle.scj_rules.specs.Classes.{ClassRow, user_row}
+use Rattle.scj_rules.specs.Contexts.{declarations_of}
 use Rattle.scj_rules.specs.Views.{named_super, WrittenClass}
 use Rattle.class_rules.specs.declared.parts.ClassParts.{ClassParts}
 
@@ -16,3 +19,7 @@ written_class nodes c =
       implements = filter_map (read nodes named_super) c.interfaces.now;
       members = c.members.now;
     }
+
+-- the row that a user class has by what it writes
+abbrev pub own_row : Forest → ClassParts → ClassRow
+own_row forest c = user_row forest.nodes (declarations_of forest).names (written_class forest.nodes c)

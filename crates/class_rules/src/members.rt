@@ -7,7 +7,8 @@ ghost use Rattle.method_rows.specs.Methods.{found_method};
 ghost use Rattle.class_rules.specs.Overrides.{override_break, body_break, hiding_break};
 
 use crate::overrides::is_wrong_override;
-use class_rows::{Classes, MethodRef, MethodSource, body, declared};
+use class_rows::Classes;
+use method_rows::{MethodRef, MethodSource, body, declared};
 use node_views::{field_at, is_method};
 use scj_base::{ClassId, Found, Memory, NodeId, Rule};
 use scj_rules::{Declared, note};

@@ -8,7 +8,8 @@ ghost use Rattle.method_rows.specs.Methods.{found_method};
 ghost use Rattle.class_rules.specs.Overrides.{kind_of_row, is_narrower, is_wrong_override, stays_open};
 
 use crate::types::{class_written, have_same_types, is_same_type};
-use class_rows::{Classes, MethodRef, builtin, declared, is_overridable};
+use class_rows::Classes;
+use method_rows::{MethodRef, builtin, declared, is_overridable};
 use scj_base::ids::{MISSION, MISSION_SEQUENCER};
 use scj_base::{ClassId, Name};
 use scj_rules::WrittenType;

@@ -8,7 +8,8 @@ ghost use Rattle.scj_rules.specs.Contexts.{declarations_of};
 ghost use Rattle.method_rows.specs.Methods.{found_method};
 ghost use Rattle.class_rules.specs.Overrides.{types_among};
 
-use class_rows::{Classes, MethodRef, MethodSource, parameter, parameter_count};
+use class_rows::Classes;
+use method_rows::{MethodRef, MethodSource, parameter, parameter_count};
 use node_views::{method_parameters, parameter_nodes, variable_type};
 use scj_base::{ClassId, NodeId};
 use scj_rules::WrittenType;

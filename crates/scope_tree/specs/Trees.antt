@@ -1,5 +1,5 @@
 -- What the tree of scopes holds.
-use Rattle.std.specs.Prelude.{◌≡◌, ℕ, List, [], ◌∷◌, length, Option, Some, None, if◌then◌else◌, is_some}
+use Rattle.std.specs.Prelude.{◌≡◌, ◌<◌, ◌^◌, ℕ, List, [], ◌∷◌, length, Option, Some, None, if◌then◌else◌, is_some}
 use Rattle.std.specs.BTreeMap.{get}
 use Rattle.std.specs.Cmp.Lexicographic.{slice_cmp}
 use Rattle.std.specs.Ordering.{nat_cmp}
@@ -28,6 +28,7 @@ pub record IsNaming (p : Declarations) (names : ScopeNames) : Type 0 where
 
 -- the tree has at the number of each class what is said of it
 pub record IsTreeOf (forest : Forest) (tree : ScopeTree) : Type 0 where
+  pub few : length (declarations_of forest).classes < 2 ^ 32
   pub names : IsNaming (declarations_of forest) tree.names
   pub defined : tree.defined.items ≡ listed (defined_by (declarations_of forest)) (length (declarations_of forest).classes)
   pub chained : tree.chained.items ≡ listed (defined_by_chain (declarations_of forest)) (length (declarations_of forest).classes)

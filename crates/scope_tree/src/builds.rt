@@ -43,6 +43,9 @@ fn tree_of(alloc: Global, classes: &Classes, names: ScopeNames) -> Result<ScopeT
     requires { IsNaming (declarations_of classes.now) names }
     ensures { IfOk result (λ tree. IsTreeOf classes.now tree) }
 {
+    if classes.count() > u32::MAX as usize {
+        return Err(Memory);
+    }
     let defined = defined_table(alloc, classes, &names)?;
     let chained = chained_table(alloc, classes, &names)?;
     let parents = parent_table(alloc, classes, &names)?;

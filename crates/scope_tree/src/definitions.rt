@@ -8,12 +8,15 @@ ghost use Rattle.scj_rules.specs.Breaks.{Breaks};
 ghost use Rattle.scj_base.specs.declared.findings.Found.{Found as Finding};
 ghost use Rattle.scj_rules.specs.Definitions.{definitions as all_definitions};
 ghost use Rattle.std.specs.List.{Contains};
+ghost use Rattle.scj_rules.specs.Report.{IsReport};
 ghost use Rattle.scope_tree.specs.Index.{IsIndex};
 ghost use Rattle.scope_tree.specs.Findings.{makes_scope, is_parent, unless, findings_at, findings_from, parent_steps};
 
 use crate::cycles::returning;
+use crate::headers::definitions_of;
+use crate::names::index_of;
 use scj_base::{Found, Memory, Name, Pos, Rule};
-use scj_rules::Definition;
+use scj_rules::{Definition, put_in_order};
 use scj_tree::Program;
 use std::alloc::Global;
 use std::collections::BTreeMap;
@@ -118,5 +121,16 @@ pub fn definition_findings(
     let parents = parents_of(alloc, definitions, index)?;
     let returns = returning(alloc, parents)?;
     let found = findings_of(alloc, definitions, index, &returns)?;
+    Ok(found)
+}
+
+/// The breaks of the rules on the definitions of scopes, in the order of a report.
+pub fn check_definitions(alloc: Global, program: &Program) -> Result<Vec<Found>, Memory>
+    ensures { IfOk result (λ found. IsReport (Breaks program.now) found.items) }
+{
+    let definitions = definitions_of(alloc, program)?;
+    let index = index_of(alloc, &definitions)?;
+    let mut found = definition_findings(alloc, program, &definitions, &index)?;
+    put_in_order(&mut found);
     Ok(found)
 }

@@ -15,5 +15,9 @@ mod tables;
 pub mod trees;
 
 pub use builds::build;
+pub use definitions::check_definitions;
 pub use scopes::Scopes;
 pub use trees::{ScopeNames, ScopeTree};
+
+#[cfg(test)]
+mod tests;

@@ -1,6 +1,6 @@
 //! The scopes of a program beside its classes, with their look-ups.
 
-ghost use Rattle.std.specs.Prelude.{◌≡◌};
+ghost use Rattle.std.specs.Prelude.{◌≡◌, ◌<◌, ◌^◌, length};
 ghost use Rattle.class_rows.specs.Tables.{IsTableOf};
 ghost use Rattle.scj_rules.specs.Contexts.{declarations_of};
 ghost use Rattle.scj_rules.specs.ScopeRules.{scope_number, definition_in, defined_by, defined_by_chain, parent_scope, is_outer, scope_written_in};
@@ -54,6 +54,15 @@ impl<'a> Scopes<'a> {
         ensures { result.now ≡ self.now }
     {
         &self.classes
+    }
+
+    /// How many classes there are, the framework's among them.
+    pub fn class_count(&self) -> usize
+        ensures value { result ≡ length (declarations_of self.now).classes }
+        ensures few { result < 2 ^ 32 }
+    {
+        let _tree = self.tree;
+        self.classes.count()
     }
 
     /// The scope of a name.

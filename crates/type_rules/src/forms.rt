@@ -146,7 +146,7 @@ pub fn has_form(class: ClassId) -> bool
 }
 
 /// The arguments of the super call of a class's constructor.
-fn super_arguments<'a>(known: &Known<'a>, class: ClassId) -> Option<&'a [NodeId]>
+pub fn super_arguments<'a>(known: &Known<'a>, class: ClassId) -> Option<&'a [NodeId]>
     ensures { option_copied result ≡ option_and_then (λ (c : DeclaredConstructor). c.super_call) (constructor_in (declarations_of known.now).classes class) }
 {
     let node = known.constructor_in(class)?;

@@ -60,6 +60,13 @@ impl<'a> Known<'a> {
         self.classes.program()
     }
 
+    /// The classes.
+    pub fn classes(&self) -> &Classes<'a>
+        ensures { result.now ≡ self.now }
+    {
+        &self.classes
+    }
+
     /// Where a node stands.
     #[tactic(auto, unfolding(scj_rules::specs::Contexts::declarations_of))]
     pub fn context(&self, id: NodeId) -> Context

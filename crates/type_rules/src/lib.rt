@@ -2,6 +2,8 @@
 #![tactic(auto)]
 
 pub mod arguments;
+pub mod calls;
+pub mod expressions;
 pub mod forms;
 pub mod known;
 pub mod names;

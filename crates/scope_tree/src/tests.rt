@@ -1,0 +1,86 @@
+ghost use Rattle.std.specs.Prelude.{◌≡◌, ◌<◌, ◌≤◌, ◌++◌, ◌^◌, OnOk, length};
+ghost use Rattle.scope_tree.specs.Samples.{header};
+
+use crate::check_definitions;
+use scj_base::{Found, Memory, Name, NodeId, Pos, Rule};
+use scj_tree::{Node, NodeList, Program};
+use std::alloc::Global;
+use std::test::Fail;
+
+fn at(line: u32, col: u32) -> Pos
+    ensures { result ≡ record { file = 0; line = line; col = col } }
+{
+    Pos { file: 0, line, col }
+}
+
+/// Adds the nodes of a header on a line, of which the first has the number `from`.
+#[tactic(auto, unfolding(crate::specs::Samples::header))]
+fn add_header(
+    alloc: Global,
+    nodes: &mut Vec<Node>,
+    from: u32,
+    line: u32,
+    scope: &[u8],
+    parent: &[u8],
+) -> Result<(), Memory>
+    requires few { from < 1000 }
+    requires scope_fits { length scope.now ≤ 64 }
+    requires parent_fits { length parent.now ≤ 64 }
+    ensures { OnOk result (nodes.new.items ≡ nodes.old.items ++ header from line scope.now parent.now) }
+{
+    nodes.push(Node::ScopeName {
+        place: at(line, 19),
+        name: Name::new(scope),
+    })?;
+    nodes.push(Node::ScopeName {
+        place: at(line, 31),
+        name: Name::new(parent),
+    })?;
+    nodes.push(Node::DefineScope {
+        place: at(line, 1),
+        first: NodeId::at(from),
+        second: NodeId::at(from + 1),
+        parent_first: false,
+    })?;
+    nodes.push(Node::Flags {
+        place: at(line, 1),
+        define_scope: Some(NodeId::at(from + 2)),
+        scope: None,
+        runs_in: None,
+        is_static: false,
+        is_abstract: true,
+        is_synchronized: false,
+    })?;
+    nodes.push(Node::Class {
+        place: at(line, 60),
+        name: Name::new(scope),
+        flags: Some(NodeId::at(from + 3)),
+        header: None,
+        members: NodeList(Vec::new(alloc)),
+    })?;
+    Ok(())
+}
+
+#[test]
+fn each_rule_is_broken(rt: HostRuntime) -> Result<(), Fail> {
+    let alloc = rt.alloc();
+    let mut nodes = Vec::new(alloc);
+    add_header(alloc, &mut nodes, 0, 1, b"X", b"X")?;
+    add_header(alloc, &mut nodes, 5, 2, b"X", b"Z")?;
+    add_header(alloc, &mut nodes, 10, 3, b"THIS", b"IMMORTAL")?;
+    let classes = vec![in alloc; NodeId::at(4), NodeId::at(9), NodeId::at(14)]?;
+    let files = vec![in alloc; classes]?;
+    let program = Program::from_parts(alloc, nodes, files);
+    let found = check_definitions(alloc, &program)?;
+    let expected = [
+        (at(1, 31), Rule::S3),
+        (at(2, 19), Rule::S1),
+        (at(2, 31), Rule::S2),
+        (at(3, 19), Rule::S1),
+    ];
+    assert_eq!(rt; found.len(), expected.len());
+    for (finding, (pos, rule)) in found.iter().zip(expected) {
+        assert!(rt; *finding == Found { pos, rule });
+    }
+    Ok(())
+}
