@@ -1,3 +1,4 @@
+pub mod ConstructorLemmas
 pub mod FindLemmas
 pub mod MemberLemmas
 pub mod RowLemmas

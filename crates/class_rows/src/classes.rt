@@ -1,7 +1,7 @@
 //! The classes of a program with their look-ups.
 
 ghost use Rattle.std.specs.Prelude.{◌≡◌, ◌<◌, length, slice_get, option_copied, option_map, option_and_then};
-ghost use Rattle.scj_rules.specs.Views.{DeclaredConstructor, WrittenClass, class_at};
+ghost use Rattle.scj_rules.specs.Views.{DeclaredConstructor, WrittenClass, class_at, constructor_at};
 ghost use Rattle.scj_rules.specs.Classes.{ClassRow, class_number, superclass_in, superclasses, interfaces_in, all_interfaces, is_cyclic};
 ghost use Rattle.scj_rules.specs.Words.{is_among};
 ghost use Rattle.scj_builtins.specs.Framework.{mission, safelet};
@@ -198,12 +198,21 @@ impl<'a> Classes<'a> {
         }
     }
 
-    /// The first constructor of a class.
+    /// The node that the table has of the first constructor of a class.
     #[tactic(auto, using(crate::proofs::RowLemmas::constructor_is))]
-    pub fn constructor_in(&self, class: ClassId) -> Option<NodeId>
+    fn first_constructor(&self, class: ClassId) -> Option<NodeId>
         ensures { result ≡ option_map (λ (c : DeclaredConstructor). c.node) (constructor_in (declarations_of self.now).classes class) }
     {
         let row = self.row(class)?;
         row.constructor
+    }
+
+    /// The node of the first constructor of a class.
+    #[tactic(auto, using(crate::proofs::ConstructorLemmas::constructor_at_node))]
+    pub fn constructor_in(&self, class: ClassId) -> Option<NodeId>
+        ensures node { result ≡ option_map (λ (c : DeclaredConstructor). c.node) (constructor_in (declarations_of self.now).classes class) }
+        ensures whole { option_and_then (constructor_at self.now.nodes) result ≡ constructor_in (declarations_of self.now).classes class }
+    {
+        self.first_constructor(class)
     }
 }
