@@ -1,3 +1,4 @@
+pub mod ArgumentLemmas
 pub mod BreakLemmas
 pub mod CallLemmas
 pub mod ScopeLemmas

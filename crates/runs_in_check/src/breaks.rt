@@ -55,10 +55,11 @@ fn note_constructor(
 ) -> Result<(), Memory>
     ensures { OnOk result (found.new.items ≡ found.old.items ++ e3_of_constructor (declarations_of uses.now) (told None scopes.now) object arguments.now class) }
 {
+    let current = object;
     let callee = Callee {
         called: Called::Constructor(class),
         object,
-        current: object,
+        current,
     };
     note_arguments(found, uses, scopes, &callee, arguments)?;
     Ok(())

@@ -11,6 +11,7 @@ ghost use Rattle.scj_rules.specs.StaticScopes.{class_scope, this_in, runs_in, cu
 ghost use Rattle.scj_rules.specs.AnnotationRules.{variable_thing_at, result_scope};
 ghost use Rattle.scj_rules.specs.UseRules.{this_at, current_at, result_scope_at};
 ghost use Rattle.method_rows.specs.Methods.{found_method};
+ghost use Rattle.type_rules.specs.Parameters.{taken};
 
 use method_rows::MethodRef;
 use scj_base::{ClassId, Name, NodeId, ScopeId};
@@ -18,6 +19,7 @@ use scj_rules::{ClassScope, Context, Declared, FoundField, Meaning, Receiver, Sc
 use scj_tree::Program;
 use scope_tree::Scopes;
 use std::marker::Model;
+use type_rules::arguments::{Takes, constructor_parameters};
 use type_rules::{Known, names};
 
 /// A program with its classes, its scopes and the contexts of its nodes. A contract sees the program.
@@ -248,8 +250,18 @@ impl<'a> Uses<'a> {
     pub fn constructor_parameter(&self, class: ClassId, i: usize) -> Option<Declared>
         ensures { result ≡ slice_get (constructor_parameters (declarations_of self.now).classes class) i }
     {
-        let node = self.known.constructor_in(class)?;
-        let parameters = node_views::constructor_parameters(self.program(), node);
-        node_views::parameter(self.program(), parameters, i)
+        let takes = constructor_parameters(&self.known, class);
+        taken(self.program(), &takes, i)
+    }
+}
+
+/// The parameter of a number.
+#[tactic(auto, unfolding(type_rules::specs::Parameters::taken))]
+fn taken(program: &Program, takes: &Takes, i: usize) -> Option<Declared>
+    ensures { result ≡ slice_get (taken program.now.nodes takes.now) i }
+{
+    match takes {
+        Takes::Method(method) => method_rows::parameter(program, method, i),
+        Takes::Listed(parameters) => node_views::parameter(program, *parameters, i),
     }
 }
