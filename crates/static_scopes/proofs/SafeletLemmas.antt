@@ -1,66 +1,23 @@
--- A class inherits a method as Safelet's, told by the method's name.
-use Rattle.std.proofs.Common.{◌≡◌, ℕ, zero, suc, ◌+◌, ◌<◌, Bool, true, false, not, cond, ◌&&◌, ◌||◌, List, [], ◌∷◌, ◌++◌, length, find, slice_get, Option, Some, None, is_some, option_map, option_and_then, refl, sym, ap, ◌∙◌, subst, arith, ◌⊎◌, inl, inr, ⊎_elim, eqb, ◌==◌, true≢false, codes, if◌then◌else◌, add-zero, map}
+-- Asking all classes whether they inherit a method as Safelet's.
+use Rattle.std.proofs.Common.{◌≡◌, ℕ, ◌+◌, ◌<◌, ◌≤◌, Bool, true, false, ◌&&◌, ◌||◌, List, [], ◌∷◌, length, drop, is_some, zero, suc, not, arith, refl, sym, ap, ◌∙◌, ⊎_elim, ◌==◌, true≢false, add-one}
 use Rattle.std.specs.List.{list_any}
-use Rattle.std.proofs.lemmas.Bool.{cases_Bool, eq-eqb, ne_eqb, eqb-true, and_right}
-use Rattle.scj_builtins.specs.Framework.{FrameworkClass, FrameworkMethod, framework_classes, framework_methods, safelet, object}
-use Rattle.scj_tree.specs.Forest.{Forest}
-use Rattle.scj_rules.specs.Words.{is_same, is_among, holds}
+use Rattle.std.proofs.lemmas.List.{drop_all}
+use Rattle.std.proofs.lemmas.Bool.{cases_Bool, eq-eqb, ne_eqb, eqb-true}
+use Rattle.scj_builtins.specs.Framework.{safelet}
+use Rattle.scj_rules.specs.Words.{is_among, holds}
 use Rattle.scj_rules.specs.Views.{DeclaredMethod}
-use Rattle.scj_rules.specs.Classes.{ClassRow, FoundMethod, own_method, all_interfaces, method_named, framework_row, framework_rows_from, framework_methods_on, framework_method, counted_row, counted_from, written_rows, user_classes, class_names, user_row}
-use Rattle.scj_rules.specs.ClassRules.{inherits_as}
-use Rattle.scj_rules.specs.Contexts.{Declarations, declarations_of}
-use Rattle.static_scopes.specs.SafeletNames.{is_of_safelet}
-
-counted_at : (names : List (List ℕ)) (rows : List ClassRow) (class : ℕ) (more : List ClassRow) (k : ℕ)
-    → slice_get (counted_from names rows class more) k ≡ option_map (counted_row names rows (class + k)) (slice_get more k)
-unfolding counted_from
-counted_at names rows class [] k = refl
-counted_at names rows class (row ∷ more) zero = (let e : class ≡ class + 0 = omega arith in ap (λ n. Some (counted_row names rows n row)) e)
-counted_at names rows class (row ∷ more) (suc k) =
-    counted_at names rows (class + 1) more k ∙ (let e : (class + 1) + k ≡ class + suc k = omega arith in ap (λ n. option_map (counted_row names rows n) (slice_get more k)) e)
-
-safelet_methods : (forest : Forest) → option_map (λ (row : ClassRow). row.methods) (slice_get (declarations_of forest).classes safelet) ≡ Some (framework_methods_on safelet 0 framework_methods)
-unfolding declarations_of written_rows framework_rows_from framework_row framework_classes counted_row
-safelet_methods forest =
-    let users = user_classes forest in
-    let rows = written_rows forest.nodes users in
-    ap (option_map (λ (row : ClassRow). row.methods)) (counted_at (class_names users) rows 0 rows 2)
-
-three : (a b c : Bool) (l m n : DeclaredMethod) → is_some (cond a (Some l) (cond b (Some m) (cond c (Some n) None))) ≡ (a || (b || c))
-three true b c l m n = refl
-three false true c l m n = refl
-three false false true l m n = refl
-three false false false l m n = refl
-
-abbrev is_named : List ℕ → DeclaredMethod → Bool
-is_named name m = is_same name m.declared.name
-
-among_safelets : (name : List ℕ) → is_some (find (is_named name) (framework_methods_on safelet 0 framework_methods)) ≡ is_of_safelet name
-unfolding framework_methods framework_methods_on framework_method is_of_safelet
-among_safelets name = three (is_same name (codes "getSequencer")) (is_same name (codes "immortalMemorySize")) (is_same name (codes "initializeApplication")) _ _ _
-
-abbrev found : DeclaredMethod → FoundMethod
-found m = record { on = safelet; method = m }
-
-is_some-map : (o : Option DeclaredMethod) → is_some (option_map (λ (m : DeclaredMethod). found m) o) ≡ is_some o
-is_some-map None = refl
-is_some-map (Some m) = refl
-
-found_in_row : (name : List ℕ) (o : Option ClassRow) (ms : List DeclaredMethod) → option_map (λ (row : ClassRow). row.methods) o ≡ Some ms
-    → is_some (option_map (λ (m : DeclaredMethod). found m) (option_and_then (λ (row : ClassRow). find (is_named name) row.methods) o)) ≡ is_some (find (is_named name) ms)
-found_in_row name None ms h = cc
-found_in_row name (Some row) ms h =
-    let same : row.methods ≡ ms = cc in
-    is_some-map (find (is_named name) row.methods) ∙ ap (λ t. is_some (find (is_named name) t)) same
-
--- the methods of Safelet are told by their names
-pub safelet_has : (forest : Forest) (name : List ℕ) → is_some (own_method (declarations_of forest).classes name safelet) ≡ is_of_safelet name
-unfolding own_method
-safelet_has forest name = found_in_row name (slice_get (declarations_of forest).classes safelet) (framework_methods_on safelet 0 framework_methods) (safelet_methods forest) ∙ among_safelets name
+use Rattle.scj_rules.specs.Classes.{ClassRow, FoundMethod, own_method, all_interfaces, method_named}
+use Rattle.scj_rules.specs.ClassRules.{inherits_as, numbers_from}
+use Rattle.scj_rules.specs.Contexts.{Declarations}
+use Rattle.scj_rules.specs.StaticScopes.{is_inherited_by_safelet}
 
 false_and : (b : Bool) → (false && b) ≡ false
 false_and true = refl
 false_and false = refl
+
+and_false : (b : Bool) → (b && false) ≡ false
+and_false true = refl
+and_false false = refl
 
 or_and : (r u : Bool) → (u || (r && u)) ≡ u
 or_and true true = refl
@@ -87,3 +44,52 @@ among_two x s g rest =
 pub one_interface : (s : ℕ) (g : ℕ → Bool) (xs : List ℕ) → list_any (λ i. is_among i (s ∷ []) && g i) xs ≡ (is_among s xs && g s)
 one_interface s g [] = refl
 one_interface s g (x ∷ xs) = ap (λ t. (((x == s) || false) && g x) || t) (one_interface s g xs) ∙ among_two x s g (is_among s xs)
+
+pub inherited_by_parts : (p : Declarations) (node : ℕ) (name : List ℕ) (class : ℕ)
+    → inherits_as p (safelet ∷ []) node name class
+    ≡ ((is_among safelet (all_interfaces p.classes class) && is_some (own_method p.classes name safelet))
+    && holds (method_named p.classes class name) (λ (f : FoundMethod). not (is_some f.method.builtin) && (f.method.declared.node == node)))
+unfolding inherits_as
+inherited_by_parts p node name class =
+    ap (λ t. t && holds (method_named p.classes class name) (λ (f : FoundMethod). not (is_some f.method.builtin) && (f.method.declared.node == node)))
+    (one_interface safelet (λ i. is_some (own_method p.classes name i)) (all_interfaces p.classes class))
+
+-- ---- the classes one after the other
+
+split_at : (rows : List ClassRow) (i : ℕ) → i < length rows → (row : ClassRow) × (drop i rows ≡ row ∷ drop (i + 1) rows)
+split_at [] i h = absurd (omega (arith, h))
+split_at (row ∷ rows) zero h = (row, refl)
+split_at (row ∷ rows) (suc i) h =
+    let rest = split_at rows i (omega (arith, h)) in
+    let e : suc i + 1 ≡ suc (i + 1) = omega arith in
+    (rest.0, rw e rest.1)
+
+any_here : (f : ℕ → Bool) (rows : List ClassRow) (i : ℕ) → i < length rows → list_any f (numbers_from i (drop i rows)) ≡ (f i || list_any f (numbers_from (i + 1) (drop (i + 1) rows)))
+unfolding numbers_from
+any_here f rows i h = rw (split_at rows i h).1 refl
+
+pub any_found : (f : ℕ → Bool) (rows : List ClassRow) (i : ℕ) (whole : Bool) → i < length rows → true ≡ f i → list_any f (numbers_from i (drop i rows)) ≡ whole → true ≡ whole
+any_found f rows i whole h e w = (let here = any_here f rows i h in sym (here ∙ ap (λ t. t || list_any f (numbers_from (i + 1) (drop (i + 1) rows))) (sym e))) ∙ w
+
+pub any_more : (f : ℕ → Bool) (rows : List ClassRow) (i : ℕ) (whole : Bool) → i < length rows → false ≡ f i → list_any f (numbers_from i (drop i rows)) ≡ whole → list_any f (numbers_from (i + 1) (drop (i + 1) rows)) ≡ whole
+any_more f rows i whole h e w = (let here = any_here f rows i h in sym (here ∙ ap (λ t. t || list_any f (numbers_from (i + 1) (drop (i + 1) rows))) (sym e))) ∙ w
+
+pub any_ended : (f : ℕ → Bool) (rows : List ClassRow) (i : ℕ) (whole : Bool) → length rows ≤ i → list_any f (numbers_from i (drop i rows)) ≡ whole → false ≡ whole
+unfolding numbers_from
+any_ended f rows i whole h w = (let e : drop i rows ≡ [] = drop_all i rows h in sym (ap (λ t. list_any f (numbers_from i t)) e)) ∙ w
+
+-- no class inherits a method of a name that Safelet doesn't have
+not_of_safelet : (p : Declarations) (node : ℕ) (name : List ℕ) (class : ℕ) → is_some (own_method p.classes name safelet) ≡ false → inherits_as p (safelet ∷ []) node name class ≡ false
+not_of_safelet p node name class h =
+    inherited_by_parts p node name class
+    ∙ ap (λ t. t && holds (method_named p.classes class name) (λ (f : FoundMethod). not (is_some f.method.builtin) && (f.method.declared.node == node)))
+    (ap (λ t. is_among safelet (all_interfaces p.classes class) && t) h ∙ and_false (is_among safelet (all_interfaces p.classes class)))
+    ∙ false_and (holds (method_named p.classes class name) (λ (f : FoundMethod). not (is_some f.method.builtin) && (f.method.declared.node == node)))
+
+none_inherits : (p : Declarations) (node : ℕ) (name : List ℕ) → is_some (own_method p.classes name safelet) ≡ false → (ids : List ℕ) → list_any (inherits_as p (safelet ∷ []) node name) ids ≡ false
+none_inherits p node name h [] = refl
+none_inherits p node name h (id ∷ ids) = rw (not_of_safelet p node name id h) (none_inherits p node name h ids)
+
+pub never_inherited : (p : Declarations) (m : DeclaredMethod) → false ≡ is_some (own_method p.classes m.declared.name safelet) → is_inherited_by_safelet p m ≡ false
+unfolding is_inherited_by_safelet
+never_inherited p m h = none_inherits p m.declared.node m.declared.name (sym h) (numbers_from 0 p.classes)

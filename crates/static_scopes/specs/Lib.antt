@@ -1,1 +1,2 @@
-pub mod SafeletNames
+pub mod Found
+pub mod Runs
