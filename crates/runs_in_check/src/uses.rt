@@ -3,21 +3,23 @@
 ghost use Rattle.std.specs.Prelude.{◌≡◌, None, slice_get, option_map, option_and_then};
 ghost use Rattle.scj_tree.specs.Recursion.{told};
 ghost use Rattle.scj_rules.specs.Classes.{class_number, method_named};
+ghost use Rattle.scj_rules.specs.Views.{DeclaredMethod, method_at};
 ghost use Rattle.scj_rules.specs.Contexts.{declarations_of, context};
 ghost use Rattle.scj_rules.specs.Types.{meaning, receiver, call_receiver, accessed_field, called_method, constructor_parameters};
 ghost use Rattle.scj_rules.specs.TypeRules.{written_type, superclass_at};
 ghost use Rattle.scj_rules.specs.ScopeRules.{defined_by_chain, parent_scope, is_outer};
-ghost use Rattle.scj_rules.specs.StaticScopes.{class_scope, this_in, runs_in, current_in, thing_scope, field_scope, parameter_scope, constructor_parameter_scope};
+ghost use Rattle.scj_rules.specs.StaticScopes.{class_scope, runs_in, thing_scope, field_scope, parameter_scope, constructor_parameter_scope};
 ghost use Rattle.scj_rules.specs.AnnotationRules.{variable_thing_at, result_scope};
 ghost use Rattle.scj_rules.specs.UseRules.{this_at, current_at, result_scope_at};
 ghost use Rattle.method_rows.specs.Methods.{found_method};
 ghost use Rattle.type_rules.specs.Parameters.{taken};
 
-use method_rows::MethodRef;
+use method_rows::{MethodRef, MethodSource};
+use node_views::is_method;
 use scj_base::{ClassId, Name, NodeId, ScopeId};
 use scj_rules::{ClassScope, Context, Declared, FoundField, Meaning, Receiver, Scope, Ty};
 use scj_tree::Program;
-use scope_tree::Scopes;
+use static_scopes::Scoped;
 use std::marker::Model;
 use type_rules::arguments::{Takes, constructor_parameters};
 use type_rules::{Known, names};
@@ -26,7 +28,7 @@ use type_rules::{Known, names};
 #[derive(Drop)]
 pub struct Uses<'a> {
     known: Known<'a>,
-    scopes: Scopes<'a>,
+    scoped: Scoped<'a>,
 }
 
 impl<'a> Model for Uses<'a> {
@@ -38,16 +40,16 @@ impl<'a> Model for Uses<'a> {
 
     ghost view = { λ a. a.known };
 
-    ghost invariant = { λ a. a.scopes ≡ a.known };
+    ghost invariant = { λ a. a.scoped ≡ a.known };
 }
 
 impl<'a> Uses<'a> {
     /// What is told of a program, from what is known before its types are and from its scopes.
-    pub fn new(known: Known<'a>, scopes: Scopes<'a>) -> Uses<'a>
-        requires { scopes ≡ known }
+    pub fn new(known: Known<'a>, scoped: Scoped<'a>) -> Uses<'a>
+        requires { scoped ≡ known }
         ensures { result ≡ known.entry }
     {
-        Uses { known, scopes }
+        Uses { known, scoped }
     }
 
     /// The program.
@@ -75,63 +77,49 @@ impl<'a> Uses<'a> {
     pub fn class_scope(&self, class: ClassId) -> ClassScope
         ensures { result ≡ class_scope (declarations_of self.now) class }
     {
-        self.scopes.class_scope(class)
+        self.scoped.scopes().class_scope(class)
     }
 
     /// The scope that the chain of a class defines.
     pub fn defined_by_chain(&self, class: ClassId) -> Option<ScopeId>
         ensures { result ≡ defined_by_chain (declarations_of self.now) class }
     {
-        self.scopes.defined_by_chain(class)
+        self.scoped.scopes().defined_by_chain(class)
     }
 
     /// The parent of a scope.
     pub fn parent_scope(&self, scope: ScopeId) -> Option<ScopeId>
         ensures { result ≡ parent_scope (declarations_of self.now) scope }
     {
-        self.scopes.parent_scope(scope)
+        self.scoped.scopes().parent_scope(scope)
     }
 
     /// Whether the first scope is the second one, or lies outside it.
     pub fn is_outer(&self, a: ScopeId, b: ScopeId) -> bool
         ensures { result ≡ is_outer (declarations_of self.now) a b }
     {
-        self.scopes.is_outer(a, b)
-    }
-
-    /// THIS in a class.
-    pub fn this_in(&self, class: ClassId) -> Option<Scope>
-        ensures { result ≡ this_in (declarations_of self.now) class }
-    {
-        None
-    }
-
-    /// The scope that is current in a member of a class.
-    pub fn current_in(&self, class: ClassId, member: NodeId) -> Option<Scope>
-        ensures { result ≡ current_in (declarations_of self.now) class member }
-    {
-        None
+        self.scoped.scopes().is_outer(a, b)
     }
 
     /// The scope in which a method runs.
     pub fn runs_in(&self, method: &MethodRef) -> Option<Scope>
         ensures { result ≡ runs_in (declarations_of self.now) (found_method self.now.nodes method.now).on (found_method self.now.nodes method.now).method }
     {
-        None
+        self.scoped.runs_in(method)
     }
 
     /// The scope of a method's result.
     pub fn result_scope(&self, method: &MethodRef) -> Option<Scope>
         ensures { result ≡ result_scope (declarations_of self.now) (found_method self.now.nodes method.now).on (found_method self.now.nodes method.now).method }
     {
-        None
+        self.scoped.result_scope(method)
     }
 
     /// The scope of a method's parameter.
     pub fn parameter_scope(&self, method: &MethodRef, parameter: &Declared) -> Option<Scope>
         ensures { result ≡ parameter_scope (declarations_of self.now) (found_method self.now.nodes method.now).on (found_method self.now.nodes method.now).method parameter.now }
     {
-        None
+        self.scoped.parameter_scope(method, parameter)
     }
 
     /// The scope of a parameter of a class's constructor.
@@ -142,38 +130,35 @@ impl<'a> Uses<'a> {
     ) -> Option<Scope>
         ensures { result ≡ constructor_parameter_scope (declarations_of self.now) class parameter.now }
     {
-        None
+        self.scoped.constructor_parameter_scope(class, parameter)
     }
 
     /// The scope of a field.
     pub fn field_scope(&self, field: &FoundField) -> Option<Scope>
         ensures { result ≡ field_scope (declarations_of self.now) field.now.on field.now.field }
     {
-        None
+        self.scoped.field_scope(field)
     }
 
     /// The scope of the variable that a node declares.
     pub fn variable_scope(&self, node: NodeId) -> Option<Scope>
         ensures { result ≡ option_and_then (thing_scope (declarations_of self.now)) (variable_thing_at (declarations_of self.now) node) }
     {
-        None
+        self.scoped.variable_scope(node)
     }
 
     /// THIS where a node stands.
     pub fn this_at(&self, id: NodeId) -> Option<Scope>
         ensures { result ≡ this_at (declarations_of self.now) id }
     {
-        let class = self.context(id).class?;
-        self.this_in(class)
+        self.scoped.this_at(id)
     }
 
     /// The scope that is current where a node stands.
-    #[tactic(auto, unfolding(scj_rules::specs::UseRules::current_at))]
     pub fn current_at(&self, id: NodeId) -> Option<Scope>
         ensures { result ≡ current_at (declarations_of self.now) id }
     {
-        let context = self.context(id);
-        self.current_in(context.class?, context.member?)
+        self.scoped.current_at(id)
     }
 
     /// The superclass of the class in which a node stands.
@@ -181,15 +166,31 @@ impl<'a> Uses<'a> {
         ensures { result ≡ superclass_at (declarations_of self.now) id }
     {
         let class = self.context(id).class?;
-        self.scopes.classes().superclass(class)
+        self.known.classes().superclass(class)
+    }
+
+    /// The scope of the result of a member of a class, if that is a method.
+    #[tactic(auto, using(crate::proofs::CallLemmas::result_of_method, crate::proofs::CallLemmas::result_of_none))]
+    fn result_of(&self, class: ClassId, member: NodeId) -> Option<Scope>
+        ensures { let p = declarations_of self.now in result ≡ option_and_then (λ (m : DeclaredMethod). result_scope p class m) (method_at p.nodes member) }
+    {
+        if !is_method(self.program(), member) {
+            return None;
+        }
+        let method = MethodRef {
+            on: class,
+            source: MethodSource::Declared(member),
+        };
+        self.result_scope(&method)
     }
 
     /// The scope of the result of the method in which a node stands.
-    #[tactic(auto, unfolding(scj_rules::specs::UseRules::result_scope_at, scj_rules::specs::Contexts::declarations_of))]
+    #[tactic(auto, unfolding(scj_rules::specs::UseRules::result_scope_at))]
     pub fn result_scope_at(&self, id: NodeId) -> Option<Scope>
         ensures { result ≡ result_scope_at (declarations_of self.now) id }
     {
-        None
+        let context = self.context(id);
+        self.result_of(context.class?, context.member?)
     }
 
     /// What a name stands for at a node (JLS 6.5).
@@ -236,7 +237,7 @@ impl<'a> Uses<'a> {
     pub fn method_named(&self, class: ClassId, name: &Name) -> Option<MethodRef>
         ensures { option_map (found_method self.now.nodes) result ≡ method_named (declarations_of self.now).classes class name.now }
     {
-        self.scopes.classes().method_named(class, name)
+        self.known.classes().method_named(class, name)
     }
 
     /// The type that a node writes.

@@ -1,4 +1,0 @@
-use Rattle.runs_in_check.proofs.uses.Uses.parameter_scope.Goals as goal
-
-pub returns : goal.returns
-returns c = ?
