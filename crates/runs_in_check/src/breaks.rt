@@ -288,8 +288,8 @@ fn note_new_array(
     Ok(())
 }
 
-/// Notes what is broken at an assignment, a return or a cast.
-#[tactic(auto, using(crate::proofs::BreakLemmas::at_assign, crate::proofs::BreakLemmas::at_local, crate::proofs::BreakLemmas::at_return, crate::proofs::BreakLemmas::at_cast, crate::proofs::BreakLemmas::at_array))]
+/// Notes what is broken at a node.
+#[tactic(auto, using(crate::proofs::BreakLemmas::at_new, crate::proofs::BreakLemmas::at_call, crate::proofs::BreakLemmas::at_super, crate::proofs::BreakLemmas::at_assign, crate::proofs::BreakLemmas::at_local, crate::proofs::BreakLemmas::at_return, crate::proofs::BreakLemmas::at_cast, crate::proofs::BreakLemmas::at_array))]
 pub fn note_uses(
     found: &mut Vec<Found>,
     uses: &Uses<'_>,
@@ -306,38 +306,56 @@ pub fn note_uses(
             name,
             arguments,
             ..
-        } => note_new(found, uses, scopes, id, *place, name, arguments.items())?,
+        } => {
+            note_new(found, uses, scopes, id, *place, name, arguments.items())?;
+            Ok(())
+        }
         Node::Call {
             place,
             name,
             object,
             arguments,
-        } => note_call(found, uses, types, scopes, id, *place, name, object, arguments.items())?,
+        } => {
+            let arguments = arguments.items();
+            note_call(found, uses, types, scopes, id, *place, name, object, arguments)?;
+            Ok(())
+        }
         Node::SuperCall { arguments, .. } => {
-            note_super(found, uses, scopes, id, arguments.items())?
+            note_super(found, uses, scopes, id, arguments.items())?;
+            Ok(())
         }
         Node::Assign {
             place,
             target,
             value,
-        } => note_assign(found, uses, scopes, *place, *target, *value)?,
+        } => {
+            note_assign(found, uses, scopes, *place, *target, *value)?;
+            Ok(())
+        }
         Node::LocalWithValue { place, value, .. } => {
-            note_local(found, uses, scopes, id, *place, *value)?
+            note_local(found, uses, scopes, id, *place, *value)?;
+            Ok(())
         }
         Node::Return {
             place,
             value: Some(value),
-        } => note_return(found, uses, scopes, id, *place, *value)?,
+        } => {
+            note_return(found, uses, scopes, id, *place, *value)?;
+            Ok(())
+        }
         Node::Cast {
             place,
             name,
             operand,
             ..
-        } => note_cast(found, uses, scopes, *place, name, *operand)?,
-        Node::NewArray { place, element, .. } => {
-            note_new_array(found, uses, id, *place, *element)?
+        } => {
+            note_cast(found, uses, scopes, *place, name, *operand)?;
+            Ok(())
         }
-        _ => {}
+        Node::NewArray { place, element, .. } => {
+            note_new_array(found, uses, id, *place, *element)?;
+            Ok(())
+        }
+        _ => Ok(()),
     }
-    Ok(())
 }

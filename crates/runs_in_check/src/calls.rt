@@ -90,7 +90,6 @@ fn callee_of(
 }
 
 /// Notes E2 and E3 at a call of a user's method.
-#[tactic(auto, using(crate::proofs::CallLemmas::user_call_is))]
 fn note_user_call(
     found: &mut Vec<Found>,
     uses: &Uses<'_>,
@@ -323,7 +322,31 @@ fn note_called(
     }
 }
 
-/// Notes what is broken at a call of a method, if it stands for one.
+/// Notes what is broken at a call of a method, if there is one.
+#[tactic(auto, unfolding(crate::specs::Parts::called_breaks))]
+fn note_method(
+    found: &mut Vec<Found>,
+    uses: &Uses<'_>,
+    types: &[Option<Ty>],
+    scopes: &[Option<Scope>],
+    id: NodeId,
+    place: Pos,
+    object: &Option<NodeId>,
+    arguments: &[NodeId],
+    method: &Option<MethodRef>,
+) -> Result<(), Memory>
+    ensures { OnOk result (found.new.items ≡ found.old.items ++ called_breaks (declarations_of uses.now) (told None types.now) (told None scopes.now) id place object.now arguments.now (option_map (found_method uses.now.nodes) method.now)) }
+{
+    match method {
+        Some(method) => {
+            note_called(found, uses, types, scopes, id, place, object, arguments, method)?;
+            Ok(())
+        }
+        None => Ok(()),
+    }
+}
+
+/// Notes what is broken at a call.
 pub fn note_call(
     found: &mut Vec<Found>,
     uses: &Uses<'_>,
@@ -337,11 +360,7 @@ pub fn note_call(
 ) -> Result<(), Memory>
     ensures { let p = declarations_of uses.now in OnOk result (found.new.items ≡ found.old.items ++ called_breaks p (told None types.now) (told None scopes.now) id place object.now arguments.now (method_called p (told None types.now) id object.now name.now)) }
 {
-    match &called(uses, types, id, name, object) {
-        Some(method) => {
-            note_called(found, uses, types, scopes, id, place, object, arguments, method)?;
-            Ok(())
-        }
-        None => Ok(()),
-    }
+    let method = called(uses, types, id, name, object);
+    note_method(found, uses, types, scopes, id, place, object, arguments, &method)?;
+    Ok(())
 }
