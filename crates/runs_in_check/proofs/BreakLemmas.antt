@@ -4,6 +4,7 @@ use Rattle.scj_base.specs.declared.findings.Found.{Found}
 use Rattle.scj_base.specs.declared.findings.Rule.{Rule}
 use Rattle.scj_base.specs.declared.findings.Rule.TheVariants.{E1, E2, E4, E6, E7, E8, E9, E10}
 use Rattle.scj_base.specs.declared.places.Pos.{Pos}
+use Rattle.scj_tree.specs.declared.nodes.Node.{Node}
 use Rattle.scj_tree.specs.declared.nodes.Node.TheVariants.{SuperCall, LocalWithValue, Assign, Return, Cast, Call, New, NewArray}
 use Rattle.scj_tree.specs.Forest.{Forest}
 use Rattle.scj_rules.specs.declared.typing.Scope.{Scope}
@@ -16,7 +17,7 @@ use Rattle.scj_rules.specs.AnnotationRules.{variable_thing_at}
 use Rattle.scj_rules.specs.UseRules.{Scopes, current_at, receiver_scope, misfit_scope, e3_of_call, e3_of_constructor, result_scope_at, misfits_element, e1, e2, e3, e4_and_e5, e6, e7, e8, e9, e10, use_breaks}
 use Rattle.runs_in_check.specs.declared.arguments.Called.TheVariants.{Constructor}
 use Rattle.runs_in_check.specs.Callees.{parameters_of, declared_scope, arguments_breaks}
-use Rattle.runs_in_check.specs.Parts.{lies_elsewhere, misfits_new, made_breaks, new_breaks, super_breaks, method_called, misfits_call, user_call_breaks, enters_wrong, executes_wrong, built_in_breaks, call_breaks, called_breaks, assign_breaks, lies_off, misfits_cast, of_user}
+use Rattle.runs_in_check.specs.Parts.{lies_elsewhere, misfits_new, made_breaks, new_breaks, super_breaks, method_called, misfits_call, user_call_breaks, enters_wrong, executes_wrong, built_in_breaks, call_breaks, called_breaks, assign_breaks, return_breaks, lies_off, misfits_cast, of_user}
 
 pub constructor_arguments : (forest : Forest) (scopes : Scopes) (object : Option Scope) (arguments : List ℕ) (class : ℕ)
     → arguments_breaks forest scopes (record { called = Constructor class; object = object; current = object }) arguments
@@ -42,9 +43,10 @@ module _ (p : Declarations) (types : Types) (scopes : Scopes) (id : ℕ) where
   unfolding use_breaks e1 e2 e3 e4_and_e5 e6 e7 e8 e9 e10
   at_local place name_place name flags declared_type value = append-nil (broken (misfit_scope (scopes value) (option_and_then (thing_scope p) (variable_thing_at p id))) E4 place)
 
-  pub at_return : (place : Pos) (value : ℕ) → use_breaks p types scopes id (Return place (Some value)) ≡ broken (misfit_scope (scopes value) (result_scope_at p id)) E6 place
-  unfolding use_breaks e1 e2 e3 e4_and_e5 e6 e7 e8 e9 e10
-  at_return place value = append-nil (broken (misfit_scope (scopes value) (result_scope_at p id)) E6 place)
+  pub at_return : (place : Pos) (value : Option ℕ) → use_breaks p types scopes id (Return place value) ≡ return_breaks p scopes id place value
+  unfolding use_breaks e1 e2 e3 e4_and_e5 e6 e7 e8 e9 e10 return_breaks
+  at_return place None = refl
+  at_return place (Some value) = append-nil (broken (misfit_scope (scopes value) (result_scope_at p id)) E6 place)
 
   pub at_cast : (place name_place : Pos) (name : List ℕ) (operand : ℕ) → use_breaks p types scopes id (Cast place name_place name operand) ≡ broken (misfits_cast p (scopes operand) name) E9 place
   unfolding use_breaks e1 e2 e3 e4_and_e5 e6 e7 e8 e9 e10 lies_off
@@ -53,6 +55,21 @@ module _ (p : Declarations) (types : Types) (scopes : Scopes) (id : ℕ) where
   pub at_array : (place : Pos) (element length : ℕ) → use_breaks p types scopes id (NewArray place element length) ≡ broken (holds (written_type p element) (misfits_element p id)) E10 place
   unfolding use_breaks e1 e2 e3 e4_and_e5 e6 e7 e8 e9 e10
   at_array place element length = refl
+
+  pub no_use : (node : Node) → ((a : Pos) (b : List ℕ) → node ≡ SuperCall a b → ⊥) → ((a b : Pos) (n : List ℕ) (f : Option ℕ) (t v : ℕ) → node ≡ LocalWithValue a b n f t v → ⊥)
+      → ((a : Pos) (t v : ℕ) → node ≡ Assign a t v → ⊥) → ((a : Pos) (v : Option ℕ) → node ≡ Return a v → ⊥) → ((a b : Pos) (n : List ℕ) (o : ℕ) → node ≡ Cast a b n o → ⊥)
+      → ((a : Pos) (n : List ℕ) (o : Option ℕ) (ids : List ℕ) → node ≡ Call a n o ids → ⊥) → ((a b : Pos) (n ids : List ℕ) → node ≡ New a b n ids → ⊥) → ((a : Pos) (e l : ℕ) → node ≡ NewArray a e l → ⊥)
+      → use_breaks p types scopes id node ≡ []
+  unfolding use_breaks e1 e2 e3 e4_and_e5 e6 e7 e8 e9 e10
+  no_use (SuperCall a b) h1 h2 h3 h4 h5 h6 h7 h8 = absurd (h1 a b refl)
+  no_use (LocalWithValue a b n f t v) h1 h2 h3 h4 h5 h6 h7 h8 = absurd (h2 a b n f t v refl)
+  no_use (Assign a t v) h1 h2 h3 h4 h5 h6 h7 h8 = absurd (h3 a t v refl)
+  no_use (Return a v) h1 h2 h3 h4 h5 h6 h7 h8 = absurd (h4 a v refl)
+  no_use (Cast a b n o) h1 h2 h3 h4 h5 h6 h7 h8 = absurd (h5 a b n o refl)
+  no_use (Call a n o ids) h1 h2 h3 h4 h5 h6 h7 h8 = absurd (h6 a n o ids refl)
+  no_use (New a b n ids) h1 h2 h3 h4 h5 h6 h7 h8 = absurd (h7 a b n ids refl)
+  no_use (NewArray a e l) h1 h2 h3 h4 h5 h6 h7 h8 = absurd (h8 a e l refl)
+  no_use _ h1 h2 h3 h4 h5 h6 h7 h8 = refl
 
   module _ (place : Pos) (object : Option ℕ) where
     two_arguments : (a b : ℕ) (f : FoundMethod) (o : Option ℕ)

@@ -74,6 +74,11 @@ unfoldable pub assign_breaks : Declarations → Scopes → Pos → ℕ → ℕ �
 assign_breaks p scopes place target value =
     elim (read p.nodes (target_rule p target) target) [ None ↦ [] | Some rule ↦ broken (misfit_scope (scopes value) (scopes target)) rule place ]
 
+-- E6 of a return
+unfoldable pub return_breaks : Declarations → Scopes → ℕ → Pos → Option ℕ → List Found
+return_breaks p scopes id place None = []
+return_breaks p scopes id place (Some value) = broken (misfit_scope (scopes value) (result_scope_at p id)) E6 place
+
 -- E9
 unfoldable pub lies_off : Declarations → Option Scope → ℕ → Bool
 lies_off p operand class = elim (class_scope p class) [ unannotated ↦ false | annotated s ↦ misfit_scope operand (Some (In s)) | unknown ↦ false ]

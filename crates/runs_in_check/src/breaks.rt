@@ -1,7 +1,7 @@
 //! What is broken at a node: E1 to E10.
 
 ghost use Rattle.std.specs.Prelude.{◌≡◌, ◌++◌, not, None, OnOk, option_and_then};
-ghost use Rattle.scj_base.specs.declared.findings.Rule.TheVariants.{E4, E6, E9, E10};
+ghost use Rattle.scj_base.specs.declared.findings.Rule.TheVariants.{E4, E9, E10};
 ghost use Rattle.scj_tree.specs.Recursion.{told};
 ghost use Rattle.scj_rules.specs.Definitions.{read};
 ghost use Rattle.scj_rules.specs.Words.{broken, holds};
@@ -9,8 +9,8 @@ ghost use Rattle.scj_rules.specs.Contexts.{declarations_of};
 ghost use Rattle.scj_rules.specs.TypeRules.{written_type};
 ghost use Rattle.scj_rules.specs.StaticScopes.{thing_scope};
 ghost use Rattle.scj_rules.specs.AnnotationRules.{variable_thing_at};
-ghost use Rattle.scj_rules.specs.UseRules.{current_at, e3_of_constructor, target_rule, misfit_scope, result_scope_at, is_outer_of_current, misfits_element, use_breaks};
-ghost use Rattle.runs_in_check.specs.Parts.{lies_elsewhere, misfits_new, made_breaks, new_breaks, super_breaks, assign_breaks, lies_off, misfits_cast};
+ghost use Rattle.scj_rules.specs.UseRules.{current_at, e3_of_constructor, target_rule, misfit_scope, is_outer_of_current, misfits_element, use_breaks};
+ghost use Rattle.runs_in_check.specs.Parts.{lies_elsewhere, misfits_new, made_breaks, new_breaks, super_breaks, assign_breaks, return_breaks, lies_off, misfits_cast};
 
 use crate::arguments::{Called, Callee, note_arguments};
 use crate::calls::{isnt_current, note_call};
@@ -174,20 +174,26 @@ fn note_local(
     Ok(())
 }
 
-/// Notes E6 at a return with a value.
+/// Notes E6 at a return.
+#[tactic(auto, unfolding(crate::specs::Parts::return_breaks))]
 fn note_return(
     found: &mut Vec<Found>,
     uses: &Uses<'_>,
     scopes: &[Option<Scope>],
     id: NodeId,
     place: Pos,
-    value: NodeId,
+    value: &Option<NodeId>,
 ) -> Result<(), Memory>
-    ensures { OnOk result (found.new.items ≡ found.old.items ++ broken (misfit_scope (told None scopes.now value) (result_scope_at (declarations_of uses.now) id)) E6 place) }
+    ensures { OnOk result (found.new.items ≡ found.old.items ++ return_breaks (declarations_of uses.now) (told None scopes.now) id place value.now) }
 {
-    let is_wrong = misfit_scope(&told(scopes, value), &uses.result_scope_at(id));
-    note(found, is_wrong, Rule::E6, place)?;
-    Ok(())
+    match value {
+        Some(value) => {
+            let is_wrong = misfit_scope(&told(scopes, *value), &uses.result_scope_at(id));
+            note(found, is_wrong, Rule::E6, place)?;
+            Ok(())
+        }
+        None => Ok(()),
+    }
 }
 
 /// Whether a value of this scope may not be cast to a class.
@@ -336,11 +342,8 @@ pub fn note_uses(
             note_local(found, uses, scopes, id, *place, *value)?;
             Ok(())
         }
-        Node::Return {
-            place,
-            value: Some(value),
-        } => {
-            note_return(found, uses, scopes, id, *place, *value)?;
+        Node::Return { place, value } => {
+            note_return(found, uses, scopes, id, *place, value)?;
             Ok(())
         }
         Node::Cast {
