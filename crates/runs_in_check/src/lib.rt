@@ -4,8 +4,10 @@
 pub mod arguments;
 pub mod breaks;
 pub mod calls;
+pub mod checks;
 pub mod scopes;
 pub mod uses;
 pub mod words;
 
+pub use checks::{check_scopes, check_uses, joined_report};
 pub use uses::Uses;
