@@ -3,13 +3,12 @@
 ghost use Rattle.std.specs.Prelude.{◌≡◌, IfOk, None, unwrap_or};
 ghost use Rattle.scj_tree.specs.Recursion.{told};
 ghost use Rattle.scj_rules.specs.Contexts.{declarations_of};
-ghost use Rattle.scj_rules.specs.Classes.{method_number};
 ghost use Rattle.scj_rules.specs.Types.{called_method};
 ghost use Rattle.scj_rules.specs.Bindings.{plain_or, called_on, target, method_binding};
 ghost use Rattle.node_bindings.specs.Calls.{declared_binding, call_binding};
 ghost use Rattle.method_rows.specs.Methods.{found_method};
 
-use crate::fields::{second_class, sum};
+use crate::fields::second_class;
 use method_rows::{MethodRef, builtin, declared};
 use scj_base::ids::MANAGED_MEMORY;
 use scj_base::{ClassId, Memory, MethodId, Name, NodeId};
@@ -66,21 +65,6 @@ fn target(
     Target { id, on, gives }
 }
 
-/// The number of a method of the program.
-#[tactic(auto, unfolding(scj_builtins::specs::Framework::framework_methods))]
-fn number_of(known: &Known<'_>, node: NodeId) -> Result<Option<MethodId>, Memory>
-    ensures { IfOk result (λ number. number ≡ method_number known.now.nodes (declarations_of known.now).users node) }
-{
-    let classes = known.classes();
-    match classes.method_place(node) {
-        Some(place) => {
-            let number = sum(19, place)?;
-            Ok(Some(MethodId::at(number)))
-        }
-        None => Ok(None),
-    }
-}
-
 /// A call of a method of the program.
 #[tactic(auto, unfolding(scj_rules::specs::Contexts::declarations_of))]
 fn declared_binding(
@@ -94,7 +78,7 @@ fn declared_binding(
 {
     let program = known.program();
     let row = declared(program, method);
-    let Some(number) = number_of(known, row.node)? else {
+    let Some(number) = known.classes().method_number(row.node) else {
         return Ok(Binding::Plain);
     };
     let aim = target(program, types, receiver, method, arguments, number);
