@@ -1,15 +1,16 @@
 -- The columns of the table at a class.
-use Rattle.std.proofs.Common.{◌≡◌, ℕ, ◌<◌, List, [], length, map, get_or, refl, sym, ap, ◌∙◌, Option, Some, None, slice_get, option_map, option_and_then, unwrap_or}
+use Rattle.std.proofs.Common.{◌≡◌, ℕ, ◌<◌, List, [], ◌∷◌, length, map, get_or, refl, sym, ap, ◌∙◌, Option, Some, None, slice_get, option_map, option_and_then, unwrap_or}
 use Rattle.std.proofs.lemmas.List.{length-map}
 use Rattle.std.proofs.lemmas.Option.{slice_get-map, slice_get_read}
 use Rattle.scj_tree.specs.Forest.{Forest}
 use Rattle.scj_rules.specs.Classes.{ClassRow, superclass_in, interfaces_in}
+use Rattle.scj_rules.specs.Types.{constructor_in}
 use Rattle.scj_rules.specs.Contexts.{Declarations, declarations_of}
 use Rattle.class_headers.specs.declared.headers.Header.{Header}
 use Rattle.class_headers.specs.declared.headers.Headers.{Headers}
-use Rattle.scj_rules.specs.Views.{WrittenClass}
+use Rattle.scj_rules.specs.Views.{WrittenClass, DeclaredConstructor}
 use Rattle.class_marks.specs.Members.{class_written}
-use Rattle.class_headers.specs.Columns.{IsHeadersOf, header_of}
+use Rattle.class_headers.specs.Columns.{IsHeadersOf, header_of, first_node}
 
 pub count_is : (forest : Forest) (headers : Headers) → IsHeadersOf forest headers → length headers.rows.items ≡ length (declarations_of forest).written
 count_is forest headers t = ap length t.rows ∙ length-map (declarations_of forest).written header_of
@@ -60,3 +61,20 @@ interfaces_is forest headers class t =
 
 pub list_there : {A : Type 0} (f : A → List ℕ) (xs : List A) (i : ℕ) (x : A) → i < length xs → x ≡ get_or xs i x → f x ≡ unwrap_or (option_map f (slice_get xs i)) []
 list_there f xs i x h e = rw (slice_get_read xs (length xs) i x refl h e) refl
+
+first_node_is : (cs : List DeclaredConstructor) → first_node cs ≡ option_map (λ (c : DeclaredConstructor). c.node) (elim cs [ [] ↦ None | c ∷ more ↦ Some c ])
+first_node_is [] = refl
+first_node_is (c ∷ cs) = refl
+
+constructor_of : (o : Option ClassRow)
+    → option_and_then (λ (h : Header). h.constructor) (option_map header_of o)
+    ≡ option_map (λ (c : DeclaredConstructor). c.node) (option_and_then (λ (row : ClassRow). elim row.constructors [ [] ↦ None | c ∷ more ↦ Some c ]) o)
+unfolding header_of
+constructor_of None = refl
+constructor_of (Some row) = first_node_is row.constructors
+
+pub constructor_is : (forest : Forest) (class : ℕ)
+    → option_and_then (λ (h : Header). h.constructor) (option_map header_of (slice_get (declarations_of forest).written class))
+    ≡ option_map (λ (c : DeclaredConstructor). c.node) (constructor_in (declarations_of forest).written class)
+unfolding constructor_in
+constructor_is forest class = constructor_of (slice_get (declarations_of forest).written class)

@@ -1,8 +1,9 @@
 //! The classes of a program as they are written.
 
 ghost use Rattle.std.specs.Prelude.{◌≡◌, length, slice_get, option_copied, option_map, option_and_then};
-ghost use Rattle.scj_rules.specs.Views.{WrittenClass, class_at};
+ghost use Rattle.scj_rules.specs.Views.{DeclaredConstructor, WrittenClass, class_at};
 ghost use Rattle.scj_rules.specs.Classes.{ClassRow, class_number, superclass_in, interfaces_in};
+ghost use Rattle.scj_rules.specs.Types.{constructor_in};
 ghost use Rattle.scj_rules.specs.Contexts.{declarations_of};
 ghost use Rattle.class_headers.specs.Columns.{header_of};
 
@@ -142,5 +143,14 @@ impl<'a> WrittenClasses<'a> {
             Some(node) => class_members(self.program, node),
             None => &[],
         }
+    }
+
+    /// The first constructor of a class.
+    #[tactic(auto, using(crate::proofs::ColumnLemmas::constructor_is))]
+    pub fn constructor(&self, class: ClassId) -> Option<NodeId>
+        ensures { result ≡ option_map (λ (c : DeclaredConstructor). c.node) (constructor_in (declarations_of self.now).written class) }
+    {
+        let header = self.header(class)?;
+        header.constructor
     }
 }

@@ -1,3 +1,5 @@
+pub mod BuildingLemmas
+pub mod ConstructorLemmas
 pub mod FindLemmas
 pub mod MemberLemmas
 pub mod RowLemmas

@@ -1,16 +1,15 @@
 //! The classes of a program with their look-ups.
 
 ghost use Rattle.std.specs.Prelude.{◌≡◌, ◌<◌, length, slice_get, option_copied, option_map, option_and_then};
-ghost use Rattle.scj_rules.specs.Views.{DeclaredConstructor, WrittenClass, class_at};
+ghost use Rattle.scj_rules.specs.Views.{DeclaredConstructor, WrittenClass, class_at, constructor_at};
 ghost use Rattle.scj_rules.specs.Classes.{ClassRow, class_number, superclass_in, superclasses, interfaces_in, all_interfaces, is_cyclic};
 ghost use Rattle.scj_rules.specs.Words.{is_among};
 ghost use Rattle.scj_builtins.specs.Framework.{mission, safelet};
 ghost use Rattle.scj_rules.specs.Contexts.{declarations_of};
 ghost use Rattle.scj_rules.specs.Types.{constructor_in};
 
-use crate::keys::NameKey;
-use crate::tables::{ClassTable, TableRow};
-use node_views::class_members;
+use crate::tables::{ClassTable, Marks};
+use class_marks::WrittenClasses;
 use scj_base::ids::OBJECT;
 use scj_base::{ClassId, Name, NodeId};
 use scj_builtins::ClassKind;
@@ -37,7 +36,7 @@ impl<'a> Model for Classes<'a> {
 }
 
 impl<'a> Classes<'a> {
-    ghost use Rattle.class_rows.specs.Tables.{IsTableOf, class_written, members_in, table_row};
+    ghost use Rattle.class_rows.specs.Tables.{IsTableOf, class_written, members_in, marks_of};
 
     /// The classes of a program, from its table.
     pub fn new(program: &'a Program, table: &'a ClassTable) -> Classes<'a>
@@ -54,27 +53,33 @@ impl<'a> Classes<'a> {
         self.program
     }
 
+    /// The classes as they are written.
+    pub fn written(&self) -> WrittenClasses<'a>
+        ensures { result ≡ self.now }
+    {
+        WrittenClasses::new(self.program, &self.table.headers)
+    }
+
     /// How many classes there are, the framework's among them.
-    #[tactic(auto, using(crate::proofs::RowLemmas::count_is))]
+    #[tactic(auto, using(crate::proofs::RowLemmas::class_length))]
     pub fn count(&self) -> usize
         ensures { result ≡ length (declarations_of self.now).classes }
     {
-        self.table.interfaces.len()
+        self.written().count()
     }
 
     /// The class of a name: the first one that has it.
     pub fn class_of(&self, name: &Name) -> Option<ClassId>
         ensures { result ≡ class_number (declarations_of self.now).names name.now }
     {
-        let key = NameKey::of(*name);
-        self.table.names.get(&key).copied()
+        self.written().class_of(name)
     }
 
-    /// What the table has of a class.
-    pub(crate) fn row(&self, class: ClassId) -> Option<&'a TableRow>
-        ensures { option_copied result ≡ option_map (table_row (declarations_of self.now) class) (slice_get (declarations_of self.now).written class) }
+    /// What is found of a class.
+    fn marks(&self, class: ClassId) -> Option<&'a Marks>
+        ensures { option_copied result ≡ option_map (marks_of (declarations_of self.now) class) (slice_get (declarations_of self.now).written class) }
     {
-        self.table.rows.get(class.number() as usize)
+        self.table.marks.get(class.number() as usize)
     }
 
     /// What a class may be used for.
@@ -82,58 +87,44 @@ impl<'a> Classes<'a> {
     pub fn kind(&self, class: ClassId) -> Option<ClassKind>
         ensures { result ≡ option_map (λ (row : ClassRow). row.kind) (slice_get (declarations_of self.now).classes class) }
     {
-        let row = self.row(class)?;
-        Some(row.kind)
-    }
-
-    /// The node that the table has of a class.
-    #[tactic(auto, using(crate::proofs::RowLemmas::node_is))]
-    fn node(&self, class: ClassId) -> Option<NodeId>
-        ensures { result ≡ option_map (λ (c : WrittenClass). c.node) (class_written (declarations_of self.now) class) }
-    {
-        let row = self.row(class)?;
-        row.node
+        self.written().kind(class)
     }
 
     /// The node of a user class.
-    #[tactic(auto, using(crate::proofs::SoundLemmas::class_at_node))]
     pub fn class_node(&self, class: ClassId) -> Option<NodeId>
         ensures node { result ≡ option_map (λ (c : WrittenClass). c.node) (class_written (declarations_of self.now) class) }
         ensures class { option_and_then (class_at self.now.nodes) result ≡ class_written (declarations_of self.now) class }
     {
-        self.node(class)
+        self.written().class_node(class)
     }
 
     /// The members of a user class, in the order of the source.
-    #[tactic(auto, unfolding(crate::specs::Tables::members_in))]
     pub fn members(&self, class: ClassId) -> &'a [NodeId]
         ensures { result.now ≡ members_in (declarations_of self.now) class }
     {
-        match self.class_node(class) {
-            Some(node) => class_members(self.program, node),
-            None => &[],
-        }
+        self.written().members(class)
     }
 
     /// The superclass as it is written.
-    #[tactic(auto, using(crate::proofs::RowLemmas::superclass_written_is))]
     pub fn superclass_written(&self, class: ClassId) -> Option<ClassId>
         ensures { result ≡ superclass_in (declarations_of self.now).written class }
     {
-        let row = self.row(class)?;
-        row.superclass_written
+        self.written().superclass(class)
     }
 
     /// The superclass as it counts: a class with a forbidden header stands under `Object`.
-    #[tactic(auto, using(crate::proofs::RowLemmas::superclass_is))]
     pub fn superclass(&self, class: ClassId) -> Option<ClassId>
         ensures { result ≡ superclass_in (declarations_of self.now).classes class }
     {
-        let row = self.row(class)?;
-        if row.is_well_headed {
-            row.superclass_written
-        } else {
-            Some(OBJECT)
+        match self.marks(class) {
+            Some(marks) => {
+                if marks.is_well_headed {
+                    self.superclass_written(class)
+                } else {
+                    Some(OBJECT)
+                }
+            }
+            None => None,
         }
     }
 
@@ -141,21 +132,16 @@ impl<'a> Classes<'a> {
     pub fn interfaces_written(&self, class: ClassId) -> &'a [ClassId]
         ensures { result.now ≡ interfaces_in (declarations_of self.now).written class }
     {
-        let at = class.number() as usize;
-        if at >= self.table.interfaces.len() {
-            return &[];
-        }
-        let interfaces = &self.table.interfaces[at];
-        interfaces.as_slice()
+        self.written().interfaces(class)
     }
 
     /// The interfaces as they count: a class with a forbidden header has none.
     pub fn interfaces(&self, class: ClassId) -> &'a [ClassId]
         ensures { result.now ≡ interfaces_in (declarations_of self.now).classes class }
     {
-        match self.row(class) {
-            Some(row) => {
-                if row.is_well_headed {
+        match self.marks(class) {
+            Some(marks) => {
+                if marks.is_well_headed {
                     self.interfaces_written(class)
                 } else {
                     &[]
@@ -170,8 +156,8 @@ impl<'a> Classes<'a> {
         requires { class < length (declarations_of self.now).classes }
         ensures { result ≡ is_cyclic (declarations_of self.now).written class }
     {
-        match self.row(class) {
-            Some(row) => row.is_cyclic,
+        match self.marks(class) {
+            Some(marks) => marks.is_cyclic,
             None => false,
         }
     }
@@ -181,8 +167,8 @@ impl<'a> Classes<'a> {
         requires { class < length (declarations_of self.now).classes }
         ensures { result ≡ is_among mission (superclasses (declarations_of self.now).written class) }
     {
-        match self.row(class) {
-            Some(row) => row.is_mission,
+        match self.marks(class) {
+            Some(marks) => marks.is_mission,
             None => false,
         }
     }
@@ -192,18 +178,26 @@ impl<'a> Classes<'a> {
         requires { class < length (declarations_of self.now).classes }
         ensures { result ≡ is_among safelet (all_interfaces (declarations_of self.now).written class) }
     {
-        match self.row(class) {
-            Some(row) => row.is_safelet,
+        match self.marks(class) {
+            Some(marks) => marks.is_safelet,
             None => false,
         }
     }
 
-    /// The first constructor of a class.
+    /// The node that the table has of the first constructor of a class.
     #[tactic(auto, using(crate::proofs::RowLemmas::constructor_is))]
-    pub fn constructor_in(&self, class: ClassId) -> Option<NodeId>
+    fn first_constructor(&self, class: ClassId) -> Option<NodeId>
         ensures { result ≡ option_map (λ (c : DeclaredConstructor). c.node) (constructor_in (declarations_of self.now).classes class) }
     {
-        let row = self.row(class)?;
-        row.constructor
+        self.written().constructor(class)
+    }
+
+    /// The node of the first constructor of a class.
+    #[tactic(auto, using(crate::proofs::ConstructorLemmas::constructor_whole))]
+    pub fn constructor_in(&self, class: ClassId) -> Option<NodeId>
+        ensures node { result ≡ option_map (λ (c : DeclaredConstructor). c.node) (constructor_in (declarations_of self.now).classes class) }
+        ensures whole { option_and_then (constructor_at self.now.nodes) result ≡ constructor_in (declarations_of self.now).classes class }
+    {
+        self.first_constructor(class)
     }
 }

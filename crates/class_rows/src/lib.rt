@@ -1,9 +1,9 @@
 //! The classes of a program, and look-ups among them and their members.
 #![tactic(auto)]
 
+pub mod building;
 pub mod chains;
 pub mod classes;
-pub mod keys;
 pub mod lookups;
 pub mod tables;
 

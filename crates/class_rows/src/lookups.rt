@@ -1,7 +1,6 @@
 //! Whether a class stands under another, and look-ups of members by name.
 
-ghost use Rattle.std.specs.Prelude.{◌≡◌, ◌+◌, ◌<◌, ◌≤◌, length, option_map, option_and_then};
-ghost use Rattle.scj_builtins.specs.Framework.{framework_methods};
+ghost use Rattle.std.specs.Prelude.{◌≡◌, ◌<◌, ◌≤◌, option_map, option_and_then};
 ghost use Rattle.scj_rules.specs.Words.{is_among};
 ghost use Rattle.scj_rules.specs.Classes.{superclasses, all_interfaces, is_sub, own_field, field_named, own_method, method_named, method_above, framework_row_named, field_number, method_number};
 ghost use Rattle.scj_rules.specs.Views.{field_at};
@@ -10,11 +9,11 @@ ghost use Rattle.method_rows.specs.Methods.{found_method};
 ghost use Rattle.class_rows.specs.Tables.{field_among, method_among, members_in};
 
 use crate::classes::Classes;
-use crate::keys::{MemberKey, NameKey};
+use class_headers::{MemberKey, NameKey};
 
 use method_rows::{MethodRef, MethodSource, framework_method};
 use node_views::field_at;
-use scj_base::{ClassId, FieldId, Name, NodeId};
+use scj_base::{ClassId, FieldId, MethodId, Name, NodeId};
 use scj_rules::{Declared, FoundField};
 
 impl<'a> Classes<'a> {
@@ -191,7 +190,6 @@ impl<'a> Classes<'a> {
     }
 
     /// The number of the field that a node declares.
-    #[tactic(auto, unfolding(scj_rules::specs::Classes::field_number))]
     pub fn field_number(&self, node: NodeId) -> Option<FieldId>
         ensures { result ≡ field_number (declarations_of self.now).classes node }
     {
@@ -200,13 +198,12 @@ impl<'a> Classes<'a> {
         Some(FieldId::at(number))
     }
 
-    /// The place of the method or constructor that a node declares among those of the program; the framework's methods
-    /// have the numbers before these.
-    #[tactic(auto, unfolding(scj_rules::specs::Classes::method_number))]
-    pub fn method_place(&self, node: NodeId) -> Option<u32>
-        ensures { option_map (λ place. length framework_methods + place) result ≡ method_number self.now.nodes (declarations_of self.now).users node }
+    /// The number of the method or constructor that a node declares.
+    pub fn method_number(&self, node: NodeId) -> Option<MethodId>
+        ensures { result ≡ method_number self.now.nodes (declarations_of self.now).users node }
     {
         let place = node.place();
-        self.table.method_numbers.get(&place).copied()
+        let number = self.table.method_numbers.get(&place).copied()?;
+        Some(MethodId::at(number))
     }
 }

@@ -1,5 +1,5 @@
 -- What a rule finds at the classes, number after number.
-use Rattle.std.proofs.Common.{◌≡◌, ℕ, zero, suc, ◌+◌, List, [], ◌∷◌, ◌++◌, length, flat_map, refl, sym, ap, ◌∙◌, arith, append_assoc, append-nil, add-one, ◌↔◌, ◌⊎◌, inl, inr, ⊎_elim, subst, Bool, slice_get, Option, Some, None, option_map, option_and_then}
+use Rattle.std.proofs.Common.{◌≡◌, ℕ, suc, ◌+◌, List, [], ◌∷◌, ◌++◌, length, flat_map, refl, sym, ap, ◌∙◌, arith, append_assoc, append-nil, ◌↔◌, ◌⊎◌, inl, inr, ⊎_elim, subst, Bool, slice_get, Option, Some, None, option_map, option_and_then}
 use Rattle.scj_base.specs.declared.findings.Found.{Found}
 use Rattle.scj_tree.specs.Recursion.{joined_below}
 use Rattle.scj_rules.specs.Views.{WrittenClass}

@@ -1,20 +1,19 @@
 -- What the tables of a tree tell.
-use Rattle.std.proofs.Common.{◌≡◌, ◌++◌, append_assoc, append-nil, true≢false, is_some, ◌-◌, drop, get_or, not, ◌&&◌, ℕ, zero, suc, ◌+◌, ◌<◌, ◌≤◌, Bool, true, false, ◌||◌, List, [], ◌∷◌, length, slice_get, nat_lt, Option, Some, None, refl, sym, ap, ◌∙◌, arith, ◌⊎◌, ⊎_elim, option_and_then, ◌==◌, subst}
+use Rattle.std.proofs.Common.{◌≡◌, ◌++◌, append_assoc, append-nil, true≢false, is_some, ◌-◌, drop, get_or, ℕ, zero, suc, ◌+◌, ◌<◌, ◌≤◌, true, false, ◌||◌, List, [], ◌∷◌, length, slice_get, nat_lt, Option, Some, None, refl, sym, ap, ◌∙◌, arith, ⊎_elim, ◌==◌}
 use Rattle.std.proofs.lemmas.Bool.Decides.{nat_tests}
 use Rattle.std.proofs.lemmas.Bool.{cases_lt, ne_eqb}
 use Rattle.std.proofs.lemmas.List.{drop_all}
 use Rattle.std.proofs.lemmas.Option.{slice_get_past}
 use Rattle.scj_tree.specs.Forest.{Forest}
-use Rattle.scj_tree.specs.Recursion.{told, listed, below}
+use Rattle.scj_tree.specs.Recursion.{told, listed}
 use Rattle.scj_tree.proofs.RecursionLemmas.{listed-at, length-listed}
 use Rattle.scj_rules.specs.Words.{is_among, chain, along, or_else}
-use Rattle.scj_rules.specs.Classes.{ClassRow, superclasses}
+use Rattle.scj_rules.specs.Classes.{superclasses}
 use Rattle.scj_rules.specs.Contexts.{Declarations, declarations_of}
 use Rattle.scj_rules.specs.ScopeRules.{immortal_scope, definition_in, defined_by, defined_by_chain, parent_scope, is_outer}
 use Rattle.scj_rules.specs.ScopeRules.{scope_written_in}
 use Rattle.scj_rules.specs.Classes.{superclass_in, interfaces_in, all_interfaces}
 use Rattle.scj_rules.specs.StaticScopes.{is_implied_immortal, class_scope, class_scope_on, class_scope_under, differs_from_above, scope_of_right_class}
-use Rattle.scj_rules.specs.declared.scopes.ClassScope.{ClassScope}
 use Rattle.scj_rules.specs.declared.scopes.ClassScope.TheVariants.{Unannotated as unannotated}
 use Rattle.scope_tree.proofs.DefinitionLemmas.{drop_here}
 use Rattle.scope_tree.proofs.UserLemmas.{framework_first}

@@ -1,14 +1,14 @@
 -- The user classes of a program at their numbers, and the definitions that they write.
-use Rattle.std.proofs.Common.{◌≡◌, ℕ, zero, suc, ◌+◌, ◌-◌, ◌<◌, ◌≤◌, Bool, true, false, not, cond, List, [], ◌∷◌, ◌++◌, length, map, find, filter_map, slice_get, position, take, Option, Some, None, is_some, option_map, option_and_then, refl, sym, ap, ◌∙◌, subst, arith, inl, inr, ◌⊎◌, ⊎_elim, eqb, nat_lt, add-one, add_assoc, length-append, ◌==◌, true≢false, ◌||◌, if◌then◌else◌}
-use Rattle.std.specs.List.{list_any, position_or_len, prefix_len}
-use Rattle.std.proofs.lemmas.Bool.{cases_Bool, cases_lt, eq-eqb, ne_eqb, eqb-true}
+use Rattle.std.proofs.Common.{◌≡◌, ℕ, zero, suc, ◌+◌, ◌-◌, ◌<◌, ◌≤◌, Bool, true, false, not, cond, List, [], ◌∷◌, ◌++◌, length, map, find, filter_map, slice_get, position, take, Option, Some, None, is_some, option_map, option_and_then, refl, sym, ap, ◌∙◌, arith, ⊎_elim, eqb, nat_lt, length-append, ◌==◌, true≢false, ◌||◌, if◌then◌else◌}
+use Rattle.std.specs.List.{list_any, position_or_len}
+use Rattle.std.proofs.lemmas.Bool.{cases_lt, eq-eqb, ne_eqb, eqb-true}
 use Rattle.std.proofs.lemmas.List.{map-append, length-map, take_all}
 use Rattle.std.proofs.lemmas.Bool.Decides.{nat_tests}
-use Rattle.std.proofs.lemmas.Option.{slice_get_within, slice_get_past, slice_get-map}
+use Rattle.std.proofs.lemmas.Option.{slice_get_within, slice_get-map}
 use Rattle.scj_builtins.specs.Framework.{FrameworkClass, framework_classes, object}
 use Rattle.scj_tree.specs.declared.nodes.Node.{Node}
 use Rattle.scj_tree.specs.Counts.{times}
-use Rattle.scj_tree.specs.Forest.{Forest, IsForest, IsClass, is_class, AllClasses, joined, placed, all_children}
+use Rattle.scj_tree.specs.Forest.{Forest, IsForest, IsClass, is_class, AllClasses, joined, all_children}
 use Rattle.scj_rules.specs.declared.scopes.Definition.{Definition}
 use Rattle.scj_rules.specs.declared.scopes.Written.{Written}
 use Rattle.scj_rules.specs.Definitions.{read, definition, in_front, scope_named, definition_with, definition_of, definitions_in, definitions, written_of, values_of, define_scope_of, flags_of}

@@ -49,11 +49,7 @@ pub fn any_defines(classes: &Classes, chain: &[ClassId]) -> bool
 
 /// The scope that a class of the chain defines, the first that does.
 #[tactic(auto, using(crate::proofs::TreeLemmas::along_ended))]
-pub fn defined_on(
-    classes: &Classes,
-    names: &ScopeNames,
-    chain: &[ClassId],
-) -> Option<ScopeId>
+pub fn defined_on(classes: &Classes, names: &ScopeNames, chain: &[ClassId]) -> Option<ScopeId>
     requires { IsNaming (declarations_of classes.now) names.now }
     ensures { result ≡ along (defined_by (declarations_of classes.now)) chain.now }
 {

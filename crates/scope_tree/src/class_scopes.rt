@@ -26,11 +26,7 @@ pub fn is_implied_immortal(classes: &Classes, class: ClassId) -> bool
 }
 
 /// Whether a value is written that names no scope.
-pub fn has_unknown_scope(
-    classes: &Classes,
-    names: &ScopeNames,
-    written: &Option<Written>,
-) -> bool
+pub fn has_unknown_scope(classes: &Classes, names: &ScopeNames, written: &Option<Written>) -> bool
     requires { IsNaming (declarations_of classes.now) names.now }
     ensures { result ≡ has_unknown_scope (declarations_of classes.now) written.now }
 {

@@ -6,9 +6,8 @@ ghost use Rattle.scj_rules.specs.Contexts.{declarations_of};
 ghost use Rattle.scj_rules.specs.ScopeRules.{scope_number, definition_in, defined_by, defined_by_chain, parent_scope, is_outer, scope_written_in};
 ghost use Rattle.scj_rules.specs.StaticScopes.{class_scope, is_implied_immortal, has_unknown_scope, differs_from_above};
 
-use crate::class_scopes;
-use crate::classes;
 use crate::trees::{ScopeTree, class_entry, entry, is_outer_in};
+use crate::{class_scopes, classes};
 use class_rows::{ClassTable, Classes};
 use scj_base::{ClassId, Name, ScopeId};
 use scj_rules::{ClassScope, Definition, Written};

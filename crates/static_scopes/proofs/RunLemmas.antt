@@ -1,19 +1,17 @@
 -- What the table of runs tells of a method.
-use Rattle.std.proofs.Common.{◌≡◌, ℕ, ◌<◌, ◌≤◌, Bool, true, false, List, length, Option, Some, None, is_some, option_map, option_and_then, unwrap_or, refl, sym, ap, ◌∙◌, arith, ⊎_elim, nat_lt, slice_get, true≢false}
+use Rattle.std.proofs.Common.{◌≡◌, ℕ, ◌<◌, ◌≤◌, true, false, length, Option, Some, None, is_some, option_and_then, refl, sym, ap, ◌∙◌, arith, ⊎_elim, nat_lt, slice_get, true≢false}
 use Rattle.std.proofs.lemmas.Bool.Decides.{nat_tests}
 use Rattle.std.proofs.lemmas.Bool.{cases_lt}
 use Rattle.std.proofs.lemmas.Option.{slice_get_past}
 use Rattle.scj_tree.specs.declared.nodes.Node.{Node}
 use Rattle.scj_tree.specs.Forest.{Forest}
-use Rattle.scj_tree.specs.Recursion.{told, listed}
+use Rattle.scj_tree.specs.Recursion.{told}
 use Rattle.scj_tree.proofs.RecursionLemmas.{listed-at}
 use Rattle.scj_rules.specs.declared.typing.Scope.{Scope}
 use Rattle.scj_rules.specs.Views.{DeclaredMethod, method_at, method_of}
-use Rattle.scj_rules.specs.Contexts.{Declarations, declarations_of, context}
+use Rattle.scj_rules.specs.Contexts.{declarations_of, context}
 use Rattle.scj_rules.specs.StaticScopes.{runs_in, this_in, current_in}
-use Rattle.method_rows.specs.declared.refs.MethodRef.{MethodRef}
-use Rattle.method_rows.specs.declared.refs.MethodSource.TheVariants.{Declared as declared_source}
-use Rattle.method_rows.specs.Methods.{found_method, method_from, no_method}
+use Rattle.method_rows.specs.Methods.{found_method, method_from}
 use Rattle.static_scopes.specs.Found.{method_in, at_node}
 use Rattle.static_scopes.specs.Runs.{AreRuns, run_at, runs_in_at}
 use Rattle.static_scopes.specs.declared.runs.Runs.{Runs}

@@ -11,10 +11,8 @@ ghost use Rattle.scj_rules.specs.StaticScopes.{this_in, runs_in, current_in, thi
 ghost use Rattle.scj_rules.specs.AnnotationRules.{variable_thing_at, result_scope};
 ghost use Rattle.scj_rules.specs.UseRules.{this_at, current_at};
 
-use crate::methods;
-use crate::names;
 use crate::runs::{Runs, run_in_table};
-use crate::things;
+use crate::{methods, names, things};
 use method_rows::{MethodRef, MethodSource};
 use node_contexts::{Contexts, is_static_member};
 use node_views::{is_method, variable_at};
@@ -197,11 +195,7 @@ impl<'a> Scoped<'a> {
     }
 
     /// The scope of a parameter of a class's constructor.
-    pub fn constructor_parameter_scope(
-        &self,
-        class: ClassId,
-        parameter: &Declared,
-    ) -> Option<Scope>
+    pub fn constructor_parameter_scope(&self, class: ClassId, parameter: &Declared) -> Option<Scope>
         ensures { result ≡ constructor_parameter_scope (declarations_of self.now) class parameter.now }
     {
         let current = self.this_in(class);

@@ -1,7 +1,6 @@
 //! The scopes of variables, fields and results.
 
 ghost use Rattle.std.specs.Prelude.{◌≡◌};
-
 ghost use Rattle.scj_rules.specs.ClassRules.{class_written};
 ghost use Rattle.scj_rules.specs.Contexts.{declarations_of};
 ghost use Rattle.scj_rules.specs.StaticScopes.{has_no_scope, type_scope, is_unannotated, is_unknown_scope, contradicts, is_right_thing, free_thing_scope, thing_scope, variable_thing, field_thing, is_outer_of, suits_field, misfits_field, field_scope};

@@ -33,11 +33,7 @@ pub fn fits(s: &Scope, t: &Scope) -> bool
 
 /// A callee's scope as its caller sees it, who calls it on an object of one scope and where another is current.
 #[tactic(auto, unfolding(scj_rules::specs::StaticScopes::substitute))]
-pub fn substitute(
-    receiver: &Option<Scope>,
-    current: &Option<Scope>,
-    scope: &Scope,
-) -> Option<Scope>
+pub fn substitute(receiver: &Option<Scope>, current: &Option<Scope>, scope: &Scope) -> Option<Scope>
     ensures { result ≡ substitute receiver.now current.now scope.now }
 {
     match scope {

@@ -3,4 +3,7 @@
 
 mod breaks;
 mod passes;
+mod types;
 mod values;
+
+pub use types::{Types, check_types};

@@ -1,4 +1,4 @@
-use Rattle.std.proofs.Common.{arith, Some}
+use Rattle.std.proofs.Common.{arith}
 use Rattle.scj_rules.specs.Classes.{superclasses, superclass_in}
 use Rattle.scj_rules.specs.Contexts.{declarations_of}
 use Rattle.scope_tree.proofs.TreeLemmas.{chain_more, chain_done}

@@ -1,4 +1,4 @@
-use Rattle.std.proofs.Common.{◌≡◌, ◌++◌, length}
+use Rattle.std.proofs.Common.{◌≡◌, ◌++◌}
 use Rattle.scj_rules.specs.Classes.{superclasses, superclass_in}
 use Rattle.scj_rules.specs.Contexts.{declarations_of}
 use Rattle.scope_tree.specs.Trees.{chain_from}

@@ -1,7 +1,6 @@
 use Rattle.std.proofs.Common.{[], ◌∷◌, sym, ◌∙◌, arith}
-use Rattle.std.specs.List.{list_any}
 use Rattle.scj_builtins.specs.Framework.{safelet}
-use Rattle.scj_rules.specs.ClassRules.{inherits_as, numbers_from}
+use Rattle.scj_rules.specs.ClassRules.{inherits_as}
 use Rattle.scj_rules.specs.Contexts.{declarations_of}
 use Rattle.static_scopes.proofs.SafeletLemmas.{any_found, any_more, any_ended}
 use Rattle.static_scopes.proofs.framework.any_inherits.Goals as goal
