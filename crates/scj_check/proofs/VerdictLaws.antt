@@ -1,13 +1,14 @@
--- Texts have one report at most, or are open, and not both.
-use Rattle.std.proofs.Common.{◌≡◌, ℕ, List, [], ◌∷◌, ap, sym, subst}
+-- Texts have one report at most, and a verdict on their program is theirs.
+use Rattle.std.proofs.Common.{◌≡◌, ℕ, List, [], ◌∷◌, ap, sym, subst, None}
 use Rattle.scj_base.specs.declared.findings.Found.{Found}
 use Rattle.scj_tree.specs.Forest.{Forest, forest_of}
+use Rattle.scj_rules.specs.Phases.{Reports, IsAccepted}
 use Rattle.scj_rules.specs.Syntax.{Reads, BreaksSyntax}
-use Rattle.scj_rules.specs.Verdicts.{IsReportOf, in_texts, in_program, AreOpen, IsReportOn, IsOpen}
-use Rattle.scj_rules.proofs.VerdictLemmas.{one_report_on, report_or_open}
+use Rattle.scj_rules.specs.Verdicts.{IsReportOf, in_texts, in_program}
+use Rattle.scj_rules.proofs.ReportsLemmas.{one_of_reports}
 use Rattle.scj_check.specs.Verdicts.{IsVerdict, IsVerdictOn}
 use Rattle.scj_check.specs.declared.verdicts.Verdict.{Verdict}
-use Rattle.scj_check.specs.declared.verdicts.Verdict.TheVariants.{Refused, NotBuilt}
+use Rattle.scj_check.specs.declared.verdicts.Verdict.TheVariants.{Accepted, Refused}
 use Rattle.scj_check.proofs.SyntaxLaws.{one_program, one_break_told, program_or_break}
 
 one_forest : (texts : List (List ℕ)) (forest other : Forest) → Reads texts forest → Reads texts other → forest ≡ other
@@ -18,14 +19,9 @@ one_report_of_texts {texts} (in_texts {found = f} b) (in_texts {found = g} c) = 
 one_report_of_texts {texts} (in_texts {found = f} b) (in_program {forest = forest} r o) = absurd (program_or_break 0 (forest_of [] []) texts forest f r b)
 one_report_of_texts {texts} (in_program {forest = forest} r o) (in_texts {found = f} b) = absurd (program_or_break 0 (forest_of [] []) texts forest f r b)
 one_report_of_texts {texts} {xs} {ys} (in_program {forest = f} r o) (in_program {forest = g} s p) =
-    one_report_on o (subst (λ (h : Forest). IsReportOn h ys) (sym (one_forest texts f g r s)) p)
-
-pub report_or_open_texts : {texts : List (List ℕ)} {xs : List Found} → IsReportOf texts xs → AreOpen texts → ⊥
-report_or_open_texts {texts} (in_texts {found = f} b) o = program_or_break 0 (forest_of [] []) texts o.forest f o.reads b
-report_or_open_texts {texts} (in_program {forest = f} r p) o =
-    report_or_open p (subst (λ (h : Forest). IsOpen h) (sym (one_forest texts f o.forest r o.reads)) o.open_program)
+    one_of_reports f None xs ys o (subst (λ (h : Forest). Reports h None ys) (sym (one_forest texts f g r s)) p)
 
 -- the verdict on the program of texts is theirs
 pub verdict_of_program : (texts : List (List ℕ)) (forest : Forest) (verdict : Verdict) → Reads texts forest → IsVerdictOn forest verdict → IsVerdict texts verdict
-verdict_of_program texts forest (Refused report) reads on = in_program reads on
-verdict_of_program texts forest NotBuilt reads on = record { forest = forest; reads = reads; open_program = on }
+verdict_of_program texts forest (Accepted checked) reads on = (subst (λ (f : Forest). Reads texts f) (sym on.0) reads, subst IsAccepted (sym on.0) on.1)
+verdict_of_program texts forest (Refused report) reads on = (on.0, in_program reads on.1)

@@ -4,7 +4,7 @@ ghost use Rattle.std.specs.Prelude.{◌≡◌, ℕ, List};
 ghost use Rattle.scj_base.specs.declared.findings.Found.{Found as Finding};
 ghost use Rattle.scj_tree.specs.Forest.{Forest};
 ghost use Rattle.scj_rules.specs.Syntax.{Reads, BreaksSyntax};
-ghost use Rattle.scj_rules.specs.Verdicts.{IsReportOf, AreOpen};
+ghost use Rattle.scj_rules.specs.Verdicts.{IsReportOf};
 
 /// Texts have one program at most.
 pub fn one_program_at_most()
@@ -24,9 +24,4 @@ pub fn no_break_of_a_program()
 /// Texts have one report at most.
 pub fn one_report_at_most()
     ensures { (texts : List (List ℕ)) (one other : List Finding) → IsReportOf texts one → IsReportOf texts other → one ≡ other }
-{}
-
-/// Texts that have a report break a rule that is asked.
-pub fn no_report_of_open_texts()
-    ensures { (texts : List (List ℕ)) (found : List Finding) → IsReportOf texts found → AreOpen texts → ⊥ }
 {}

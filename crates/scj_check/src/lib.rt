@@ -2,6 +2,7 @@
 #![tactic(auto)]
 
 pub mod laws;
+pub mod phases;
 pub mod readings;
 pub mod sources;
 pub mod verdicts;

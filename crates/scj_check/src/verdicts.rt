@@ -1,13 +1,15 @@
 //! What is told of sources.
 
 ghost use Rattle.std.specs.Prelude.{◌≡◌, ◌∷◌, [], IfOk};
-ghost use Rattle.scj_rules.specs.Verdicts.{IsReportOn};
+ghost use Rattle.scj_rules.specs.CheckedProgram.{IsReadFromTexts};
 ghost use Rattle.scj_check.specs.Texts.{texts_of};
 ghost use Rattle.scj_check.specs.Verdicts.{IsVerdict, IsVerdictOn};
 
+use crate::phases::{Judgement, judge};
 use crate::readings::{Reading, read};
 use crate::sources::Sources;
 use scj_base::{Found, Memory};
+use scj_rules::Checked;
 use scj_tree::Program;
 use std::alloc::Global;
 use std::marker::Model;
@@ -39,14 +41,15 @@ impl Report {
 /// What is told of sources.
 #[derive(Drop)]
 pub enum Verdict {
+    /// They break no rule: their program, with what its nodes stand for.
+    Accepted(Checked),
     /// They break rules.
     Refused(Report),
-    /// They break none of the rules on lexemes, grammar, classes, limits and types. The rules on scopes aren't asked yet.
-    NotBuilt,
 }
 
-/// Checks sources by the phases that there are: lexemes, grammar, classes with limits, types. The first phase with a break
-/// gives the report; of lexemes and grammar that is the first break of the earliest file that has one, of the others all.
+/// Checks sources by all phases: lexemes, grammar, classes with limits, types, scopes, annotations with uses. The first
+/// phase with a break gives the report; of lexemes and grammar that is the first break of the earliest file that has one,
+/// of the others all.
 ///
 /// # Errors
 ///
@@ -55,7 +58,7 @@ pub fn check(alloc: Global, sources: &Sources) -> Result<Verdict, Memory>
     ensures { IfOk result (λ verdict. IsVerdict (texts_of sources.now) verdict) }
 {
     match read(alloc, sources)? {
-        Reading::Read(program) => Ok(check_program(alloc, &program)?),
+        Reading::Read(program) => Ok(check_program(alloc, program)?),
         Reading::Broken(found) => Ok(Verdict::Refused(report_of_one(alloc, found)?)),
     }
 }
@@ -68,9 +71,13 @@ fn report_of_one(alloc: Global, found: Found) -> Result<Report, Memory>
     Ok(Report { found: all })
 }
 
-// The verdict on a program.
-fn check_program(alloc: Global, program: &Program) -> Result<Verdict, Memory>
-    ensures { IfOk result (λ verdict. IsVerdictOn program.now verdict) }
+// The verdict on a program that was read.
+fn check_program(alloc: Global, program: Program) -> Result<Verdict, Memory>
+    requires { IsReadFromTexts program }
+    ensures { IfOk result (λ verdict. IsVerdictOn program verdict) }
 {
-    Err(Memory)
+    match judge(alloc, &program)? {
+        Judgement::Broken(found) => Ok(Verdict::Refused(Report { found })),
+        Judgement::Right(bindings) => Ok(Verdict::Accepted(Checked::seal(program, bindings))),
+    }
 }

@@ -18,7 +18,7 @@ use Rattle.scj_cli.specs.Modes.{IsAnswered, Stops, RefusesForm, Tells}
 use Rattle.scj_cli.specs.Modes.Stops.{told, broken}
 use Rattle.scj_cli.specs.Modes.Tells.{whole as put_whole, fault as put_fault}
 use Rattle.scj_cli.specs.declared.refusals.Refusal.{Refusal}
-use Rattle.scj_cli.specs.declared.refusals.Refusal.TheVariants.{Usage, Unread, Overlong, OtherForm, OutOfMemory}
+use Rattle.scj_cli.specs.declared.refusals.Refusal.TheVariants.{Usage, Unread, Overlong, OutOfMemory}
 use Rattle.scj_cli.specs.declared.refusals.Stop.TheVariants.{Told, Broken}
 
 -- what the loads of a job's files were refused for is the cause of a status
@@ -26,7 +26,6 @@ pub Comes-loads : (job : Job) (shelf : ShelfRun) (refusal : Refusal) → Refuses
 Comes-loads job shelf Usage refuses = absurd refuses
 Comes-loads job shelf (Unread line) refuses = rw refuses.2.1 (unread refuses.1 refuses.2.0)
 Comes-loads job shelf (Overlong line) refuses = rw refuses.2.2 (overlong refuses.1 refuses.2.0 refuses.2.1)
-Comes-loads job shelf OtherForm refuses = absurd refuses
 Comes-loads job shelf OutOfMemory refuses = out_of_memory
 
 -- what a judgement was refused for is the cause of a status
@@ -34,7 +33,6 @@ pub Comes-form : (job : Job) (shelf : ShelfRun) (contents : List (List ℕ)) (re
 Comes-form job shelf contents Usage stands refuses = absurd refuses
 Comes-form job shelf contents (Unread line) stands refuses = absurd refuses
 Comes-form job shelf contents (Overlong line) stands refuses = absurd refuses
-Comes-form job shelf contents OtherForm stands refuses = answered stands refuses
 Comes-form job shelf contents OutOfMemory stands refuses = out_of_memory
 
 -- words that ask for nothing stop the call

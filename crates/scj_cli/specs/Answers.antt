@@ -1,11 +1,11 @@
 -- What each job answers: its status, and its texts on the two sinks.
-use Rattle.std.specs.Prelude.{◌≡◌, ℕ, ◌+◌, List, [], ◌∷◌, ◌++◌, codes, Option, Some, None, true, false}
+use Rattle.std.specs.Prelude.{◌≡◌, ℕ, ◌+◌, ◌<◌, List, [], ◌∷◌, ◌++◌, length, codes, Option, Some, None}
 use Rattle.scj_base.specs.declared.findings.Found.{Found}
 use Rattle.scj_base.specs.declared.statuses.Status.{Status}
-use Rattle.scj_base.specs.declared.statuses.Status.TheVariants.{Done, Refused, Usage, NotBuilt}
+use Rattle.scj_base.specs.declared.statuses.Status.TheVariants.{Done, Refused, Usage}
 use Rattle.scj_tree.specs.Forest.{Forest}
 use Rattle.scj_rules.specs.Syntax.{Reads, BreaksSyntax}
-use Rattle.scj_rules.specs.Verdicts.{IsReportOf, AreOpen}
+use Rattle.scj_rules.specs.Verdicts.{IsReportOf}
 use Rattle.scj_show.specs.Symbols.{text_of_file}
 use Rattle.command_line.specs.Job.{Job, Check, Show}
 use Rattle.scj_cli.specs.Reports.{report_text}
@@ -13,8 +13,8 @@ use Rattle.scj_cli.specs.Reports.{report_text}
 abbrev pub usage_line : List ℕ
 usage_line = codes "scj: usage\n"
 
-abbrev pub not_built_line : List ℕ
-not_built_line = codes "scj: form not built\n"
+abbrev pub accepted_line : List ℕ
+accepted_line = codes "accepted\n"
 
 -- the canonical texts of some files of a program, the first of them with this number, one behind the other
 unfoldable pub shown_from : Forest → ℕ → List (List ℕ) → List ℕ
@@ -30,11 +30,11 @@ pub data Answer : Option Job → List (List ℕ) → Status → List ℕ → Lis
   no_job : {contents : List (List ℕ)} →
       Answer None contents Usage [] usage_line
   refused : {names contents : List (List ℕ)} {found : List Found} →
-      IsReportOf contents found →
+      0 < length found → IsReportOf contents found →
       Answer (Some (Check names)) contents Refused (report_text names found) []
-  not_built : {names contents : List (List ℕ)} →
-      AreOpen contents →
-      Answer (Some (Check names)) contents NotBuilt [] not_built_line
+  accepted : {names contents : List (List ℕ)} →
+      IsReportOf contents [] →
+      Answer (Some (Check names)) contents Done accepted_line []
   show_unreadable : {names contents : List (List ℕ)} {found : Found} →
       BreaksSyntax contents found →
       Answer (Some (Show names)) contents Refused (report_text names (found ∷ [])) []

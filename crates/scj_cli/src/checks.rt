@@ -1,23 +1,24 @@
 //! The mode that checks sources.
 
-ghost use Rattle.std.specs.Prelude.{[], ◌≤◌, length, map, string_bytes, IfOk, IfErr, Some};
+ghost use Rattle.std.specs.Prelude.{◌≡◌, [], ◌≤◌, length, map, string_bytes, IfOk, IfErr, Some};
 ghost use Rattle.scj_io.specs.Loads.{ShelfGoes, shelf_run};
 ghost use Rattle.scj_io.specs.Puts.{sink_run};
 ghost use Rattle.command_line.specs.Job.{Check};
 ghost use Rattle.scj_check.specs.Texts.{texts_of};
-ghost use Rattle.scj_base.specs.declared.statuses.Status.TheVariants.{Refused};
-ghost use Rattle.scj_cli.specs.Answers.{Answer};
+ghost use Rattle.scj_base.specs.declared.statuses.Status.TheVariants.{Done, Refused};
+ghost use Rattle.scj_cli.specs.Answers.{Answer, accepted_line};
+ghost use Rattle.scj_cli.specs.Reports.{report_text};
 ghost use Rattle.scj_cli.specs.Modes.{IsAnswered, Stops, RefusesForm};
 
 use crate::loads::load_all;
 use crate::refusals::{Refusal, Stop};
 use crate::reports::report;
-use scj_base::Status;
+use scj_base::{Found, Status};
 use scj_check::{Sources, Verdict};
 use scj_io::{Shelf, Sink, put_all};
-use std::alloc::Global;
+use std::alloc::{AllocError, Global};
 
-/// Checks the files of these names, and puts the report on `out`.
+/// Checks the files of these names, and puts `accepted` or the report on `out`.
 pub fn check<H: Shelf, K: Sink>(
     alloc: Global,
     names: &[String],
@@ -34,18 +35,45 @@ pub fn check<H: Shelf, K: Sink>(
         (sink_run (K.taken out.old) (K.taken out.new) (K.faults out.old) (K.faults out.new)) stop) }
 {
     let sources = load_all(alloc, names, shelf)?;
-    let text = judge(alloc, names, &sources)?;
-    put_all(out, text.as_bytes())?;
-    Ok(Status::Refused)
+    let told = judge(alloc, names, &sources)?;
+    put_all(out, told.text.as_bytes())?;
+    Ok(told.status)
 }
 
-// The report on the contents of the files.
-fn judge(alloc: Global, names: &[String], sources: &Sources) -> Result<String, Refusal>
-    ensures ok { IfOk result (λ text. Answer (Some (Check (map string_bytes names.now))) (texts_of sources.now) Refused (string_bytes text) []) }
+// What a check answers.
+#[derive(Drop)]
+struct Told {
+    status: Status,
+    text: String,
+}
+
+// The answer on the contents of the files.
+fn judge(alloc: Global, names: &[String], sources: &Sources) -> Result<Told, Refusal>
+    ensures ok { IfOk result (λ told. Answer (Some (Check (map string_bytes names.now))) (texts_of sources.now) told.status (string_bytes told.text) []) }
     ensures refusal { IfErr result (λ refusal. RefusesForm (Check (map string_bytes names.now)) (texts_of sources.now) refusal) }
 {
     match scj_check::check(alloc, sources)? {
-        Verdict::Refused(found) => Ok(report(alloc, names, found.items())?),
-        Verdict::NotBuilt => Err(Refusal::OtherForm),
+        Verdict::Accepted(_) => Ok(accepted(alloc)?),
+        Verdict::Refused(found) => Ok(refused(alloc, names, found.items())?),
     }
+}
+
+fn accepted(alloc: Global) -> Result<Told, AllocError>
+    ensures { IfOk result (λ told. (told.status ≡ Done) × (string_bytes told.text ≡ accepted_line)) }
+{
+    let text = String::from_str(alloc, "accepted\n")?;
+    Ok(Told {
+        status: Status::Done,
+        text,
+    })
+}
+
+fn refused(alloc: Global, names: &[String], found: &[Found]) -> Result<Told, AllocError>
+    ensures { IfOk result (λ told. (told.status ≡ Refused) × (string_bytes told.text ≡ report_text (map string_bytes names.now) found.now)) }
+{
+    let text = report(alloc, names, found)?;
+    Ok(Told {
+        status: Status::Refused,
+        text,
+    })
 }

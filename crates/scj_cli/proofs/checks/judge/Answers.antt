@@ -1,8 +1,17 @@
-use Rattle.scj_cli.specs.Answers.Answer.{refused, not_built}
+use Rattle.std.proofs.Common.{[], ap}
+use Rattle.scj_rules.specs.Phases.{nowhere}
+use Rattle.scj_rules.specs.Verdicts.{in_program}
+use Rattle.scj_cli.specs.Answers.Answer.{refused, accepted}
 use Rattle.scj_cli.proofs.checks.judge.Goals as goal
 
-pub returns-in_ok-report-in-Refused-clause-ok : goal.returns-in_ok-report-in-Refused-clause-ok
-returns-in_ok-report-in-Refused-clause-ok c = rw (c.in_ok-report-in-Refused.ensures, c.items.ensures) (refused (rw c.in-Refused.is at c.in_ok-found.ensures))
+pub returns-in_ok-accepted-in-Accepted-clause-ok : goal.returns-in_ok-accepted-in-Accepted-clause-ok
+returns-in_ok-accepted-in-Accepted-clause-ok c =
+    let e = c.in_ok-accepted-in-Accepted.ensures in
+    let v = rw c.in-Accepted.is at c.in_ok-branch.ensures in
+    rw (e.0, e.1) (accepted (in_program v.0 (nowhere v.1)))
 
-pub returns-in-NotBuilt-clause-refusal : goal.returns-in-NotBuilt-clause-refusal
-returns-in-NotBuilt-clause-refusal c = not_built (rw c.in-NotBuilt.is at c.in_ok-found.ensures)
+pub returns-in_ok-refused-in-Refused-clause-ok : goal.returns-in_ok-refused-in-Refused-clause-ok
+returns-in_ok-refused-in-Refused-clause-ok c =
+    let e = c.in_ok-refused-in-Refused.ensures in
+    let v = rw c.in-Refused.is at c.in_ok-branch.ensures in
+    rw (e.0, e.1, c.items.ensures) (refused v.0 v.1)
