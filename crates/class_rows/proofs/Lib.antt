@@ -2,5 +2,6 @@ pub mod BuildingLemmas
 pub mod FindLemmas
 pub mod MemberLemmas
 pub mod RowLemmas
+pub mod SampleLemmas
 pub mod SoundLemmas
 pub mod WalkLemmas
