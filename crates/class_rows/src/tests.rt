@@ -131,7 +131,9 @@ fn sample(alloc: Global) -> Result<Program, Memory> {
     let interface = super_type(place, b"Runnable");
     let header = supers(place, 8, interfaces);
     let a = class(place, b"A", Some(NodeId::at(10)), Vec::new(alloc));
-    let nodes = vec![in alloc; int, f, void, body, run, other_body, made, b, above, interface, header, a]?;
+    let nodes = vec![in alloc;
+        int, f, void, body, run, other_body, made, b, above, interface, header, a,
+    ]?;
     Ok(Program::from_parts(alloc, nodes, files))
 }
 
