@@ -67,11 +67,7 @@ pub fn names_of(alloc: Global, program: &Program, ids: &[NodeId]) -> Result<Vec<
 
 /// Enters a number under a name, unless the name has one.
 #[tactic(auto, using(crate::proofs::IndexLemmas::entered_known, crate::proofs::IndexLemmas::entered_new))]
-fn enter(
-    index: &mut IndexMap<NameKey, ClassId>,
-    name: Name,
-    number: usize,
-) -> Result<(), Memory>
+fn enter(index: &mut IndexMap<NameKey, ClassId>, name: Name, number: usize) -> Result<(), Memory>
     ensures { OnOk result ((other : List ℕ) → get is_same index.new other ≡ option_or (get is_same index.old other) (if is_same other name then Some number else None)) }
 {
     let key = NameKey::of(name);

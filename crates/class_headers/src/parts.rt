@@ -108,11 +108,7 @@ pub fn user_interfaces(
 }
 
 /// The class that a node names.
-fn interface(
-    program: &Program,
-    names: &IndexMap<NameKey, ClassId>,
-    node: NodeId,
-) -> Option<ClassId>
+fn interface(program: &Program, names: &IndexMap<NameKey, ClassId>, node: NodeId) -> Option<ClassId>
     ensures { result ≡ option_and_then (λ (w : Written). get is_same names.now w.name) (read program.now.nodes named_super node) }
 {
     let written = named_super(program, node)?;

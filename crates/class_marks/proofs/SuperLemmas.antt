@@ -42,7 +42,7 @@ is_bad_interface p there class = not (holds (slice_get p.written class) (λ (row
 at_class : (p : Declarations) (there : List ℕ) (w : Written) (ws : List Written) (o : Option ℕ)
     → elim o [ None ↦ forbidden_interfaces p.names p.written there ws | Some class ↦ (if is_bad_interface p there class then w ∷ [] else []) ++ forbidden_interfaces p.names p.written (there ++ filter is_kind (class ∷ [])) ws ]
     ≡ elim o [ None ↦ [] | Some class ↦ if is_bad_interface p there class then w ∷ [] else [] ]
-      ++ forbidden_interfaces p.names p.written (there ++ elim o [ None ↦ [] | Some class ↦ filter is_kind (class ∷ []) ]) ws
+    ++ forbidden_interfaces p.names p.written (there ++ elim o [ None ↦ [] | Some class ↦ filter is_kind (class ∷ []) ]) ws
 at_class p there w ws None = ap (λ (ks : List ℕ). forbidden_interfaces p.names p.written ks ws) (sym (append-nil there))
 at_class p there w ws (Some class) = refl
 

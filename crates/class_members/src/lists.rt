@@ -18,7 +18,11 @@ use std::alloc::Global;
 fn field_node(program: &Program, id: NodeId) -> Option<NodeId>
     ensures { result ≡ option_map (λ (f : Declared). f.node) (field_at program.now.nodes id) }
 {
-    if is_field(program, id) { Some(id) } else { None }
+    if is_field(program, id) {
+        Some(id)
+    } else {
+        None
+    }
 }
 
 /// Puts the fields among these members last.

@@ -22,11 +22,7 @@ fn enter(map: &mut IndexMap<usize, u32>, id: NodeId, number: u32) -> Result<(), 
 }
 
 /// The first place of each node in a list, where the places begin with this number.
-pub fn places_of(
-    alloc: Global,
-    ids: &[NodeId],
-    first: u32,
-) -> Result<IndexMap<usize, u32>, Memory>
+pub fn places_of(alloc: Global, ids: &[NodeId], first: u32) -> Result<IndexMap<usize, u32>, Memory>
     requires { first ≤ 100 }
     ensures { IfOk result (λ map. (id : ℕ) → get ◌==◌ map id ≡ option_map (λ place. first + place) (position (λ other. id == other) ids.now)) }
 {

@@ -3,5 +3,6 @@ pub mod ConstructorLemmas
 pub mod FindLemmas
 pub mod MemberLemmas
 pub mod RowLemmas
+pub mod SampleLemmas
 pub mod SoundLemmas
 pub mod WalkLemmas

@@ -18,11 +18,7 @@ use std::alloc::Global;
 
 /// Whether nothing in the header of a class is forbidden.
 #[tactic(auto, using(crate::proofs::BuildingLemmas::good_user, crate::proofs::BuildingLemmas::good_framework))]
-fn has_good_header(
-    alloc: Global,
-    written: &WrittenClasses,
-    class: ClassId,
-) -> Result<bool, Memory>
+fn has_good_header(alloc: Global, written: &WrittenClasses, class: ClassId) -> Result<bool, Memory>
     ensures { IfOk result (λ is_good. is_good ≡ is_good_header (declarations_of written.now) class (class_written (declarations_of written.now) class)) }
 {
     match written.class_node(class) {
@@ -64,10 +60,7 @@ fn all_marks(alloc: Global, written: &WrittenClasses) -> Result<Vec<Marks>, Memo
 
 /// The number of each field.
 #[tactic(auto, using(crate::proofs::BuildingLemmas::field_place))]
-fn field_numbers(
-    alloc: Global,
-    written: &WrittenClasses,
-) -> Result<IndexMap<usize, u32>, Memory>
+fn field_numbers(alloc: Global, written: &WrittenClasses) -> Result<IndexMap<usize, u32>, Memory>
     ensures { IfOk result (λ map. (id : ℕ) → get ◌==◌ map id ≡ field_number (declarations_of written.now).classes id) }
 {
     let ids = field_nodes(alloc, written)?;
@@ -77,10 +70,7 @@ fn field_numbers(
 
 /// The number of each method and constructor.
 #[tactic(auto, using(crate::proofs::BuildingLemmas::method_place))]
-fn method_numbers(
-    alloc: Global,
-    written: &WrittenClasses,
-) -> Result<IndexMap<usize, u32>, Memory>
+fn method_numbers(alloc: Global, written: &WrittenClasses) -> Result<IndexMap<usize, u32>, Memory>
     ensures { IfOk result (λ map. (id : ℕ) → get ◌==◌ map id ≡ method_number written.now.nodes (declarations_of written.now).users id) }
 {
     let ids = method_nodes(alloc, written)?;

@@ -9,3 +9,6 @@ pub mod tables;
 
 pub use classes::Classes;
 pub use tables::ClassTable;
+
+#[cfg(test)]
+mod tests;

@@ -10,7 +10,6 @@ ghost use Rattle.class_rows.specs.Tables.{field_among, method_among, members_in}
 
 use crate::classes::Classes;
 use class_headers::{MemberKey, NameKey};
-
 use method_rows::{MethodRef, MethodSource, framework_method};
 use node_views::field_at;
 use scj_base::{ClassId, FieldId, MethodId, Name, NodeId};

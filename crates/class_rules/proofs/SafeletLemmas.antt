@@ -141,4 +141,3 @@ all_noted forest class is_seen found after whole l a w =
 pub all_left : (p : Declarations) → left_over false (safelets_left p 0) ≡ c8 p
 unfolding left_over safelets_left c8
 all_left p = refl
-

@@ -10,7 +10,6 @@ ghost use Rattle.scj_rules.specs.ClassRules.{broken_at, c1, c2, c3};
 ghost use Rattle.scj_rules.specs.Contexts.{declarations_of};
 ghost use Rattle.class_rules.specs.Parts.{written_class};
 ghost use Rattle.class_rules.specs.Headers.{is_unknown};
-
 ghost use Rattle.scj_base.specs.declared.findings.Rule.TheVariants.{C2};
 
 use crate::parts::ClassParts;

@@ -1,6 +1,8 @@
 //! The rules on classes and members, and the limits.
 #![tactic(auto)]
 
+pub mod fields;
+pub mod headers;
 pub mod limits;
 pub mod members;
 pub mod openings;
@@ -11,5 +13,3 @@ pub mod rules;
 pub mod safelets;
 pub mod twice;
 pub mod types;
-pub mod fields;
-pub mod headers;

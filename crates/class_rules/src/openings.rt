@@ -45,12 +45,7 @@ fn leaves_member(classes: &Classes<'_>, class: ClassId, on: ClassId, id: NodeId)
 
 /// Whether a class leaves one of these members open.
 #[tactic(auto, using(crate::proofs::OpeningLemmas::any_members))]
-fn leaves_members(
-    classes: &Classes<'_>,
-    class: ClassId,
-    on: ClassId,
-    members: &[NodeId],
-) -> bool
+fn leaves_members(classes: &Classes<'_>, class: ClassId, on: ClassId, members: &[NodeId]) -> bool
     ensures { result ≡ list_any (is_left_open (declarations_of classes.now) class) (filter is_abstract (filter_map (method_at classes.now.nodes) members.now)) }
 {
     let mut others = members;
@@ -88,9 +83,7 @@ fn leaves_builtins(classes: &Classes<'_>, class: ClassId, on: ClassId) -> bool
                 || leaves_builtin(classes, class, on, 2)
                 || leaves_builtin(classes, class, on, 3)
         }
-        3 => {
-            leaves_builtin(classes, class, on, 4) || leaves_builtin(classes, class, on, 5)
-        }
+        3 => { leaves_builtin(classes, class, on, 4) || leaves_builtin(classes, class, on, 5) }
         4 => leaves_builtin(classes, class, on, 8),
         5 => leaves_builtin(classes, class, on, 9),
         6 => leaves_builtin(classes, class, on, 11),

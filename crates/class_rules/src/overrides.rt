@@ -76,12 +76,7 @@ fn is_result_of(
 
 /// Whether a method has the types of the one above.
 #[tactic(auto, unfolding(scj_rules::specs::ClassRules::has_types_of))]
-pub fn has_types_of(
-    classes: &Classes<'_>,
-    class: ClassId,
-    m: &MethodRef,
-    above: &MethodRef,
-) -> bool
+pub fn has_types_of(classes: &Classes<'_>, class: ClassId, m: &MethodRef, above: &MethodRef) -> bool
     ensures { result ≡ has_types_of (declarations_of classes.now) class (found_method classes.now.nodes m.now).method (found_method classes.now.nodes above.now).method }
 {
     let program = classes.program();
@@ -121,12 +116,7 @@ pub fn is_wrong_override(
 }
 
 /// Whether a method leaves an abstract one open, in whose place it stands in a class.
-pub fn stays_open(
-    classes: &Classes<'_>,
-    class: ClassId,
-    m: &MethodRef,
-    instead: &MethodRef,
-) -> bool
+pub fn stays_open(classes: &Classes<'_>, class: ClassId, m: &MethodRef, instead: &MethodRef) -> bool
     ensures { result ≡ stays_open (declarations_of classes.now) class (found_method classes.now.nodes m.now).method (found_method classes.now.nodes instead.now).method }
 {
     let program = classes.program();

@@ -30,7 +30,12 @@ pub fn note_twice(
     let mut earlier = BTreeMap::new(alloc);
     let mut others = names;
     while let [written, rest @ ..] = others {
-        note(found, earlier.contains_key(&written.name), rule, written.place)?;
+        note(
+            found,
+            earlier.contains_key(&written.name),
+            rule,
+            written.place,
+        )?;
         earlier.insert(written.name, ())?;
         others = rest;
     }

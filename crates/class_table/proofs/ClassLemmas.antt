@@ -130,22 +130,22 @@ module _ (forest : Forest) where
   unfolding class_phase
   noted_broken nodes f = (
     (λ (h : Contains noted f).
-    ⊎_elim
-    (λ (k : Contains (c8 p ++ over_classes p (class_found p)) f).
-    ⊎_elim (λ (m : Contains (c8 p) f). Contains-append_left (c8 p) (over_classes p (class_found p) ++ nodes_broken p) f m)
-    (λ (m : Contains (over_classes p (class_found p)) f). Contains-append_right (c8 p) (over_classes p (class_found p) ++ nodes_broken p) f (Contains-append_left (over_classes p (class_found p)) (nodes_broken p) f m))
-    (Contains-append_cases (c8 p) (over_classes p (class_found p)) f k))
-    (λ (k : Contains (nodes_found p) f).
-    Contains-append_right (c8 p) (over_classes p (class_found p) ++ nodes_broken p) f (Contains-append_right (over_classes p (class_found p)) (nodes_broken p) f ((nodes f).0 k)))
-    (Contains-append_cases (c8 p ++ over_classes p (class_found p)) (nodes_found p) f h)),
+        ⊎_elim
+        (λ (k : Contains (c8 p ++ over_classes p (class_found p)) f).
+        ⊎_elim (λ (m : Contains (c8 p) f). Contains-append_left (c8 p) (over_classes p (class_found p) ++ nodes_broken p) f m)
+        (λ (m : Contains (over_classes p (class_found p)) f). Contains-append_right (c8 p) (over_classes p (class_found p) ++ nodes_broken p) f (Contains-append_left (over_classes p (class_found p)) (nodes_broken p) f m))
+        (Contains-append_cases (c8 p) (over_classes p (class_found p)) f k))
+        (λ (k : Contains (nodes_found p) f).
+        Contains-append_right (c8 p) (over_classes p (class_found p) ++ nodes_broken p) f (Contains-append_right (over_classes p (class_found p)) (nodes_broken p) f ((nodes f).0 k)))
+        (Contains-append_cases (c8 p ++ over_classes p (class_found p)) (nodes_found p) f h)),
     (λ (h : Contains (c8 p ++ (over_classes p (class_found p) ++ nodes_broken p)) f).
-    ⊎_elim
-    (λ (m : Contains (c8 p) f). Contains-append_left (c8 p ++ over_classes p (class_found p)) (nodes_found p) f (Contains-append_left (c8 p) (over_classes p (class_found p)) f m))
-    (λ (k : Contains (over_classes p (class_found p) ++ nodes_broken p) f).
-    ⊎_elim (λ (m : Contains (over_classes p (class_found p)) f). Contains-append_left (c8 p ++ over_classes p (class_found p)) (nodes_found p) f (Contains-append_right (c8 p) (over_classes p (class_found p)) f m))
-    (λ (m : Contains (nodes_broken p) f). Contains-append_right (c8 p ++ over_classes p (class_found p)) (nodes_found p) f ((nodes f).1 m))
-    (Contains-append_cases (over_classes p (class_found p)) (nodes_broken p) f k))
-    (Contains-append_cases (c8 p) (over_classes p (class_found p) ++ nodes_broken p) f h)),
+        ⊎_elim
+        (λ (m : Contains (c8 p) f). Contains-append_left (c8 p ++ over_classes p (class_found p)) (nodes_found p) f (Contains-append_left (c8 p) (over_classes p (class_found p)) f m))
+        (λ (k : Contains (over_classes p (class_found p) ++ nodes_broken p) f).
+        ⊎_elim (λ (m : Contains (over_classes p (class_found p)) f). Contains-append_left (c8 p ++ over_classes p (class_found p)) (nodes_found p) f (Contains-append_right (c8 p) (over_classes p (class_found p)) f m))
+        (λ (m : Contains (nodes_broken p) f). Contains-append_right (c8 p ++ over_classes p (class_found p)) (nodes_found p) f ((nodes f).1 m))
+        (Contains-append_cases (over_classes p (class_found p)) (nodes_broken p) f k))
+        (Contains-append_cases (c8 p) (over_classes p (class_found p) ++ nodes_broken p) f h)),
   )
 
   pub is_report : (found sorted : List Found) → ((f : Found) → Contains (nodes_found p) f ↔ Contains (nodes_broken p) f) → found ≡ noted → IsStrictlySortedBy report_order sorted

@@ -93,8 +93,13 @@ from_member p m f callable h =
     let same : c.steps ≡ b.0 = let i : b.0 ≡ 0 + c.steps = c.is_n in omega (arith, i) in
     let many : most_locals ≤ passing (is_variable_of p m) 0 b.0 = subst (λ k. most_locals ≤ passing (is_variable_of p m) 0 k) same c.many in
     let l : IsLate p b.0 f = record {
-      declared = a.0; member = m; is_declared = b.2; is_member = of_member p m b.0 c.passes; callable = callable;
-      late = grind (arith, nat_tests, many); is_found = sym a.2;
+      declared = a.0;
+      member = m;
+      is_declared = b.2;
+      is_member = of_member p m b.0 c.passes;
+      callable = callable;
+      late = grind (arith, nat_tests, many);
+      is_found = sym a.2;
     } in
     to_joined (late_variable p) (length p.nodes) b.0 f (let w : c.steps < length p.nodes = c.within in omega (arith, w, same)) (late_whole p b.0 f l)
 
@@ -148,9 +153,10 @@ some_name (Some d) w h = (d, refl, (let e : naming d ≡ w = cc in ap (λ (v : W
 pub none_late : (p : Declarations) (id : ℕ) (counts : List ℕ) → None ≡ option_map naming (variable_at p.nodes id) → AreCounts p id counts → (late_variable p id ≡ []) × AreCounts p (id + 1) counts
 unfolding late_variable
 none_late p id counts h a =
-    let none : variable_at p.nodes id ≡ None = no_name (variable_at p.nodes id) h in
-    (ap (late_of p id) none,
-    stays p id counts (λ member. ap (λ (o : Option Declared). is_some o && holds (context p id).member (λ m. m == member)) none) a)
+    let none : variable_at p.nodes id ≡ None = no_name (variable_at p.nodes id) h in (
+      ap (late_of p id) none,
+      stays p id counts (λ member. ap (λ (o : Option Declared). is_some o && holds (context p id).member (λ m. m == member)) none) a,
+    )
 
 pub memberless : (p : Declarations) (id : ℕ) (counts : List ℕ) → (context p id).member ≡ None → AreCounts p id counts → (late_variable p id ≡ []) × AreCounts p (id + 1) counts
 unfolding late_variable

@@ -112,17 +112,27 @@ pub fn note_c11(
             note(found, is_wrong, Rule::C11, *place)
         }
         Node::Method {
-            place, name, flags, ..
+            place,
+            name,
+            flags,
+            ..
         } => {
-            let is_wrong =
-                on_method(classes, contexts, id, name, &modifiers_at(program, *flags))?;
+            let is_wrong = on_method(classes, contexts, id, name, &modifiers_at(program, *flags))?;
             note(found, is_wrong, Rule::C11, *place)
         }
         Node::Constructor {
-            place, name, flags, ..
+            place,
+            name,
+            flags,
+            ..
         } => {
-            let is_wrong =
-                on_constructor(classes, contexts, id, name, &modifiers_at(program, *flags));
+            let is_wrong = on_constructor(
+                classes,
+                contexts,
+                id,
+                name,
+                &modifiers_at(program, *flags),
+            );
             note(found, is_wrong, Rule::C11, *place)
         }
         Node::Parameter { place, flags, .. } => {
@@ -134,7 +144,9 @@ pub fn note_c11(
             note(found, is_wrong, Rule::C11, *place)
         }
         Node::LocalWithValue {
-            name_place, flags, ..
+            name_place,
+            flags,
+            ..
         } => {
             let is_wrong = on_variable(&modifiers_at(program, *flags));
             note(found, is_wrong, Rule::C11, *name_place)

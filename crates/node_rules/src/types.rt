@@ -42,9 +42,7 @@ fn note_element(found: &mut Vec<Found>, classes: &Classes<'_>, id: NodeId) -> Re
     ensures { OnOk result (found.new.items ≡ found.old.items ++ at_node (declarations_of classes.now) (c9_element (declarations_of classes.now)) id) }
 {
     match classes.program().get(id) {
-        Some(Node::ClassType { place, name, .. }) => {
-            note_no_class(found, classes, name, *place)
-        }
+        Some(Node::ClassType { place, name, .. }) => { note_no_class(found, classes, name, *place) }
         _ => Ok(()),
     }
 }
@@ -87,10 +85,14 @@ pub fn note_c9(found: &mut Vec<Found>, classes: &Classes<'_>, node: &Node) -> Re
             note(found, !is_mission_name(classes, name), Rule::C9, *place)
         }
         Node::New {
-            name_place, name, ..
+            name_place,
+            name,
+            ..
         } => note_no_class(found, classes, name, *name_place),
         Node::Cast {
-            name_place, name, ..
+            name_place,
+            name,
+            ..
         } => note_no_class(found, classes, name, *name_place),
         Node::NewArray { element, .. } => note_element(found, classes, *element),
         _ => Ok(()),

@@ -1,11 +1,11 @@
 -- Arguments in turn, each with the parameter of its number.
-use Rattle.std.proofs.Common.{◌≡◌, ◌+◌, ◌<◌, ◌≤◌, ◌++◌, ℕ, zero, suc, List, [], ◌∷◌, length, drop, get_or, Option, None, Some, slice_get, refl, sym, ap, ◌∙◌, arith, append-nil, append_assoc}
+use Rattle.std.proofs.Common.{◌≡◌, ◌+◌, ◌<◌, ◌≤◌, ◌++◌, ℕ, zero, suc, List, [], ◌∷◌, length, drop, get_or, Option, slice_get, refl, sym, ap, ◌∙◌, arith, append-nil, append_assoc}
 use Rattle.std.proofs.lemmas.List.{drop_all, drop_more}
 use Rattle.scj_base.specs.declared.findings.Found.{Found}
 use Rattle.scj_tree.specs.Forest.{Forest}
 use Rattle.scj_rules.specs.declared.typing.Scope.{Scope}
 use Rattle.scj_rules.specs.declared.views.Declared.{Declared}
-use Rattle.scj_rules.specs.Contexts.{Declarations, declarations_of}
+use Rattle.scj_rules.specs.Contexts.{declarations_of}
 use Rattle.scj_rules.specs.UseRules.{Scopes, misfit_arguments}
 use Rattle.runs_in_check.specs.Callees.{argument_breaks}
 

@@ -1,7 +1,6 @@
 -- What is broken at each kind of use.
-use Rattle.std.proofs.Common.{◌≡◌, ◌&&◌, ◌==◌, ◌++◌, ℕ, List, [], ◌∷◌, Option, None, Some, if◌then◌else◌, is_some, option_and_then, refl, ap, append-nil}
+use Rattle.std.proofs.Common.{◌≡◌, ◌++◌, ℕ, List, [], ◌∷◌, Option, None, Some, if◌then◌else◌, is_some, option_and_then, refl, ap, append-nil}
 use Rattle.scj_base.specs.declared.findings.Found.{Found}
-use Rattle.scj_base.specs.declared.findings.Rule.{Rule}
 use Rattle.scj_base.specs.declared.findings.Rule.TheVariants.{E1, E2, E4, E6, E7, E8, E9, E10}
 use Rattle.scj_base.specs.declared.places.Pos.{Pos}
 use Rattle.scj_tree.specs.declared.nodes.Node.{Node}

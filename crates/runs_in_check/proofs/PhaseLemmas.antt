@@ -45,11 +45,11 @@ both : (all first second more first_more second_more : List Found) (z : Found) �
     → Together (all ++ more) (first ++ first_more) (second ++ second_more) z
 both all first second more first_more second_more z s t = (
   λ h. ⊎_elim (λ (a : Contains all z). ⊎_elim (λ (x : Contains first z). inl (Contains-append_left first first_more z x)) (λ (y : Contains second z). inr (Contains-append_left second second_more z y)) (s.0 a))
-  (λ (b : Contains more z). ⊎_elim (λ (x : Contains first_more z). inl (Contains-append_right first first_more z x)) (λ (y : Contains second_more z). inr (Contains-append_right second second_more z y)) (t.0 b))
-  (Contains-append_cases all more z h),
+      (λ (b : Contains more z). ⊎_elim (λ (x : Contains first_more z). inl (Contains-append_right first first_more z x)) (λ (y : Contains second_more z). inr (Contains-append_right second second_more z y)) (t.0 b))
+      (Contains-append_cases all more z h),
   λ h. ⊎_elim (λ (a : Contains (first ++ first_more) z). ⊎_elim (λ (x : Contains first z). Contains-append_left all more z (s.1 (inl x))) (λ (y : Contains first_more z). Contains-append_right all more z (t.1 (inl y))) (Contains-append_cases first first_more z a))
-  (λ (b : Contains (second ++ second_more) z). ⊎_elim (λ (x : Contains second z). Contains-append_left all more z (s.1 (inr x))) (λ (y : Contains second_more z). Contains-append_right all more z (t.1 (inr y))) (Contains-append_cases second second_more z b))
-  h,
+      (λ (b : Contains (second ++ second_more) z). ⊎_elim (λ (x : Contains second z). Contains-append_left all more z (s.1 (inr x))) (λ (y : Contains second_more z). Contains-append_right all more z (t.1 (inr y))) (Contains-append_cases second second_more z b))
+      h,
 )
 
 below_together : (f g h : ℕ → List Found) (z : Found) → ((k : ℕ) → Together (h k) (f k) (g k) z) → (n : ℕ) → Together (joined_below h n) (joined_below f n) (joined_below g n) z
@@ -83,10 +83,10 @@ report_is forest annotations uses all found first second whole sorted same = rec
     exact : (z : Found) → Contains found z ↔ Contains (use_phase (declarations_of forest)) z
     exact z = (
       λ h. (phase_together (declarations_of forest) z).1
-      (⊎_elim (λ (a : Contains annotations z). inl ((first z).0 a)) (λ (b : Contains uses z). inr ((second z).0 b))
-      (Contains-append_cases annotations uses z (subst (λ (fs : List Found). Contains fs z) whole ((same z).0 h)))),
+          (⊎_elim (λ (a : Contains annotations z). inl ((first z).0 a)) (λ (b : Contains uses z). inr ((second z).0 b))
+          (Contains-append_cases annotations uses z (subst (λ (fs : List Found). Contains fs z) whole ((same z).0 h)))),
       λ h. (same z).1 (subst (λ (fs : List Found). Contains fs z) (sym whole)
-      (⊎_elim (λ (a : Contains (broken_annotations (declarations_of forest)) z). Contains-append_left annotations uses z ((first z).1 a))
-      (λ (b : Contains (broken_uses (declarations_of forest) (told None (types_in (declarations_of forest)))) z). Contains-append_right annotations uses z ((second z).1 b))
-      ((phase_together (declarations_of forest) z).0 h))),
+          (⊎_elim (λ (a : Contains (broken_annotations (declarations_of forest)) z). Contains-append_left annotations uses z ((first z).1 a))
+          (λ (b : Contains (broken_uses (declarations_of forest) (told None (types_in (declarations_of forest)))) z). Contains-append_right annotations uses z ((second z).1 b))
+          ((phase_together (declarations_of forest) z).0 h))),
     )

@@ -2,7 +2,6 @@
 use Rattle.std.proofs.Common.{◌≡◌, ℕ, Option, Some, slice_get, option_and_then, sym, ap}
 use Rattle.scj_tree.specs.declared.nodes.Node.{Node}
 use Rattle.scj_tree.specs.Forest.{Forest}
-use Rattle.scj_rules.specs.declared.typing.Scope.{Scope}
 use Rattle.scj_rules.specs.Contexts.{declarations_of}
 use Rattle.scj_rules.specs.TypeRules.{Types}
 use Rattle.scj_rules.specs.UseRules.{Scopes, scope_of, scope_of_next}

@@ -1,5 +1,5 @@
 -- What a call asks of its arguments, as the caller sees it.
-use Rattle.std.specs.Prelude.{ℕ, List, [], slice_get, Option, Some, None, option_and_then}
+use Rattle.std.specs.Prelude.{ℕ, List, [], Option, Some, None, option_and_then}
 use Rattle.scj_base.specs.declared.findings.Found.{Found}
 use Rattle.scj_base.specs.declared.findings.Rule.TheVariants.{E3}
 use Rattle.scj_tree.specs.Forest.{Forest}

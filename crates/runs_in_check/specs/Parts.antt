@@ -1,8 +1,7 @@
 -- What is broken at each kind of use, told by its parts.
 use Rattle.std.specs.Prelude.{ℕ, Bool, true, false, not, ◌&&◌, ◌||◌, ◌==◌, List, [], ◌∷◌, ◌++◌, Option, Some, None, if◌then◌else◌, is_some, option_and_then}
 use Rattle.scj_base.specs.declared.findings.Found.{Found}
-use Rattle.scj_base.specs.declared.findings.Rule.{Rule}
-use Rattle.scj_base.specs.declared.findings.Rule.TheVariants.{E1, E2, E4, E6, E7, E8, E9, E10}
+use Rattle.scj_base.specs.declared.findings.Rule.TheVariants.{E1, E2, E6, E7, E8}
 use Rattle.scj_base.specs.declared.places.Pos.{Pos}
 use Rattle.scj_builtins.specs.Framework.{managed_memory_enter_private_memory, managed_memory_execute_in_area_of}
 use Rattle.scj_rules.specs.declared.typing.Scope.{Scope}
@@ -13,11 +12,10 @@ use Rattle.scj_rules.specs.Words.{broken, holds}
 use Rattle.scj_rules.specs.Classes.{FoundMethod, class_number}
 use Rattle.scj_rules.specs.Contexts.{Declarations}
 use Rattle.scj_rules.specs.Types.{call_receiver, called_method}
-use Rattle.scj_rules.specs.TypeRules.{Types, written_type, superclass_at}
+use Rattle.scj_rules.specs.TypeRules.{Types, superclass_at}
 use Rattle.scj_rules.specs.ScopeRules.{parent_scope}
-use Rattle.scj_rules.specs.StaticScopes.{are_same_scope, class_scope, runs_in, thing_scope}
-use Rattle.scj_rules.specs.AnnotationRules.{variable_thing_at}
-use Rattle.scj_rules.specs.UseRules.{Scopes, this_at, current_at, receiver_scope, scope_of_new, isnt_current, misfits_runs_in, misfit_scope, e3_of_call, e3_of_constructor, target_rule, result_scope_at, misfits_enter, misfits_execute, misfits_element, is_named_scope, misfits_area}
+use Rattle.scj_rules.specs.StaticScopes.{are_same_scope, class_scope, runs_in}
+use Rattle.scj_rules.specs.UseRules.{Scopes, this_at, current_at, receiver_scope, scope_of_new, isnt_current, misfits_runs_in, misfit_scope, e3_of_call, e3_of_constructor, target_rule, result_scope_at, misfits_enter, misfits_execute, is_named_scope, misfits_area}
 
 -- an object of the class lies elsewhere than in the current scope
 unfoldable pub lies_elsewhere : Declarations → ℕ → ℕ → Bool

@@ -1,5 +1,5 @@
 -- What the rules on uses find in a program, and the report of their phase.
-use Rattle.std.specs.Prelude.{◌↔◌, ℕ, List, [], slice_get, Option, Some, None}
+use Rattle.std.specs.Prelude.{◌↔◌, ℕ, List, [], slice_get, Some, None}
 use Rattle.std.specs.List.{Contains}
 use Rattle.std.specs.List.Sorted.{IsStrictlySortedBy}
 use Rattle.scj_base.specs.declared.findings.Found.{Found}

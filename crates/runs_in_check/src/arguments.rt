@@ -78,7 +78,12 @@ fn note_argument(
         Some(parameter) => {
             let target = seen_scope(uses, callee, parameter);
             let is_wrong = misfit_scope(&told(scopes, argument), &target);
-            note(found, is_wrong, Rule::E3, place_at(uses.program(), argument))?;
+            note(
+                found,
+                is_wrong,
+                Rule::E3,
+                place_at(uses.program(), argument),
+            )?;
             Ok(())
         }
         None => Ok(()),

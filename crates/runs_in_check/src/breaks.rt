@@ -323,7 +323,9 @@ pub fn note_uses(
             arguments,
         } => {
             let arguments = arguments.items();
-            note_call(found, uses, types, scopes, id, *place, name, object, arguments)?;
+            note_call(
+                found, uses, types, scopes, id, *place, name, object, arguments,
+            )?;
             Ok(())
         }
         Node::SuperCall { arguments, .. } => {

@@ -339,7 +339,9 @@ fn note_method(
 {
     match method {
         Some(method) => {
-            note_called(found, uses, types, scopes, id, place, object, arguments, method)?;
+            note_called(
+                found, uses, types, scopes, id, place, object, arguments, method,
+            )?;
             Ok(())
         }
         None => Ok(()),
@@ -361,6 +363,8 @@ pub fn note_call(
     ensures { let p = declarations_of uses.now in OnOk result (found.new.items ≡ found.old.items ++ called_breaks p (told None types.now) (told None scopes.now) id place object.now arguments.now (method_called p (told None types.now) id object.now name.now)) }
 {
     let method = called(uses, types, id, name, object);
-    note_method(found, uses, types, scopes, id, place, object, arguments, &method)?;
+    note_method(
+        found, uses, types, scopes, id, place, object, arguments, &method,
+    )?;
     Ok(())
 }

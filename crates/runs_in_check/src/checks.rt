@@ -47,11 +47,7 @@ fn found_at_nodes(
 
 /// What is broken at uses, by the types of the nodes.
 #[tactic(auto, unfolding(crate::specs::Phase::broken_uses))]
-fn found_uses(
-    alloc: Global,
-    uses: &Uses<'_>,
-    types: &[Option<Ty>],
-) -> Result<Vec<Found>, Memory>
+fn found_uses(alloc: Global, uses: &Uses<'_>, types: &[Option<Ty>]) -> Result<Vec<Found>, Memory>
     ensures { IfOk result (λ found. found.items ≡ broken_uses (declarations_of uses.now) (told None types.now)) }
 {
     let scopes = scopes_of(alloc, uses, types)?;

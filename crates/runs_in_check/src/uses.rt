@@ -123,11 +123,7 @@ impl<'a> Uses<'a> {
     }
 
     /// The scope of a parameter of a class's constructor.
-    pub fn constructor_parameter_scope(
-        &self,
-        class: ClassId,
-        parameter: &Declared,
-    ) -> Option<Scope>
+    pub fn constructor_parameter_scope(&self, class: ClassId, parameter: &Declared) -> Option<Scope>
         ensures { result ≡ constructor_parameter_scope (declarations_of self.now) class parameter.now }
     {
         self.scoped.constructor_parameter_scope(class, parameter)

@@ -1,5 +1,5 @@
 -- What is broken at the node of a number.
-use Rattle.std.specs.Prelude.{ℕ, List, [], slice_get, Option, Some, None}
+use Rattle.std.specs.Prelude.{ℕ, List, [], slice_get, Some, None}
 use Rattle.scj_base.specs.declared.findings.Found.{Found}
 use Rattle.scj_rules.specs.Contexts.{Declarations}
 use Rattle.scj_rules.specs.TypeRules.{Types, type_breaks}

@@ -107,7 +107,17 @@ pub fn note_breaks(
             declared_type,
             value,
             ..
-        } => note_local(known, types, id, *place, *name_place, name, *declared_type, *value, found),
+        } => note_local(
+            known,
+            types,
+            id,
+            *place,
+            *name_place,
+            name,
+            *declared_type,
+            *value,
+            found,
+        ),
         Node::Assign {
             place,
             target,
@@ -145,7 +155,16 @@ pub fn note_breaks(
             name,
             object,
             arguments,
-        } => note_call(known, types, id, *place, name, object, arguments.items(), found),
+        } => note_call(
+            known,
+            types,
+            id,
+            *place,
+            name,
+            object,
+            arguments.items(),
+            found,
+        ),
         Node::Element {
             place,
             array,
@@ -163,6 +182,27 @@ pub fn note_breaks(
             length,
         } => note_new_array(known, types, *place, *element, *length, found),
         Node::This { place } => note_this(known, id, *place, found),
-        Node::Flags { .. } | Node::DefineScope { .. } | Node::ScopeName { .. } | Node::Supers { .. } | Node::SuperType { .. } | Node::TypeArgument { .. } | Node::IntType { .. } | Node::BooleanType { .. } | Node::ClassType { .. } | Node::VoidType { .. } | Node::LongType { .. } | Node::Constructor { .. } | Node::Parameters { .. } | Node::Block { .. } | Node::Empty { .. } | Node::ExpressionStatement { .. } | Node::Parenthesized { .. } | Node::Text { .. } | Node::Number { .. } | Node::True { .. } | Node::False { .. } | Node::Null { .. } => Ok(()),
+        Node::Flags { .. }
+        | Node::DefineScope { .. }
+        | Node::ScopeName { .. }
+        | Node::Supers { .. }
+        | Node::SuperType { .. }
+        | Node::TypeArgument { .. }
+        | Node::IntType { .. }
+        | Node::BooleanType { .. }
+        | Node::ClassType { .. }
+        | Node::VoidType { .. }
+        | Node::LongType { .. }
+        | Node::Constructor { .. }
+        | Node::Parameters { .. }
+        | Node::Block { .. }
+        | Node::Empty { .. }
+        | Node::ExpressionStatement { .. }
+        | Node::Parenthesized { .. }
+        | Node::Text { .. }
+        | Node::Number { .. }
+        | Node::True { .. }
+        | Node::False { .. }
+        | Node::Null { .. } => Ok(()),
     }
 }

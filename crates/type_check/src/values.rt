@@ -58,12 +58,7 @@ fn type_of_unary(types: &[Option<Ty>], operator: u8, operand: NodeId) -> Option<
 }
 
 /// The type of a cast.
-fn type_of_cast(
-    known: &Known<'_>,
-    types: &[Option<Ty>],
-    name: &Name,
-    operand: NodeId,
-) -> Option<Ty>
+fn type_of_cast(known: &Known<'_>, types: &[Option<Ty>], name: &Name, operand: NodeId) -> Option<Ty>
     ensures { result ≡ option_and_then (λ t. option_map (λ class. class_type class) (class_number (declarations_of known.now).names name.now)) (told None types.now operand) }
 {
     let _operand = told(types, operand)?;
@@ -166,7 +161,9 @@ pub fn type_of(known: &Known<'_>, types: &[Option<Ty>], id: NodeId, node: &Node)
             ..
         } => type_of_binary(known, types, *operator, *left, *right),
         Node::Unary {
-            operator, operand, ..
+            operator,
+            operand,
+            ..
         } => type_of_unary(types, *operator, *operand),
         Node::Cast { name, operand, .. } => type_of_cast(known, types, name, *operand),
         Node::FieldAccess { name, object, .. } => type_of_access(known, types, name, *object),
@@ -178,10 +175,14 @@ pub fn type_of(known: &Known<'_>, types: &[Option<Ty>], id: NodeId, node: &Node)
         } => type_of_call(known, types, id, name, object, arguments.items()),
         Node::Element { array, index, .. } => type_of_element(types, *array, *index),
         Node::New {
-            name, arguments, ..
+            name,
+            arguments,
+            ..
         } => type_of_new(known, types, id, name, arguments.items()),
         Node::NewArray {
-            element, length, ..
+            element,
+            length,
+            ..
         } => type_of_new_array(known, types, *element, *length),
         _ => None,
     }

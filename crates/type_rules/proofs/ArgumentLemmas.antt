@@ -1,5 +1,5 @@
 -- Arguments that have types, and parameters that take them.
-use Rattle.std.proofs.Common.{◌≡◌, ℕ, ◌+◌, ◌<◌, ◌≤◌, zero, suc, List, [], ◌∷◌, length, drop, get_or, refl, sym, ap, ◌∙◌, subst, arith, add-one, Option, Some, None, Bool, true, false, not, ◌&&◌, slice_get, is_some, option_map, option_and_then, unwrap_or, ◌⊎◌, ⊎_elim}
+use Rattle.std.proofs.Common.{◌≡◌, ℕ, ◌+◌, ◌<◌, ◌≤◌, zero, suc, List, [], ◌∷◌, length, drop, get_or, refl, sym, ap, ◌∙◌, subst, arith, Option, Some, None, Bool, true, false, not, ◌&&◌, slice_get, is_some, option_map, option_and_then, unwrap_or, ⊎_elim}
 use Rattle.std.proofs.lemmas.Bool.{cases_Bool, true≢false}
 use Rattle.std.proofs.lemmas.List.{drop_all, drop_more}
 use Rattle.scj_rules.specs.declared.views.Declared.{Declared}
@@ -67,6 +67,7 @@ module _ (p : Declarations) (types : Types) where
       later : (t : Ty) → types id ≡ Some t → (o : Option (List Ty)) → all_types types ids ≡ o → option_map (λ us. t ∷ us) o ≡ Some ts → (t : Ty) × (us : List Ty) × (types id ≡ Some t) × (all_types types ids ≡ Some us) × (ts ≡ t ∷ us)
       later t g None f e = cc
       later t g (Some us) f e = (t, us, g, f, (let h : t ∷ us ≡ ts = cc in sym h))
+
       go : (o : Option Ty) → types id ≡ o → option_and_then (λ t. option_map (λ us. t ∷ us) (all_types types ids)) o ≡ Some ts → (t : Ty) × (us : List Ty) × (types id ≡ Some t) × (all_types types ids ≡ Some us) × (ts ≡ t ∷ us)
       go None f e = cc
       go (Some t) f e = later t f (all_types types ids) refl e

@@ -1,6 +1,5 @@
 -- The parts of the form with which a constructor begins.
-use Rattle.std.specs.Prelude.{ℕ, List, [], ◌∷◌, ◌++◌, Option, Some, None}
-use Rattle.scj_tree.specs.Shape.{optional}
+use Rattle.std.specs.Prelude.{ℕ, List, [], ◌∷◌, Option, Some, None}
 use Rattle.type_rules.specs.declared.forms.Form.{Form}
 use Rattle.type_rules.specs.declared.forms.Middle.{Middle}
 

@@ -1,14 +1,12 @@
 -- What is broken at a node, for each kind of node at which a rule on types can be broken.
-use Rattle.std.specs.Prelude.{ℕ, nat_lt, Bool, true, not, ◌&&◌, ◌||◌, List, [], ◌++◌, Option, Some, None, is_some}
+use Rattle.std.specs.Prelude.{ℕ, Bool, true, not, ◌&&◌, ◌||◌, List, [], ◌++◌, Option, Some, None, is_some}
 use Rattle.scj_base.specs.declared.findings.Found.{Found}
-use Rattle.scj_base.specs.declared.findings.Rule.TheVariants.{T1, T2, T3, T4, T5, T6, T7, T8, T9, T10, T11, T12, T13, T14}
+use Rattle.scj_base.specs.declared.findings.Rule.TheVariants.{T1, T2, T3, T4, T5, T6, T7, T9, T10, T11, T12, T13, T14}
 use Rattle.scj_base.specs.declared.places.Pos.{Pos}
 use Rattle.scj_builtins.specs.Framework.{object}
-use Rattle.scj_rules.specs.declared.typing.Ty.{Ty}
 use Rattle.scj_rules.specs.declared.typing.Ty.TheVariants.{Class as ClassTy}
 use Rattle.scj_rules.specs.declared.typing.FoundField.{FoundField}
 use Rattle.scj_rules.specs.declared.typing.Receiver.{Receiver}
-use Rattle.scj_rules.specs.declared.views.Declared.{Declared}
 use Rattle.scj_rules.specs.declared.views.WrittenType.TheVariants.{Long as long_type, Void as void_type}
 use Rattle.scj_rules.specs.Definitions.{read}
 use Rattle.scj_rules.specs.Words.{broken, holds}
@@ -16,7 +14,7 @@ use Rattle.scj_rules.specs.Views.{type_at}
 use Rattle.scj_rules.specs.Classes.{FoundMethod, class_number, superclass_in}
 use Rattle.scj_rules.specs.ClassRules.{is_same_type}
 use Rattle.scj_rules.specs.Contexts.{Declarations, variable_named, has_object}
-use Rattle.scj_rules.specs.Types.{is_array, is_int, meaning, receiver, call_receiver, names_class, is_value, is_no_reference, is_array_value, is_length, accessed_field, called_method, is_callable, all_types, constructor_parameters, kind_is, is_form, form_in, is_form_part, has_form, binary_type, unary_type}
+use Rattle.scj_rules.specs.Types.{is_array, is_int, meaning, receiver, call_receiver, is_value, is_no_reference, accessed_field, called_method, is_callable, all_types, constructor_parameters, kind_is, is_form, form_in, is_form_part, has_form, binary_type, unary_type}
 use Rattle.scj_rules.specs.TypeRules.{Types, written_type, stands_for_nothing, is_instance_field, lacks_field, lacks_method, lacks_object, misfit, misfits_method, misfits_new, misfits_class, superclass_at, misfits_value, is_length_target, misfits_condition, result_at, fits_result, always_returns, is_never_made, are_related, element_class, misfits_size}
 
 abbrev pub class_breaks : Declarations → Pos → List ℕ → List Found

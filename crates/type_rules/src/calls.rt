@@ -111,8 +111,18 @@ fn note_called(
 {
     note(found, is_no_reference(receiver), Rule::T3, place)?;
     note(found, lacks_method(known, receiver, name), Rule::T5, place)?;
-    note(found, misfits_method(known, types, receiver, name, arguments), Rule::T6, place)?;
-    note(found, lacks_this_method(known, id, receiver, name), Rule::T13, place)?;
+    note(
+        found,
+        misfits_method(known, types, receiver, name, arguments),
+        Rule::T6,
+        place,
+    )?;
+    note(
+        found,
+        lacks_this_method(known, id, receiver, name),
+        Rule::T13,
+        place,
+    )?;
     Ok(())
 }
 
@@ -181,7 +191,12 @@ fn misfits_new(
     match known.class_of(name) {
         Some(class) => {
             (class.number() >= 16 || class == OBJECT)
-                && misfit(known, types, &constructor_parameters(known, class), arguments)
+                && misfit(
+                    known,
+                    types,
+                    &constructor_parameters(known, class),
+                    arguments,
+                )
         }
         None => false,
     }
@@ -233,8 +248,18 @@ pub fn note_new(
 ) -> Result<(), Memory>
     ensures { OnOk result (found.new.items ≡ found.old.items ++ new_breaks (declarations_of known.now) (told None types.now) id place name.now arguments.now) }
 {
-    note(found, misfits_new(known, types, id, name, arguments), Rule::T6, place)?;
-    note(found, makes_none(known, types, name, arguments), Rule::T11, place)?;
+    note(
+        found,
+        misfits_new(known, types, id, name, arguments),
+        Rule::T6,
+        place,
+    )?;
+    note(
+        found,
+        makes_none(known, types, name, arguments),
+        Rule::T11,
+        place,
+    )?;
     note(found, is_misplaced(known, id, name), Rule::T14, place)?;
     Ok(())
 }

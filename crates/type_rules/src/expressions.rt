@@ -19,17 +19,12 @@ use scj_builtins::ClassKind;
 use scj_rules::{Receiver, Ty, note};
 use scj_tree::Node;
 use type_words::{
-    are_same, is_array, is_array_value, is_instance_field, is_length, is_no_reference, is_reference,
-    is_value, names_class, stands_for_nothing, unary_type,
+    are_same, is_array, is_array_value, is_instance_field, is_length, is_no_reference,
+    is_reference, is_value, names_class, stands_for_nothing, unary_type,
 };
 
 /// Whether both operands have types that don't fit.
-fn misfits_binary(
-    known: &Known<'_>,
-    operator: u8,
-    left: &Option<Ty>,
-    right: &Option<Ty>,
-) -> bool
+fn misfits_binary(known: &Known<'_>, operator: u8, left: &Option<Ty>, right: &Option<Ty>) -> bool
     ensures { result ≡ holds left.now (λ a. holds right.now (λ b. not (is_some (binary_type (declarations_of known.now).classes operator a b)))) }
 {
     match left {
@@ -55,7 +50,12 @@ pub fn note_binary(
 {
     let left = told(types, left);
     let right = told(types, right);
-    note(found, misfits_binary(known, operator, &left, &right), Rule::T3, place)
+    note(
+        found,
+        misfits_binary(known, operator, &left, &right),
+        Rule::T3,
+        place,
+    )
 }
 
 /// Notes an operand that doesn't fit.
@@ -265,6 +265,11 @@ pub fn note_access(
     };
     note(found, is_no_reference(&r), Rule::T3, place)?;
     note(found, lacks_field(known, &r, name), Rule::T4, place)?;
-    note(found, lacks_this_field(known, id, &r, name), Rule::T13, place)?;
+    note(
+        found,
+        lacks_this_field(known, id, &r, name),
+        Rule::T13,
+        place,
+    )?;
     Ok(())
 }

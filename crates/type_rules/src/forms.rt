@@ -39,7 +39,9 @@ fn new_of<'a>(known: &Known<'a>, class: ClassId, count: usize, id: NodeId) -> Op
 {
     match known.program().get(id)? {
         Node::New {
-            name, arguments, ..
+            name,
+            arguments,
+            ..
         } => {
             if known.class_of(name)? == class && arguments.items().len() == count {
                 Some(arguments.items())

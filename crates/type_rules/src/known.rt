@@ -111,7 +111,6 @@ impl<'a> Known<'a> {
     }
 
     /// The node of the first constructor of a class.
-    #[tactic(auto, using(crate::proofs::ConstructorLemmas::constructor_whole))]
     pub fn constructor_in(&self, class: ClassId) -> Option<NodeId>
         ensures { option_and_then (constructor_at self.now.nodes) result ≡ constructor_in (declarations_of self.now).classes class }
     {

@@ -76,7 +76,13 @@ pub fn assigns(known: &Known<'_>, s: &Ty, t: &Ty) -> bool
             Ty::Class(b) => known.classes.is_sub(*a, *b),
             _ => false,
         },
-        Ty::Int | Ty::Bool | Ty::Void | Ty::Label | Ty::IntArray | Ty::BoolArray | Ty::ClassArray(_) => are_same(s, t),
+        Ty::Int
+        | Ty::Bool
+        | Ty::Void
+        | Ty::Label
+        | Ty::IntArray
+        | Ty::BoolArray
+        | Ty::ClassArray(_) => are_same(s, t),
     }
 }
 
@@ -112,10 +118,7 @@ fn is_logical(operator: u8) -> bool
 fn is_order(operator: u8) -> bool
     ensures { result ≡ is_among operator (sign_less ∷ sign_greater ∷ sign_less_equal ∷ sign_greater_equal ∷ []) }
 {
-    operator == LESS
-        || operator == GREATER
-        || operator == LESS_EQUAL
-        || operator == GREATER_EQUAL
+    operator == LESS || operator == GREATER || operator == LESS_EQUAL || operator == GREATER_EQUAL
 }
 
 /// Whether the operator is `==` or `!=`.
@@ -138,11 +141,7 @@ pub fn binary_type(known: &Known<'_>, operator: u8, a: &Ty, b: &Ty) -> Option<Ty
         };
     }
     if is_order(operator) {
-        return if are_ints(a, b) {
-            Some(Ty::Bool)
-        } else {
-            None
-        };
+        return if are_ints(a, b) { Some(Ty::Bool) } else { None };
     }
     if is_equality(operator) {
         return if are_ints(a, b) || are_booleans(a, b) || are_related(known, a, b) {

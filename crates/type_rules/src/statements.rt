@@ -32,7 +32,12 @@ pub fn note_variable(
 ) -> Result<(), Memory>
     ensures { OnOk result (found.new.items ≡ found.old.items ++ variable_breaks (declarations_of known.now) id place name.now) }
 {
-    note(found, known.variable_named(id, name).is_some(), Rule::T2, place)
+    note(
+        found,
+        known.variable_named(id, name).is_some(),
+        Rule::T2,
+        place,
+    )
 }
 
 /// Whether a value can't be assigned to the target, where both have types.
@@ -61,7 +66,12 @@ pub fn note_value(
 {
     let target = written_type(known, declared_type);
     let value = told(types, value);
-    note(found, misfits_value(known, &target, &value), Rule::T7, place)
+    note(
+        found,
+        misfits_value(known, &target, &value),
+        Rule::T7,
+        place,
+    )
 }
 
 /// Whether the target is the length of an array.
@@ -164,7 +174,12 @@ pub fn note_end(
     ensures { OnOk result (found.new.items ≡ found.old.items ++ end_breaks (declarations_of known.now) place result_type body) }
 {
     let written = type_at(known.program(), result_type);
-    note(found, !is_void(&written) && !known.always_returns(body), Rule::T10, place)
+    note(
+        found,
+        !is_void(&written) && !known.always_returns(body),
+        Rule::T10,
+        place,
+    )
 }
 
 /// Whether the framework has a method of the name for the class, whose result is `long`.
@@ -209,7 +224,12 @@ pub fn note_size(
     ensures { OnOk result (found.new.items ≡ found.old.items ++ size_breaks (declarations_of known.now) id place name.now result_type body.now) }
 {
     let written = type_at(known.program(), result_type);
-    note(found, is_long(&written) && misfits_size(known, id, name, body), Rule::T14, place)
+    note(
+        found,
+        is_long(&written) && misfits_size(known, id, name, body),
+        Rule::T14,
+        place,
+    )
 }
 
 /// The superclass of the class in which a node stands.
@@ -234,7 +254,12 @@ pub fn note_super_call(
     let test = match superclass_at(known, id) {
         Some(superclass) => {
             !has_form(superclass)
-                && misfit(known, types, &constructor_parameters(known, superclass), arguments)
+                && misfit(
+                    known,
+                    types,
+                    &constructor_parameters(known, superclass),
+                    arguments,
+                )
         }
         None => false,
     };

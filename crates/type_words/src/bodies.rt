@@ -63,7 +63,9 @@ fn number(program: &Program, id: NodeId) -> Option<bool>
 {
     match program.get(id)? {
         Node::Number {
-            value, is_negative, ..
+            value,
+            is_negative,
+            ..
         } => Some(!*is_negative && *value < 2147483648),
         _ => None,
     }
@@ -76,7 +78,8 @@ fn number_returned(program: &Program, id: NodeId) -> Option<bool>
 {
     match program.get(id)? {
         Node::Return {
-            value: Some(value), ..
+            value: Some(value),
+            ..
         } => number(program, *value),
         _ => None,
     }

@@ -12,4 +12,6 @@ pub use receivers::{
     is_value, names_class, stands_for_nothing,
 };
 pub use returns::{always_returns, returning};
-pub use types::{are_same, array_of, class_of_type, element_type, is_array, is_reference, unary_type};
+pub use types::{
+    are_same, array_of, class_of_type, element_type, is_array, is_reference, unary_type,
+};

@@ -76,7 +76,8 @@ pub fn array_of(t: &Ty) -> Option<Ty>
         Ty::Int => Some(Ty::IntArray),
         Ty::Bool => Some(Ty::BoolArray),
         Ty::Class(class) => Some(Ty::ClassArray(*class)),
-        Ty::Void | Ty::Label | Ty::NullTy | Ty::IntArray | Ty::BoolArray | Ty::ClassArray(_) => None,
+        Ty::Void | Ty::Label | Ty::NullTy | Ty::IntArray | Ty::BoolArray | Ty::ClassArray(_) =>
+            None,
     }
 }
 

@@ -16,7 +16,7 @@ returns-in_default c =
 
 pub returns : goal.returns
 returns c =
-    let there : class_at c.args.classes.now.nodes c.in-Some.node ≡ Some (written_class c.args.classes.now.nodes c.in-Some-class_parts.c) = 
+    let there : class_at c.args.classes.now.nodes c.in-Some.node ≡ Some (written_class c.args.classes.now.nodes c.in-Some-class_parts.c) =
     subst (λ (forest : Forest). class_at forest.nodes c.in-Some.node ≡ Some (written_class forest.nodes c.in-Some-class_parts.c)) c.program.ensures (sym c.in-Some-class_parts.ensures) in
     let written : class_written (declarations_of c.args.classes.now) c.args.class ≡ Some (written_class c.args.classes.now.nodes c.in-Some-class_parts.c) =
     sym c.class_node.ensures.class ∙ ap (option_and_then (class_at c.args.classes.now.nodes)) c.in-Some.is ∙ there in

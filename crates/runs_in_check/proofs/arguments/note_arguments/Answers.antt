@@ -1,4 +1,4 @@
-use Rattle.std.proofs.Common.{◌≡◌, ◌++◌, ◌+◌, ℕ, None, List, Option, sym, ap, ◌∙◌, drop}
+use Rattle.std.proofs.Common.{◌++◌, ◌+◌, ℕ, None, List, Option, sym, ap, ◌∙◌, drop}
 use Rattle.scj_tree.specs.Recursion.{told}
 use Rattle.scj_tree.specs.Forest.{Forest}
 use Rattle.scj_base.specs.declared.findings.Found.{Found}

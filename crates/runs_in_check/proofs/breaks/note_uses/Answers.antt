@@ -1,4 +1,4 @@
-use Rattle.std.proofs.Common.{◌≡◌, ◌++◌, None, List, sym, ap, ◌∙◌, append-nil}
+use Rattle.std.proofs.Common.{◌++◌, None, List, sym, ap, ◌∙◌, append-nil}
 use Rattle.scj_base.specs.declared.findings.Found.{Found}
 use Rattle.scj_tree.specs.Recursion.{told}
 use Rattle.scj_rules.specs.Contexts.{declarations_of}

@@ -1,10 +1,9 @@
-use Rattle.std.proofs.Common.{◌≡◌, ◌++◌, ℕ, List, Option, None, sym, ap, ◌∙◌, subst, arith, length}
+use Rattle.std.proofs.Common.{◌≡◌, ◌++◌, ℕ, List, Option, None, ap, ◌∙◌, arith, length}
 use Rattle.scj_base.specs.declared.findings.Found.{Found}
 use Rattle.scj_tree.specs.Forest.{Forest}
 use Rattle.scj_tree.specs.Recursion.{told, joined_below}
 use Rattle.scj_rules.specs.declared.typing.Ty.{Ty}
 use Rattle.scj_rules.specs.Contexts.{Declarations, declarations_of}
-use Rattle.scj_rules.specs.TypeRules.{types_in}
 use Rattle.scj_rules.specs.Phases.{over_nodes, type_phase}
 use Rattle.type_check.specs.Passes.{breaks_at}
 use Rattle.type_check.proofs.PassLemmas.{joined-more, nodes-are}

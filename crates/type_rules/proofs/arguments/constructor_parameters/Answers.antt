@@ -1,4 +1,4 @@
-use Rattle.std.proofs.Common.{◌≡◌, List, [], Option, None, Some, ap, ◌∙◌, sym, subst, option_map, unwrap_or}
+use Rattle.std.proofs.Common.{◌≡◌, List, [], Option, None, Some, ap, ◌∙◌, subst, option_map, unwrap_or}
 use Rattle.scj_tree.specs.Forest.{Forest}
 use Rattle.scj_rules.specs.declared.views.Declared.{Declared}
 use Rattle.scj_rules.specs.Views.{DeclaredConstructor, constructor_at, parameters_at}

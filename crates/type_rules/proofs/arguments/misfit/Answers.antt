@@ -1,8 +1,7 @@
-use Rattle.std.proofs.Common.{◌≡◌, ◌<◌, ◌+◌, ◌&&◌, ℕ, List, Bool, Option, None, Some, true, false, not, is_some, sym, ap, ◌∙◌, arith, length, drop}
+use Rattle.std.proofs.Common.{◌≡◌, ◌+◌, ◌&&◌, ℕ, List, None, Some, true, false, not, sym, ap, ◌∙◌, length, drop}
 use Rattle.std.proofs.lemmas.Bool.{true≢false}
 use Rattle.scj_tree.specs.Recursion.{told}
 use Rattle.scj_rules.specs.Contexts.{Declarations, declarations_of}
-use Rattle.scj_rules.specs.Types.{all_types}
 use Rattle.scj_rules.specs.TypeRules.{Types}
 use Rattle.scj_rules.specs.declared.views.Declared.{Declared}
 use Rattle.type_rules.specs.Parameters.{taken, fit_each}

@@ -1,4 +1,4 @@
-use Rattle.std.proofs.Common.{◌≡◌, List, Bool, false, ap, ◌∙◌}
+use Rattle.std.proofs.Common.{List, Bool, false, ap, ◌∙◌}
 use Rattle.scj_tree.specs.Recursion.{told}
 use Rattle.scj_rules.specs.Contexts.{declarations_of}
 use Rattle.type_words.specs.Returns.{all_returns}

@@ -1,4 +1,4 @@
-use Rattle.std.proofs.Common.{◌≡◌, ℕ, List, Bool, false, Some, slice_get, sym, ap, ◌∙◌, subst, arith, length}
+use Rattle.std.proofs.Common.{◌≡◌, ℕ, List, Bool, false, Some, slice_get, ap, ◌∙◌, subst, arith, length}
 use Rattle.scj_tree.specs.Recursion.{told, rising}
 use Rattle.scj_rules.specs.Types.{returns_of}
 use Rattle.type_words.specs.Returns.{all_returns, returns_next}

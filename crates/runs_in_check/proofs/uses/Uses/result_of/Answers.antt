@@ -1,4 +1,4 @@
-use Rattle.std.proofs.Common.{◌≡◌, Bool, true, false, is_some, sym, ◌∙◌, subst}
+use Rattle.std.proofs.Common.{◌≡◌, is_some, sym, ◌∙◌, subst}
 use Rattle.scj_tree.specs.Forest.{Forest}
 use Rattle.scj_rules.specs.Views.{method_at}
 use Rattle.method_rows.specs.Methods.{found_method}
