@@ -1,5 +1,5 @@
 -- The header of a class from its parts.
-use Rattle.std.proofs.Common.{◌≡◌, ℕ, ◌+◌, ◌<◌, ◌≤◌, List, [], ◌∷◌, ◌++◌, length, drop, map, refl, sym, ap, ◌∙◌, append-nil, append_assoc, Option, Some, None, Bool, slice_get, option_map, option_and_then, unwrap_or, if◌then◌else◌}
+use Rattle.std.proofs.Common.{◌≡◌, ℕ, ◌+◌, ◌≤◌, List, [], ◌∷◌, ◌++◌, length, drop, refl, sym, ap, ◌∙◌, append-nil, append_assoc, Option, Some, None, Bool, slice_get, option_map, option_and_then, unwrap_or, if◌then◌else◌}
 use Rattle.std.specs.List.{filter_map}
 use Rattle.std.proofs.lemmas.List.{drop_all, drop_more}
 use Rattle.std.proofs.lemmas.Option.{slice_get_within, get_or_from_slice_get}
@@ -7,8 +7,7 @@ use Rattle.scj_builtins.specs.declared.kinds.ClassKind.{ClassKind}
 use Rattle.scj_builtins.specs.declared.kinds.ClassKind.TheVariants.{Abstract as abstract_class, Concrete as concrete_class}
 use Rattle.scj_tree.specs.declared.nodes.Node.{Node}
 use Rattle.scj_tree.specs.declared.nodes.Node.TheVariants.{Class}
-use Rattle.scj_tree.specs.Forest.{Forest, joined}
-use Rattle.scj_rules.specs.declared.scopes.Written.{Written}
+use Rattle.scj_tree.specs.Forest.{joined}
 use Rattle.scj_rules.specs.declared.views.Modifiers.{Modifiers}
 use Rattle.scj_rules.specs.Views.{WrittenClass, class_at, class_of, constructor_at}
 use Rattle.class_headers.specs.declared.headers.Header.{Header}

@@ -1,5 +1,5 @@
 -- One element more in front of a list that is read.
-use Rattle.std.proofs.Common.{◌≡◌, ℕ, List, [], ◌∷◌, map, refl, sym, ap, ◌∙◌, Option, Some, None, Bool, true, false, is_some, append-nil, append_assoc, ◌++◌, option_map, option_and_then, unwrap_or}
+use Rattle.std.proofs.Common.{◌≡◌, ℕ, List, [], ◌∷◌, map, refl, sym, ap, Option, Some, None, true, false, is_some, append-nil, append_assoc, ◌++◌, option_map, option_and_then, unwrap_or}
 use Rattle.std.specs.List.{filter_map, cons_option}
 use Rattle.scj_tree.specs.declared.nodes.Node.{Node}
 use Rattle.scj_tree.specs.declared.nodes.Node.TheVariants.{Constructor}

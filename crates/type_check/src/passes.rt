@@ -27,13 +27,13 @@ fn next_type(
     let Some(node) = known.program().get(id) else {
         return Ok(None);
     };
+    let t = type_of(known, types, id, node);
+    if t.is_none() {
+        return Ok(None);
+    }
     found.clear();
     note_breaks(known, types, id, node, found)?;
-    if found.is_empty() {
-        Ok(type_of(known, types, id, node))
-    } else {
-        Ok(None)
-    }
+    if found.is_empty() { Ok(t) } else { Ok(None) }
 }
 
 /// The types of all nodes.

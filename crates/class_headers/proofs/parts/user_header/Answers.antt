@@ -1,4 +1,4 @@
-use Rattle.std.proofs.Common.{Some, None, refl}
+use Rattle.std.proofs.Common.{refl}
 use Rattle.scj_rules.specs.Views.{class_at}
 use Rattle.indexmap.specs.IndexMap.{get}
 use Rattle.scj_rules.specs.Words.{is_same}
