@@ -1,7 +1,6 @@
 #!/usr/bin/env bash
-# How fast whole programs are checked, by the phases that are asked: none of them has a break, so each answer is that
-# the rest isn't asked yet. Against a Java compiler on the same sources where one is there. Makes its files from
-# numbers in a folder of its own, which it removes.
+# How fast whole programs are checked, by all phases: none of them has a break. Against a Java compiler on the same
+# sources where one is there. Makes its files from numbers in a folder of its own, which it removes.
 set -u
 top=$(cd "$(dirname "$0")/.." && pwd)
 "$top/scj" >/dev/null 2>&1
@@ -71,6 +70,7 @@ fields 255
 methods 20000
 locals 50000
 block 100000
+scopes 254
 overrides 255
 calls 100000
 deep 2000

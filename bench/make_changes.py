@@ -3,8 +3,7 @@
     python3 make_changes.py      writes them behind the last case of crates/scj_reports/stdin and stdout
 
 Each change is one that the grammar allows: a name in the place of another one, an annotation or a word more or less,
-another literal, type or operator, arguments, a `return`, a super call or a superclass less. The rules on scopes (S, A
-and E) aren't asked by the checker yet: where they alone are broken, or none is, it answers that this isn't built.
+another literal, type or operator, arguments, a `return`, a super call or a superclass less.
 """
 
 import os
@@ -137,13 +136,6 @@ def parts(source):
             yield source.at(number + 1), source.end(end), "Object" if text == "extends" else "Safelet"
 
 
-def answer(report):
-    """What the checker answers where all phases would give this report."""
-    if report == ["accepted"] or report[0].split(": ")[1][0] in "SAE":
-        return ["status 9, told scj: form not built"]
-    return report + ["status 1"]
-
-
 def main():
     folder = os.path.dirname(os.path.abspath(__file__))
     with open(os.path.join(folder, "changed.java")) as file:
@@ -162,7 +154,7 @@ def main():
             continue
         kept += 1
         asked.append(f"~ {begin} {end} {new}")
-        told += [asked[-1]] + answer(report)
+        told += [asked[-1]] + report + ["status %d" % (0 if report == ["accepted"] else 1)]
     home = os.path.join(folder, "..", "crates", "scj_reports")
     for name, lines in ("stdin", asked), ("stdout", told):
         path = os.path.join(home, name)

@@ -25,7 +25,7 @@ class Flying extends Mission {
   public void initialize() {
     Attitude attitude = new Attitude();
     Services.setCeiling(attitude, 24);
-    Fast fast = new Fast(attitude, new Filter());
+    Fast fast = new Fast(attitude, new Smoother(8));
     fast.register();
     Slow slow = new Slow(attitude);
     slow.register();

@@ -4,6 +4,7 @@
 class Sensor extends PeriodicEventHandler {
   Tank tank;
   Alarm alarm;
+  Samples samples;
 
   Sensor(Tank tank, Alarm alarm) {
     super(new PriorityParameters(12), new PeriodicParameters(new RelativeTime(0, 0), new RelativeTime(2, 0)), new StorageParameters(200));
@@ -12,10 +13,11 @@ class Sensor extends PeriodicEventHandler {
   }
 
   public void handleAsyncEvent() {
-    Samples samples = new Samples(3);
+    if (samples == null) samples = new Samples(3);
+    samples.count = 0;
     for (int i = 0; i < 3; i++) samples.add(Device.read(1));
     int level = samples.middle();
-    tank.measured(samples);
+    tank.measured(level);
     if (level > 95) alarm.release();
   }
 }
@@ -43,7 +45,7 @@ class Pump extends PeriodicEventHandler {
   }
 
   public void handleAsyncEvent() {
-    if (tank.isDraining() == 1) runs++;
+    if (tank.isDraining()) runs++;
     Trace.print("pump", runs);
   }
 }

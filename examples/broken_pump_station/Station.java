@@ -30,7 +30,7 @@ class Pumping extends Mission {
     Services.setCeiling(tank, 20);
     Alarm alarm = new Alarm(tank);
     alarm.register();
-    Sensor sensor = new Sensor(tank);
+    Sensor sensor = new Sensor(tank, alarm);
     sensor.register();
     Pump pump = new Pump(tank);
     pump.register();

@@ -6,7 +6,7 @@ class Testing extends Mission {
 
   Testing(int strokes) { this.strokes = strokes; }
 
-  public long missionMemory() { return 400; }
+  public long missionMemorySize() { return 400; }
 
   public void initialize() { new Exercise(this, strokes).register(); }
 

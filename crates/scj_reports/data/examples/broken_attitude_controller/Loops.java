@@ -32,8 +32,7 @@ class Smoother extends Filter {
 
   Smoother(int length) { last = new int[length]; }
 
-  // Without the annotation the method would run in the class's scope.
-  @RunsIn(Scope.CALLER) int step(Vector rates) {
+  int step(Vector rates) {
     last[next] = rates.x - rates.y;
     next = (next + 1) % last.length;
     int sum = 0;
@@ -71,6 +70,6 @@ class Trim implements Runnable {
     for (int i = 0; i < stars.length; i++) stars[i] = Device.read(5);
     int sum = 0;
     for (int i = 0; i < stars.length; i++) sum += stars[i];
-    error = attitude.turning() - sum / stars;
+    error = attitude.turning() - sum / stars.length;
   }
 }

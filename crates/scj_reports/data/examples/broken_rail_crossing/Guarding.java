@@ -2,10 +2,13 @@
 
 @DefineScope(name="Guarding", parent="IMMORTAL")
 class Guarding extends Mission {
+  Section section;
+
+  Guarding() { section = new Section(); }
+
   public long missionMemorySize() { return 800; }
 
   public void initialize() {
-    Section section = new Section();
     Services.setCeiling(section, 20);
     Barrier barrier = new Barrier(section);
     barrier.register();
@@ -50,7 +53,7 @@ class Detector extends PeriodicEventHandler {
 }
 
 @Scope("Guarding") @DefineScope(name="Movement", parent="Guarding")
-class Barrier extends AperiodicHandler {
+class Barrier extends AperiodicEventHandler {
   Section section;
 
   Barrier(Section section) {
