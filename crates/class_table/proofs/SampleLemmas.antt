@@ -1,5 +1,5 @@
 -- The sample's nodes are a forest.
-use Rattle.std.proofs.Common.{[], ◌∷◌, ◌++◌, None, refl, arith}
+use Rattle.std.proofs.Common.{[], ◌∷◌, None, refl, arith}
 use Rattle.std.specs.Prelude.{codes}
 use Rattle.scj_tree.specs.declared.nodes.Node.TheVariants.{Class}
 use Rattle.scj_tree.specs.Counts.{times}
