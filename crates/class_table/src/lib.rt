@@ -7,3 +7,6 @@ pub mod supers;
 
 pub use checks::{build, check_classes};
 pub use class_rows::{ClassTable, Classes};
+
+#[cfg(test)]
+mod tests;

@@ -1,4 +1,4 @@
-use Rattle.std.proofs.Common.{◌≡◌, ◌<◌, ◌≤◌, ◌∙◌, ◌++◌, ap, sym, arith, length}
+use Rattle.std.proofs.Common.{◌<◌, ◌≤◌, ◌∙◌, ◌++◌, ap, arith, length}
 use Rattle.scj_rules.specs.Contexts.{declarations_of}
 use Rattle.scj_rules.specs.Phases.{at_class}
 use Rattle.class_table.specs.Classes.{class_found}
