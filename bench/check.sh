@@ -1,6 +1,6 @@
 #!/usr/bin/env bash
-# How fast the checker is, and against a Java compiler on the same files where one is there.
-# Makes its files from numbers in a folder of its own, which it removes.
+# How fast whole programs are checked, by all phases: none of them has a break. Against a Java compiler on the same
+# sources where one is there. Makes its files from numbers in a folder of its own, which it removes.
 set -u
 top=$(cd "$(dirname "$0")/.." && pwd)
 "$top/scj" >/dev/null 2>&1
@@ -11,6 +11,41 @@ trap 'rm -rf "$work"' EXIT
 
 . "$top/bench/timing.sh"
 
+per() { awk "BEGIN { printf \"%.$3f\", $1 / $2 }"; }
+
+# Makes a shape of a size, and sets `files` and `bytes`.
+make() {
+    rm -rf "$work/sources"
+    mkdir "$work/sources"
+    python3 "$top/bench/sources.py" "$1" "$2" "$work/sources"
+    files=()
+    for ((k = 0; k < 16; k++)); do
+        if [ -f "$work/sources/F$k.java" ]; then files+=("$work/sources/F$k.java"); fi
+    done
+    bytes=$(cat "${files[@]}" | wc -c)
+}
+
+# Tells the time of a shape, and its growth against the size before it, if there was one. A `ratio` asks the compiler.
+tell() {
+    local line spent other answer
+    make "$1" "$2"
+    answer=$("$program" check "${files[@]}" 2>&1 | head -1 | sed "s|$work/sources/||")
+    spent=$(least "$4" "$program" check "${files[@]}")
+    line="$1 $2: $bytes bytes, $spent us, $(per "$bytes" "$spent" 1) MB/s"
+    if [ "$before" -gt 0 ]; then
+        line="$line, growth $(per "$((spent * before_bytes / 1000))" "$((before * bytes / 1000))" 2) times the size's"
+    fi
+    before=$spent
+    before_bytes=$bytes
+    if [ "$3" = ratio ] && [ -n "$compiler" ]; then
+        mkdir -p "$work/classes"
+        other=$(least 3 javac -proc:none -cp "$work/stubs" -d "$work/classes" "${files[@]}")
+        line="$line, javac $other us, ratio 1/$(per "$other" "$spent" 0)"
+        rm -rf "$work/classes"
+    fi
+    echo "$line: $answer"
+}
+
 compiler=''
 if command -v javac >/dev/null 2>&1; then
     mkdir "$work/stubs"
@@ -20,27 +55,23 @@ else
 fi
 
 echo "cores: $(nproc)"
-start=$(least 20 "$program" check /dev/null)
-echo "start of the program: $start us (included below)"
-for shape in ordinary chain cycle; do
+echo "start of the program: $(least 20 "$program" check /dev/null) us (included below)"
+before=0
+for size in 65536 262144 1048576; do tell ordinary "$size" ratio 7; done
+before=0
+for size in 1048576 4194304 16777216; do tell few "$size" alone 3; done
+while read -r shape count; do
     before=0
-    for size in 65536 262144 1048576; do
-        file=$work/H.java
-        python3 "$top/bench/sources.py" "$shape" "$size" >"$file"
-        bytes=$(stat -c %s "$file")
-        spent=$(least 10 "$program" check "$file")
-        line="$shape: $bytes bytes, $spent us, $(awk "BEGIN { printf \"%.1f\", $bytes / $spent }") MB/s"
-        if [ "$before" -gt 0 ]; then
-            line="$line, growth $(awk "BEGIN { printf \"%.2f\", ($spent / $before) / ($bytes / $before_bytes) }") times the size's"
-        fi
-        before=$spent
-        before_bytes=$bytes
-        if [ -n "$compiler" ]; then
-            mkdir -p "$work/classes"
-            other=$(least 2 javac -proc:none -cp "$work/stubs" -d "$work/classes" "$file")
-            line="$line, javac $other us, ratio 1/$(awk "BEGIN { printf \"%.0f\", $other / $spent }")"
-            rm -rf "$work/classes"
-        fi
-        echo "$line"
-    done
-done
+    tell "$shape" $((count / 4)) alone 5
+    tell "$shape" "$count" alone 5
+done <<'SHAPES'
+chain 255
+fields 255
+methods 20000
+locals 50000
+block 100000
+scopes 254
+overrides 255
+calls 100000
+deep 2000
+SHAPES

@@ -1,3 +1,7 @@
 public @interface Scope {
+    String IMMORTAL = "IMMORTAL";
+    String THIS = "THIS";
+    String CALLER = "CALLER";
+
     String value();
 }

@@ -3,3 +3,4 @@ pub mod ParserLaws
 pub mod SourceLaws
 pub mod StandLaws
 pub mod SyntaxLaws
+pub mod VerdictLaws

@@ -4,6 +4,7 @@ ghost use Rattle.std.specs.Prelude.{◌≡◌, ℕ, List};
 ghost use Rattle.scj_base.specs.declared.findings.Found.{Found as Finding};
 ghost use Rattle.scj_tree.specs.Forest.{Forest};
 ghost use Rattle.scj_rules.specs.Syntax.{Reads, BreaksSyntax};
+ghost use Rattle.scj_rules.specs.Verdicts.{IsReportOf};
 
 /// Texts have one program at most.
 pub fn one_program_at_most()
@@ -18,4 +19,9 @@ pub fn one_break_at_most()
 /// Texts that have a program have no break.
 pub fn no_break_of_a_program()
     ensures { (texts : List (List ℕ)) (program : Forest) (found : Finding) → Reads texts program → BreaksSyntax texts found → ⊥ }
+{}
+
+/// Texts have one report at most.
+pub fn one_report_at_most()
+    ensures { (texts : List (List ℕ)) (one other : List Finding) → IsReportOf texts one → IsReportOf texts other → one ≡ other }
 {}

@@ -1,14 +1,15 @@
-//! The sources of a call, read into a program.
+//! The sources of a call: their program, and what is told of it.
 #![tactic(auto)]
 
-pub mod forms;
 pub mod laws;
+pub mod phases;
 pub mod readings;
 pub mod sources;
+pub mod verdicts;
 
-pub use forms::is_header_form;
 pub use readings::{Reading, read};
 pub use sources::Sources;
+pub use verdicts::{Report, Verdict, check};
 
 #[cfg(test)]
 mod tests;

@@ -31,17 +31,6 @@ fn two_files(rt: HostRuntime) -> Result<(), Fail> {
         panic!(rt; "no program");
     };
     assert_eq!(rt; program.file_count(), 2);
-    assert!(rt; is_header_form(&program));
-    Ok(())
-}
-
-#[test]
-fn a_member(rt: HostRuntime) -> Result<(), Fail> {
-    let sources = two(rt.alloc(), "class A { }", "class B { int x; }")?;
-    let Ok(Reading::Read(program)) = read(rt.alloc(), &sources) else {
-        panic!(rt; "no program");
-    };
-    assert!(rt; !is_header_form(&program));
     Ok(())
 }
 

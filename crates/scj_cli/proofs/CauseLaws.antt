@@ -2,50 +2,30 @@
 use Rattle.std.proofs.Common.{◌≡◌, ℕ, List, [], ◌∷◌, Option, Some, None, true}
 use Rattle.scj_base.specs.declared.statuses.Status.{Status}
 use Rattle.scj_base.specs.declared.statuses.Status.TheVariants.{WriteFault}
-use Rattle.scj_base.specs.declared.findings.Found.{Found}
-use Rattle.scj_tree.specs.Forest.{Forest}
-use Rattle.scj_rules.specs.Breaks.{Breaks}
-use Rattle.scj_rules.specs.HeaderForm.{is_header_form}
-use Rattle.scj_rules.specs.Report.{IsReport}
-use Rattle.scj_rules.specs.Syntax.{Reads}
 use Rattle.scj_io.specs.Loads.{ShelfRun}
 use Rattle.scj_io.specs.Puts.{SinkRun, sink_run, PutWhole}
 use Rattle.scj_io.proofs.PutLaws.{PutWhole-nothing}
-use Rattle.command_line.specs.Job.{Job, Check}
+use Rattle.command_line.specs.Job.{Job}
 use Rattle.scj_cli.specs.Jobs.{files_of}
-use Rattle.scj_cli.specs.Answers.{Answer, status_on, text_on}
-use Rattle.scj_cli.specs.Answers.Answer.{no_job, other_form, refused, accepted}
+use Rattle.scj_cli.specs.Answers.{Answer}
+use Rattle.scj_cli.specs.Answers.Answer.{no_job}
 use Rattle.scj_cli.specs.Endings.{call_of, MayStand, Comes, Ends}
 use Rattle.scj_cli.specs.Endings.MayStand.{none}
 use Rattle.scj_cli.specs.Endings.Comes.{answered, unread, overlong, out_of_memory}
 use Rattle.scj_cli.specs.Endings.Ends.{whole, fault_of_out, fault_of_err}
 use Rattle.scj_cli.specs.Refusals.{status_of, line_of, RefusesLoads}
-use Rattle.scj_cli.specs.Modes.{IsAnswered, Stops, RefusesForm, RefusesProgram, Tells}
+use Rattle.scj_cli.specs.Modes.{IsAnswered, Stops, RefusesForm, Tells}
 use Rattle.scj_cli.specs.Modes.Stops.{told, broken}
 use Rattle.scj_cli.specs.Modes.Tells.{whole as put_whole, fault as put_fault}
 use Rattle.scj_cli.specs.declared.refusals.Refusal.{Refusal}
-use Rattle.scj_cli.specs.declared.refusals.Refusal.TheVariants.{Usage, Unread, Overlong, OtherForm, OutOfMemory}
+use Rattle.scj_cli.specs.declared.refusals.Refusal.TheVariants.{Usage, Unread, Overlong, OutOfMemory}
 use Rattle.scj_cli.specs.declared.refusals.Stop.TheVariants.{Told, Broken}
-
--- what was found on a program is the answer on the contents that were read as it
-pub Answer-found : (names contents : List (List ℕ)) (forest : Forest) (found : List Found) → Reads contents forest → is_header_form forest ≡ true → IsReport (Breaks forest) found → Answer (Some (Check names)) contents (status_on found) (text_on names found) []
-Answer-found names contents forest [] reads form report = accepted reads form report
-Answer-found names contents forest (first ∷ others) reads form report = refused reads form report
-
--- what a program was refused for is what its contents are
-pub Refuses-program : (names contents : List (List ℕ)) (forest : Forest) (refusal : Refusal) → Reads contents forest → RefusesProgram forest refusal → RefusesForm (Check names) contents refusal
-Refuses-program names contents forest Usage reads refuses = absurd refuses
-Refuses-program names contents forest (Unread line) reads refuses = absurd refuses
-Refuses-program names contents forest (Overlong line) reads refuses = absurd refuses
-Refuses-program names contents forest OtherForm reads refuses = other_form reads refuses
-Refuses-program names contents forest OutOfMemory reads refuses = tt
 
 -- what the loads of a job's files were refused for is the cause of a status
 pub Comes-loads : (job : Job) (shelf : ShelfRun) (refusal : Refusal) → RefusesLoads shelf (files_of (Some job)) refusal → Comes (Some job) shelf (status_of refusal) [] (line_of refusal)
 Comes-loads job shelf Usage refuses = absurd refuses
 Comes-loads job shelf (Unread line) refuses = rw refuses.2.1 (unread refuses.1 refuses.2.0)
 Comes-loads job shelf (Overlong line) refuses = rw refuses.2.2 (overlong refuses.1 refuses.2.0 refuses.2.1)
-Comes-loads job shelf OtherForm refuses = absurd refuses
 Comes-loads job shelf OutOfMemory refuses = out_of_memory
 
 -- what a judgement was refused for is the cause of a status
@@ -53,7 +33,6 @@ pub Comes-form : (job : Job) (shelf : ShelfRun) (contents : List (List ℕ)) (re
 Comes-form job shelf contents Usage stands refuses = absurd refuses
 Comes-form job shelf contents (Unread line) stands refuses = absurd refuses
 Comes-form job shelf contents (Overlong line) stands refuses = absurd refuses
-Comes-form job shelf contents OtherForm stands refuses = answered stands refuses
 Comes-form job shelf contents OutOfMemory stands refuses = out_of_memory
 
 -- words that ask for nothing stop the call

@@ -10,7 +10,7 @@ use Rattle.scj_cli.specs.Endings.IsAmong.{here, later}
 use Rattle.scj_cli.specs.Endings.MayStand.{none, next}
 use Rattle.scj_cli.specs.Refusals.{RefusesLoad, RefusesLoads}
 use Rattle.scj_cli.specs.declared.refusals.Refusal.{Refusal}
-use Rattle.scj_cli.specs.declared.refusals.Refusal.TheVariants.{Usage, Unread, Overlong, OtherForm, OutOfMemory}
+use Rattle.scj_cli.specs.declared.refusals.Refusal.TheVariants.{Usage, Unread, Overlong, OutOfMemory}
 
 pub MayStand-more : {shelf : ShelfRun} {names contents : List (List ℕ)} → MayStand shelf names contents → (name content : List ℕ) → MayHold (shelf.held name) content → length content ≤ file_limit → MayStand shelf (names ++ name ∷ []) (contents ++ content ∷ [])
 MayStand-more none name content holds within = next holds within none
@@ -37,7 +37,6 @@ refused_later held held_then faults faults_then faults_after most most_then most
 refused_later held held_then faults faults_then faults_after most most_then most_after names name (Unread line) goes among refuses = (name, among, (Rose-earlier _ _ _ (goes.faults name) refuses.0, refuses.1))
 refused_later held held_then faults faults_then faults_after most most_then most_after names name (Overlong line) goes among refuses =
     (name, among, (subst (λ (h : Held). MayExceed h file_limit) (goes.held name) refuses.0, refuses.1, refuses.2))
-refused_later held held_then faults faults_then faults_after most most_then most_after names name OtherForm goes among refuses = absurd refuses
 refused_later held held_then faults faults_then faults_after most most_then most_after names name OutOfMemory goes among refuses = tt
 
 -- one file more was loaded

@@ -1,25 +1,20 @@
 -- What each job answers: its status, and its texts on the two sinks.
-use Rattle.std.specs.Prelude.{◌≡◌, ℕ, ◌+◌, List, [], ◌∷◌, ◌++◌, codes, Option, Some, None, true, false}
+use Rattle.std.specs.Prelude.{◌≡◌, ℕ, ◌+◌, ◌<◌, List, [], ◌∷◌, ◌++◌, length, codes, Option, Some, None}
 use Rattle.scj_base.specs.declared.findings.Found.{Found}
 use Rattle.scj_base.specs.declared.statuses.Status.{Status}
-use Rattle.scj_base.specs.declared.statuses.Status.TheVariants.{Done, Refused, Usage, NotBuilt}
+use Rattle.scj_base.specs.declared.statuses.Status.TheVariants.{Done, Refused, Usage}
 use Rattle.scj_tree.specs.Forest.{Forest}
-use Rattle.scj_rules.specs.Breaks.{Breaks}
-use Rattle.scj_rules.specs.Report.{IsReport}
 use Rattle.scj_rules.specs.Syntax.{Reads, BreaksSyntax}
-use Rattle.scj_rules.specs.HeaderForm.{is_header_form}
+use Rattle.scj_rules.specs.Verdicts.{IsReportOf}
 use Rattle.scj_show.specs.Symbols.{text_of_file}
 use Rattle.command_line.specs.Job.{Job, Check, Show}
 use Rattle.scj_cli.specs.Reports.{report_text}
 
-abbrev pub accepted_line : List ℕ
-accepted_line = codes "accepted\n"
-
 abbrev pub usage_line : List ℕ
 usage_line = codes "scj: usage\n"
 
-abbrev pub not_built_line : List ℕ
-not_built_line = codes "scj: form not built\n"
+abbrev pub accepted_line : List ℕ
+accepted_line = codes "accepted\n"
 
 -- the canonical texts of some files of a program, the first of them with this number, one behind the other
 unfoldable pub shown_from : Forest → ℕ → List (List ℕ) → List ℕ
@@ -34,17 +29,11 @@ shown_text forest = shown_from forest 0 forest.files
 pub data Answer : Option Job → List (List ℕ) → Status → List ℕ → List ℕ → Type 0 where
   no_job : {contents : List (List ℕ)} →
       Answer None contents Usage [] usage_line
-  check_unreadable : {names contents : List (List ℕ)} {found : Found} →
-      BreaksSyntax contents found →
-      Answer (Some (Check names)) contents Refused (report_text names (found ∷ [])) []
-  other_form : {names contents : List (List ℕ)} {forest : Forest} →
-      Reads contents forest → is_header_form forest ≡ false →
-      Answer (Some (Check names)) contents NotBuilt [] not_built_line
-  refused : {names contents : List (List ℕ)} {forest : Forest} {first : Found} {others : List Found} →
-      Reads contents forest → is_header_form forest ≡ true → IsReport (Breaks forest) (first ∷ others) →
-      Answer (Some (Check names)) contents Refused (report_text names (first ∷ others)) []
-  accepted : {names contents : List (List ℕ)} {forest : Forest} →
-      Reads contents forest → is_header_form forest ≡ true → IsReport (Breaks forest) [] →
+  refused : {names contents : List (List ℕ)} {found : List Found} →
+      0 < length found → IsReportOf contents found →
+      Answer (Some (Check names)) contents Refused (report_text names found) []
+  accepted : {names contents : List (List ℕ)} →
+      IsReportOf contents [] →
       Answer (Some (Check names)) contents Done accepted_line []
   show_unreadable : {names contents : List (List ℕ)} {found : Found} →
       BreaksSyntax contents found →
@@ -52,15 +41,6 @@ pub data Answer : Option Job → List (List ℕ) → Status → List ℕ → Lis
   shown : {names contents : List (List ℕ)} {forest : Forest} →
       Reads contents forest →
       Answer (Some (Show names)) contents Done (shown_text forest) []
-
--- the status and the text of a check that found these breaks
-abbrev pub status_on : List Found → Status
-status_on [] = Done
-status_on (first ∷ others) = Refused
-
-abbrev pub text_on : List (List ℕ) → List Found → List ℕ
-text_on names [] = accepted_line
-text_on names (first ∷ others) = report_text names (first ∷ others)
 
 -- two answers are the same
 pub record IsSameAnswer (status : Status) (out err : List ℕ) (status_again : Status) (out_again err_again : List ℕ) : Type 0 where

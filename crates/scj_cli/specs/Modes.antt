@@ -1,17 +1,15 @@
 -- What a mode leaves behind for the end of the call, which tells what is to be told on `err`.
 use Rattle.std.specs.Prelude.{◌≡◌, ℕ, List, [], Option, Some, false}
 use Rattle.scj_base.specs.declared.statuses.Status.{Status}
-use Rattle.scj_base.specs.declared.statuses.Status.TheVariants.{WriteFault, NotBuilt}
+use Rattle.scj_base.specs.declared.statuses.Status.TheVariants.{WriteFault}
 use Rattle.scj_io.specs.Loads.{ShelfRun}
 use Rattle.scj_io.specs.Puts.{SinkRun, PutWhole, PutFront}
-use Rattle.scj_tree.specs.Forest.{Forest}
-use Rattle.scj_rules.specs.HeaderForm.{is_header_form}
 use Rattle.command_line.specs.Job.{Job}
-use Rattle.scj_cli.specs.Answers.{Answer, not_built_line}
+use Rattle.scj_cli.specs.Answers.{Answer}
 use Rattle.scj_cli.specs.Endings.{Comes}
 use Rattle.scj_cli.specs.Refusals.{status_of, line_of}
 use Rattle.scj_cli.specs.declared.refusals.Refusal.{Refusal}
-use Rattle.scj_cli.specs.declared.refusals.Refusal.TheVariants.{Usage, Unread, Overlong, OtherForm, OutOfMemory}
+use Rattle.scj_cli.specs.declared.refusals.Refusal.TheVariants.{Usage, Unread, Overlong, OutOfMemory}
 use Rattle.scj_cli.specs.declared.refusals.Stop.{Stop}
 use Rattle.scj_cli.specs.declared.refusals.Stop.TheVariants.{Told, Broken}
 
@@ -35,16 +33,7 @@ abbrev pub RefusesForm : Job → List (List ℕ) → Refusal → Type 0
 RefusesForm job contents Usage = ⊥
 RefusesForm job contents (Unread line) = ⊥
 RefusesForm job contents (Overlong line) = ⊥
-RefusesForm job contents OtherForm = Answer (Some job) contents NotBuilt [] not_built_line
 RefusesForm job contents OutOfMemory = Unit {0}
-
--- the refusals of a program that was read
-abbrev pub RefusesProgram : Forest → Refusal → Type 0
-RefusesProgram forest Usage = ⊥
-RefusesProgram forest (Unread line) = ⊥
-RefusesProgram forest (Overlong line) = ⊥
-RefusesProgram forest OtherForm = is_header_form forest ≡ false
-RefusesProgram forest OutOfMemory = Unit {0}
 
 -- the refusal's line was put whole and its status is the call's, or the put failed
 pub data Tells (err : SinkRun) (refusal : Refusal) : Status → Type 0 where

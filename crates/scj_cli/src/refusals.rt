@@ -17,8 +17,6 @@ pub enum Refusal {
     Unread(String),
     /// A file has more bytes than are read, with the line that says so.
     Overlong(String),
-    /// The contents aren't of a form that is read yet.
-    OtherForm,
     /// There was no memory.
     OutOfMemory,
 }
@@ -32,7 +30,6 @@ impl Refusal {
             Refusal::Usage => Status::Usage,
             Refusal::Unread(_) => Status::ReadFault,
             Refusal::Overlong(_) => Status::TooLong,
-            Refusal::OtherForm => Status::NotBuilt,
             Refusal::OutOfMemory => Status::NoMemory,
         }
     }
@@ -45,7 +42,6 @@ impl Refusal {
             Refusal::Usage => "scj: usage\n",
             Refusal::Unread(line) => line.as_str(),
             Refusal::Overlong(line) => line.as_str(),
-            Refusal::OtherForm => "scj: form not built\n",
             Refusal::OutOfMemory => "scj: memory\n",
         }
     }

@@ -1,5 +1,6 @@
 pub mod AcceptedLemmas
 pub mod ChainLemmas
+pub mod CheckedLemmas
 pub mod Computing
 pub mod ForestTests
 pub mod OrderLemmas
@@ -10,5 +11,6 @@ pub mod RowOfUse
 pub mod RowsOfClasses
 pub mod RowsOfScopes
 pub mod RuleNumbers
+pub mod VerdictLemmas
 pub mod WithinLemmas
 pub mod WorkedRows

@@ -2,11 +2,11 @@ pub mod AnnotationRules
 pub mod Bindings
 pub mod Breaks
 pub mod Chains
+pub mod CheckedProgram
 pub mod ClassRules
 pub mod Classes
 pub mod Contexts
 pub mod Definitions
-pub mod HeaderForm
 pub mod LimitRules
 pub mod Phases
 pub mod Report
@@ -16,5 +16,6 @@ pub mod Syntax
 pub mod TypeRules
 pub mod Types
 pub mod UseRules
+pub mod Verdicts
 pub mod Views
 pub mod Words

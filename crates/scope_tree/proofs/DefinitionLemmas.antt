@@ -36,7 +36,7 @@ in_front-append : {A : Type 0} (o : Option A) (xs ys : List A) → in_front o xs
 in_front-append None xs ys = refl
 in_front-append (Some x) xs ys = refl
 
-definitions_in-append : (nodes : List Node) (xs ys : List ℕ) → definitions_in nodes (xs ++ ys) ≡ definitions_in nodes xs ++ definitions_in nodes ys
+pub definitions_in-append : (nodes : List Node) (xs ys : List ℕ) → definitions_in nodes (xs ++ ys) ≡ definitions_in nodes xs ++ definitions_in nodes ys
 unfolding definitions_in
 definitions_in-append nodes [] ys = refl
 definitions_in-append nodes (x ∷ xs) ys =

@@ -1,6 +1,10 @@
+pub mod ClassScopeLemmas
 pub mod DefinitionLemmas
 pub mod FindingLemmas
 pub mod JumpLemmas
 pub mod NameLemmas
 pub mod ParentLemmas
+pub mod PhaseLemmas
 pub mod SampleLemmas
+pub mod TreeLemmas
+pub mod UserLemmas

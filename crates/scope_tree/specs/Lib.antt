@@ -1,4 +1,7 @@
+pub mod Annotated
 pub mod Findings
 pub mod Index
 pub mod Jumps
+pub mod Rules
 pub mod Samples
+pub mod Trees

@@ -1,11 +1,15 @@
 //! The rules on definitions of scopes: each name once, with a parent that is known, and no cycle.
 
-ghost use Rattle.std.specs.Prelude.{◌≡◌, ◌<◌, ◌≤◌, ◌++◌, IfOk, OnOk, length};
+ghost use Rattle.std.specs.Prelude.{◌≡◌, ◌<◌, ◌≤◌, ◌++◌, ◌↔◌, IfOk, OnOk, length};
 ghost use Rattle.std.specs.BTreeMap.{get};
 ghost use Rattle.std.specs.Cmp.Lexicographic.{slice_cmp};
 ghost use Rattle.std.specs.Ordering.{nat_cmp};
 ghost use Rattle.scj_rules.specs.Breaks.{Breaks};
+ghost use Rattle.scj_base.specs.declared.findings.Found.{Found as Finding};
+ghost use Rattle.scj_rules.specs.Definitions.{definitions as all_definitions};
+ghost use Rattle.std.specs.List.{Contains};
 ghost use Rattle.scj_rules.specs.Report.{IsReport};
+ghost use Rattle.scope_tree.specs.Index.{IsIndex};
 ghost use Rattle.scope_tree.specs.Findings.{makes_scope, is_parent, unless, findings_at, findings_from, parent_steps};
 
 use crate::cycles::returning;
@@ -103,15 +107,30 @@ fn findings_of(
     Ok(found)
 }
 
+/// What is broken at the definitions of scopes, in any order.
+pub fn definition_findings(
+    alloc: Global,
+    program: &Program,
+    definitions: &[Definition],
+    index: &BTreeMap<Name, usize>,
+) -> Result<Vec<Found>, Memory>
+    requires whole { definitions.now ≡ all_definitions program.now }
+    requires indexed { IsIndex (all_definitions program.now) (get (slice_cmp nat_cmp) index.now) }
+    ensures { IfOk result (λ found. (finding : Finding) → Contains found.items finding ↔ Breaks program.now finding.rule finding.pos) }
+{
+    let parents = parents_of(alloc, definitions, index)?;
+    let returns = returning(alloc, parents)?;
+    let found = findings_of(alloc, definitions, index, &returns)?;
+    Ok(found)
+}
+
 /// The breaks of the rules on the definitions of scopes, in the order of a report.
 pub fn check_definitions(alloc: Global, program: &Program) -> Result<Vec<Found>, Memory>
     ensures { IfOk result (λ found. IsReport (Breaks program.now) found.items) }
 {
     let definitions = definitions_of(alloc, program)?;
     let index = index_of(alloc, &definitions)?;
-    let parents = parents_of(alloc, &definitions, &index)?;
-    let returns = returning(alloc, parents)?;
-    let mut found = findings_of(alloc, &definitions, &index, &returns)?;
+    let mut found = definition_findings(alloc, program, &definitions, &index)?;
     put_in_order(&mut found);
     Ok(found)
 }

@@ -68,7 +68,7 @@ fn written(program: &Program, value: NodeId) -> Option<Written>
 
 /// The definition that a class writes, if it writes one.
 #[tactic(auto, unfolding(scj_rules::specs::Definitions::definition_of, scj_rules::specs::Definitions::definition_with))]
-fn definition(program: &Program, class: NodeId) -> Option<Definition>
+pub fn definition(program: &Program, class: NodeId) -> Option<Definition>
     ensures { result ≡ definition_of program.now.nodes class }
 {
     let flags = flags(program, class)?;

@@ -1,0 +1,40 @@
+-- Parts of what is broken at a node.
+use Rattle.std.specs.Prelude.{ℕ, List, [], ◌++◌, slice_get, Option, Some, None}
+use Rattle.scj_base.specs.declared.findings.Found.{Found}
+use Rattle.scj_base.specs.declared.findings.Rule.TheVariants.{A1, A2, A9}
+use Rattle.scj_base.specs.declared.places.Pos.{Pos}
+use Rattle.scj_rules.specs.Words.{broken}
+use Rattle.scj_rules.specs.Views.{DeclaredMethod}
+use Rattle.scj_rules.specs.Contexts.{Declarations}
+use Rattle.scj_rules.specs.ScopeRules.{scope_written_in}
+use Rattle.scj_rules.specs.StaticScopes.{has_unknown_scope, differs_from_above, is_implied_immortal, is_unknown_scope, contradicts}
+use Rattle.scj_rules.specs.AnnotationRules.{a6_of, a7_and_a8_of, broken_value, scope_above, a2_place, annotation_breaks}
+use Rattle.scj_rules.specs.declared.scopes.Thing.{Thing}
+
+-- A6 to A8 at a method of a class
+abbrev pub method_breaks : Declarations → ℕ → Option DeclaredMethod → List Found
+method_breaks p class None = []
+method_breaks p class (Some m) = a6_of p class m ++ a7_and_a8_of p class m
+
+-- A1 and A9 at a thing
+abbrev pub unknown_at : Declarations → Option Thing → List Found
+unknown_at p None = []
+unknown_at p (Some t) = broken_value t.scope (is_unknown_scope p t) A1
+
+abbrev pub contradiction_at : Declarations → Option Thing → List Found
+contradiction_at p None = []
+contradiction_at p (Some t) = broken_value t.scope (contradicts p t) A9
+
+-- A1 and A2 at a class
+abbrev pub unknown_of_class : Declarations → Option ℕ → List Found
+unknown_of_class p None = []
+unknown_of_class p (Some class) = broken_value (scope_written_in p class) (λ w. has_unknown_scope p (Some w)) A1
+
+abbrev pub other_of_class : Declarations → Pos → Option ℕ → List Found
+other_of_class p place None = []
+other_of_class p place (Some class) =
+    broken (differs_from_above p (scope_written_in p class) (scope_above p class) (is_implied_immortal p class)) A2 (a2_place place (scope_written_in p class))
+
+-- what is broken at the node of a number
+unfoldable pub found_at : Declarations → ℕ → List Found
+found_at p id = elim (slice_get p.nodes id) [ None ↦ [] | Some node ↦ annotation_breaks p id node ]

@@ -1,0 +1,188 @@
+//! All rules on annotations, node after node.
+
+ghost use Rattle.std.specs.Prelude.{◌≡◌, ◌++◌, IfOk, OnOk};
+ghost use Rattle.class_rows.specs.Tables.{IsTableOf};
+ghost use Rattle.scope_tree.specs.Trees.{IsTreeOf};
+ghost use Rattle.scj_rules.specs.Contexts.{declarations_of};
+ghost use Rattle.scj_rules.specs.AnnotationRules.{thing_at, a1, a2, a9, annotation_breaks};
+ghost use Rattle.scj_rules.specs.Phases.{over_nodes, IsFound};
+ghost use Rattle.scj_rules.specs.Report.{IsReport};
+ghost use Rattle.annotation_rules.specs.Parts.{unknown_at, contradiction_at, unknown_of_class, other_of_class, found_at};
+
+use crate::classes;
+use crate::fields::note_misfit;
+use crate::methods::note_runs_in;
+use crate::things::{self, thing_at};
+use class_rows::ClassTable;
+use node_contexts::Contexts;
+use scj_base::{ClassId, Found, Memory, NodeId, Pos};
+use scj_rules::{Thing, put_in_order};
+use scj_tree::{Node, Program};
+use scope_tree::{ScopeTree, Scopes};
+use static_scopes::{Runs, Scoped};
+use std::alloc::Global;
+
+/// Notes A1 at a class.
+fn note_unknown_of_class(
+    found: &mut Vec<Found>,
+    scoped: &Scoped,
+    class: Option<ClassId>,
+) -> Result<(), Memory>
+    ensures { OnOk result (found.new.items ≡ found.old.items ++ unknown_of_class (declarations_of scoped.now) class) }
+{
+    match class {
+        Some(class) => classes::note_unknown(found, scoped, class),
+        None => Ok(()),
+    }
+}
+
+/// Notes A1 at a thing.
+fn note_unknown_at(
+    found: &mut Vec<Found>,
+    scoped: &Scoped,
+    thing: &Option<Thing>,
+) -> Result<(), Memory>
+    ensures { OnOk result (found.new.items ≡ found.old.items ++ unknown_at (declarations_of scoped.now) thing.now) }
+{
+    match thing {
+        Some(thing) => things::note_unknown(found, scoped, thing),
+        None => Ok(()),
+    }
+}
+
+/// Notes A1 at a node.
+#[tactic(auto, unfolding(scj_rules::specs::AnnotationRules::a1))]
+fn note_unknown(
+    found: &mut Vec<Found>,
+    scoped: &Scoped,
+    id: NodeId,
+    node: &Node,
+    thing: &Option<Thing>,
+) -> Result<(), Memory>
+    requires { thing.now ≡ thing_at (declarations_of scoped.now) id node.now }
+    ensures { OnOk result (found.new.items ≡ found.old.items ++ a1 (declarations_of scoped.now) id node.now) }
+{
+    match node {
+        Node::Class { name, .. } => {
+            let class = scoped.scopes().classes().class_of(name);
+            note_unknown_of_class(found, scoped, class)
+        }
+        _ => note_unknown_at(found, scoped, thing),
+    }
+}
+
+/// Notes A2 at a class that is named at a place.
+fn note_other_of_class(
+    found: &mut Vec<Found>,
+    scoped: &Scoped,
+    class: Option<ClassId>,
+    place: Pos,
+) -> Result<(), Memory>
+    ensures { OnOk result (found.new.items ≡ found.old.items ++ other_of_class (declarations_of scoped.now) place class) }
+{
+    match class {
+        Some(class) => classes::note_other_scope(found, scoped, class, place),
+        None => Ok(()),
+    }
+}
+
+/// Notes A2 at a node.
+#[tactic(auto, unfolding(scj_rules::specs::AnnotationRules::a2))]
+fn note_other(
+    found: &mut Vec<Found>,
+    scoped: &Scoped,
+    id: NodeId,
+    node: &Node,
+) -> Result<(), Memory>
+    ensures { OnOk result (found.new.items ≡ found.old.items ++ a2 (declarations_of scoped.now) id node.now) }
+{
+    let _ = id;
+    match node {
+        Node::Class { place, name, .. } => {
+            let class = scoped.scopes().classes().class_of(name);
+            note_other_of_class(found, scoped, class, *place)
+        }
+        _ => Ok(()),
+    }
+}
+
+/// Notes A9 at a node.
+#[tactic(auto, unfolding(scj_rules::specs::AnnotationRules::a9))]
+fn note_contradiction(
+    found: &mut Vec<Found>,
+    scoped: &Scoped,
+    id: NodeId,
+    node: &Node,
+    thing: &Option<Thing>,
+) -> Result<(), Memory>
+    requires { thing.now ≡ thing_at (declarations_of scoped.now) id node.now }
+    ensures { OnOk result (found.new.items ≡ found.old.items ++ a9 (declarations_of scoped.now) id node.now) }
+{
+    let _ = id;
+    let _ = node;
+    match thing {
+        Some(thing) => things::note_contradiction(found, scoped, thing),
+        None => Ok(()),
+    }
+}
+
+/// Notes what is broken at a node.
+#[tactic(auto, unfolding(scj_rules::specs::AnnotationRules::annotation_breaks))]
+pub fn note_annotation(
+    found: &mut Vec<Found>,
+    scoped: &Scoped,
+    id: NodeId,
+    node: &Node,
+) -> Result<(), Memory>
+    ensures { OnOk result (found.new.items ≡ found.old.items ++ annotation_breaks (declarations_of scoped.now) id node.now) }
+{
+    let thing = thing_at(scoped, id, node);
+    note_unknown(found, scoped, id, node, &thing)?;
+    note_other(found, scoped, id, node)?;
+    note_misfit(found, scoped, id, node)?;
+    note_runs_in(found, scoped, id, node)?;
+    note_contradiction(found, scoped, id, node, &thing)?;
+    Ok(())
+}
+
+/// Notes what is broken at the node of a number.
+#[tactic(auto, unfolding(crate::specs::Parts::found_at, scj_rules::specs::Contexts::declarations_of))]
+fn note_node(found: &mut Vec<Found>, scoped: &Scoped, id: NodeId) -> Result<(), Memory>
+    ensures { OnOk result (found.new.items ≡ found.old.items ++ found_at (declarations_of scoped.now) id) }
+{
+    match scoped.program().get(id) {
+        Some(node) => note_annotation(found, scoped, id, node),
+        None => Ok(()),
+    }
+}
+
+/// Notes what is broken at the nodes of a program.
+#[tactic(auto, using(crate::proofs::MethodLemmas::nodes_joined), unfolding(scj_tree::specs::Recursion::joined_below))]
+pub fn note_annotations(found: &mut Vec<Found>, scoped: &Scoped) -> Result<(), Memory>
+    ensures { OnOk result (found.new.items ≡ found.old.items ++ over_nodes (declarations_of scoped.now) (annotation_breaks (declarations_of scoped.now))) }
+{
+    for place in 0..scoped.program().len() {
+        note_node(found, scoped, NodeId::at(place as u32))?;
+    }
+    Ok(())
+}
+
+/// The breaks of the rules on annotations, in the order of a report.
+pub fn check_annotations(
+    alloc: Global,
+    program: &Program,
+    table: &ClassTable,
+    tree: &ScopeTree,
+) -> Result<Vec<Found>, Memory>
+    requires table { IsTableOf program.now table.now }
+    requires tree { IsTreeOf program.now tree.now }
+    ensures { IfOk result (λ found. IsReport (IsFound (over_nodes (declarations_of program.now) (annotation_breaks (declarations_of program.now)))) found.items) }
+{
+    let contexts = Contexts::of(alloc, program)?;
+    let runs = Runs::of(alloc, &Scopes::new(program, table, tree), &contexts)?;
+    let scoped = Scoped::new(Scopes::new(program, table, tree), &contexts, &runs);
+    let mut found = Vec::new(alloc);
+    note_annotations(&mut found, &scoped)?;
+    put_in_order(&mut found);
+    Ok(found)
+}

@@ -1,0 +1,11 @@
+//! The rules on annotations: where `@Scope` and `@RunsIn` may stand, and what they may say.
+#![tactic(auto)]
+
+mod checks;
+mod classes;
+mod fields;
+mod methods;
+mod overrides;
+mod things;
+
+pub use checks::{check_annotations, note_annotation, note_annotations};

@@ -1,0 +1,4 @@
+pub mod AssemblyLemmas
+pub mod HeaderLemmas
+pub mod IndexLemmas
+pub mod MapLemmas

@@ -1,0 +1,77 @@
+//! Keys of look-ups by name.
+
+use scj_base::Name;
+use std::hash::{Hash, Hasher};
+use std::marker::Model;
+
+/// A name as a key.
+#[derive(Clone, Copy, Debug)]
+pub struct NameKey {
+    name: Name,
+}
+
+impl Model for NameKey {
+    ghost use Rattle.std.specs.Prelude.{List, ℕ};
+
+    ghost Value = { List ℕ };
+
+    ghost view = { λ a. a.name };
+
+    ghost inverse = { λ n. record { name = n } };
+}
+
+ghost use Rattle.std.specs.Prelude.{◌≡◌};
+
+impl NameKey {
+    /// The key of a name.
+    pub fn of(name: Name) -> NameKey
+        ensures { result ≡ name }
+    {
+        NameKey { name }
+    }
+}
+
+impl PartialEq for NameKey {
+    ghost use Rattle.std.specs.Prelude.{◌==◌};
+    ghost use Rattle.std.specs.Cmp.Lexicographic.{pointwise};
+    ghost use Rattle.std.proofs.Common.{rules};
+    ghost use Rattle.std.specs.Cmp.Rules.{comparing};
+
+    ghost eq = { pointwise ◌==◌ };
+
+    ghost laws = { Prim.search (comparing, rules) };
+
+    fn eq(&self, other: &NameKey) -> bool {
+        self.name == other.name
+    }
+}
+
+impl Eq for NameKey {
+    ghost use Rattle.std.proofs.Common.{rules};
+    ghost use Rattle.std.specs.Cmp.Rules.{comparing};
+
+    ghost laws = { Prim.search (comparing, rules) };
+}
+
+impl Hash for NameKey {
+    ghost use Rattle.std.specs.Hash as fed;
+    ghost use Rattle.std.proofs.Common.{rules};
+    ghost use Rattle.std.specs.Cmp.Rules.{comparing, hashing};
+
+    ghost hash_input = { λ x. fed.slice fed.u8 x };
+
+    ghost respects_eq = { Prim.search (hashing, rules) };
+
+    fn hash<H: Hasher>(&self, state: &mut H) {
+        self.name.bytes().hash(state);
+    }
+}
+
+/// A member's name with the class that declares it.
+#[derive(Clone, Copy, Debug, PartialEq, Eq, Hash)]
+pub struct MemberKey {
+    /// The class.
+    pub class: u32,
+    /// The name.
+    pub name: NameKey,
+}

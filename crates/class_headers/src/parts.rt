@@ -1,0 +1,117 @@
+//! The parts of a class's header.
+
+ghost use Rattle.std.specs.Prelude.{◌≡◌, [], filter_map, IfOk, option_map, option_and_then, unwrap_or, if◌then◌else◌};
+ghost use Rattle.indexmap.specs.IndexMap.{get};
+ghost use Rattle.scj_rules.specs.Words.{is_same};
+ghost use Rattle.scj_rules.specs.Views.{WrittenClass, class_at, constructor_at, named_super};
+ghost use Rattle.class_headers.specs.Columns.{superclass_by, interfaces_by, header_by, first_node};
+ghost use Rattle.scj_builtins.specs.declared.kinds.ClassKind.TheVariants.{Abstract as abstract_class, Concrete as concrete_class};
+ghost use Rattle.scj_rules.specs.declared.scopes.Written.{Written};
+ghost use Rattle.scj_rules.specs.Definitions.{read};
+
+use crate::headers::Header;
+use crate::keys::NameKey;
+use indexmap::IndexMap;
+use node_views::{
+    class_extends, class_members, class_modifiers, interface_nodes, is_constructor, named_super,
+};
+use scj_base::ids::OBJECT;
+use scj_base::{ClassId, Memory, NodeId};
+use scj_builtins::ClassKind;
+use scj_rules::Written;
+use scj_tree::Program;
+use std::alloc::Global;
+
+/// The superclass that a class names, and `Object` where it names none.
+#[tactic(auto, unfolding(crate::specs::Columns::superclass_by))]
+fn superclass(names: &IndexMap<NameKey, ClassId>, extends: Option<Written>) -> Option<ClassId>
+    ensures { result ≡ superclass_by (get is_same names.now) extends }
+{
+    match extends {
+        Some(written) => {
+            let key = NameKey::of(written.name);
+            names.get(&key).copied()
+        }
+        None => Some(OBJECT),
+    }
+}
+
+/// The first constructor among members.
+#[tactic(auto, using(crate::proofs::MapLemmas::constructor_first, crate::proofs::MapLemmas::constructor_later))]
+fn first_constructor(program: &Program, members: &[NodeId]) -> Option<NodeId>
+    ensures { result ≡ first_node (filter_map (constructor_at program.now.nodes) members.now) }
+{
+    let mut others = members;
+    while let [id, rest @ ..] = others {
+        if is_constructor(program, *id) {
+            return Some(*id);
+        }
+        others = rest;
+    }
+    None
+}
+
+/// The kind of a user class.
+fn kind(is_abstract: bool) -> ClassKind
+    ensures { result ≡ (if is_abstract then abstract_class else concrete_class) }
+{
+    if is_abstract {
+        ClassKind::Abstract
+    } else {
+        ClassKind::Concrete
+    }
+}
+
+/// The header of the class at a node.
+pub fn user_header(
+    program: &Program,
+    names: &IndexMap<NameKey, ClassId>,
+    id: NodeId,
+) -> Option<Header>
+    ensures { result ≡ option_map (header_by program.now.nodes (get is_same names.now)) (class_at program.now.nodes id) }
+{
+    match class_modifiers(program, id) {
+        Some(modifiers) => {
+            let kind = kind(modifiers.is_abstract);
+            let superclass = superclass(names, class_extends(program, id));
+            let constructor = first_constructor(program, class_members(program, id));
+            Some(Header {
+                node: Some(id),
+                kind,
+                superclass,
+                constructor,
+            })
+        }
+        None => None,
+    }
+}
+
+/// The interfaces that the class at a node names.
+#[tactic(auto, using(crate::proofs::MapLemmas::one_interface, crate::proofs::MapLemmas::no_interface))]
+pub fn user_interfaces(
+    alloc: Global,
+    program: &Program,
+    names: &IndexMap<NameKey, ClassId>,
+    id: NodeId,
+) -> Result<Vec<ClassId>, Memory>
+    ensures { IfOk result (λ found. found.items ≡ interfaces_by (get is_same names.now) (unwrap_or (option_map (λ (c : WrittenClass). c.implements) (class_at program.now.nodes id)) [])) }
+{
+    let mut found = Vec::new(alloc);
+    let mut others = interface_nodes(program, id);
+    while let [node, rest @ ..] = others {
+        if let Some(class) = interface(program, names, *node) {
+            found.push(class)?;
+        }
+        others = rest;
+    }
+    Ok(found)
+}
+
+/// The class that a node names.
+fn interface(program: &Program, names: &IndexMap<NameKey, ClassId>, node: NodeId) -> Option<ClassId>
+    ensures { result ≡ option_and_then (λ (w : Written). get is_same names.now w.name) (read program.now.nodes named_super node) }
+{
+    let written = named_super(program, node)?;
+    let key = NameKey::of(written.name);
+    names.get(&key).copied()
+}

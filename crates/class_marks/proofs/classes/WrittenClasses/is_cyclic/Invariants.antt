@@ -1,0 +1,12 @@
+use Rattle.std.proofs.Common.{◌≡◌, length}
+use Rattle.scj_rules.specs.Words.{is_among}
+use Rattle.scj_rules.specs.Classes.{classes_above}
+use Rattle.scj_rules.specs.Contexts.{declarations_of}
+use Rattle.class_marks.proofs.classes.WrittenClasses.is_cyclic.Given as goal
+
+-- what is left tells it
+abbrev pub invariant-loop-at : goal.invariant-loop-at
+invariant-loop-at l = is_among l.class l.chain ≡ is_among l.class (classes_above (declarations_of l.fn.self).written l.class)
+
+abbrev pub decreases-loop-at : goal.decreases-loop-at
+decreases-loop-at l = length l.chain

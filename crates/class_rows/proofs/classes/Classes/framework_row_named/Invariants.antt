@@ -1,0 +1,12 @@
+use Rattle.std.proofs.Common.{◌≡◌, length, filter, not}
+use Rattle.scj_rules.specs.Words.{along}
+use Rattle.scj_rules.specs.Classes.{own_method, framework_row_named, is_user_class}
+use Rattle.scj_rules.specs.Contexts.{declarations_of}
+use Rattle.class_rows.proofs.classes.Classes.framework_row_named.Given as goal
+
+-- what is left tells it
+abbrev pub invariant-loop-at : goal.invariant-loop-at
+invariant-loop-at l = along (own_method (declarations_of l.self).classes l.name) (filter (λ c. not (is_user_class c)) l.ancestors) ≡ framework_row_named (declarations_of l.self).classes l.fn.class l.name
+
+abbrev pub decreases-loop-at : goal.decreases-loop-at
+decreases-loop-at l = length l.ancestors

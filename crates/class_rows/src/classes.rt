@@ -1,0 +1,203 @@
+//! The classes of a program with their look-ups.
+
+ghost use Rattle.std.specs.Prelude.{◌≡◌, ◌<◌, length, slice_get, option_copied, option_map, option_and_then};
+ghost use Rattle.scj_rules.specs.Views.{DeclaredConstructor, WrittenClass, class_at, constructor_at};
+ghost use Rattle.scj_rules.specs.Classes.{ClassRow, class_number, superclass_in, superclasses, interfaces_in, all_interfaces, is_cyclic};
+ghost use Rattle.scj_rules.specs.Words.{is_among};
+ghost use Rattle.scj_builtins.specs.Framework.{mission, safelet};
+ghost use Rattle.scj_rules.specs.Contexts.{declarations_of};
+ghost use Rattle.scj_rules.specs.Types.{constructor_in};
+
+use crate::tables::{ClassTable, Marks};
+use class_marks::WrittenClasses;
+use scj_base::ids::OBJECT;
+use scj_base::{ClassId, Name, NodeId};
+use scj_builtins::ClassKind;
+use scj_tree::Program;
+use std::marker::Model;
+
+/// The classes of a program: the program beside its table. A contract sees the program.
+#[derive(Drop)]
+pub struct Classes<'a> {
+    pub(crate) program: &'a Program,
+    pub(crate) table: &'a ClassTable,
+}
+
+impl<'a> Model for Classes<'a> {
+    ghost use Rattle.scj_tree.specs.Forest.{Forest};
+
+    ghost Value = { Forest };
+
+    ghost use Rattle.class_rows.specs.Tables.{IsTableOf};
+
+    ghost view = { λ a. a.program.now };
+
+    ghost invariant = { λ a. IsTableOf a.program.now a.table.now };
+}
+
+impl<'a> Classes<'a> {
+    ghost use Rattle.class_rows.specs.Tables.{IsTableOf, class_written, members_in, marks_of};
+
+    /// The classes of a program, from its table.
+    pub fn new(program: &'a Program, table: &'a ClassTable) -> Classes<'a>
+        requires { IsTableOf program.now table.now }
+        ensures { result ≡ program.now }
+    {
+        Classes { program, table }
+    }
+
+    /// The program.
+    pub fn program(&self) -> &'a Program
+        ensures { result.now ≡ self.now }
+    {
+        self.program
+    }
+
+    /// The classes as they are written.
+    pub fn written(&self) -> WrittenClasses<'a>
+        ensures { result ≡ self.now }
+    {
+        WrittenClasses::new(self.program, &self.table.headers)
+    }
+
+    /// How many classes there are, the framework's among them.
+    #[tactic(auto, using(crate::proofs::RowLemmas::class_length))]
+    pub fn count(&self) -> usize
+        ensures { result ≡ length (declarations_of self.now).classes }
+    {
+        self.written().count()
+    }
+
+    /// The class of a name: the first one that has it.
+    pub fn class_of(&self, name: &Name) -> Option<ClassId>
+        ensures { result ≡ class_number (declarations_of self.now).names name.now }
+    {
+        self.written().class_of(name)
+    }
+
+    /// What is found of a class.
+    fn marks(&self, class: ClassId) -> Option<&'a Marks>
+        ensures { option_copied result ≡ option_map (marks_of (declarations_of self.now) class) (slice_get (declarations_of self.now).written class) }
+    {
+        self.table.marks.get(class.number() as usize)
+    }
+
+    /// What a class may be used for.
+    #[tactic(auto, using(crate::proofs::RowLemmas::kind_is))]
+    pub fn kind(&self, class: ClassId) -> Option<ClassKind>
+        ensures { result ≡ option_map (λ (row : ClassRow). row.kind) (slice_get (declarations_of self.now).classes class) }
+    {
+        self.written().kind(class)
+    }
+
+    /// The node of a user class.
+    pub fn class_node(&self, class: ClassId) -> Option<NodeId>
+        ensures node { result ≡ option_map (λ (c : WrittenClass). c.node) (class_written (declarations_of self.now) class) }
+        ensures class { option_and_then (class_at self.now.nodes) result ≡ class_written (declarations_of self.now) class }
+    {
+        self.written().class_node(class)
+    }
+
+    /// The members of a user class, in the order of the source.
+    pub fn members(&self, class: ClassId) -> &'a [NodeId]
+        ensures { result.now ≡ members_in (declarations_of self.now) class }
+    {
+        self.written().members(class)
+    }
+
+    /// The superclass as it is written.
+    pub fn superclass_written(&self, class: ClassId) -> Option<ClassId>
+        ensures { result ≡ superclass_in (declarations_of self.now).written class }
+    {
+        self.written().superclass(class)
+    }
+
+    /// The superclass as it counts: a class with a forbidden header stands under `Object`.
+    pub fn superclass(&self, class: ClassId) -> Option<ClassId>
+        ensures { result ≡ superclass_in (declarations_of self.now).classes class }
+    {
+        match self.marks(class) {
+            Some(marks) => {
+                if marks.is_well_headed {
+                    self.superclass_written(class)
+                } else {
+                    Some(OBJECT)
+                }
+            }
+            None => None,
+        }
+    }
+
+    /// The interfaces as they are written.
+    pub fn interfaces_written(&self, class: ClassId) -> &'a [ClassId]
+        ensures { result.now ≡ interfaces_in (declarations_of self.now).written class }
+    {
+        self.written().interfaces(class)
+    }
+
+    /// The interfaces as they count: a class with a forbidden header has none.
+    pub fn interfaces(&self, class: ClassId) -> &'a [ClassId]
+        ensures { result.now ≡ interfaces_in (declarations_of self.now).classes class }
+    {
+        match self.marks(class) {
+            Some(marks) => {
+                if marks.is_well_headed {
+                    self.interfaces_written(class)
+                } else {
+                    &[]
+                }
+            }
+            None => &[],
+        }
+    }
+
+    /// Whether the superclasses as they are written come back to the class.
+    pub fn is_cyclic(&self, class: ClassId) -> bool
+        requires { class < length (declarations_of self.now).classes }
+        ensures { result ≡ is_cyclic (declarations_of self.now).written class }
+    {
+        match self.marks(class) {
+            Some(marks) => marks.is_cyclic,
+            None => false,
+        }
+    }
+
+    /// Whether `Mission` stands among the superclasses as they are written.
+    pub fn is_mission_written(&self, class: ClassId) -> bool
+        requires { class < length (declarations_of self.now).classes }
+        ensures { result ≡ is_among mission (superclasses (declarations_of self.now).written class) }
+    {
+        match self.marks(class) {
+            Some(marks) => marks.is_mission,
+            None => false,
+        }
+    }
+
+    /// Whether a class of the chain, as it is written, implements `Safelet`.
+    pub fn is_safelet_written(&self, class: ClassId) -> bool
+        requires { class < length (declarations_of self.now).classes }
+        ensures { result ≡ is_among safelet (all_interfaces (declarations_of self.now).written class) }
+    {
+        match self.marks(class) {
+            Some(marks) => marks.is_safelet,
+            None => false,
+        }
+    }
+
+    /// The node that the table has of the first constructor of a class.
+    #[tactic(auto, using(crate::proofs::RowLemmas::constructor_is))]
+    fn first_constructor(&self, class: ClassId) -> Option<NodeId>
+        ensures { result ≡ option_map (λ (c : DeclaredConstructor). c.node) (constructor_in (declarations_of self.now).classes class) }
+    {
+        self.written().constructor(class)
+    }
+
+    /// The node of the first constructor of a class.
+    #[tactic(auto, using(crate::proofs::ConstructorLemmas::constructor_whole))]
+    pub fn constructor_in(&self, class: ClassId) -> Option<NodeId>
+        ensures node { result ≡ option_map (λ (c : DeclaredConstructor). c.node) (constructor_in (declarations_of self.now).classes class) }
+        ensures whole { option_and_then (constructor_at self.now.nodes) result ≡ constructor_in (declarations_of self.now).classes class }
+    {
+        self.first_constructor(class)
+    }
+}

@@ -1,0 +1,14 @@
+//! The classes of a program, and look-ups among them and their members.
+#![tactic(auto)]
+
+pub mod building;
+pub mod chains;
+pub mod classes;
+pub mod lookups;
+pub mod tables;
+
+pub use classes::Classes;
+pub use tables::ClassTable;
+
+#[cfg(test)]
+mod tests;

@@ -1,0 +1,208 @@
+//! Whether a class stands under another, and look-ups of members by name.
+
+ghost use Rattle.std.specs.Prelude.{◌≡◌, ◌<◌, ◌≤◌, option_map, option_and_then};
+ghost use Rattle.scj_rules.specs.Words.{is_among};
+ghost use Rattle.scj_rules.specs.Classes.{superclasses, all_interfaces, is_sub, own_field, field_named, own_method, method_named, method_above, framework_row_named, field_number, method_number};
+ghost use Rattle.scj_rules.specs.Views.{field_at};
+ghost use Rattle.scj_rules.specs.Contexts.{declarations_of};
+ghost use Rattle.method_rows.specs.Methods.{found_method};
+ghost use Rattle.class_rows.specs.Tables.{field_among, method_among, members_in};
+
+use crate::classes::Classes;
+use class_headers::{MemberKey, NameKey};
+use method_rows::{MethodRef, MethodSource, framework_method};
+use node_views::field_at;
+use scj_base::{ClassId, FieldId, MethodId, Name, NodeId};
+use scj_rules::{Declared, FoundField};
+
+impl<'a> Classes<'a> {
+    /// Whether a class is the other one or stands under it by superclasses.
+    pub fn is_under(&self, class: ClassId, above: ClassId) -> bool
+        ensures { result ≡ is_among above (superclasses (declarations_of self.now).classes class) }
+    {
+        let mut chain = self.superclasses(class);
+        while let Some(at) = chain.next() {
+            if at == above {
+                return true;
+            }
+        }
+        false
+    }
+
+    /// Whether a class of the chain implements the interface.
+    pub fn implements(&self, class: ClassId, interface: ClassId) -> bool
+        ensures { result ≡ is_among interface (all_interfaces (declarations_of self.now).classes class) }
+    {
+        let mut interfaces = self.all_interfaces(class);
+        while let Some(at) = interfaces.next() {
+            if at == interface {
+                return true;
+            }
+        }
+        false
+    }
+
+    /// Whether a class is a subclass of the other one, or implements it (JLS 4.10.2).
+    #[tactic(auto, unfolding(scj_rules::specs::Classes::is_sub))]
+    pub fn is_sub(&self, class: ClassId, above: ClassId) -> bool
+        ensures { result ≡ is_sub (declarations_of self.now).classes class above }
+    {
+        self.is_under(class, above) || self.implements(class, above)
+    }
+
+    /// The node of the first field of a name that a class declares itself.
+    fn field_node(&self, class: ClassId, name: &Name) -> Option<NodeId>
+        ensures { result ≡ field_among self.now.nodes name.now (members_in (declarations_of self.now) class) }
+    {
+        let key = MemberKey {
+            class: class.number(),
+            name: NameKey::of(*name),
+        };
+        self.table.fields.get(&key).copied()
+    }
+
+    /// What is declared of the first field of a name in a class.
+    fn field_declared(&self, class: ClassId, name: &Name) -> Option<Declared>
+        ensures { result ≡ option_and_then (field_at self.now.nodes) (field_among self.now.nodes name.now (members_in (declarations_of self.now) class)) }
+    {
+        let node = self.field_node(class, name)?;
+        field_at(self.program, node)
+    }
+
+    /// The first field of a name that a class declares itself.
+    #[tactic(auto, using(crate::proofs::MemberLemmas::own_field_is))]
+    pub fn own_field(&self, class: ClassId, name: &Name) -> Option<FoundField>
+        ensures { result ≡ own_field (declarations_of self.now).classes name.now class }
+    {
+        match self.field_declared(class, name) {
+            Some(field) => Some(FoundField { on: class, field }),
+            None => None,
+        }
+    }
+
+    /// The node of the first method of a name that a user class declares itself.
+    fn method_node(&self, class: ClassId, name: &Name) -> Option<NodeId>
+        ensures { result ≡ method_among self.now.nodes name.now (members_in (declarations_of self.now) class) }
+    {
+        let key = MemberKey {
+            class: class.number(),
+            name: NameKey::of(*name),
+        };
+        self.table.methods.get(&key).copied()
+    }
+
+    /// The first method of a name that a class declares itself.
+    pub fn own_method(&self, class: ClassId, name: &Name) -> Option<MethodRef>
+        ensures { option_map (found_method self.now.nodes) result ≡ own_method (declarations_of self.now).classes name.now class }
+    {
+        if class.number() < 16 {
+            self.framework_row(class, name)
+        } else {
+            self.declared_row(class, name)
+        }
+    }
+
+    /// The method of a name that a framework class declares itself.
+    fn framework_row(&self, class: ClassId, name: &Name) -> Option<MethodRef>
+        requires { class < 16 }
+        ensures { option_map (found_method self.now.nodes) result ≡ own_method (declarations_of self.now).classes name.now class }
+    {
+        match framework_method(class, name) {
+            Some(id) => Some(MethodRef {
+                on: class,
+                source: MethodSource::Framework(id),
+            }),
+            None => None,
+        }
+    }
+
+    /// The first method of a name that a user class declares itself.
+    fn declared_row(&self, class: ClassId, name: &Name) -> Option<MethodRef>
+        requires { 16 ≤ class }
+        ensures { option_map (found_method self.now.nodes) result ≡ own_method (declarations_of self.now).classes name.now class }
+    {
+        match self.method_node(class, name) {
+            Some(node) => Some(MethodRef {
+                on: class,
+                source: MethodSource::Declared(node),
+            }),
+            None => None,
+        }
+    }
+
+    /// The field of a name that a class has, its own or the nearest above.
+    #[tactic(auto, using(crate::proofs::WalkLemmas::along_found, crate::proofs::WalkLemmas::along_next, crate::proofs::WalkLemmas::along_end), unfolding(scj_rules::specs::Classes::field_named))]
+    pub fn field_named(&self, class: ClassId, name: &Name) -> Option<FoundField>
+        ensures { result ≡ field_named (declarations_of self.now).classes class name.now }
+    {
+        let mut chain = self.superclasses(class);
+        while let Some(at) = chain.next() {
+            if let Some(field) = self.own_field(at, name) {
+                return Some(field);
+            }
+        }
+        None
+    }
+
+    /// The method of a name that a class has: the nearest declaration above, or else an interface's.
+    #[tactic(auto, using(crate::proofs::WalkLemmas::along_found, crate::proofs::WalkLemmas::along_next, crate::proofs::WalkLemmas::along_end), unfolding(scj_rules::specs::Classes::method_named))]
+    pub fn method_named(&self, class: ClassId, name: &Name) -> Option<MethodRef>
+        ensures { option_map (found_method self.now.nodes) result ≡ method_named (declarations_of self.now).classes class name.now }
+    {
+        let mut ancestors = self.ancestors(class);
+        while let Some(at) = ancestors.next() {
+            if let Some(method) = self.own_method(at, name) {
+                return Some(method);
+            }
+        }
+        None
+    }
+
+    /// What a declaration of the name in the class overrides.
+    #[tactic(auto, using(crate::proofs::WalkLemmas::along_found, crate::proofs::WalkLemmas::along_next, crate::proofs::WalkLemmas::along_end), unfolding(scj_rules::specs::Classes::method_above))]
+    pub fn method_above(&self, class: ClassId, name: &Name) -> Option<MethodRef>
+        ensures { option_map (found_method self.now.nodes) result ≡ method_above (declarations_of self.now).classes class name.now }
+    {
+        let mut ancestors = self.ancestors_above(class);
+        while let Some(at) = ancestors.next() {
+            if let Some(method) = self.own_method(at, name) {
+                return Some(method);
+            }
+        }
+        None
+    }
+
+    /// The framework's own method of the name, where the class stands under the framework class or implements it.
+    #[tactic(auto, using(crate::proofs::WalkLemmas::along_found, crate::proofs::WalkLemmas::along_next, crate::proofs::WalkLemmas::along_end), unfolding(scj_rules::specs::Classes::framework_row_named))]
+    pub fn framework_row_named(&self, class: ClassId, name: &Name) -> Option<MethodRef>
+        ensures { option_map (found_method self.now.nodes) result ≡ framework_row_named (declarations_of self.now).classes class name.now }
+    {
+        let mut ancestors = self.ancestors(class);
+        while let Some(at) = ancestors.next() {
+            if at.number() < 16 {
+                if let Some(method) = self.own_method(at, name) {
+                    return Some(method);
+                }
+            }
+        }
+        None
+    }
+
+    /// The number of the field that a node declares.
+    pub fn field_number(&self, node: NodeId) -> Option<FieldId>
+        ensures { result ≡ field_number (declarations_of self.now).classes node }
+    {
+        let place = node.place();
+        let number = self.table.field_numbers.get(&place).copied()?;
+        Some(FieldId::at(number))
+    }
+
+    /// The number of the method or constructor that a node declares.
+    pub fn method_number(&self, node: NodeId) -> Option<MethodId>
+        ensures { result ≡ method_number self.now.nodes (declarations_of self.now).users node }
+    {
+        let place = node.place();
+        let number = self.table.method_numbers.get(&place).copied()?;
+        Some(MethodId::at(number))
+    }
+}

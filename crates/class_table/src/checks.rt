@@ -1,0 +1,58 @@
+//! The report of the rules on classes and members.
+
+ghost use Rattle.std.specs.Prelude.{◌≡◌, IfOk};
+ghost use Rattle.scj_rules.specs.Contexts.{contexts_in};
+ghost use Rattle.scj_rules.specs.Phases.{BreaksClassRules};
+ghost use Rattle.scj_rules.specs.Report.{IsReport};
+ghost use Rattle.class_rows.specs.Tables.{IsTableOf};
+
+use crate::classes::note_classes;
+use class_marks::WrittenClasses;
+use class_rows::{ClassTable, Classes};
+use class_rules::safelets::note_c8;
+use node_contexts::Contexts;
+use node_rules::nodes::note_nodes;
+use scj_base::{Found, Memory};
+use scj_rules::put_in_order;
+use scj_tree::Program;
+use std::alloc::Global;
+
+/// The breaks of the rules on classes and members and of the limits, in the order of a report.
+pub fn check_classes(
+    alloc: Global,
+    classes: &Classes<'_>,
+    written: &WrittenClasses<'_>,
+    contexts: &Contexts,
+) -> Result<Vec<Found>, Memory>
+    requires same { written.now ≡ classes.now }
+    requires contexts { contexts.now ≡ contexts_in classes.now }
+    ensures { IfOk result (λ found. IsReport (BreaksClassRules classes.now) found.items) }
+{
+    let mut found = Vec::new(alloc);
+    note_c8(&mut found, classes)?;
+    note_classes(alloc, &mut found, classes, written)?;
+    note_nodes(alloc, &mut found, classes, contexts)?;
+    put_in_order(&mut found);
+    Ok(found)
+}
+
+/// The breaks of the rules on classes and members and of the limits, by the table of the classes.
+fn report(alloc: Global, program: &Program, table: &ClassTable) -> Result<Vec<Found>, Memory>
+    requires { IsTableOf program.now table.now }
+    ensures { IfOk result (λ found. IsReport (BreaksClassRules program.now) found.items) }
+{
+    let classes = Classes::new(program, table);
+    let contexts = Contexts::of(alloc, program)?;
+    check_classes(alloc, &classes, &classes.written(), &contexts)
+}
+
+/// The table of the classes of a program, and the breaks of the rules on classes and members and of the limits, in the
+/// order of a report.
+pub fn build(alloc: Global, program: &Program) -> Result<(ClassTable, Vec<Found>), Memory>
+    ensures table { IfOk result (λ built. IsTableOf program.now built.0) }
+    ensures report { IfOk result (λ built. IsReport (BreaksClassRules program.now) built.1.items) }
+{
+    let table = ClassTable::of(alloc, program)?;
+    let found = report(alloc, program, &table)?;
+    Ok((table, found))
+}

@@ -1,0 +1,12 @@
+//! The table of the classes of a program, and what breaks the rules on classes and members and the limits.
+#![tactic(auto)]
+
+pub mod checks;
+pub mod classes;
+pub mod supers;
+
+pub use checks::{build, check_classes};
+pub use class_rows::{ClassTable, Classes};
+
+#[cfg(test)]
+mod tests;

@@ -1,0 +1,105 @@
+//! What is declared of a method.
+
+ghost use Rattle.std.specs.Prelude.{◌≡◌, length, slice_get, unwrap_or};
+ghost use Rattle.scj_rules.specs.Views.{method_at, parameters_at};
+ghost use Rattle.method_rows.specs.Methods.{found_method, no_method};
+
+use crate::framework;
+use crate::refs::{MethodRef, MethodSource};
+use node_views as views;
+use scj_base::{MethodId, Name, NodeId};
+use scj_rules::{Declared, WrittenType};
+use scj_tree::Program;
+
+/// What is declared of the method; its type is the result's.
+#[tactic(auto, unfolding(crate::specs::Methods::found_method, crate::specs::Methods::method_from), using(crate::proofs::MethodLemmas::part_of_some, crate::proofs::MethodLemmas::none_of_none))]
+pub fn declared(program: &Program, method: &MethodRef) -> Declared
+    ensures { result ≡ (found_method program.now.nodes method.now).method.declared }
+{
+    match &method.source {
+        MethodSource::Framework(id) => framework::declared_of(id.number()),
+        MethodSource::Declared(node) => match views::method_declared(program, *node) {
+            Some(declared) => declared,
+            None => framework::made(Name::new(b""), false, false, WrittenType::Void),
+        },
+    }
+}
+
+/// The number of a framework's method.
+#[tactic(auto, unfolding(crate::specs::Methods::found_method, crate::specs::Methods::method_from), using(crate::proofs::MethodLemmas::no_number))]
+pub fn builtin(program: &Program, method: &MethodRef) -> Option<MethodId>
+    ensures { result ≡ (found_method program.now.nodes method.now).method.builtin }
+{
+    let _ = program;
+    match &method.source {
+        MethodSource::Framework(id) => framework::number_in_table(*id),
+        MethodSource::Declared(_) => None,
+    }
+}
+
+/// Whether a program may call it: what a program declares, and what the framework lets it call.
+#[tactic(auto, unfolding(crate::specs::Methods::found_method, crate::specs::Methods::method_from), using(crate::proofs::MethodLemmas::is_callable_where_declared))]
+pub fn is_callable_row(program: &Program, method: &MethodRef) -> bool
+    ensures { result ≡ (found_method program.now.nodes method.now).method.callable }
+{
+    match &method.source {
+        MethodSource::Framework(id) => framework::is_callable(id.number()),
+        MethodSource::Declared(node) => views::is_method(program, *node),
+    }
+}
+
+/// Whether a class below may declare it anew.
+#[tactic(auto, unfolding(crate::specs::Methods::found_method, crate::specs::Methods::method_from), using(crate::proofs::MethodLemmas::is_open_where_declared))]
+pub fn is_overridable(program: &Program, method: &MethodRef) -> bool
+    ensures { result ≡ (found_method program.now.nodes method.now).method.overridable }
+{
+    match &method.source {
+        MethodSource::Framework(id) => framework::is_open(id.number()),
+        MethodSource::Declared(node) => views::is_method(program, *node),
+    }
+}
+
+/// The node of the body, if there is one.
+#[tactic(auto, unfolding(crate::specs::Methods::found_method, crate::specs::Methods::method_from), using(crate::proofs::MethodLemmas::body_of_source, crate::proofs::MethodLemmas::no_body))]
+pub fn body(program: &Program, method: &MethodRef) -> Option<NodeId>
+    ensures { result ≡ (found_method program.now.nodes method.now).method.body }
+{
+    match &method.source {
+        MethodSource::Framework(_) => None,
+        MethodSource::Declared(node) => views::method_body(program, *node),
+    }
+}
+
+/// The list of the parameters of a declared method.
+#[tactic(auto, using(crate::proofs::MethodLemmas::parameters_of_source))]
+fn parameters_of(program: &Program, node: NodeId) -> Option<NodeId>
+    ensures { parameters_at program.now.nodes result ≡ (unwrap_or (method_at program.now.nodes node) no_method).parameters }
+{
+    views::method_parameters(program, node)
+}
+
+/// How many parameters it has.
+#[tactic(auto, unfolding(crate::specs::Methods::found_method, crate::specs::Methods::method_from))]
+pub fn parameter_count(program: &Program, method: &MethodRef) -> usize
+    ensures { result ≡ length (found_method program.now.nodes method.now).method.parameters }
+{
+    match &method.source {
+        MethodSource::Framework(id) => framework::count_of(id.number()),
+        MethodSource::Declared(node) => {
+            views::parameter_count(program, parameters_of(program, *node))
+        }
+    }
+}
+
+/// A parameter, if there are as many.
+#[tactic(auto, unfolding(crate::specs::Methods::found_method, crate::specs::Methods::method_from))]
+pub fn parameter(program: &Program, method: &MethodRef, i: usize) -> Option<Declared>
+    ensures { result ≡ slice_get (found_method program.now.nodes method.now).method.parameters i }
+{
+    match &method.source {
+        MethodSource::Framework(id) => framework::parameter_of(id.number(), i),
+        MethodSource::Declared(node) => {
+            views::parameter(program, parameters_of(program, *node), i)
+        }
+    }
+}

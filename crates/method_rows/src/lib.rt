@@ -1,0 +1,13 @@
+//! Methods of a program and of the framework as rows that are copied, and what is declared of them.
+#![tactic(auto)]
+
+pub mod facts;
+mod framework;
+pub mod names;
+pub mod refs;
+
+pub use facts::{
+    body, builtin, declared, is_callable_row, is_overridable, parameter, parameter_count,
+};
+pub use names::framework_method;
+pub use refs::{MethodRef, MethodSource};

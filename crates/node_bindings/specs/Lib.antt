@@ -1,0 +1,5 @@
+pub mod Arrays
+pub mod Calls
+pub mod Kinds
+pub mod Numbers
+pub mod Programs

@@ -1,0 +1,143 @@
+//! What calls stand for.
+
+ghost use Rattle.std.specs.Prelude.{◌≡◌, IfOk, None, unwrap_or};
+ghost use Rattle.scj_tree.specs.Recursion.{told};
+ghost use Rattle.scj_rules.specs.Contexts.{declarations_of};
+ghost use Rattle.scj_rules.specs.Types.{called_method};
+ghost use Rattle.scj_rules.specs.Bindings.{plain_or, called_on, target, method_binding};
+ghost use Rattle.node_bindings.specs.Calls.{declared_binding, call_binding};
+ghost use Rattle.method_rows.specs.Methods.{found_method};
+
+use crate::fields::second_class;
+use method_rows::{MethodRef, builtin, declared};
+use scj_base::ids::MANAGED_MEMORY;
+use scj_base::{ClassId, Memory, MethodId, Name, NodeId};
+use scj_rules::{Binding, Receiver, Target, Ty};
+use scj_tree::Program;
+use type_rules::Known;
+use type_rules::names::{call_receiver, called_method};
+use type_words::{class_of_receiver, is_void};
+
+/// The class, or another one where there is none.
+fn or_class(class: Option<ClassId>, other: ClassId) -> ClassId
+    ensures { result ≡ unwrap_or class other }
+{
+    match class {
+        Some(class) => class,
+        None => other,
+    }
+}
+
+/// The class on which a method is called.
+#[tactic(auto, unfolding(scj_rules::specs::Bindings::called_on, method_rows::specs::Methods::found_method))]
+fn called_on(
+    program: &Program,
+    types: &[Option<Ty>],
+    receiver: &Receiver,
+    method: &MethodRef,
+    arguments: &[NodeId],
+) -> ClassId
+    ensures { result ≡ called_on (told None types.now) receiver.now (found_method program.now.nodes method.now) arguments.now }
+{
+    if method.on == MANAGED_MEMORY {
+        return or_class(second_class(types, arguments), method.on);
+    }
+    if declared(program, method).modifiers.is_static {
+        return method.on;
+    }
+    or_class(class_of_receiver(receiver), method.on)
+}
+
+/// The method that a call stands for.
+#[tactic(auto, unfolding(scj_rules::specs::Bindings::target))]
+fn target(
+    program: &Program,
+    types: &[Option<Ty>],
+    receiver: &Receiver,
+    method: &MethodRef,
+    arguments: &[NodeId],
+    id: MethodId,
+) -> Target
+    ensures { result ≡ target (told None types.now) receiver.now (found_method program.now.nodes method.now) arguments.now id }
+{
+    let on = called_on(program, types, receiver, method, arguments);
+    let gives = !is_void(&declared(program, method).declared_type);
+    Target { id, on, gives }
+}
+
+/// A call of a method of the program.
+#[tactic(auto, unfolding(scj_rules::specs::Contexts::declarations_of))]
+fn declared_binding(
+    known: &Known<'_>,
+    types: &[Option<Ty>],
+    receiver: &Receiver,
+    arguments: &[NodeId],
+    method: &MethodRef,
+) -> Result<Binding, Memory>
+    ensures { IfOk result (λ b. b ≡ declared_binding (declarations_of known.now) (told None types.now) receiver.now arguments.now (found_method known.now.nodes method.now)) }
+{
+    let program = known.program();
+    let row = declared(program, method);
+    let Some(number) = known.classes().method_number(row.node) else {
+        return Ok(Binding::Plain);
+    };
+    let aim = target(program, types, receiver, method, arguments, number);
+    if row.modifiers.is_static {
+        Ok(Binding::StaticMethod(aim))
+    } else {
+        Ok(Binding::Method(aim))
+    }
+}
+
+/// A call of a method.
+#[tactic(auto, using(crate::proofs::CallLemmas::of_framework, crate::proofs::CallLemmas::of_program))]
+fn method_binding(
+    known: &Known<'_>,
+    types: &[Option<Ty>],
+    receiver: &Receiver,
+    arguments: &[NodeId],
+    method: &MethodRef,
+) -> Result<Binding, Memory>
+    ensures { IfOk result (λ b. b ≡ method_binding (declarations_of known.now) (told None types.now) receiver.now arguments.now (found_method known.now.nodes method.now)) }
+{
+    let program = known.program();
+    match builtin(program, method) {
+        Some(number) => Ok(Binding::Builtin(target(
+            program, types, receiver, method, arguments, number,
+        ))),
+        None => declared_binding(known, types, receiver, arguments, method),
+    }
+}
+
+/// A call on a receiver.
+fn call_on(
+    known: &Known<'_>,
+    types: &[Option<Ty>],
+    receiver: &Receiver,
+    name: &Name,
+    arguments: &[NodeId],
+) -> Result<Binding, Memory>
+    ensures { IfOk result (λ b. b ≡ plain_or (method_binding (declarations_of known.now) (told None types.now) receiver.now arguments.now) (called_method (declarations_of known.now) receiver.now name.now)) }
+{
+    match called_method(known, receiver, name) {
+        Some(method) => method_binding(known, types, receiver, arguments, &method),
+        None => Ok(Binding::Plain),
+    }
+}
+
+/// A call.
+pub fn call_binding(
+    known: &Known<'_>,
+    types: &[Option<Ty>],
+    id: NodeId,
+    name: &Name,
+    object: &Option<NodeId>,
+    arguments: &[NodeId],
+) -> Result<Binding, Memory>
+    ensures { IfOk result (λ b. b ≡ call_binding (declarations_of known.now) (told None types.now) id name.now object.now arguments.now) }
+{
+    match call_receiver(known, types, id, object) {
+        Some(receiver) => call_on(known, types, &receiver, name, arguments),
+        None => Ok(Binding::Plain),
+    }
+}

@@ -1,0 +1,184 @@
+//! What a node stands for, by its kind.
+
+ghost use Rattle.std.specs.Prelude.{◌≡◌, IfOk, None, Option, option_and_then};
+ghost use Rattle.scj_tree.specs.Recursion.{told};
+ghost use Rattle.scj_rules.specs.Classes.{superclass_in};
+ghost use Rattle.scj_rules.specs.Contexts.{declarations_of, contexts_in, context};
+ghost use Rattle.scj_rules.specs.Types.{array_of, meaning};
+ghost use Rattle.scj_rules.specs.TypeRules.{written_type};
+ghost use Rattle.scj_rules.specs.Bindings.{array_class, class_binding, meaning_binding, binding_of, binding_at};
+ghost use Rattle.node_bindings.specs.Numbers.{numbers_before};
+ghost use Rattle.node_bindings.specs.Kinds.{field_here, access_at, new_binding, new_array};
+
+use crate::calls::call_binding;
+use crate::fields::{access_binding, array_class, class_binding, field_binding};
+use crate::numbers::variable_binding;
+use node_contexts::Contexts;
+use scj_base::{ClassId, Memory, Name, NodeId};
+use scj_rules::{Binding, Meaning, Receiver, Ty};
+use scj_tree::Node;
+use type_rules::Known;
+use type_rules::forms::is_form_part;
+use type_rules::names::{accessed_field, meaning, receiver, written_type};
+use type_words::array_of;
+
+/// What a name stands for.
+#[tactic(auto, unfolding(scj_rules::specs::Bindings::meaning_binding))]
+fn meaning_binding(
+    known: &Known<'_>,
+    contexts: &Contexts,
+    numbers: &[u32],
+    id: NodeId,
+    meaning: &Meaning,
+) -> Result<Binding, Memory>
+    requires contexts { contexts.now ≡ contexts_in known.now }
+    requires numbers { numbers.now ≡ numbers_before (declarations_of known.now) }
+    ensures { IfOk result (λ b. b ≡ meaning_binding (declarations_of known.now) id meaning.now) }
+{
+    match meaning {
+        Meaning::Variable(variable) => {
+            variable_binding(known.program(), contexts, numbers, id, *variable)
+        }
+        Meaning::Field(found) => Ok(field_binding(known.classes(), &found.field)),
+        Meaning::Class(class) => Ok(Binding::Class(*class)),
+        Meaning::Nothing => Ok(Binding::Plain),
+    }
+}
+
+/// A simple name.
+fn name_binding(
+    known: &Known<'_>,
+    contexts: &Contexts,
+    numbers: &[u32],
+    id: NodeId,
+    name: &Name,
+) -> Result<Binding, Memory>
+    requires contexts { contexts.now ≡ contexts_in known.now }
+    requires numbers { numbers.now ≡ numbers_before (declarations_of known.now) }
+    ensures { IfOk result (λ b. b ≡ meaning_binding (declarations_of known.now) id (meaning (declarations_of known.now) id name.now)) }
+{
+    let stands_for = meaning(known, id, name);
+    meaning_binding(known, contexts, numbers, id, &stands_for)
+}
+
+/// The superclass of a class.
+fn superclass_binding(known: &Known<'_>, class: Option<ClassId>) -> Binding
+    ensures { result ≡ class_binding (option_and_then (superclass_in (declarations_of known.now).classes) class) }
+{
+    match class {
+        Some(class) => class_binding(known.classes().superclass(class)),
+        None => Binding::Plain,
+    }
+}
+
+/// The field of a name in the class where a node stands.
+fn field_here(known: &Known<'_>, id: NodeId, name: &Name) -> Binding
+    ensures { result ≡ field_here (declarations_of known.now) id name.now }
+{
+    let Some(class) = known.context(id).class else {
+        return Binding::Plain;
+    };
+    match accessed_field(known, &Receiver::Class(class), name) {
+        Some(found) => field_binding(known.classes(), &found.field),
+        None => Binding::Plain,
+    }
+}
+
+/// An access.
+fn access_at(known: &Known<'_>, types: &[Option<Ty>], object: NodeId, name: &Name) -> Binding
+    ensures { result ≡ access_at (declarations_of known.now) (told None types.now) object name.now }
+{
+    match receiver(known, types, object) {
+        Some(receiver) => access_binding(known, &receiver, name),
+        None => Binding::Plain,
+    }
+}
+
+/// A new object; the parts of a form stand for nothing.
+fn new_binding(known: &Known<'_>, id: NodeId, name: &Name) -> Binding
+    ensures { result ≡ new_binding (declarations_of known.now) id name.now }
+{
+    if is_form_part(known, id) {
+        Binding::Plain
+    } else {
+        class_binding(known.class_of(name))
+    }
+}
+
+/// The type of a new array of what is written.
+fn array_written(known: &Known<'_>, element: NodeId) -> Option<Ty>
+    ensures { result ≡ option_and_then array_of (written_type (declarations_of known.now) element) }
+{
+    let t = written_type(known, element)?;
+    array_of(&t)
+}
+
+/// A new array.
+fn new_array(known: &Known<'_>, element: NodeId) -> Result<Binding, Memory>
+    ensures { IfOk result (λ b. b ≡ new_array (declarations_of known.now) element) }
+{
+    match array_written(known, element) {
+        Some(t) => {
+            let class = array_class(known.classes(), &t)?;
+            Ok(class_binding(class))
+        }
+        None => Ok(Binding::Plain),
+    }
+}
+
+/// What a node stands for, by its kind.
+#[tactic(auto, unfolding(scj_rules::specs::Bindings::binding_of))]
+fn binding_of(
+    known: &Known<'_>,
+    contexts: &Contexts,
+    numbers: &[u32],
+    types: &[Option<Ty>],
+    id: NodeId,
+    node: &Node,
+) -> Result<Binding, Memory>
+    requires contexts { contexts.now ≡ contexts_in known.now }
+    requires numbers { numbers.now ≡ numbers_before (declarations_of known.now) }
+    ensures { IfOk result (λ b. b ≡ binding_of (declarations_of known.now) (told None types.now) id node.now) }
+{
+    match node {
+        Node::Parameter { .. } | Node::Local { .. } | Node::LocalWithValue { .. } => {
+            variable_binding(known.program(), contexts, numbers, id, id)
+        }
+        Node::Field { name, .. } => Ok(field_here(known, id, name)),
+        Node::Class { name, .. } => Ok(superclass_binding(known, known.class_of(name))),
+        Node::Constructor { .. } | Node::SuperCall { .. } => {
+            Ok(superclass_binding(known, known.context(id).class))
+        }
+        Node::SimpleName { name, .. } => name_binding(known, contexts, numbers, id, name),
+        Node::FieldAccess { name, object, .. } => Ok(access_at(known, types, *object, name)),
+        Node::Call {
+            name,
+            object,
+            arguments,
+            ..
+        } => { call_binding(known, types, id, name, object, arguments.items()) }
+        Node::New { name, .. } => Ok(new_binding(known, id, name)),
+        Node::NewArray { element, .. } => new_array(known, *element),
+        Node::Cast { name, .. } => Ok(class_binding(known.class_of(name))),
+        _ => Ok(Binding::Plain),
+    }
+}
+
+/// What a node stands for.
+#[tactic(auto, unfolding(scj_rules::specs::Bindings::binding_at, scj_rules::specs::Contexts::declarations_of))]
+pub fn binding_at(
+    known: &Known<'_>,
+    contexts: &Contexts,
+    numbers: &[u32],
+    types: &[Option<Ty>],
+    id: NodeId,
+) -> Result<Binding, Memory>
+    requires contexts { contexts.now ≡ contexts_in known.now }
+    requires numbers { numbers.now ≡ numbers_before (declarations_of known.now) }
+    ensures { IfOk result (λ b. b ≡ binding_at (declarations_of known.now) (told None types.now) id) }
+{
+    match known.program().get(id) {
+        Some(node) => binding_of(known, contexts, numbers, types, id, node),
+        None => Ok(Binding::Plain),
+    }
+}

@@ -1,0 +1,76 @@
+//! What each node of a program stands for.
+
+ghost use Rattle.std.specs.Prelude.{◌≡◌, [], None, IfOk, OnOk};
+ghost use Rattle.scj_tree.specs.Recursion.{told};
+ghost use Rattle.scj_rules.specs.Contexts.{declarations_of, contexts_in};
+ghost use Rattle.scj_rules.specs.TypeRules.{types_in};
+ghost use Rattle.scj_rules.specs.Bindings.{bindings_in};
+ghost use Rattle.node_bindings.specs.Numbers.{numbers_before};
+ghost use Rattle.node_bindings.specs.Programs.{bound_by};
+
+use crate::kinds::binding_at;
+use crate::numbers::number_variables;
+use class_rows::Classes;
+use node_contexts::Contexts;
+use scj_base::{Memory, NodeId};
+use scj_rules::{Bindings, Ty};
+use std::alloc::Global;
+use type_rules::Known;
+use type_words::returning;
+
+/// Tells of each node in turn what it stands for.
+fn bind_all(
+    known: &Known<'_>,
+    contexts: &Contexts,
+    numbers: &[u32],
+    types: &[Option<Ty>],
+    bindings: &mut Bindings,
+) -> Result<(), Memory>
+    requires contexts { contexts.now ≡ contexts_in known.now }
+    requires numbers { numbers.now ≡ numbers_before (declarations_of known.now) }
+    requires none { bindings.old ≡ [] }
+    ensures { OnOk result (bindings.new ≡ bound_by (declarations_of known.now) (told None types.now)) }
+{
+    let program = known.program();
+    for place in 0..program.len() {
+        let id = NodeId::at(place as u32);
+        let b = binding_at(known, contexts, numbers, types, id)?;
+        bindings.add(b)?;
+    }
+    Ok(())
+}
+
+/// What each node stands for, where what is known of the program is at hand. Numbers that fit no more are answered by want of memory:
+/// those of the 257th and later variables of a member, which break a limit, and of 2,147,483,648 classes or methods.
+#[tactic(auto, unfolding(scj_rules::specs::Bindings::bindings_in, crate::specs::Programs::bound_by))]
+pub fn bindings_of(
+    alloc: Global,
+    known: &Known<'_>,
+    contexts: &Contexts,
+    types: &[Option<Ty>],
+) -> Result<Bindings, Memory>
+    requires contexts { contexts.now ≡ contexts_in known.now }
+    requires types { types.now ≡ types_in (declarations_of known.now) }
+    ensures { IfOk result (λ bindings. bindings ≡ bindings_in (declarations_of known.now)) }
+{
+    let numbers = number_variables(alloc, known.program(), contexts)?;
+    let mut bindings = Bindings::new(alloc);
+    bind_all(known, contexts, &numbers, types, &mut bindings)?;
+    Ok(bindings)
+}
+
+/// What each node of a program stands for; for numbers that fit no more as [`bindings_of`].
+pub fn bindings(
+    alloc: Global,
+    classes: &Classes<'_>,
+    contexts: &Contexts,
+    types: &[Option<Ty>],
+) -> Result<Bindings, Memory>
+    requires contexts { contexts.now ≡ contexts_in classes.now }
+    requires types { types.now ≡ types_in (declarations_of classes.now) }
+    ensures { IfOk result (λ bindings. bindings ≡ bindings_in (declarations_of classes.now)) }
+{
+    let returns = returning(alloc, classes.program())?;
+    let known = Known::new(classes.again(), contexts, &returns);
+    bindings_of(alloc, &known, contexts, types)
+}

@@ -1,0 +1,74 @@
+//! The contexts of the nodes of a program.
+
+ghost use Rattle.std.specs.Prelude.{◌≡◌, IfOk, replicate};
+ghost use Rattle.scj_tree.specs.Recursion.{told};
+ghost use Rattle.scj_rules.specs.Contexts.{outermost, contexts_in};
+
+use crate::class_numbers::class_numbers;
+use crate::rows::{list_children, spread};
+use scj_base::{Memory, NodeId};
+use scj_rules::Context;
+use scj_tree::Program;
+use std::alloc::Global;
+use std::marker::Model;
+
+/// The context of each node of a program.
+#[derive(Drop)]
+pub struct Contexts {
+    rows: Vec<Context>,
+}
+
+impl Model for Contexts {
+    ghost use Rattle.std.specs.Prelude.{List};
+    ghost use Rattle.scj_rules.specs.declared.contexts.Context.{Context as Row};
+
+    ghost Value = { List Row };
+
+    ghost view = { λ a. a.rows.items };
+}
+
+/// The context of a node that has no parent.
+const OUTERMOST: Context = Context {
+    class: None,
+    member: None,
+    last: None,
+    in_super_call: false,
+    before_dot: false,
+};
+
+/// Contexts of so many nodes without parents.
+fn outermost(alloc: Global, count: usize) -> Result<Vec<Context>, Memory>
+    ensures { IfOk result (λ rows. rows.items ≡ replicate count outermost) }
+{
+    Ok(vec![in alloc; OUTERMOST; count]?)
+}
+
+impl Contexts {
+    /// The contexts of a program.
+    pub fn of(alloc: Global, program: &Program) -> Result<Contexts, Memory>
+        ensures { IfOk result (λ contexts. contexts ≡ contexts_in program.now) }
+    {
+        let numbers = class_numbers(alloc, program)?;
+        let mut rows = outermost(alloc, program.len())?;
+        let mut ids = Vec::new(alloc);
+        let mut place = program.len();
+        while place > 0 {
+            place -= 1;
+            let parent = NodeId::at(place as u32);
+            let node = program.node(parent);
+            list_children(&mut ids, node)?;
+            spread(program, &ids, numbers[place], parent, node, &mut rows);
+        }
+        Ok(Contexts { rows })
+    }
+
+    /// The context of a node.
+    pub fn get(&self, id: NodeId) -> Context
+        ensures { result ≡ told outermost self.now id }
+    {
+        match self.rows.get(id.place()) {
+            Some(row) => *row,
+            None => OUTERMOST,
+        }
+    }
+}

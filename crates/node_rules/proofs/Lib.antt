@@ -1,0 +1,6 @@
+pub mod CountingLemmas
+pub mod FindingLemmas
+pub mod InheritingLemmas
+pub mod LateLemmas
+pub mod NameLemmas
+pub mod NodeLemmas

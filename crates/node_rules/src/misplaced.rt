@@ -1,0 +1,156 @@
+//! Words that stand where they can't.
+
+ghost use Rattle.std.specs.Prelude.{◌≡◌, ◌++◌, ◌||◌, ◌&&◌, not, is_some, IfOk, OnOk};
+ghost use Rattle.scj_rules.specs.ClassRules.{c11, has_class_words, has_method_words};
+ghost use Rattle.scj_rules.specs.Contexts.{contexts_in, context, declarations_of};
+ghost use Rattle.node_rules.specs.Misplaced.{on_class, on_field, on_method, on_constructor, on_variable};
+
+use crate::class_names::has_name;
+use crate::framework_methods::is_framework_method;
+use class_rows::Classes;
+use node_contexts::Contexts;
+use node_views::modifiers_at;
+use scj_base::{Found, Memory, Name, NodeId, Rule};
+use scj_rules::{Modifiers, note};
+use scj_tree::Node;
+
+/// Whether words stand there that a method alone can have.
+fn has_method_words(m: &Modifiers) -> bool
+    ensures { result ≡ has_method_words m.now }
+{
+    m.runs_in.is_some() || m.is_synchronized
+}
+
+/// Whether a word stands before a class that can't.
+fn on_class(m: &Modifiers) -> bool
+    ensures { result ≡ on_class m.now }
+{
+    has_method_words(m) || m.is_static
+}
+
+/// Whether a word stands before a field that can't.
+fn on_field(m: &Modifiers) -> bool
+    ensures { result ≡ on_field m.now }
+{
+    m.defines_scope || has_method_words(m) || m.is_abstract
+}
+
+/// Whether a word stands before a parameter or a local that can't.
+fn on_variable(m: &Modifiers) -> bool
+    ensures { result ≡ on_variable m.now }
+{
+    m.defines_scope || has_method_words(m) || m.is_static || m.is_abstract
+}
+
+/// Whether a word stands before a method that can't.
+#[tactic(auto, unfolding(scj_rules::specs::Contexts::declarations_of))]
+fn on_method(
+    classes: &Classes<'_>,
+    contexts: &Contexts,
+    id: NodeId,
+    name: &Name,
+    m: &Modifiers,
+) -> Result<bool, Memory>
+    requires { contexts.now ≡ contexts_in classes.now }
+    ensures { IfOk result (λ is_wrong. is_wrong ≡ on_method (declarations_of classes.now) id name.now m.now) }
+{
+    if m.defines_scope || (m.is_static && m.is_abstract) {
+        return Ok(true);
+    }
+    if !m.is_synchronized {
+        return Ok(false);
+    }
+    if m.is_static || m.is_abstract {
+        return Ok(true);
+    }
+    let context = contexts.get(id);
+    is_framework_method(classes, context.class, id, name)
+}
+
+/// Whether a word stands before a constructor that can't, or its name is another than the class's.
+#[tactic(auto, unfolding(scj_rules::specs::Contexts::declarations_of))]
+fn on_constructor(
+    classes: &Classes<'_>,
+    contexts: &Contexts,
+    id: NodeId,
+    name: &Name,
+    m: &Modifiers,
+) -> bool
+    requires { contexts.now ≡ contexts_in classes.now }
+    ensures { result ≡ on_constructor (declarations_of classes.now) id name.now m.now }
+{
+    if m.defines_scope || has_method_words(m) || m.is_static || m.is_abstract {
+        return true;
+    }
+    if m.scope.is_some() {
+        return true;
+    }
+    let context = contexts.get(id);
+    !has_name(classes, context.class, name)
+}
+
+/// Notes an annotation or a modifier that stands where it can't, and a constructor with another name than its class.
+#[tactic(auto, unfolding(scj_rules::specs::ClassRules::c11, scj_rules::specs::Contexts::declarations_of))]
+pub fn note_c11(
+    found: &mut Vec<Found>,
+    classes: &Classes<'_>,
+    contexts: &Contexts,
+    id: NodeId,
+    node: &Node,
+) -> Result<(), Memory>
+    requires { contexts.now ≡ contexts_in classes.now }
+    ensures { OnOk result (found.new.items ≡ found.old.items ++ c11 (declarations_of classes.now) id node.now) }
+{
+    let program = classes.program();
+    match node {
+        Node::Class { place, flags, .. } => {
+            let is_wrong = on_class(&modifiers_at(program, *flags));
+            note(found, is_wrong, Rule::C11, *place)
+        }
+        Node::Field { place, flags, .. } => {
+            let is_wrong = on_field(&modifiers_at(program, *flags));
+            note(found, is_wrong, Rule::C11, *place)
+        }
+        Node::Method {
+            place,
+            name,
+            flags,
+            ..
+        } => {
+            let is_wrong = on_method(classes, contexts, id, name, &modifiers_at(program, *flags))?;
+            note(found, is_wrong, Rule::C11, *place)
+        }
+        Node::Constructor {
+            place,
+            name,
+            flags,
+            ..
+        } => {
+            let is_wrong = on_constructor(
+                classes,
+                contexts,
+                id,
+                name,
+                &modifiers_at(program, *flags),
+            );
+            note(found, is_wrong, Rule::C11, *place)
+        }
+        Node::Parameter { place, flags, .. } => {
+            let is_wrong = on_variable(&modifiers_at(program, *flags));
+            note(found, is_wrong, Rule::C11, *place)
+        }
+        Node::Local { place, flags, .. } => {
+            let is_wrong = on_variable(&modifiers_at(program, *flags));
+            note(found, is_wrong, Rule::C11, *place)
+        }
+        Node::LocalWithValue {
+            name_place,
+            flags,
+            ..
+        } => {
+            let is_wrong = on_variable(&modifiers_at(program, *flags));
+            note(found, is_wrong, Rule::C11, *name_place)
+        }
+        _ => Ok(()),
+    }
+}

@@ -1,0 +1,75 @@
+//! What is broken at the nodes of a program.
+
+ghost use Rattle.std.specs.Prelude.{◌≡◌, ◌++◌, ◌↔◌, ◌<◌, [], Some, None, length, slice_get, OnOk};
+ghost use Rattle.std.specs.List.{Contains};
+ghost use Rattle.scj_base.specs.declared.findings.Found.{Found as Finding};
+ghost use Rattle.scj_tree.specs.Forest.{Forest};
+ghost use Rattle.scj_rules.specs.Contexts.{contexts_in, declarations_of};
+ghost use Rattle.scj_rules.specs.Phases.{over_nodes};
+ghost use Rattle.node_rules.specs.Nodes.{node_found, nodes_found, nodes_broken, found_at};
+
+use crate::late::note_late;
+use crate::limits::note_parameters;
+use crate::misplaced::note_c11;
+use crate::types::note_c9;
+use class_rows::Classes;
+use node_contexts::Contexts;
+use scj_base::{Found, Memory, NodeId};
+use std::alloc::Global;
+
+/// Notes what is broken at a node, but for the limit on variables.
+#[tactic(auto, unfolding(crate::specs::Nodes::node_found, crate::specs::Nodes::found_at))]
+fn note_node(
+    found: &mut Vec<Found>,
+    classes: &Classes<'_>,
+    contexts: &Contexts,
+    id: NodeId,
+) -> Result<(), Memory>
+    requires { contexts.now ≡ contexts_in classes.now }
+    ensures { OnOk result (found.new.items ≡ found.old.items ++ found_at (declarations_of classes.now) (slice_get classes.now.nodes id) id) }
+{
+    let program = classes.program();
+    let Some(node) = program.get(id) else {
+        return Ok(());
+    };
+    note_c9(found, classes, node)?;
+    note_c11(found, classes, contexts, id, node)?;
+    note_parameters(found, program, node)?;
+    Ok(())
+}
+
+/// Notes what is broken at each node, but for the limit on variables.
+fn note_each(
+    found: &mut Vec<Found>,
+    classes: &Classes<'_>,
+    contexts: &Contexts,
+) -> Result<(), Memory>
+    requires { contexts.now ≡ contexts_in classes.now }
+    ensures { OnOk result (found.new.items ≡ found.old.items ++ over_nodes (declarations_of classes.now) (node_found (declarations_of classes.now))) }
+{
+    for place in 0..classes.program().len() {
+        note_node(found, classes, contexts, NodeId::at(place as u32))?;
+    }
+    Ok(())
+}
+
+/// Notes what is broken at the nodes.
+#[tactic(auto, unfolding(crate::specs::Nodes::nodes_found))]
+pub fn note_nodes(
+    alloc: Global,
+    found: &mut Vec<Found>,
+    classes: &Classes<'_>,
+    contexts: &Contexts,
+) -> Result<(), Memory>
+    requires { contexts.now ≡ contexts_in classes.now }
+    ensures { OnOk result (found.new.items ≡ found.old.items ++ nodes_found (declarations_of classes.now)) }
+{
+    note_each(found, classes, contexts)?;
+    note_late(alloc, found, classes.program(), contexts)?;
+    Ok(())
+}
+
+/// What is noted at the nodes is what the rules find there.
+pub fn nodes_are_found()
+    ensures { (forest : Forest) (finding : Finding) → Contains (nodes_found (declarations_of forest)) finding ↔ Contains (nodes_broken (declarations_of forest)) finding }
+{}

@@ -1,0 +1,103 @@
+//! Parameters, locals and fields.
+
+ghost use Rattle.std.specs.Prelude.{◌≡◌, is_some, option_map};
+ghost use Rattle.scj_rules.specs.Definitions.{read};
+ghost use Rattle.scj_rules.specs.Views.{declared, variable_at, variable_of, field_at, field_of};
+ghost use Rattle.scj_rules.specs.declared.views.Declared.{Declared as Declaration};
+
+use crate::words::{modifiers_at, type_at};
+use scj_base::{Name, NodeId, Pos};
+use scj_rules::Declared;
+use scj_tree::{Node, Program};
+
+/// What is declared by these parts of a declaration.
+pub fn declared(
+    program: &Program,
+    node: NodeId,
+    place: Pos,
+    name: Name,
+    flags: Option<NodeId>,
+    declared_type: NodeId,
+) -> Declared
+    ensures { result ≡ declared program.now.nodes node place name flags declared_type }
+{
+    Declared {
+        node,
+        place,
+        name,
+        modifiers: modifiers_at(program, flags),
+        declared_type: type_at(program, declared_type),
+    }
+}
+
+/// The parameter or local that a node declares.
+#[tactic(auto, unfolding(scj_rules::specs::Views::variable_of))]
+pub fn variable_at(program: &Program, id: NodeId) -> Option<Declared>
+    ensures { result ≡ variable_at program.now.nodes id }
+{
+    match program.get(id)? {
+        Node::Parameter {
+            place,
+            name,
+            flags,
+            declared_type,
+        } => Some(declared(program, id, *place, *name, *flags, *declared_type)),
+        Node::Local {
+            place,
+            name,
+            flags,
+            declared_type,
+        } => Some(declared(program, id, *place, *name, *flags, *declared_type)),
+        Node::LocalWithValue {
+            place: _,
+            name_place,
+            name,
+            flags,
+            declared_type,
+            value: _,
+        } => Some(declared(program, id, *name_place, *name, *flags, *declared_type)),
+        _ => None,
+    }
+}
+
+/// Whether a node declares a parameter or a local.
+#[tactic(auto, unfolding(scj_rules::specs::Views::variable_of))]
+pub fn is_variable(program: &Program, id: NodeId) -> bool
+    ensures { result ≡ is_some (variable_at program.now.nodes id) }
+{
+    match program.get(id) {
+        Some(Node::Parameter { .. }) => true,
+        Some(Node::Local { .. }) => true,
+        Some(Node::LocalWithValue { .. }) => true,
+        _ => false,
+    }
+}
+
+/// The field that a node declares.
+#[tactic(auto, unfolding(scj_rules::specs::Views::field_of))]
+pub fn field_at(program: &Program, id: NodeId) -> Option<Declared>
+    ensures { result ≡ field_at program.now.nodes id }
+{
+    match program.get(id)? {
+        Node::Field {
+            place,
+            name,
+            flags,
+            declared_type,
+            equals: _,
+            value: _,
+        } => Some(declared(program, id, *place, *name, *flags, *declared_type)),
+        _ => None,
+    }
+}
+
+/// Whether a node declares a field.
+#[tactic(auto, unfolding(scj_rules::specs::Views::field_of))]
+pub fn is_field(program: &Program, id: NodeId) -> bool
+    ensures { result ≡ is_some (field_at program.now.nodes id) }
+{
+    match program.get(id) {
+        Some(Node::Field { .. }) => true,
+        _ => false,
+    }
+}

@@ -1,0 +1,29 @@
+//! What the nodes of a program declare, read out of its tree.
+#![tactic(auto)]
+
+mod classes;
+mod constructors;
+mod declarations;
+mod methods;
+mod parameters;
+mod parts;
+mod words;
+
+pub use classes::{
+    class_extends, class_members, class_modifiers, class_name, class_place, interface_nodes,
+    named_super,
+};
+pub use constructors::{
+    constructor_body, constructor_modifiers, constructor_name, constructor_parameters,
+    constructor_place, is_constructor, super_call_arguments,
+};
+pub use declarations::{field_at, is_field, is_variable, variable_at};
+pub use methods::{
+    callable_name, is_method, method_body, method_declared, method_name, method_parameters,
+};
+pub use parameters::{parameter, parameter_count, parameter_nodes};
+pub use parts::{
+    field_type, field_written, is_abstract_at, is_abstract_class, is_abstract_method, is_static_at,
+    is_static_field, is_static_method, result_type, variable_type, variable_written,
+};
+pub use words::{modifiers_at, place_at, type_at};

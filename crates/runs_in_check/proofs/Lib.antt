@@ -1,0 +1,5 @@
+pub mod ArgumentLemmas
+pub mod BreakLemmas
+pub mod CallLemmas
+pub mod PhaseLemmas
+pub mod ScopeLemmas

@@ -1,0 +1,9 @@
+use Rattle.runs_in_check.specs.Phase.{broken_annotations, broken_uses}
+use Rattle.scj_check.proofs.phases.late_report.Goals as goal
+
+pub joined_report-requires-clause-annotations : goal.joined_report-requires-clause-annotations
+unfolding broken_annotations
+joined_report-requires-clause-annotations c = λ finding. c.in_ok-annotations.ensures.exact finding
+
+pub joined_report-requires-clause-uses : goal.joined_report-requires-clause-uses
+joined_report-requires-clause-uses c = rw c.deref.ensures.value (λ finding. (rw (c.all.ensures, c.requires.types) at c.in_ok-uses.ensures).same finding)

@@ -1,1 +1,0 @@
-@DefineScope(name="M", parent="IMMORTAL") abstract class M1 extends Mission { }

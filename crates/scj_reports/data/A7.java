@@ -1,0 +1,4 @@
+class Filter {
+  @RunsIn("Relase") void step() { }
+  @RunsIn(IMMORTAL) static void reset() { }
+}

@@ -1,0 +1,3 @@
+class Tank { }
+class Tank { }
+class Trace { }

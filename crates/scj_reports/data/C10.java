@@ -1,0 +1,2 @@
+abstract class Pump extends Services { }
+abstract class Phase extends Mission implements Runnable { }

@@ -1,0 +1,1 @@
+class Pump extends Device2 implements Startable { }

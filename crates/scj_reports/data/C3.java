@@ -1,0 +1,3 @@
+class Valve extends Gate { }
+class Gate extends Valve { }
+class Lock extends Gate { }

@@ -1,0 +1,2 @@
+class Tank { int level; int level; }
+class Cistern extends Tank { int level; }

@@ -1,0 +1,2 @@
+class Flush implements Runnable { }
+abstract class Gauge { abstract int read(); int last(); }

@@ -1,0 +1,5 @@
+class C {
+  void m() {
+    synchronized (this) { }
+  }
+}

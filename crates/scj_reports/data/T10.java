@@ -1,0 +1,4 @@
+class Tank {
+  int level;
+  int get(boolean full) { if (full) return 90; }
+}

@@ -1,0 +1,2 @@
+abstract class Gauge { }
+class Pump { void go() { Object o = new Gauge(); o = new Runnable(); o = new Trace(); } }

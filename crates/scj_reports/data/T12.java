@@ -1,0 +1,3 @@
+class Tank { }
+class Gate { }
+class Pump { void go(Tank t, int n) { Object o = (Gate) t; o = (Tank) n; } }

@@ -1,0 +1,1 @@
+class Pump { void go(int level) { while (level) level = level - 1; } }

@@ -1,0 +1,8 @@
+use Rattle.scope_tree.specs.Rules.{s6_at}
+use Rattle.scope_tree.proofs.rules.note_missing.Goals as goal
+
+pub returns : goal.returns
+unfolding s6_at
+returns c =
+    let test = rw c.requires at c.is_missing-test.ensures in
+    rw test at c.note.ensures

@@ -1,0 +1,136 @@
+//! Where the instances of classes lie.
+
+ghost use Rattle.std.specs.Prelude.{◌≡◌, ◌==◌};
+ghost use Rattle.scj_rules.specs.Words.{holds};
+ghost use Rattle.scj_rules.specs.Contexts.{declarations_of};
+ghost use Rattle.scj_rules.specs.ScopeRules.{scope_number};
+ghost use Rattle.scj_rules.specs.StaticScopes.{is_implied_immortal, has_unknown_scope, differs_from_above, scope_of_right_class, class_scope_under, class_scope_on};
+ghost use Rattle.scope_tree.specs.Trees.{IsNaming};
+
+use crate::classes::{scope_number, scope_written_in};
+use crate::trees::ScopeNames;
+use class_rows::Classes;
+use scj_base::ids::{MISSION, MISSION_SEQUENCER, SAFELET};
+use scj_base::{ClassId, ScopeId};
+use scj_rules::{ClassScope, Written};
+
+/// Whether the instances of a class lie in `IMMORTAL` although it doesn't write so.
+#[tactic(auto, unfolding(scj_rules::specs::StaticScopes::is_implied_immortal))]
+pub fn is_implied_immortal(classes: &Classes, class: ClassId) -> bool
+    ensures { result ≡ is_implied_immortal (declarations_of classes.now) class }
+{
+    class.number() >= 16
+        && (classes.is_under(class, MISSION)
+            || classes.is_under(class, MISSION_SEQUENCER)
+            || classes.implements(class, SAFELET))
+}
+
+/// Whether a value is written that names no scope.
+pub fn has_unknown_scope(classes: &Classes, names: &ScopeNames, written: &Option<Written>) -> bool
+    requires { IsNaming (declarations_of classes.now) names.now }
+    ensures { result ≡ has_unknown_scope (declarations_of classes.now) written.now }
+{
+    match written {
+        Some(written) => scope_number(classes, names, &written.name).is_none(),
+        None => false,
+    }
+}
+
+/// Whether a written name is that of a scope.
+fn is_scope(classes: &Classes, names: &ScopeNames, written: &Written, scope: ScopeId) -> bool
+    requires { IsNaming (declarations_of classes.now) names.now }
+    ensures { result ≡ holds (scope_number (declarations_of classes.now) written.now.name) (λ s. s == scope) }
+{
+    match scope_number(classes, names, &written.name) {
+        Some(named) => named == scope,
+        None => false,
+    }
+}
+
+/// Whether what is written, the superclass's scope and what is implied aren't one scope.
+#[tactic(auto, unfolding(scj_rules::specs::StaticScopes::differs_from_above))]
+pub fn differs_from_above(
+    classes: &Classes,
+    names: &ScopeNames,
+    written: &Option<Written>,
+    above: &ClassScope,
+    implied: bool,
+) -> bool
+    requires { IsNaming (declarations_of classes.now) names.now }
+    ensures { result ≡ differs_from_above (declarations_of classes.now) written.now above.now implied }
+{
+    match (written, above) {
+        (None, ClassScope::Annotated(above)) => implied && *above != ScopeId::IMMORTAL,
+        (None, _) => false,
+        (Some(written), ClassScope::Annotated(above)) => {
+            !is_scope(classes, names, written, *above)
+                || (implied && !is_scope(classes, names, written, ScopeId::IMMORTAL))
+        }
+        (Some(written), _) => implied && !is_scope(classes, names, written, ScopeId::IMMORTAL),
+    }
+}
+
+/// The scope of a class whose annotation is right: as written, else as the superclass's, else as implied.
+#[tactic(auto, unfolding(scj_rules::specs::StaticScopes::scope_of_right_class))]
+fn scope_of_right_class(
+    classes: &Classes,
+    names: &ScopeNames,
+    written: &Option<Written>,
+    above: &ClassScope,
+    implied: bool,
+) -> ClassScope
+    requires { IsNaming (declarations_of classes.now) names.now }
+    ensures { result ≡ scope_of_right_class (declarations_of classes.now) written.now above.now implied }
+{
+    match (written, above) {
+        (Some(written), _) => match scope_number(classes, names, &written.name) {
+            Some(scope) => ClassScope::Annotated(scope),
+            None => ClassScope::Unknown,
+        },
+        (None, ClassScope::Unannotated) => {
+            if implied {
+                ClassScope::Annotated(ScopeId::IMMORTAL)
+            } else {
+                ClassScope::Unannotated
+            }
+        }
+        (None, _) => *above,
+    }
+}
+
+/// The scope of a class, from that of its superclass.
+#[tactic(auto, unfolding(scj_rules::specs::StaticScopes::class_scope_under))]
+fn class_scope_under(
+    classes: &Classes,
+    names: &ScopeNames,
+    above: &ClassScope,
+    class: ClassId,
+) -> ClassScope
+    requires { IsNaming (declarations_of classes.now) names.now }
+    ensures { result ≡ class_scope_under (declarations_of classes.now) above.now class }
+{
+    let written = scope_written_in(classes, class);
+    let implied = is_implied_immortal(classes, class);
+    if has_unknown_scope(classes, names, &written) {
+        return ClassScope::Unknown;
+    }
+    if differs_from_above(classes, names, &written, above, implied) {
+        return ClassScope::Unknown;
+    }
+    scope_of_right_class(classes, names, &written, above, implied)
+}
+
+/// The scope of the first class of a chain.
+#[tactic(auto, using(crate::proofs::ClassScopeLemmas::scope_at_end, crate::proofs::ClassScopeLemmas::scope_before))]
+pub fn class_scope_on(classes: &Classes, names: &ScopeNames, chain: &[ClassId]) -> ClassScope
+    requires { IsNaming (declarations_of classes.now) names.now }
+    ensures { result ≡ class_scope_on (declarations_of classes.now) chain.now }
+{
+    let mut scope = ClassScope::Unannotated;
+    let mut left = chain.len();
+    while left > 0 {
+        left -= 1;
+        scope = class_scope_under(classes, names, &scope, chain[left]);
+    }
+    scope
+}

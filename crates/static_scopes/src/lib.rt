@@ -1,0 +1,16 @@
+//! Static scopes: where the objects lie that classes, methods, variables and fields speak of.
+#![tactic(auto)]
+
+mod framework;
+mod methods;
+mod names;
+pub mod runs;
+pub mod scoped;
+mod things;
+mod words;
+
+pub use methods::{has_other_runs_in, has_unknown_runs_in};
+pub use runs::Runs;
+pub use scoped::Scoped;
+pub use things::{contradicts, field_thing, is_unknown_scope, misfits_field};
+pub use words::{are_same_scope, fits, substitute};

@@ -1,0 +1,254 @@
+//! The static scopes of a program.
+
+ghost use Rattle.std.specs.Prelude.{◌≡◌, ℕ, Some, is_some, true, option_map, option_and_then};
+ghost use Rattle.std.specs.Bool.{OnTrue};
+ghost use Rattle.scj_rules.specs.Views.{method_at, variable_at};
+ghost use Rattle.scj_rules.specs.declared.views.Declared.{Declared as Declaration};
+ghost use Rattle.static_scopes.specs.Found.{method_in, at_node};
+ghost use Rattle.method_rows.specs.Methods.{found_method};
+ghost use Rattle.scj_rules.specs.Contexts.{declarations_of, context, contexts_in, is_static_member};
+ghost use Rattle.scj_rules.specs.StaticScopes.{this_in, runs_in, current_in, thing_scope, variable_thing, result_thing, parameter_scope, constructor_parameter_scope, field_scope};
+ghost use Rattle.scj_rules.specs.AnnotationRules.{variable_thing_at, result_scope};
+ghost use Rattle.scj_rules.specs.UseRules.{this_at, current_at};
+
+use crate::runs::{Runs, run_in_table};
+use crate::{methods, names, things};
+use method_rows::{MethodRef, MethodSource};
+use node_contexts::{Contexts, is_static_member};
+use node_views::{is_method, variable_at};
+use scj_base::{ClassId, NodeId};
+use scj_rules::{Context, Declared, FoundField, Scope, Thing};
+use scj_tree::Program;
+use scope_tree::Scopes;
+use std::marker::Model;
+
+/// The static scopes of a program, told of its classes, methods, variables and fields. A contract sees the program.
+#[derive(Drop)]
+pub struct Scoped<'a> {
+    scopes: Scopes<'a>,
+    contexts: &'a Contexts,
+    runs: &'a Runs,
+}
+
+impl<'a> Model for Scoped<'a> {
+    ghost use Rattle.scj_tree.specs.Forest.{Forest};
+
+    ghost Value = { Forest };
+
+    ghost use Rattle.static_scopes.specs.Runs.{IsScoped};
+
+    ghost view = { λ a. a.scopes };
+
+    ghost invariant = { λ a. IsScoped a.scopes a.contexts.now a.runs.now };
+}
+
+impl<'a> Scoped<'a> {
+    ghost use Rattle.static_scopes.specs.Runs.{AreRuns};
+
+    /// The static scopes of a program, from its scopes, its contexts, and the table of the scopes in which its methods
+    /// run.
+    pub fn new(scopes: Scopes<'a>, contexts: &'a Contexts, runs: &'a Runs) -> Scoped<'a>
+        requires contexts { contexts.now ≡ contexts_in scopes }
+        requires runs { AreRuns scopes runs.now }
+        ensures { result ≡ scopes.entry }
+    {
+        Scoped {
+            scopes,
+            contexts,
+            runs,
+        }
+    }
+
+    /// The scopes.
+    pub fn scopes(&self) -> &Scopes<'a>
+        ensures { result.now ≡ self.now }
+    {
+        &self.scopes
+    }
+
+    /// The program.
+    pub fn program(&self) -> &'a Program
+        ensures { result.now ≡ self.now }
+    {
+        self.scopes.classes().program()
+    }
+
+    /// Where a node stands.
+    #[tactic(auto, unfolding(scj_rules::specs::Contexts::declarations_of))]
+    pub fn context(&self, id: NodeId) -> Context
+        ensures { result ≡ context (declarations_of self.now) id }
+    {
+        let contexts = self.contexts;
+        contexts.get(id)
+    }
+
+    /// THIS in a class.
+    pub fn this_in(&self, class: ClassId) -> Option<Scope>
+        ensures { result ≡ this_in (declarations_of self.now) class }
+    {
+        names::this_in(&self.scopes, class)
+    }
+
+    /// Whether a method stands at a node of a class.
+    fn declares(&self, class: ClassId, node: NodeId) -> bool
+        ensures class { OnTrue result (Some class ≡ (context (declarations_of self.now) node).class) }
+        ensures method { OnTrue result (true ≡ is_some (method_at self.now.nodes node)) }
+    {
+        match self.context(node).class {
+            Some(other) => other == class && is_method(self.program(), node),
+            None => false,
+        }
+    }
+
+    /// What the table has of a method that stands at a node.
+    #[tactic(auto, using(crate::proofs::RunLemmas::told_run))]
+    fn told(&self, node: NodeId) -> Option<Scope>
+        ensures { (class : ℕ) → Some class ≡ (context (declarations_of self.now) node).class → true ≡ is_some (method_at self.now.nodes node) → result ≡ runs_in (declarations_of self.now) class (method_in self.now (at_node class node)) }
+    {
+        let runs = self.runs;
+        run_in_table(&runs.rows, node)
+    }
+
+    /// Where the method at a node runs, in a class.
+    fn run_at(&self, class: ClassId, node: NodeId) -> Option<Scope>
+        ensures { result ≡ runs_in (declarations_of self.now) class (method_in self.now (at_node class node)) }
+    {
+        if self.declares(class, node) {
+            return self.told(node);
+        }
+        let method = MethodRef {
+            on: class,
+            source: MethodSource::Declared(node),
+        };
+        methods::runs_in(&self.scopes, class, &method)
+    }
+
+    /// The scope in which a method runs.
+    #[tactic(auto, unfolding(method_rows::specs::Methods::found_method, method_rows::specs::Methods::method_from))]
+    pub fn runs_in(&self, method: &MethodRef) -> Option<Scope>
+        ensures { result ≡ runs_in (declarations_of self.now) (found_method self.now.nodes method.now).on (found_method self.now.nodes method.now).method }
+    {
+        match &method.source {
+            MethodSource::Framework(_) => methods::runs_in(&self.scopes, method.on, method),
+            MethodSource::Declared(node) => self.run_at(method.on, *node),
+        }
+    }
+
+    /// The scope that is current in a member of a class.
+    #[tactic(auto, using(crate::proofs::RunLemmas::current_in_method, crate::proofs::RunLemmas::current_in_constructor))]
+    pub fn current_in(&self, class: ClassId, member: NodeId) -> Option<Scope>
+        ensures { result ≡ current_in (declarations_of self.now) class member }
+    {
+        if is_method(self.program(), member) {
+            self.run_at(class, member)
+        } else {
+            self.this_in(class)
+        }
+    }
+
+    /// THIS where a node stands.
+    pub fn this_at(&self, id: NodeId) -> Option<Scope>
+        ensures { result ≡ this_at (declarations_of self.now) id }
+    {
+        let context = self.context(id);
+        self.this_in(context.class?)
+    }
+
+    /// The scope that is current where a node stands.
+    #[tactic(auto, unfolding(scj_rules::specs::UseRules::current_at))]
+    pub fn current_at(&self, id: NodeId) -> Option<Scope>
+        ensures { result ≡ current_at (declarations_of self.now) id }
+    {
+        let context = self.context(id);
+        self.current_in(context.class?, context.member?)
+    }
+
+    /// A method's result as a thing.
+    #[tactic(auto, unfolding(method_rows::specs::Methods::found_method))]
+    pub fn result_thing(&self, method: &MethodRef) -> Thing
+        ensures { result ≡ result_thing (declarations_of self.now) (found_method self.now.nodes method.now).on (found_method self.now.nodes method.now).method }
+    {
+        let declared = methods::declared_of(&self.scopes, method);
+        let modifiers = declared.modifiers;
+        let current = self.runs_in(method);
+        things::variable_thing(method.on, &current, modifiers.is_static, &declared)
+    }
+
+    /// The scope of a method's result.
+    pub fn result_scope(&self, method: &MethodRef) -> Option<Scope>
+        ensures { result ≡ result_scope (declarations_of self.now) (found_method self.now.nodes method.now).on (found_method self.now.nodes method.now).method }
+    {
+        let thing = self.result_thing(method);
+        things::thing_scope(&self.scopes, &thing)
+    }
+
+    /// The scope of a method's parameter.
+    #[tactic(auto, unfolding(method_rows::specs::Methods::found_method))]
+    pub fn parameter_scope(&self, method: &MethodRef, parameter: &Declared) -> Option<Scope>
+        ensures { result ≡ parameter_scope (declarations_of self.now) (found_method self.now.nodes method.now).on (found_method self.now.nodes method.now).method parameter.now }
+    {
+        let declared = methods::declared_of(&self.scopes, method);
+        let modifiers = declared.modifiers;
+        let current = self.runs_in(method);
+        let thing = things::variable_thing(method.on, &current, modifiers.is_static, parameter);
+        things::thing_scope(&self.scopes, &thing)
+    }
+
+    /// The scope of a parameter of a class's constructor.
+    pub fn constructor_parameter_scope(&self, class: ClassId, parameter: &Declared) -> Option<Scope>
+        ensures { result ≡ constructor_parameter_scope (declarations_of self.now) class parameter.now }
+    {
+        let current = self.this_in(class);
+        let thing = things::variable_thing(class, &current, false, parameter);
+        things::thing_scope(&self.scopes, &thing)
+    }
+
+    /// The scope of a field.
+    pub fn field_scope(&self, field: &FoundField) -> Option<Scope>
+        ensures { result ≡ field_scope (declarations_of self.now) field.now.on field.now.field }
+    {
+        things::field_scope(&self.scopes, field.on, &field.field)
+    }
+
+    /// The scope of a thing.
+    pub fn thing_scope(&self, thing: &Thing) -> Option<Scope>
+        ensures { result ≡ thing_scope (declarations_of self.now) thing.now }
+    {
+        things::thing_scope(&self.scopes, thing)
+    }
+
+    /// The parameter or local that a node declares, as a thing in a member of a class.
+    fn variable_in(&self, class: ClassId, member: NodeId, id: NodeId) -> Option<Thing>
+        ensures { result ≡ option_map (λ (d : Declaration). variable_thing class (current_in (declarations_of self.now) class member) (is_static_member self.now.nodes member) d) (variable_at self.now.nodes id) }
+    {
+        let program = self.program();
+        let current = self.current_in(class, member);
+        let is_static = is_static_member(program, member);
+        match &variable_at(program, id) {
+            Some(declared) => Some(things::variable_thing(class, &current, is_static, declared)),
+            None => None,
+        }
+    }
+
+    /// The parameter or local that a node declares, as a thing.
+    #[tactic(auto, unfolding(scj_rules::specs::AnnotationRules::variable_thing_at, scj_rules::specs::Contexts::declarations_of))]
+    pub fn variable_thing_at(&self, id: NodeId) -> Option<Thing>
+        ensures { result ≡ variable_thing_at (declarations_of self.now) id }
+    {
+        let context = self.context(id);
+        match (context.class, context.member) {
+            (Some(class), Some(member)) => self.variable_in(class, member, id),
+            _ => None,
+        }
+    }
+
+    /// The scope of the parameter or local that a node declares.
+    pub fn variable_scope(&self, id: NodeId) -> Option<Scope>
+        ensures { result ≡ option_and_then (thing_scope (declarations_of self.now)) (variable_thing_at (declarations_of self.now) id) }
+    {
+        match &self.variable_thing_at(id) {
+            Some(thing) => self.thing_scope(thing),
+            None => None,
+        }
+    }
+}

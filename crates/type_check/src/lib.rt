@@ -1,0 +1,9 @@
+//! The pass that finds the types of the nodes of a program, and what breaks the rules on types.
+#![tactic(auto)]
+
+mod breaks;
+mod passes;
+mod types;
+mod values;
+
+pub use types::{Types, check_types};

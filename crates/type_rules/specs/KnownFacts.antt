@@ -1,0 +1,11 @@
+-- What is told of a program before its types are.
+use Rattle.std.specs.Prelude.{◌≡◌, Bool, List}
+use Rattle.scj_tree.specs.Forest.{Forest}
+use Rattle.scj_rules.specs.declared.contexts.Context.{Context}
+use Rattle.scj_rules.specs.Contexts.{contexts_in}
+use Rattle.type_words.specs.Returns.{all_returns}
+
+-- the contexts and the nodes that always return are those of the program
+pub record IsKnownOf (forest : Forest) (contexts : List Context) (returns : List Bool) : Type 0 where
+  pub contexts_are : contexts ≡ contexts_in forest
+  pub returns_are : returns ≡ all_returns forest.nodes

@@ -1,0 +1,113 @@
+//! Arguments and the parameters that take them.
+
+ghost use Rattle.std.specs.Prelude.{◌≡◌, None, length, is_some, slice_get};
+ghost use Rattle.scj_tree.specs.Recursion.{told};
+ghost use Rattle.scj_rules.specs.Words.{holds};
+ghost use Rattle.scj_rules.specs.Classes.{is_empty};
+ghost use Rattle.scj_rules.specs.Contexts.{declarations_of};
+ghost use Rattle.scj_rules.specs.Types.{all_types, constructor_parameters};
+ghost use Rattle.scj_rules.specs.TypeRules.{misfit};
+ghost use Rattle.type_rules.specs.Parameters.{taken, takes_type};
+
+use crate::known::Known;
+use crate::names::{assigns, told, type_written};
+use method_rows::MethodRef;
+use scj_base::{ClassId, NodeId};
+use scj_rules::{Declared, Ty};
+
+/// Parameters.
+#[derive(Clone, Copy)]
+pub enum Takes {
+    /// Those of a method.
+    Method(MethodRef),
+    /// Those of a list, if there is one.
+    Listed(Option<NodeId>),
+}
+
+/// Whether each of these nodes has a type.
+pub fn are_typed(types: &[Option<Ty>], ids: &[NodeId]) -> bool
+    ensures { result ≡ is_some (all_types (told None types.now) ids.now) }
+{
+    for id in ids {
+        if told(types, *id).is_none() {
+            return false;
+        }
+    }
+    true
+}
+
+/// How many parameters there are.
+#[tactic(auto, unfolding(crate::specs::Parameters::taken))]
+fn count(known: &Known<'_>, takes: &Takes) -> usize
+    ensures { result ≡ length (taken known.now.nodes takes.now) }
+{
+    match takes {
+        Takes::Method(method) => method_rows::parameter_count(known.program(), method),
+        Takes::Listed(parameters) => node_views::parameter_count(known.program(), *parameters),
+    }
+}
+
+/// The parameter of a number.
+#[tactic(auto, unfolding(crate::specs::Parameters::taken))]
+fn parameter(known: &Known<'_>, takes: &Takes, i: usize) -> Option<Declared>
+    ensures { result ≡ slice_get (taken known.now.nodes takes.now) i }
+{
+    match takes {
+        Takes::Method(method) => method_rows::parameter(known.program(), method, i),
+        Takes::Listed(parameters) => node_views::parameter(known.program(), *parameters, i),
+    }
+}
+
+/// Whether the parameter of a number takes a value of the type.
+fn fits(known: &Known<'_>, takes: &Takes, i: usize, t: &Ty) -> bool
+    ensures { result ≡ holds (slice_get (taken known.now.nodes takes.now) i) (takes_type (declarations_of known.now) t.now) }
+{
+    let Some(declared) = parameter(known, takes, i) else {
+        return false;
+    };
+    match type_written(known, &declared.declared_type) {
+        Some(written) => assigns(known, t, &written),
+        None => false,
+    }
+}
+
+/// Whether the arguments have types, and their number or types don't fit (JLS 15.9.3, 15.12.2, 8.8.7).
+pub fn misfit(known: &Known<'_>, types: &[Option<Ty>], takes: &Takes, ids: &[NodeId]) -> bool
+    ensures { result ≡ misfit (declarations_of known.now) (told None types.now) (taken known.now.nodes takes.now) ids.now }
+{
+    if !are_typed(types, ids) {
+        return false;
+    }
+    if count(known, takes) != ids.len() {
+        return true;
+    }
+    for i in 0..ids.len() {
+        let id = ids[i];
+        let Some(t) = told(types, id) else {
+            return true;
+        };
+        if !fits(known, takes, i, &t) {
+            return true;
+        }
+    }
+    false
+}
+
+/// The parameters of a class's constructor: none where none is written (JLS 8.8.9).
+#[tactic(auto, unfolding(crate::specs::Parameters::taken))]
+pub fn constructor_parameters(known: &Known<'_>, class: ClassId) -> Takes
+    ensures { taken known.now.nodes result ≡ constructor_parameters (declarations_of known.now).classes class }
+{
+    match known.constructor_in(class) {
+        Some(node) => Takes::Listed(node_views::constructor_parameters(known.program(), node)),
+        None => Takes::Listed(None),
+    }
+}
+
+/// Whether there are none.
+#[tactic(auto, unfolding(scj_rules::specs::Classes::is_empty))]
+pub fn takes_none(known: &Known<'_>, takes: &Takes) -> bool
+    ensures { result ≡ is_empty (taken known.now.nodes takes.now) }
+{
+    count(known, takes) == 0
+}

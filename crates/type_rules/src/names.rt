@@ -1,0 +1,250 @@
+//! What names, accesses and calls mean, and which types fit.
+
+ghost use Rattle.std.specs.Prelude.{◌≡◌, ◌&&◌, ◌||◌, [], ◌∷◌, None, option_and_then, option_map};
+ghost use Rattle.scj_base.specs.Vocabulary.{sign_equal, sign_not_equal, sign_less, sign_greater, sign_less_equal, sign_greater_equal, sign_and_and, sign_or_or};
+ghost use Rattle.scj_tree.specs.Recursion.{told};
+ghost use Rattle.scj_rules.specs.Definitions.{read};
+ghost use Rattle.scj_rules.specs.Words.{is_among};
+ghost use Rattle.scj_rules.specs.Classes.{field_named};
+ghost use Rattle.scj_rules.specs.Contexts.{declarations_of, context};
+ghost use Rattle.scj_rules.specs.Types.{type_written, assigns, binary_type, is_int, is_boolean, is_reference, meaning, class_meaning, class_at_name, receiver, call_receiver, accessed_field, called_method, is_size_method, is_callable};
+ghost use Rattle.scj_rules.specs.TypeRules.{written_type};
+ghost use Rattle.method_rows.specs.Methods.{found_method};
+
+use crate::known::Known;
+use method_rows::{MethodRef, declared, is_callable_row};
+use node_views::type_at;
+use scj_base::vocabulary::{
+    AND_AND, EQUAL, GREATER, GREATER_EQUAL, LESS, LESS_EQUAL, NOT_EQUAL, OR_OR,
+};
+use scj_base::{ClassId, Name, NodeId};
+use scj_rules::{FoundField, Meaning, Receiver, Ty, WrittenType};
+use scj_tree::Node;
+use type_words::{are_same, class_in, class_of_receiver, is_long, is_reference};
+
+/// The type of a node, among those that are told.
+pub fn told(types: &[Option<Ty>], id: NodeId) -> Option<Ty>
+    ensures { result ≡ told None types.now id }
+{
+    match types.get(id.place()) {
+        Some(t) => *t,
+        None => None,
+    }
+}
+
+/// The type that is written; `long` is none of the types of an expression.
+#[tactic(auto, unfolding(scj_rules::specs::Types::type_written))]
+pub fn type_written(known: &Known<'_>, t: &WrittenType) -> Option<Ty>
+    ensures { result ≡ type_written (declarations_of known.now).names t.now }
+{
+    match t {
+        WrittenType::Int => Some(Ty::Int),
+        WrittenType::Boolean => Some(Ty::Bool),
+        WrittenType::Void => Some(Ty::Void),
+        WrittenType::Long => None,
+        WrittenType::Text => Some(Ty::Label),
+        WrittenType::IntArray => Some(Ty::IntArray),
+        WrittenType::BooleanArray => Some(Ty::BoolArray),
+        WrittenType::Class(name) => {
+            let class = known.class_of(name)?;
+            Some(Ty::Class(class))
+        }
+        WrittenType::ClassArray(name) => {
+            let class = known.class_of(name)?;
+            Some(Ty::ClassArray(class))
+        }
+    }
+}
+
+/// The type that a node writes.
+#[tactic(auto, unfolding(scj_rules::specs::Contexts::declarations_of))]
+pub fn written_type(known: &Known<'_>, node: NodeId) -> Option<Ty>
+    ensures { result ≡ written_type (declarations_of known.now) node }
+{
+    let written = type_at(known.program(), node);
+    type_written(known, &written)
+}
+
+/// Whether a value of the first type may be assigned to a variable of the second (JLS 5.2).
+#[tactic(auto, unfolding(scj_rules::specs::Types::assigns, scj_rules::specs::Types::are_same))]
+pub fn assigns(known: &Known<'_>, s: &Ty, t: &Ty) -> bool
+    ensures { result ≡ assigns (declarations_of known.now).classes s.now t.now }
+{
+    match s {
+        Ty::NullTy => is_reference(t),
+        Ty::Class(a) => match t {
+            Ty::Class(b) => known.classes.is_sub(*a, *b),
+            _ => false,
+        },
+        Ty::Int
+        | Ty::Bool
+        | Ty::Void
+        | Ty::Label
+        | Ty::IntArray
+        | Ty::BoolArray
+        | Ty::ClassArray(_) => are_same(s, t),
+    }
+}
+
+/// Whether both types are `int`.
+fn are_ints(a: &Ty, b: &Ty) -> bool
+    ensures { result ≡ (is_int a.now && is_int b.now) }
+{
+    are_same(a, &Ty::Int) && are_same(b, &Ty::Int)
+}
+
+/// Whether both types are `boolean`.
+fn are_booleans(a: &Ty, b: &Ty) -> bool
+    ensures { result ≡ (is_boolean a.now && is_boolean b.now) }
+{
+    are_same(a, &Ty::Bool) && are_same(b, &Ty::Bool)
+}
+
+/// Whether both types are references of which one may be assigned to the other.
+fn are_related(known: &Known<'_>, a: &Ty, b: &Ty) -> bool
+    ensures { let rows = (declarations_of known.now).classes in result ≡ (is_reference a.now && (is_reference b.now && (assigns rows a.now b.now || assigns rows b.now a.now))) }
+{
+    is_reference(a) && is_reference(b) && (assigns(known, a, b) || assigns(known, b, a))
+}
+
+/// Whether the operator is `&&` or `||`.
+fn is_logical(operator: u8) -> bool
+    ensures { result ≡ is_among operator (sign_and_and ∷ sign_or_or ∷ []) }
+{
+    operator == AND_AND || operator == OR_OR
+}
+
+/// Whether the operator is `<`, `>`, `<=` or `>=`.
+fn is_order(operator: u8) -> bool
+    ensures { result ≡ is_among operator (sign_less ∷ sign_greater ∷ sign_less_equal ∷ sign_greater_equal ∷ []) }
+{
+    operator == LESS || operator == GREATER || operator == LESS_EQUAL || operator == GREATER_EQUAL
+}
+
+/// Whether the operator is `==` or `!=`.
+fn is_equality(operator: u8) -> bool
+    ensures { result ≡ is_among operator (sign_equal ∷ sign_not_equal ∷ []) }
+{
+    operator == EQUAL || operator == NOT_EQUAL
+}
+
+/// The type of a binary operator's value, if the operands' types fit (JLS 15.17 to 15.24).
+#[tactic(auto, unfolding(scj_rules::specs::Types::binary_type))]
+pub fn binary_type(known: &Known<'_>, operator: u8, a: &Ty, b: &Ty) -> Option<Ty>
+    ensures { result ≡ binary_type (declarations_of known.now).classes operator a.now b.now }
+{
+    if is_logical(operator) {
+        return if are_booleans(a, b) {
+            Some(Ty::Bool)
+        } else {
+            None
+        };
+    }
+    if is_order(operator) {
+        return if are_ints(a, b) { Some(Ty::Bool) } else { None };
+    }
+    if is_equality(operator) {
+        return if are_ints(a, b) || are_booleans(a, b) || are_related(known, a, b) {
+            Some(Ty::Bool)
+        } else {
+            None
+        };
+    }
+    if are_ints(a, b) { Some(Ty::Int) } else { None }
+}
+
+/// The field of a name that the class has in which a node stands.
+fn field_here(known: &Known<'_>, id: NodeId, name: &Name) -> Option<FoundField>
+    ensures { result ≡ option_and_then (λ class. field_named (declarations_of known.now).classes class name.now) (context (declarations_of known.now) id).class }
+{
+    let class = known.context(id).class?;
+    known.classes.field_named(class, name)
+}
+
+/// What a name stands for that is no variable and no field.
+#[tactic(auto, unfolding(scj_rules::specs::Types::class_meaning))]
+fn class_meaning(known: &Known<'_>, id: NodeId, name: &Name) -> Meaning
+    ensures { result ≡ class_meaning (declarations_of known.now) id name.now }
+{
+    if !known.context(id).before_dot {
+        return Meaning::Nothing;
+    }
+    match known.class_of(name) {
+        Some(class) => Meaning::Class(class),
+        None => Meaning::Nothing,
+    }
+}
+
+/// What a name stands for at a node (JLS 6.5).
+#[tactic(auto, unfolding(scj_rules::specs::Types::meaning))]
+pub fn meaning(known: &Known<'_>, id: NodeId, name: &Name) -> Meaning
+    ensures { result ≡ meaning (declarations_of known.now) id name.now }
+{
+    if let Some(variable) = known.variable_named(id, name) {
+        return Meaning::Variable(variable);
+    }
+    match field_here(known, id, name) {
+        Some(field) => Meaning::Field(field),
+        None => class_meaning(known, id, name),
+    }
+}
+
+/// The class that a node names, where it is a simple name that stands for a class.
+#[tactic(auto, unfolding(scj_rules::specs::Types::class_at_name, scj_rules::specs::Contexts::declarations_of))]
+fn class_at_name(known: &Known<'_>, object: NodeId) -> Option<ClassId>
+    ensures { result ≡ read (declarations_of known.now).nodes (class_at_name (declarations_of known.now) object) object }
+{
+    match known.program().get(object)? {
+        Node::SimpleName { name, .. } => class_in(&meaning(known, object, name)),
+        _ => None,
+    }
+}
+
+/// What stands before a dot.
+#[tactic(auto, unfolding(scj_rules::specs::Types::receiver))]
+pub fn receiver(known: &Known<'_>, types: &[Option<Ty>], object: NodeId) -> Option<Receiver>
+    ensures { result ≡ receiver (declarations_of known.now) (told None types.now) object }
+{
+    if let Some(class) = class_at_name(known, object) {
+        return Some(Receiver::Class(class));
+    }
+    match told(types, object) {
+        Some(t) => Some(Receiver::Value(t)),
+        None => None,
+    }
+}
+
+/// What a call is asked of: where no object is written, the object or the class in which it stands.
+#[tactic(auto, unfolding(scj_rules::specs::Types::call_receiver))]
+pub fn call_receiver(
+    known: &Known<'_>,
+    types: &[Option<Ty>],
+    id: NodeId,
+    object: &Option<NodeId>,
+) -> Option<Receiver>
+    ensures { result ≡ call_receiver (declarations_of known.now) (told None types.now) id object.now }
+{
+    match object {
+        Some(object) => receiver(known, types, *object),
+        None => {
+            let class = known.context(id).class?;
+            Some(Receiver::Own(class))
+        }
+    }
+}
+
+/// The field of a name that a receiver has.
+pub fn accessed_field(known: &Known<'_>, receiver: &Receiver, name: &Name) -> Option<FoundField>
+    ensures { result ≡ accessed_field (declarations_of known.now) receiver.now name.now }
+{
+    let class = class_of_receiver(receiver)?;
+    known.classes.field_named(class, name)
+}
+
+/// The method of a name that a receiver has.
+pub fn called_method(known: &Known<'_>, receiver: &Receiver, name: &Name) -> Option<MethodRef>
+    ensures { option_map (found_method known.now.nodes) result ≡ called_method (declarations_of known.now) receiver.now name.now }
+{
+    let class = class_of_receiver(receiver)?;
+    known.classes.method_named(class, name)
+}

@@ -1,0 +1,8 @@
+use Rattle.std.proofs.Common.{◌≡◌, false}
+use Rattle.scj_tree.specs.Recursion.{rising}
+use Rattle.type_words.specs.Returns.{returns_next}
+use Rattle.type_words.proofs.returns.returning.Given as goal
+
+-- the nodes so far are told
+abbrev pub invariant-loop-place : goal.invariant-loop-place
+invariant-loop-place l = l.returns.items ≡ rising false (returns_next l.program.nodes) l.place
