@@ -1,8 +1,9 @@
 ghost use Rattle.std.specs.Prelude.{◌≡◌, ◌<◌, ◌≤◌, ◌++◌, ◌^◌, OnOk, length};
 ghost use Rattle.scope_tree.specs.Samples.{header};
 
-use crate::check_definitions;
-use scj_base::{Found, Memory, Name, NodeId, Pos, Rule};
+use crate::{build, check_definitions};
+use class_rows::ClassTable;
+use scj_base::{ClassId, Found, Memory, Name, NodeId, Pos, Rule, ScopeId};
 use scj_tree::{Node, NodeList, Program};
 use std::alloc::Global;
 use std::test::Fail;
@@ -61,16 +62,21 @@ fn add_header(
     Ok(())
 }
 
-#[test]
-fn each_rule_is_broken(rt: HostRuntime) -> Result<(), Fail> {
-    let alloc = rt.alloc();
+/// Three abstract classes that extend nothing, each with a scope.
+fn three_headers(alloc: Global) -> Result<Program, Memory> {
     let mut nodes = Vec::new(alloc);
     add_header(alloc, &mut nodes, 0, 1, b"X", b"X")?;
     add_header(alloc, &mut nodes, 5, 2, b"X", b"Z")?;
     add_header(alloc, &mut nodes, 10, 3, b"THIS", b"IMMORTAL")?;
     let classes = vec![in alloc; NodeId::at(4), NodeId::at(9), NodeId::at(14)]?;
     let files = vec![in alloc; classes]?;
-    let program = Program::from_parts(alloc, nodes, files);
+    Ok(Program::from_parts(alloc, nodes, files))
+}
+
+#[test]
+fn each_rule_is_broken(rt: HostRuntime) -> Result<(), Fail> {
+    let alloc = rt.alloc();
+    let program = three_headers(alloc)?;
     let found = check_definitions(alloc, &program)?;
     let expected = [
         (at(1, 31), Rule::S3),
@@ -82,5 +88,33 @@ fn each_rule_is_broken(rt: HostRuntime) -> Result<(), Fail> {
     for (finding, (pos, rule)) in found.iter().zip(expected) {
         assert!(rt; *finding == Found { pos, rule });
     }
+    Ok(())
+}
+
+#[test]
+fn classes_that_may_define_no_scope_are_found(rt: HostRuntime) -> Result<(), Fail> {
+    let alloc = rt.alloc();
+    let program = three_headers(alloc)?;
+    let table = ClassTable::of(alloc, &program)?;
+    let (tree, found) = build(alloc, &program, &table)?;
+    let expected = [
+        (at(1, 19), Rule::S4),
+        (at(1, 31), Rule::S3),
+        (at(2, 19), Rule::S1),
+        (at(2, 19), Rule::S4),
+        (at(2, 31), Rule::S2),
+        (at(3, 19), Rule::S1),
+        (at(3, 19), Rule::S4),
+    ];
+    assert_eq!(rt; found.len(), expected.len());
+    for (finding, (pos, rule)) in found.iter().zip(expected) {
+        assert!(rt; *finding == Found { pos, rule });
+    }
+    let first = ScopeId::at(16);
+    assert!(rt; tree.defined_by(ClassId::at(16)) == Some(first));
+    assert!(rt; tree.defined_by(ClassId::at(18)) == None);
+    assert!(rt; tree.class_scope(ClassId::at(16)) == None);
+    assert!(rt; tree.outer(ScopeId::IMMORTAL, first));
+    assert!(rt; !tree.outer(ScopeId::at(17), first));
     Ok(())
 }

@@ -1,5 +1,5 @@
 use Rattle.scope_tree.proofs.SampleLemmas.{three_are_a_forest}
-use Rattle.scope_tree.proofs.tests.each_rule_is_broken.Goals as goal
+use Rattle.scope_tree.proofs.tests.three_headers.Goals as goal
 
 pub from_parts-program-requires : goal.from_parts-program-requires
 from_parts-program-requires g c =
