@@ -40,11 +40,7 @@ pub fn judge(alloc: Global, program: &Program) -> Result<Judgement, Memory>
     Ok(judge_types(alloc, program, &table)?)
 }
 
-fn judge_types(
-    alloc: Global,
-    program: &Program,
-    table: &ClassTable,
-) -> Result<Judgement, Memory>
+fn judge_types(alloc: Global, program: &Program, table: &ClassTable) -> Result<Judgement, Memory>
     requires built { IsTableOf program.now table.now }
     requires classes { NothingBreaks (BreaksClassRules program.now) }
     ensures { IfOk result (λ judgement. IsJudgement program.now judgement) }
