@@ -266,14 +266,9 @@ def place(text):
 
 
 def ask_rows(cases):
-    for name, source, found in ROWS:
-        assert recogniser.answer(source) == place(found), (name, recogniser.answer(source), found)
-        cases.asks(name, source)
-    for name, source, found in HEIGHTS:
-        if found is None or found.startswith("P2"):
-            assert recogniser.answer(source) is None, name
-        else:
-            assert recogniser.answer(source) == place(found), (name, recogniser.answer(source))
+    for name, source, found in ROWS + HEIGHTS:
+        read = None if found and found.startswith("P2") else place(found)
+        assert recogniser.answer(source) == read, (name, recogniser.answer(source), found)
         cases.asks(name, source, place(found))
 
 
