@@ -2,16 +2,7 @@
 # How fast whole programs are checked, by all phases: none of them has a break. Against a Java compiler on the same
 # sources where one is there. Makes its files from numbers in a folder of its own, which it removes.
 set -u
-top=$(cd "$(dirname "$0")/.." && pwd)
-"$top/scj" >/dev/null 2>&1
-[ $? -eq 2 ] || { echo "bench: the program can't be built" >&2; exit 1; }
-program=$top/crates/scj_main/out/scj_main
-work=$(mktemp -d)
-trap 'rm -rf "$work"' EXIT
-
-. "$top/bench/timing.sh"
-
-per() { awk "BEGIN { printf \"%.$3f\", $1 / $2 }"; }
+. "$(dirname "$0")/timing.sh"
 
 # Makes a shape of a size, and sets `files` and `bytes`.
 make() {
@@ -38,23 +29,13 @@ tell() {
     before=$spent
     before_bytes=$bytes
     if [ "$3" = ratio ] && [ -n "$compiler" ]; then
-        mkdir -p "$work/classes"
-        other=$(least 3 javac -proc:none -cp "$work/stubs" -d "$work/classes" "${files[@]}")
+        other=$(compiler_time 3 "${files[@]}")
         line="$line, javac $other us, ratio 1/$(per "$other" "$spent" 0)"
-        rm -rf "$work/classes"
     fi
     echo "$line: $answer"
 }
 
-compiler=''
-if command -v javac >/dev/null 2>&1; then
-    mkdir "$work/stubs"
-    javac -proc:none -d "$work/stubs" "$top"/bench/stubs/*.java && compiler=yes
-else
-    echo "no JDK here: speeds without a ratio"
-fi
-
-echo "cores: $(nproc)"
+begin_bench
 echo "start of the program: $(least 20 "$program" check /dev/null) us (included below)"
 before=0
 for size in 65536 262144 1048576; do tell ordinary "$size" ratio 7; done

@@ -2,16 +2,7 @@
 # How fast sources are read: lexemes and grammar alone, since the last token of the last file can't stand there.
 # Against a Java compiler on the same sources without that token, where one is there.
 set -u
-top=$(cd "$(dirname "$0")/.." && pwd)
-"$top/scj" >/dev/null 2>&1
-[ $? -eq 2 ] || { echo "bench: the program can't be built" >&2; exit 1; }
-program=$top/crates/scj_main/out/scj_main
-work=$(mktemp -d)
-trap 'rm -rf "$work"' EXIT
-
-. "$top/bench/timing.sh"
-
-per() { awk "BEGIN { printf \"%.$3f\", $1 / $2 }"; }
+. "$(dirname "$0")/timing.sh"
 
 # Makes COUNT files of a SHAPE, each a part 1/SHARE of its whole size, and names them in `files`.
 make() {
@@ -45,24 +36,14 @@ measure() {
     before_bytes=$bytes
 }
 
-compiler=''
-if command -v javac >/dev/null 2>&1; then
-    mkdir "$work/stubs"
-    javac -proc:none -d "$work/stubs" "$top"/bench/stubs/*.java && compiler=yes
-else
-    echo "no JDK here: speeds without a ratio"
-fi
-
-echo "cores: $(nproc)"
+begin_bench
 before=0
 for parts in "1 16" "1 4" "1 1" "16 1"; do
     read -r count share <<<"$parts"
     make ordinary "$count" "$share"
     other=0
     if [ -n "$compiler" ] && [ "$parts" = "1 1" ]; then
-        mkdir -p "$work/classes"
-        other=$(least 2 javac -proc:none -cp "$work/stubs" -d "$work/classes" "${files[@]}")
-        rm -rf "$work/classes"
+        other=$(compiler_time 2 "${files[@]}")
     fi
     printf '}' >>"$work/F$((count - 1)).java"
     measure ordinary

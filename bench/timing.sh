@@ -1,4 +1,26 @@
-# Shared by the benches: sourced, not run.
+# Shared by the benches: sourced, not run. `begin_bench` sets `program`, the folder `work`, which goes at the end, and
+# `compiler`, which is empty where no JDK is.
+top=$(cd "$(dirname "${BASH_SOURCE[0]}")/.." && pwd)
+
+# Builds the program, makes the folder, and compiles the framework's stubs for the compiler.
+begin_bench() {
+    "$top/scj" >/dev/null 2>&1
+    [ $? -eq 2 ] || { echo "bench: the program can't be built" >&2; exit 1; }
+    program=$top/crates/scj_main/out/scj_main
+    work=$(mktemp -d) || exit 1
+    trap 'rm -rf "$work"' EXIT
+    compiler=''
+    if command -v javac >/dev/null 2>&1; then
+        mkdir "$work/stubs"
+        javac -proc:none -d "$work/stubs" "$top"/bench/stubs/*.java && compiler=yes
+    else
+        echo "no JDK here: speeds without a ratio"
+    fi
+    echo "cores: $(nproc)"
+}
+
+# A quotient, to so many places: per DIVIDEND DIVISOR PLACES.
+per() { awk "BEGIN { printf \"%.$3f\", $1 / $2 }"; }
 
 # The least of several runs of a command, in microseconds.
 least() {
@@ -12,4 +34,14 @@ least() {
         if [ "$best" -eq 0 ] || [ "$spent" -lt "$best" ]; then best=$spent; fi
     done
     echo "$best"
+}
+
+# The least of several runs of the compiler on files, in microseconds.
+compiler_time() {
+    local runs=$1 spent
+    shift
+    mkdir -p "$work/classes"
+    spent=$(least "$runs" javac -proc:none -cp "$work/stubs" -d "$work/classes" "$@")
+    rm -rf "$work/classes"
+    echo "$spent"
 }
