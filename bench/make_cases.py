@@ -301,6 +301,21 @@ def ask_tokens(cases, name, source):
                 cases.edits(f"{name}_{number}_{other.decode()}".replace('"', ""), start, end, b" " + other + b" ", before[:])
 
 
+def ask_prefixes(cases, name, source):
+    """The prefixes of the last case's source that end inside of a token, of blanks or of a comment."""
+    tokens = lex(source).tokens[:-1]
+    columns = begin()
+    kept, number = [columns[0]], 0
+    ends = {token.end for token in tokens}
+    for at in range(len(source)):
+        while number < len(tokens) and tokens[number].end <= at:
+            assert step(columns, tokens[number].kinds)
+            kept.append(columns[-1])
+            number += 1
+        if at not in ends:
+            cases.edits(f"{name}_to_{at}", at, len(source), b"", kept[:])
+
+
 def unused(columns):
     """The productions that are read nowhere in a file, but for the repeated flags."""
     used = {item for column in columns for item, _ in column.seen}
@@ -318,6 +333,7 @@ def main():
     ask_bytes(cases, "m", MIXED, range(256))
     ask_bytes(cases, "s", SCOPED, SAMPLE)
     ask_tokens(cases, "e", EVERYTHING)
+    ask_prefixes(cases, "e", EVERYTHING)
     folder = os.path.join(os.path.dirname(os.path.abspath(__file__)), "..", "crates", "scj_cases")
     for name, lines in ("stdin", cases.lines), ("stdout", cases.answers):
         with open(os.path.join(folder, name), "w") as file:
