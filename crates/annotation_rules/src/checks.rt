@@ -167,6 +167,17 @@ pub fn note_annotations(found: &mut Vec<Found>, scoped: &Scoped) -> Result<(), M
     Ok(())
 }
 
+/// The breaks of the rules on annotations, in the order of a report; by the static scopes of the program, which the
+/// checks on uses ask too.
+pub fn check_scoped_annotations(alloc: Global, scoped: &Scoped) -> Result<Vec<Found>, Memory>
+    ensures { IfOk result (λ found. IsReport (IsFound (over_nodes (declarations_of scoped.now) (annotation_breaks (declarations_of scoped.now)))) found.items) }
+{
+    let mut found = Vec::new(alloc);
+    note_annotations(&mut found, scoped)?;
+    put_in_order(&mut found);
+    Ok(found)
+}
+
 /// The breaks of the rules on annotations, in the order of a report.
 pub fn check_annotations(
     alloc: Global,
@@ -181,8 +192,5 @@ pub fn check_annotations(
     let contexts = Contexts::of(alloc, program)?;
     let runs = Runs::of(alloc, &Scopes::new(program, table, tree), &contexts)?;
     let scoped = Scoped::new(Scopes::new(program, table, tree), &contexts, &runs);
-    let mut found = Vec::new(alloc);
-    note_annotations(&mut found, &scoped)?;
-    put_in_order(&mut found);
-    Ok(found)
+    check_scoped_annotations(alloc, &scoped)
 }

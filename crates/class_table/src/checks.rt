@@ -37,13 +37,34 @@ pub fn check_classes(
 }
 
 /// The breaks of the rules on classes and members and of the limits, by the table of the classes.
-fn report(alloc: Global, program: &Program, table: &ClassTable) -> Result<Vec<Found>, Memory>
-    requires { IsTableOf program.now table.now }
+fn report(
+    alloc: Global,
+    program: &Program,
+    contexts: &Contexts,
+    table: &ClassTable,
+) -> Result<Vec<Found>, Memory>
+    requires contexts { contexts.now ≡ contexts_in program.now }
+    requires table { IsTableOf program.now table.now }
     ensures { IfOk result (λ found. IsReport (BreaksClassRules program.now) found.items) }
 {
     let classes = Classes::new(program, table);
-    let contexts = Contexts::of(alloc, program)?;
-    check_classes(alloc, &classes, &classes.written(), &contexts)
+    check_classes(alloc, &classes, &classes.written(), contexts)
+}
+
+/// The table of the classes of a program, and the breaks of the rules on classes and members and of the limits, in the
+/// order of a report; by the contexts of its nodes, which later phases ask too.
+pub fn build_with_contexts(
+    alloc: Global,
+    program: &Program,
+    contexts: &Contexts,
+) -> Result<(ClassTable, Vec<Found>), Memory>
+    requires { contexts.now ≡ contexts_in program.now }
+    ensures table { IfOk result (λ built. IsTableOf program.now built.0) }
+    ensures report { IfOk result (λ built. IsReport (BreaksClassRules program.now) built.1.items) }
+{
+    let table = ClassTable::of(alloc, program)?;
+    let found = report(alloc, program, contexts, &table)?;
+    Ok((table, found))
 }
 
 /// The table of the classes of a program, and the breaks of the rules on classes and members and of the limits, in the
@@ -52,7 +73,6 @@ pub fn build(alloc: Global, program: &Program) -> Result<(ClassTable, Vec<Found>
     ensures table { IfOk result (λ built. IsTableOf program.now built.0) }
     ensures report { IfOk result (λ built. IsReport (BreaksClassRules program.now) built.1.items) }
 {
-    let table = ClassTable::of(alloc, program)?;
-    let found = report(alloc, program, &table)?;
-    Ok((table, found))
+    let contexts = Contexts::of(alloc, program)?;
+    build_with_contexts(alloc, program, &contexts)
 }

@@ -5,7 +5,7 @@ pub mod checks;
 pub mod classes;
 pub mod supers;
 
-pub use checks::{build, check_classes};
+pub use checks::{build, build_with_contexts, check_classes};
 pub use class_rows::{ClassTable, Classes};
 
 #[cfg(test)]

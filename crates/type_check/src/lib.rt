@@ -6,4 +6,4 @@ mod passes;
 mod types;
 mod values;
 
-pub use types::{Types, check_types};
+pub use types::{Types, check_known_types, check_types};

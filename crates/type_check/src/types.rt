@@ -61,8 +61,9 @@ impl Types {
     }
 }
 
-/// The types of what is known, and what breaks the rules on types, in the order of a report.
-fn check_known(
+/// The types of the nodes of a program, what these stand for, and what breaks the rules on types, in the order of a
+/// report; by what is known of the program, which later phases ask too.
+pub fn check_known_types(
     alloc: Global,
     known: &Known<'_>,
     contexts: &Contexts,
@@ -95,5 +96,5 @@ pub fn check_types(
     let contexts = Contexts::of(alloc, program)?;
     let returns = returning(alloc, program)?;
     let known = Known::new(Classes::new(program, table), &contexts, &returns);
-    check_known(alloc, &known, &contexts)
+    check_known_types(alloc, &known, &contexts)
 }

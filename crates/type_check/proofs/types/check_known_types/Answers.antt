@@ -1,7 +1,7 @@
 use Rattle.std.proofs.Common.{sym, subst, List}
 use Rattle.std.specs.List.{Contains}
 use Rattle.scj_base.specs.declared.findings.Found.{Found}
-use Rattle.type_check.proofs.types.check_known.Goals as goal
+use Rattle.type_check.proofs.types.check_known_types.Goals as goal
 
 pub returns-clause-report : goal.returns-clause-report
 returns-clause-report c = record {

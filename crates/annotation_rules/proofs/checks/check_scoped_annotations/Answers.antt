@@ -3,13 +3,12 @@ use Rattle.std.specs.List.{Contains}
 use Rattle.scj_rules.specs.AnnotationRules.{annotation_breaks}
 use Rattle.scj_rules.specs.Contexts.{declarations_of}
 use Rattle.scj_rules.specs.Phases.{over_nodes}
-use Rattle.annotation_rules.proofs.checks.check_annotations.Goals as goal
+use Rattle.annotation_rules.proofs.checks.check_scoped_annotations.Goals as goal
 
 pub returns : goal.returns
 returns c =
-    let p = declarations_of c.args.program.now in
-    let same_program = c.new-scoped.ensures ∙ c.new-2.ensures in
-    let all : c.note_annotations.new.found.items ≡ over_nodes p (annotation_breaks p) = rw (same_program, c.new-found.ensures.items) at c.in_ok-note_annotations.ensures in
+    let p = declarations_of c.args.scoped.now in
+    let all : c.note_annotations.new.found.items ≡ over_nodes p (annotation_breaks p) = rw (c.new-found.ensures.items) at c.in_ok-note_annotations.ensures in
     record {
       in_order = c.put_in_order.ensures.in_order;
       exact = λ f. (
