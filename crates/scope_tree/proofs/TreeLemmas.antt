@@ -1,5 +1,5 @@
 -- What the tables of a tree tell.
-use Rattle.std.proofs.Common.{◌≡◌, ◌++◌, append_assoc, append-nil, true≢false, is_some, ◌-◌, drop, get_or, ℕ, zero, suc, ◌+◌, ◌<◌, ◌≤◌, true, false, ◌||◌, List, [], ◌∷◌, length, slice_get, nat_lt, Option, Some, None, refl, sym, ap, ◌∙◌, arith, ⊎_elim, ◌==◌}
+use Rattle.std.proofs.Common.{◌≡◌, ◌++◌, append_assoc, append-nil, true≢false, is_some, ◌-◌, drop, get_or, ℕ, zero, suc, ◌+◌, ◌<◌, ◌≤◌, Bool, true, false, ◌||◌, List, [], ◌∷◌, length, slice_get, nat_lt, Option, Some, None, refl, sym, ap, ◌∙◌, arith, ⊎_elim, ◌==◌}
 use Rattle.std.proofs.lemmas.Bool.Decides.{nat_tests}
 use Rattle.std.proofs.lemmas.Bool.{cases_lt, ne_eqb}
 use Rattle.std.proofs.lemmas.List.{drop_all}
@@ -114,6 +114,15 @@ pub class_scope_by_table : (forest : Forest) (tree : ScopeTree) (a : ℕ) → Is
 class_scope_by_table forest tree a h =
     let p : Declarations = declarations_of forest in
     table_tells unannotated (class_scope p) (length p.classes) (no_scope_past p (framework_first forest)) tree.class_scopes.items h.class_scopes a
+
+pub implied_by_table : (forest : Forest) (rows : List Bool) (a : ℕ) → rows ≡ listed (is_implied_immortal (declarations_of forest)) (length (declarations_of forest).classes)
+    → told false rows a ≡ is_implied_immortal (declarations_of forest) a
+implied_by_table forest rows a h =
+    let p : Declarations = declarations_of forest in
+    table_tells false (is_implied_immortal p) (length p.classes) (λ b past. not_implied_past p b past (framework_first forest)) rows h a
+
+pub implied_by_tree : (forest : Forest) (tree : ScopeTree) (a : ℕ) → IsTreeOf forest tree → told false tree.implied.items a ≡ is_implied_immortal (declarations_of forest) a
+implied_by_tree forest tree a h = implied_by_table forest tree.implied.items a h.implied
 
 -- a chain that is put into a list, one more, and at its end
 pub chain_more : (next : ℕ → Option ℕ) (left a : ℕ) (all whole : List ℕ) → 0 < left → all ++ chain next left a ≡ whole → (all ++ a ∷ []) ++ chain_from next (left - 1) (next a) ≡ whole

@@ -8,7 +8,7 @@ use Rattle.scj_tree.specs.Recursion.{listed, joined_below}
 use Rattle.scj_rules.specs.Words.{chain}
 use Rattle.scj_rules.specs.Contexts.{Declarations, declarations_of}
 use Rattle.scj_rules.specs.ScopeRules.{definition_in, defined_by, defined_by_chain, parent_scope}
-use Rattle.scj_rules.specs.StaticScopes.{class_scope}
+use Rattle.scj_rules.specs.StaticScopes.{is_implied_immortal, class_scope}
 use Rattle.scope_tree.specs.Index.{IsIndex}
 use Rattle.scope_tree.specs.declared.trees.ScopeNames.{ScopeNames}
 use Rattle.scope_tree.specs.declared.trees.ScopeTree.{ScopeTree}
@@ -33,6 +33,7 @@ pub record IsTreeOf (forest : Forest) (tree : ScopeTree) : Type 0 where
   pub defined : tree.defined.items ≡ listed (defined_by (declarations_of forest)) (length (declarations_of forest).classes)
   pub chained : tree.chained.items ≡ listed (defined_by_chain (declarations_of forest)) (length (declarations_of forest).classes)
   pub parents : tree.parents.items ≡ listed (parent_scope (declarations_of forest)) (length (declarations_of forest).classes)
+  pub implied : tree.implied.items ≡ listed (is_implied_immortal (declarations_of forest)) (length (declarations_of forest).classes)
   pub class_scopes : tree.class_scopes.items ≡ listed (class_scope (declarations_of forest)) (length (declarations_of forest).classes)
 
 -- a chain from a number that may be missing

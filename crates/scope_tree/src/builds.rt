@@ -16,7 +16,9 @@ use crate::definitions::definition_findings;
 use crate::headers::definitions_of;
 use crate::names::index_of;
 use crate::rules::note_classes;
-use crate::tables::{chained_table, class_scope_table, defined_table, owners_of, parent_table};
+use crate::tables::{
+    chained_table, class_scope_table, defined_table, implied_table, owners_of, parent_table,
+};
 use crate::trees::{ScopeNames, ScopeTree};
 use class_rows::{ClassTable, Classes};
 use scj_base::{Found, Memory, Name};
@@ -49,12 +51,14 @@ fn tree_of(alloc: Global, classes: &Classes, names: ScopeNames) -> Result<ScopeT
     let defined = defined_table(alloc, classes, &names)?;
     let chained = chained_table(alloc, classes, &names)?;
     let parents = parent_table(alloc, classes, &names)?;
-    let class_scopes = class_scope_table(alloc, classes, &names)?;
+    let implied = implied_table(alloc, classes)?;
+    let class_scopes = class_scope_table(alloc, classes, &names, &implied)?;
     Ok(ScopeTree {
         names,
         defined,
         chained,
         parents,
+        implied,
         class_scopes,
     })
 }

@@ -1,6 +1,7 @@
 //! Where the instances of classes lie.
 
-ghost use Rattle.std.specs.Prelude.{◌≡◌, ◌==◌};
+ghost use Rattle.std.specs.Prelude.{◌≡◌, ◌==◌, length};
+ghost use Rattle.scj_tree.specs.Recursion.{listed};
 ghost use Rattle.scj_rules.specs.Words.{holds};
 ghost use Rattle.scj_rules.specs.Contexts.{declarations_of};
 ghost use Rattle.scj_rules.specs.ScopeRules.{scope_number};
@@ -8,7 +9,7 @@ ghost use Rattle.scj_rules.specs.StaticScopes.{is_implied_immortal, has_unknown_
 ghost use Rattle.scope_tree.specs.Trees.{IsNaming};
 
 use crate::classes::{scope_number, scope_written_in};
-use crate::trees::ScopeNames;
+use crate::trees::{ScopeNames, mark};
 use class_rows::Classes;
 use scj_base::ids::{MISSION, MISSION_SEQUENCER, SAFELET};
 use scj_base::{ClassId, ScopeId};
@@ -98,19 +99,20 @@ fn scope_of_right_class(
     }
 }
 
-/// The scope of a class, from that of its superclass.
+/// The scope of a class, from that of its superclass and what is implied of it.
 #[tactic(auto, unfolding(scj_rules::specs::StaticScopes::class_scope_under))]
 fn class_scope_under(
     classes: &Classes,
     names: &ScopeNames,
     above: &ClassScope,
     class: ClassId,
+    implied: bool,
 ) -> ClassScope
-    requires { IsNaming (declarations_of classes.now) names.now }
+    requires named { IsNaming (declarations_of classes.now) names.now }
+    requires implied { implied ≡ is_implied_immortal (declarations_of classes.now) class }
     ensures { result ≡ class_scope_under (declarations_of classes.now) above.now class }
 {
     let written = scope_written_in(classes, class);
-    let implied = is_implied_immortal(classes, class);
     if has_unknown_scope(classes, names, &written) {
         return ClassScope::Unknown;
     }
@@ -120,17 +122,25 @@ fn class_scope_under(
     scope_of_right_class(classes, names, &written, above, implied)
 }
 
-/// The scope of the first class of a chain.
-#[tactic(auto, using(crate::proofs::ClassScopeLemmas::scope_at_end, crate::proofs::ClassScopeLemmas::scope_before))]
-pub fn class_scope_on(classes: &Classes, names: &ScopeNames, chain: &[ClassId]) -> ClassScope
-    requires { IsNaming (declarations_of classes.now) names.now }
+/// The scope of the first class of a chain, by the table of what is implied of classes.
+#[tactic(auto, using(crate::proofs::ClassScopeLemmas::scope_at_end, crate::proofs::ClassScopeLemmas::scope_before, crate::proofs::TreeLemmas::implied_by_table))]
+pub fn class_scope_on(
+    classes: &Classes,
+    names: &ScopeNames,
+    implied: &[bool],
+    chain: &[ClassId],
+) -> ClassScope
+    requires named { IsNaming (declarations_of classes.now) names.now }
+    requires implied { implied.now ≡ listed (is_implied_immortal (declarations_of classes.now)) (length (declarations_of classes.now).classes) }
     ensures { result ≡ class_scope_on (declarations_of classes.now) chain.now }
 {
     let mut scope = ClassScope::Unannotated;
     let mut left = chain.len();
     while left > 0 {
         left -= 1;
-        scope = class_scope_under(classes, names, &scope, chain[left]);
+        let class = chain[left];
+        let is_implied = mark(implied, class.number());
+        scope = class_scope_under(classes, names, &scope, class, is_implied);
     }
     scope
 }

@@ -6,7 +6,7 @@ ghost use Rattle.scj_rules.specs.Contexts.{declarations_of};
 ghost use Rattle.scj_rules.specs.ScopeRules.{scope_number, definition_in, defined_by, defined_by_chain, parent_scope, is_outer, scope_written_in};
 ghost use Rattle.scj_rules.specs.StaticScopes.{class_scope, is_implied_immortal, has_unknown_scope, differs_from_above};
 
-use crate::trees::{ScopeTree, class_entry, entry, is_outer_in};
+use crate::trees::{ScopeTree, class_entry, entry, is_outer_in, mark};
 use crate::{class_scopes, classes};
 use class_rows::{ClassTable, Classes};
 use scj_base::{ClassId, Name, ScopeId};
@@ -132,10 +132,12 @@ impl<'a> Scopes<'a> {
     }
 
     /// Whether the instances of a class lie in `IMMORTAL` although it doesn't write so.
+    #[tactic(auto, using(crate::proofs::TreeLemmas::implied_by_tree))]
     pub fn is_implied_immortal(&self, class: ClassId) -> bool
         ensures { result ≡ is_implied_immortal (declarations_of self.now) class }
     {
-        class_scopes::is_implied_immortal(&self.classes, class)
+        let tree = self.tree;
+        mark(&tree.implied, class.number())
     }
 
     /// Whether a value is written that names no scope.

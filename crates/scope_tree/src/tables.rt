@@ -5,11 +5,11 @@ ghost use Rattle.scj_tree.specs.Recursion.{listed};
 ghost use Rattle.scj_rules.specs.Classes.{superclasses};
 ghost use Rattle.scj_rules.specs.Contexts.{declarations_of};
 ghost use Rattle.scj_rules.specs.ScopeRules.{defined_by, defined_by_chain, parent_scope};
-ghost use Rattle.scj_rules.specs.StaticScopes.{class_scope};
+ghost use Rattle.scj_rules.specs.StaticScopes.{is_implied_immortal, class_scope};
 ghost use Rattle.scope_tree.specs.Trees.{IsNaming, owner_at, owners_below};
 
 use crate::chains::{defined_on, superclasses_of};
-use crate::class_scopes::class_scope_on;
+use crate::class_scopes::{class_scope_on, is_implied_immortal};
 use crate::classes::{defined_by, definition_in, parent_scope};
 use crate::trees::ScopeNames;
 use class_rows::Classes;
@@ -119,35 +119,52 @@ pub fn chained_table(
     Ok(table)
 }
 
-/// Where the instances of a class lie.
+/// Whether the instances of each class lie in `IMMORTAL` although it doesn't write so.
+#[tactic(auto, unfolding(scj_tree::specs::Recursion::listed))]
+pub fn implied_table(alloc: Global, classes: &Classes) -> Result<Vec<bool>, Memory>
+    ensures { IfOk result (λ table. table.items ≡ listed (is_implied_immortal (declarations_of classes.now)) (length (declarations_of classes.now).classes)) }
+{
+    let mut table = Vec::new(alloc);
+    for number in 0..classes.count() {
+        let class = class_numbered(number)?;
+        table.push(is_implied_immortal(classes, class))?;
+    }
+    Ok(table)
+}
+
+/// Where the instances of a class lie, by the table of what is implied of classes.
 #[tactic(auto, unfolding(scj_rules::specs::StaticScopes::class_scope))]
 fn class_scope(
     alloc: Global,
     classes: &Classes,
     names: &ScopeNames,
+    implied: &[bool],
     class: ClassId,
 ) -> Result<ClassScope, Memory>
-    requires { IsNaming (declarations_of classes.now) names.now }
+    requires named { IsNaming (declarations_of classes.now) names.now }
+    requires implied { implied.now ≡ listed (is_implied_immortal (declarations_of classes.now)) (length (declarations_of classes.now).classes) }
     ensures { IfOk result (λ scope. scope ≡ class_scope (declarations_of classes.now) class) }
 {
     let chain = superclasses_of(alloc, classes, class)?;
-    Ok(class_scope_on(classes, names, &chain))
+    Ok(class_scope_on(classes, names, implied, &chain))
 }
 
-/// Where the instances of each class lie.
+/// Where the instances of each class lie, by the table of what is implied of classes.
 #[tactic(auto, unfolding(scj_tree::specs::Recursion::listed))]
 pub fn class_scope_table(
     alloc: Global,
     classes: &Classes,
     names: &ScopeNames,
+    implied: &[bool],
 ) -> Result<Vec<ClassScope>, Memory>
-    requires { IsNaming (declarations_of classes.now) names.now }
+    requires named { IsNaming (declarations_of classes.now) names.now }
+    requires implied { implied.now ≡ listed (is_implied_immortal (declarations_of classes.now)) (length (declarations_of classes.now).classes) }
     ensures { IfOk result (λ table. table.items ≡ listed (class_scope (declarations_of classes.now)) (length (declarations_of classes.now).classes)) }
 {
     let mut table = Vec::new(alloc);
     for number in 0..classes.count() {
         let class = class_numbered(number)?;
-        table.push(class_scope(alloc, classes, names, class)?)?;
+        table.push(class_scope(alloc, classes, names, implied, class)?)?;
     }
     Ok(table)
 }

@@ -1,6 +1,6 @@
 //! The tree of scopes.
 
-ghost use Rattle.std.specs.Prelude.{◌≡◌, ◌==◌, ◌||◌, length};
+ghost use Rattle.std.specs.Prelude.{◌≡◌, ◌==◌, ◌||◌, false, length};
 ghost use Rattle.scj_tree.specs.Recursion.{told};
 ghost use Rattle.scj_rules.specs.Words.{is_among, chain};
 ghost use Rattle.scj_tree.specs.Forest.{Forest};
@@ -32,6 +32,8 @@ pub struct ScopeTree {
     pub(crate) chained: Vec<Option<ScopeId>>,
     /// The parent of the scope that each class is the first to define.
     pub(crate) parents: Vec<Option<ScopeId>>,
+    /// Whether the instances of each class lie in `IMMORTAL` although it doesn't write so.
+    pub(crate) implied: Vec<bool>,
     /// Where the instances of each class lie.
     pub(crate) class_scopes: Vec<ClassScope>,
 }
@@ -53,6 +55,16 @@ pub fn class_entry(table: &[ClassScope], number: u32) -> ClassScope
     match table.get(number as usize) {
         Some(scope) => *scope,
         None => ClassScope::Unannotated,
+    }
+}
+
+/// What stands in a table of marks at the number of a class.
+pub fn mark(table: &[bool], number: u32) -> bool
+    ensures { result ≡ told false table.now number }
+{
+    match table.get(number as usize) {
+        Some(mark) => *mark,
+        None => false,
     }
 }
 
