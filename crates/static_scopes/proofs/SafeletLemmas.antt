@@ -3,6 +3,7 @@ use Rattle.std.proofs.Common.{◌≡◌, ℕ, ◌+◌, ◌<◌, ◌≤◌, Bool,
 use Rattle.std.specs.List.{list_any}
 use Rattle.std.proofs.lemmas.List.{drop_all}
 use Rattle.std.proofs.lemmas.Bool.{cases_Bool, eq-eqb, ne_eqb, eqb-true}
+use Rattle.std.proofs.Math.Bool.{and_comm}
 use Rattle.scj_builtins.specs.Framework.{safelet}
 use Rattle.scj_rules.specs.Words.{is_among, holds}
 use Rattle.scj_rules.specs.Views.{DeclaredMethod}
@@ -53,6 +54,16 @@ unfolding inherits_as
 inherited_by_parts p node name class =
     ap (λ t. t && holds (method_named p.classes class name) (λ (f : FoundMethod). not (is_some f.method.builtin) && (f.method.declared.node == node)))
     (one_interface safelet (λ i. is_some (own_method p.classes name i)) (all_interfaces p.classes class))
+
+-- the same, the other part first
+pub declared_and_asked : (p : Declarations) (node : ℕ) (name : List ℕ) (class : ℕ)
+    → inherits_as p (safelet ∷ []) node name class
+    ≡ (holds (method_named p.classes class name) (λ (f : FoundMethod). not (is_some f.method.builtin) && (f.method.declared.node == node))
+    && (is_among safelet (all_interfaces p.classes class) && is_some (own_method p.classes name safelet)))
+declared_and_asked p node name class =
+    inherited_by_parts p node name class
+    ∙ and_comm (is_among safelet (all_interfaces p.classes class) && is_some (own_method p.classes name safelet))
+    (holds (method_named p.classes class name) (λ (f : FoundMethod). not (is_some f.method.builtin) && (f.method.declared.node == node)))
 
 -- ---- the classes one after the other
 

@@ -126,12 +126,13 @@ fn is_asked(classes: &Classes, class: ClassId, name: &Name) -> bool
     classes.implements(class, SAFELET) && safelet_has(classes, name)
 }
 
-/// Whether a class inherits the method at a node as one of Safelet's.
-#[tactic(auto, using(crate::proofs::SafeletLemmas::inherited_by_parts))]
+/// Whether a class inherits the method at a node as one of Safelet's. What it has by the name is found soon, and its
+/// interfaces only by a walk.
+#[tactic(auto, using(crate::proofs::SafeletLemmas::declared_and_asked))]
 fn inherits(classes: &Classes, class: ClassId, name: &Name, node: NodeId) -> bool
     ensures { result ≡ inherits_as (declarations_of classes.now) (safelet ∷ []) node name.now class }
 {
-    is_asked(classes, class, name) && has_declared(classes, class, name, node)
+    has_declared(classes, class, name, node) && is_asked(classes, class, name)
 }
 
 /// Whether some class inherits the method at a node as one of Safelet's.
