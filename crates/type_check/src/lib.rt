@@ -2,6 +2,7 @@
 #![tactic(auto)]
 
 mod breaks;
+mod names;
 mod passes;
 mod types;
 mod values;

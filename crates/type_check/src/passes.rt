@@ -8,14 +8,16 @@ ghost use Rattle.scj_rules.specs.Phases.{type_phase};
 ghost use Rattle.type_check.specs.Passes.{breaks_at};
 
 use crate::breaks::note_breaks;
+use crate::names::{note_name_at, type_of_name};
 use crate::values::type_of;
 use scj_base::{Found, Memory, NodeId};
 use scj_rules::Ty;
+use scj_tree::Node;
 use std::alloc::Global;
 use type_rules::Known;
 
 /// The type of a node, from those of the nodes before it. `found` is for what is broken there.
-#[tactic(auto, unfolding(scj_rules::specs::TypeRules::type_of_next, scj_rules::specs::TypeRules::type_of_right, scj_rules::specs::Classes::is_empty, scj_rules::specs::Contexts::declarations_of))]
+#[tactic(auto, using(crate::proofs::NameLemmas::right_name), unfolding(scj_rules::specs::TypeRules::type_of_next, scj_rules::specs::TypeRules::type_of_right, scj_rules::specs::Classes::is_empty, scj_rules::specs::Contexts::declarations_of))]
 fn next_type(
     known: &Known<'_>,
     types: &[Option<Ty>],
@@ -27,6 +29,9 @@ fn next_type(
     let Some(node) = known.program().get(id) else {
         return Ok(None);
     };
+    if let Node::SimpleName { name, .. } = node {
+        return Ok(type_of_name(known, id, name));
+    }
     let t = type_of(known, types, id, node);
     if t.is_none() {
         return Ok(None);
@@ -50,19 +55,23 @@ pub fn types_of(alloc: Global, known: &Known<'_>) -> Result<Vec<Option<Ty>>, Mem
 }
 
 /// Notes what is broken at the node of a number.
-#[tactic(auto, unfolding(scj_rules::specs::Contexts::declarations_of))]
+#[tactic(auto, using(crate::proofs::NameLemmas::name_breaks_are), unfolding(scj_rules::specs::Contexts::declarations_of))]
 fn note_at(
     known: &Known<'_>,
     types: &[Option<Ty>],
     id: NodeId,
     found: &mut Vec<Found>,
 ) -> Result<(), Memory>
+    requires { types.now ≡ types_in (declarations_of known.now) }
     ensures { OnOk result (found.new.items ≡ found.old.items ++ breaks_at (declarations_of known.now) (told None types.now) id) }
 {
     let Some(node) = known.program().get(id) else {
         return Ok(());
     };
-    note_breaks(known, types, id, node, found)
+    match node {
+        Node::SimpleName { place, name } => note_name_at(known, types, id, *place, name, found),
+        _ => note_breaks(known, types, id, node, found),
+    }
 }
 
 /// What breaks the rules on types at all nodes.
