@@ -1,7 +1,8 @@
 """Makes whole programs that break no rule: python3 sources.py SHAPE COUNT FOLDER writes F0.java and so on.
 
 `ordinary` and `few` have COUNT bytes, about. `ordinary` has classes of about 4 KiB, 16 in a file, as a controller has
-them: missions, handlers, private memories, shared objects and helpers, in groups of 16. `few` has one class in each
+them: missions, handlers, private memories, shared objects and helpers, in groups of 16, and as densely written as the
+programs in examples/ (4.8 bytes a token, a seventh of the bytes in comments). `few` has one class in each
 file of 1 MiB. The hostile ones have COUNT of something:
 
     chain      classes, each under the one before          scopes     private scopes, each in the one before
@@ -14,14 +15,19 @@ file of 1 MiB. The hostile ones have COUNT of something:
 import os
 import sys
 
-SAFELET = """class App implements Safelet {
+SAFELET = """// The application: what lives as long as the program, and the missions one after the other.
+class App implements Safelet {
   public MissionSequencer getSequencer() { return new Sequence(); }
   public long immortalMemorySize() { return 100000; }
   public void initializeApplication() { }
 }
+
+// One mission after the other.
 class Sequence extends MissionSequencer {
   int phase;
+
   Sequence() { super(new PriorityParameters(5), new StorageParameters(0)); }
+
   public Mission getNextMission() {
     phase++;
     if (phase > 1) return null;
@@ -29,11 +35,17 @@ class Sequence extends MissionSequencer {
   }
 """
 
-MISSION = """// mission {k}: what the handlers share is made in its memory
-@DefineScope(name="M{k}", parent="IMMORTAL")
+MISSION = """
+// Mission {k}: what the handlers share is made in its memory.
+@DefineScope(name="Mission{k}", parent="IMMORTAL")
 class Main{k} extends Mission {{
-  int starts; int level; int limit; boolean full;
+  int starts;
+  int level;
+  int limit;
+  boolean overflows;
+
   public long missionMemorySize() {{ return 100000; }}
+
   public void initialize() {{
     starts = starts + 1;
     Tank{k} tank = new Tank{k}(90);
@@ -42,95 +54,160 @@ class Main{k} extends Mission {{
     alarm.register();
     new Sensor{k}(tank, alarm).register();
   }}
+
   public void cleanUp() {{ Trace.print("cleanup", starts); }}
 """
 
-SHARED = """@Scope("M{k}")
+SHARED = """
+// What both handlers know of the tank. A measurement is copied into it.
+@Scope("Mission{k}")
 class Tank{k} {{
-  int level; int limit; boolean full;
-  Note{k} last;
-  Tank{k}(int most) {{ limit = most; last = new Note{k}(0); }}
+  int level;
+  int limit;
+  boolean overflows;
+  Measurement{k} last;
+
+  Tank{k}(int most) {{
+    limit = most;
+    last = new Measurement{k}(0);
+  }}
 """
 
-ALARM = """@Scope("M{k}") @DefineScope(name="A{k}", parent="M{k}")
+ALARM = """
+// Says that the tank is too full, when the sensor asks it to.
+@Scope("Mission{k}") @DefineScope(name="Alarm{k}", parent="Mission{k}")
 class Alarm{k} extends AperiodicEventHandler {{
-  Tank{k} tank; int level; int limit; boolean full;
-  Alarm{k}(Tank{k} t) {{
+  Tank{k} tank;
+  int level;
+  int limit;
+  boolean overflows;
+
+  Alarm{k}(Tank{k} watched) {{
     super(new PriorityParameters(18), new AperiodicParameters(), new StorageParameters(0));
-    tank = t;
+    tank = watched;
   }}
-  public void handleAsyncEvent() {{ Trace.print("alarm", tank.get0(1)); }}
+
+  public void handleAsyncEvent() {{ Trace.print("alarm", tank.weighted0(1)); }}
 """
 
-SENSOR = """@Scope("M{k}") @DefineScope(name="S{k}", parent="M{k}")
+SENSOR = """
+// Measures every two milliseconds, and works on what it measured in a memory of its own.
+@Scope("Mission{k}") @DefineScope(name="Sensor{k}", parent="Mission{k}")
 class Sensor{k} extends PeriodicEventHandler {{
-  Tank{k} tank; Alarm{k} alarm; int level; int limit; boolean full;
-  Sensor{k}(Tank{k} t, Alarm{k} a) {{
+  Tank{k} tank;
+  Alarm{k} alarm;
+  int level;
+  int limit;
+  boolean overflows;
+
+  Sensor{k}(Tank{k} watched, Alarm{k} asked) {{
     super(new PriorityParameters(12), new PeriodicParameters(new RelativeTime(0, 0), new RelativeTime(2, 0)), new StorageParameters(2000));
-    tank = t;
-    alarm = a;
+    tank = watched;
+    alarm = asked;
   }}
+
   public void handleAsyncEvent() {{
-    Note{k} note = new Note{k}(Device.read(1));
-    tank.take0(note);
-    ManagedMemory.enterPrivateMemory(500, new Step{k}(tank, note));
-    if (note.level > 90) alarm.release();
+    Measurement{k} measured = new Measurement{k}(Device.read(1));
+    tank.follow0(measured);
+    ManagedMemory.enterPrivateMemory(500, new Step{k}(tank, measured));
+    if (measured.level > 90) alarm.release();
   }}
 """
 
-STEP = """@Scope("S{k}") @DefineScope(name="P{k}", parent="S{k}")
+STEP = """
+// Smooths a measurement. What it makes is gone when it ends.
+@Scope("Sensor{k}") @DefineScope(name="Private{k}", parent="Sensor{k}")
 class Step{k} implements Runnable {{
-  Tank{k} tank; Note{k} note; int level; int limit; boolean full;
-  Step{k}(Tank{k} t, @Scope("S{k}") Note{k} n) {{ tank = t; note = n; }}
+  Tank{k} tank;
+  Measurement{k} measured;
+  int level;
+  int limit;
+  boolean overflows;
+
+  Step{k}(Tank{k} watched, @Scope("Sensor{k}") Measurement{k} taken) {{
+    tank = watched;
+    measured = taken;
+  }}
+
   public void run() {{
-    Note{k} mean = note.plus0(new Note{k}(level));
-    tank.take0(mean);
+    Measurement{k} smoothed = measured.plus0(new Measurement{k}(level));
+    tank.follow0(smoothed);
   }}
 """
 
-NOTE = """// a note may be made in any area
-class Note{k} {{
-  int level; int limit = 90; boolean full;
-  Note{k} next;
-  Note{k}(int start) {{ level = start; }}
+NOTE = """
+// A measurement may be made in any memory.
+class Measurement{k} {{
+  int level;
+  int limit = 90;
+  boolean overflows;
+  Measurement{k} next;
+
+  Measurement{k}(int start) {{ level = start; }}
 """
 
-OTHER = """class Filter{k}x{j} {{
-  int level; int limit = 40; boolean full;
-  int[] rows; Note{k} first;
-  Filter{k}x{j}(int length) {{ rows = new int[length]; first = new Note{k}(length); }}
-  int get0(int a) {{ return a + rows.length; }}
+OTHER = """
+// A filter over the last measurements, the oldest of which is forgotten first.
+class Filter{k}x{j} {{
+  int level;
+  int limit = 40;
+  boolean overflows;
+  int[] weights;
+  Measurement{k} first;
+
+  Filter{k}x{j}(int length) {{
+    weights = new int[length];
+    first = new Measurement{k}(length);
+  }}
+
+  int weighted0(int factor) {{ return factor + weights.length; }}
 """
 
 # Methods of numbers, in each class; `{c}` is what stands before a method that runs in its caller's area.
-NUMBERS = """  {c}int fill{i}(int amount, int steps) {{
-    int total = 0;
-    for (int i = 0; i < steps; i++) {{
-      if (level + amount > limit) {{ full = true; return total; }}
-      else {{ level += amount; total = total + amount * 2 - i / 3; }}
+NUMBERS = """
+  // Pours in an amount, and tells how much went in.
+  {c}int pour{i}(int amount, int steps) {{
+    int poured = 0;
+    for (int step = 0; step < steps; step++) {{
+      if (level + amount > limit) {{
+        overflows = true;
+        return poured;
+      }}
+      level += amount;
+      poured = poured + amount * 2 - step / 3;
     }}
-    while (level > limit && !full) {{ level = level - 1; }}
-    return total + (level << 2) % 7;
+    while (level > limit && !overflows) level = level - 1;
+    return poured + (level << 2) % 7;
   }}
 """
 
-TAKES = """  {c}synchronized void take{i}(Note{k} note) {{
-    // the number is copied: the note may lie in a private memory
-    if (note.level > last.level || full) {{ last.level = note.level; level = level + 1; }}
-    Note{k} here = note;
-    if (here.next == null) here = new Note{k}(level);
-    level = here.plus0(note).level;
+TAKES = """
+  // Follows a measurement. Its number is copied: it may lie in a private memory.
+  {c}synchronized void follow{i}(Measurement{k} measured) {{
+    if (measured.level > last.level || overflows) {{
+      last.level = measured.level;
+      level = level + 1;
+    }}
+    Measurement{k} newest = measured;
+    if (newest.next == null) newest = new Measurement{k}(level);
+    level = newest.plus0(measured).level;
   }}
-  {c}synchronized int get{i}(int a) {{ return level * a - last.level; }}
+
+  // The level, weighted, against the last measurement.
+  {c}synchronized int weighted{i}(int factor) {{ return level * factor - last.level; }}
 """
 
-NOTES = """  Note{k} plus{i}(Note{k} other) {{
-    Note{k} sum = new Note{k}(level + other.level);
-    if (other == this || other.full) return other;
+NOTES = """
+  // A new measurement, made where the caller runs.
+  Measurement{k} plus{i}(Measurement{k} other) {{
+    Measurement{k} sum = new Measurement{k}(level + other.level);
+    if (other == this || other.overflows) return other;
     sum.next = null;
     return sum;
   }}
-  @RunsIn(Scope.THIS) void keep{i}(Note{k} other) {{
+
+  // Keeps another measurement of the same memory behind this one.
+  @RunsIn(Scope.THIS) void keep{i}(Measurement{k} other) {{
     next = other;
     other.next = this.next;
   }}

@@ -1,7 +1,7 @@
 """Makes sources of whole classes from a number: python3 syntax_sources.py SHAPE SHARE [FIRST] > FILE.
 
-Each is a part 1/SHARE of a whole. Shapes: `ordinary` (1 MiB of classes as a controller has them, numbered from FIRST),
-and hostile ones: `operators` (one expression of 300,000 operators), `parentheses` (500,000 opening ones), `comment`
+Each is a part 1/SHARE of a whole. Shapes: `ordinary` (1 MiB of classes as a controller has them, about as densely
+written as the programs in examples/, numbered from FIRST), and hostile ones: `operators` (one expression of 300,000 operators), `parentheses` (500,000 opening ones), `comment`
 (one of 1 MiB), `line` (1 MiB of ordinary classes in one line), `empty_classes` (100,000 of them) and `else_if` (one chain of 20,000).
 """
 
@@ -12,26 +12,42 @@ LONGEST = 1_048_575
 
 
 def ordinary_class(number):
-    return f"""// class number {number}: a tank with its level and its alarm
+    return f"""
+// Tank {number}, with its level and its alarm.
 class Tank{number} {{
-  int level; int limit = 90; boolean full;
+  int level;
+  int limit = 90;
+  boolean overflows;
   Tank{number} next;
-  Tank{number}(int start) {{ level = start; full = false; }}
-  int fill(int amount, int steps) {{
-    int total = 0;
-    for (int i = 0; i < steps; i++) {{
-      if (level + amount > limit) {{ full = true; return total; }}
-      else {{ level += amount; total = total + amount * 2 - i / 3; }}
-    }}
-    while (level > limit && !full) {{ level = level - 1; }}
-    return total + (level << 2) % 7;
+
+  Tank{number}(int start) {{
+    level = start;
+    overflows = false;
   }}
-  boolean check(Tank{number} other) {{
+
+  // Pours in an amount, and tells how much went in.
+  int pour(int amount, int steps) {{
+    int poured = 0;
+    for (int step = 0; step < steps; step++) {{
+      if (level + amount > limit) {{
+        overflows = true;
+        return poured;
+      }}
+      level += amount;
+      poured = poured + amount * 2 - step / 3;
+    }}
+    while (level > limit && !overflows) level = level - 1;
+    return poured + (level << 2) % 7;
+  }}
+
+  // Whether the levels of two tanks may be levelled out.
+  boolean matches(Tank{number} other) {{
     int[] levels = new int[4];
-    levels[0] = this.level; levels[1] = other.level;
-    if (levels[0] >= levels[1] || other.full) return true;
+    levels[0] = this.level;
+    levels[1] = other.level;
+    if (levels[0] >= levels[1] || other.overflows) return true;
     next = new Tank{number}(levels[0] & 15);
-    return next.fill(levels[1], -1) == 0;
+    return next.pour(levels[1], -1) == 0;
   }}
 }}
 """
@@ -56,8 +72,8 @@ def main():
     if shape == "ordinary":
         text = ordinary(limit, first)
     elif shape == "line":
-        lines = ordinary(limit + limit // 12, first).split("\n")
-        text = " ".join(line for line in lines if not line.startswith("//"))[:limit]
+        lines = ordinary(limit + limit // 4, first).split("\n")
+        text = " ".join(line for line in lines if not line.lstrip().startswith("//"))[:limit]
         text = text[: text.rindex(" class ")]
     elif shape == "operators":
         text = "class A { int m() { return 1" + "+1" * (300_000 // share) + "; } }"

@@ -77,24 +77,24 @@ pub fn annotation_named(
     nodes: &mut Nodes,
     stack: &mut Stack,
     place: Pos,
-    name: Name,
+    name: &Name,
     is_local: bool,
     flags: FlagSet,
 ) -> Result<Option<Mode>, Memory>
-    ensures step { let awaited = annotation_named place name is_local flags nodes.old.all stack.old in gives result nodes.new.all stack.new awaited ≡ awaited }
+    ensures step { let awaited = annotation_named place name.now is_local flags nodes.old.all stack.old in gives result nodes.new.all stack.new awaited ≡ awaited }
     ensures kept { nodes.new.kept ≡ nodes.old.kept }
 {
-    if is_effectless(&name) {
+    if is_effectless(name) {
         stack.push(Entry::AnnotationOpen { is_local, flags })?;
         return Ok(Some(Mode::PlainOpen));
     }
-    if is_word(&name, b"Scope") {
+    if is_word(name, b"Scope") {
         return scope_named(nodes, stack, is_local, flags);
     }
-    if is_word(&name, b"RunsIn") {
+    if is_word(name, b"RunsIn") {
         return runs_in_named(nodes, stack, is_local, flags);
     }
-    if is_word(&name, b"DefineScope") {
+    if is_word(name, b"DefineScope") {
         return define_scope_named(nodes, stack, place, is_local, flags);
     }
     Ok(None)
@@ -119,7 +119,7 @@ pub fn at_step(
     };
     match &entry {
         Entry::AnnotationOpen { is_local, flags } => annotation_named(
-            nodes, stack, place, *name, *is_local, *flags,
+            nodes, stack, place, name, *is_local, *flags,
         ),
         _ => Ok(None),
     }

@@ -284,15 +284,15 @@ pub fn super_named_step(
     stack: &mut Stack,
     view: &View,
     place: Pos,
-    name: Name,
+    name: &Name,
 ) -> Result<Option<Mode>, Memory>
-    ensures step { let awaited = super_named_step place name nodes.old.all stack.old (seen view.now) in gives result nodes.new.all stack.new awaited ≡ awaited }
+    ensures step { let awaited = super_named_step place name.now nodes.old.all stack.old (seen view.now) in gives result nodes.new.all stack.new awaited ≡ awaited }
     ensures kept { nodes.new.kept ≡ nodes.old.kept }
 {
     if let View::Sign(sign, _) = view {
         if *sign == LESS {
-            if takes_argument(&name) {
-                return Ok(Some(Mode::SuperArgumentName { place, name }));
+            if takes_argument(name) {
+                return Ok(Some(Mode::SuperArgumentName { place, name: *name }));
             }
             return Ok(None);
         }
@@ -308,14 +308,14 @@ pub fn super_type_ended(
     stack: &mut Stack,
     view: &View,
     place: Pos,
-    name: Name,
+    name: &Name,
 ) -> Result<Option<Mode>, Memory>
-    ensures step { let awaited = super_ended (length nodes.old.all) (put nodes.old.all (SuperType place name None)) stack.old (seen view.now) in gives result nodes.new.all stack.new awaited ≡ awaited }
+    ensures step { let awaited = super_ended (length nodes.old.all) (put nodes.old.all (SuperType place name.now None)) stack.old (seen view.now) in gives result nodes.new.all stack.new awaited ≡ awaited }
     ensures kept { nodes.new.kept ≡ nodes.old.kept }
 {
     let id = nodes.put(Node::SuperType {
         place,
-        name,
+        name: *name,
         argument: None,
     })?;
     super_ended(nodes, stack, view, id)
@@ -328,9 +328,9 @@ pub fn super_argument_name_step(
     stack: &mut Stack,
     view: &View,
     place: Pos,
-    name: Name,
+    name: &Name,
 ) -> Result<Option<Mode>, Memory>
-    ensures step { let awaited = super_argument_name_step place name nodes.old.all stack.old (seen view.now) in gives result nodes.new.all stack.new awaited ≡ awaited }
+    ensures step { let awaited = super_argument_name_step place name.now nodes.old.all stack.old (seen view.now) in gives result nodes.new.all stack.new awaited ≡ awaited }
     ensures kept { nodes.new.kept ≡ nodes.old.kept }
 {
     let View::Name(argument, argument_place) = view else {
@@ -342,7 +342,7 @@ pub fn super_argument_name_step(
     })?;
     Ok(Some(Mode::SuperArgumentEnd {
         place,
-        name,
+        name: *name,
         argument,
     }))
 }
@@ -354,10 +354,10 @@ pub fn super_argument_end_step(
     stack: &mut Stack,
     view: &View,
     place: Pos,
-    name: Name,
+    name: &Name,
     argument: NodeId,
 ) -> Result<Option<Mode>, Memory>
-    ensures step { let awaited = super_argument_end_step place name argument nodes.old.all stack.old (seen view.now) in gives result nodes.new.all stack.new awaited ≡ awaited }
+    ensures step { let awaited = super_argument_end_step place name.now argument nodes.old.all stack.old (seen view.now) in gives result nodes.new.all stack.new awaited ≡ awaited }
     ensures kept { nodes.new.kept ≡ nodes.old.kept }
 {
     let View::Sign(sign, _) = view else {
@@ -368,7 +368,7 @@ pub fn super_argument_end_step(
     }
     let id = nodes.put(Node::SuperType {
         place,
-        name,
+        name: *name,
         argument: Some(argument),
     })?;
     Ok(Some(Mode::SuperDone { id }))

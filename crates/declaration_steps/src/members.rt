@@ -23,9 +23,9 @@ pub fn member_named_step(
     flags: Option<NodeId>,
     declared_type: NodeId,
     place: Pos,
-    name: Name,
+    name: &Name,
 ) -> Result<Option<Mode>, Memory>
-    ensures step { let awaited = member_named_step flags declared_type place name nodes.old.all stack.old (seen view.now) in gives result nodes.new.all stack.new awaited ≡ awaited }
+    ensures step { let awaited = member_named_step flags declared_type place name.now nodes.old.all stack.old (seen view.now) in gives result nodes.new.all stack.new awaited ≡ awaited }
     ensures kept { nodes.new.kept ≡ nodes.old.kept }
 {
     let View::Sign(sign, sign_place) = view else {
@@ -34,7 +34,7 @@ pub fn member_named_step(
     if *sign == SEMICOLON {
         let id = nodes.put(Node::Field {
             place,
-            name,
+            name: *name,
             flags,
             declared_type,
             equals: None,
@@ -47,7 +47,7 @@ pub fn member_named_step(
             flags,
             declared_type,
             place,
-            name,
+            name: *name,
             equals: *sign_place,
         })?;
         return Ok(Some(Mode::LiteralStart));
@@ -57,7 +57,7 @@ pub fn member_named_step(
             flags,
             result_type: declared_type,
             place,
-            name,
+            name: *name,
         })?;
         return Ok(Some(Mode::ParametersFirst { place: *sign_place }));
     }
@@ -223,9 +223,9 @@ pub fn method_named_step(
     flags: Option<NodeId>,
     result_type: NodeId,
     place: Pos,
-    name: Name,
+    name: &Name,
 ) -> Result<Option<Mode>, Memory>
-    ensures step { let awaited = method_named_step flags result_type place name nodes.old.all stack.old (seen view.now) in gives result nodes.new.all stack.new awaited ≡ awaited }
+    ensures step { let awaited = method_named_step flags result_type place name.now nodes.old.all stack.old (seen view.now) in gives result nodes.new.all stack.new awaited ≡ awaited }
     ensures kept { nodes.new.kept ≡ nodes.old.kept }
 {
     let View::Sign(sign, sign_place) = view else {
@@ -238,7 +238,7 @@ pub fn method_named_step(
         flags,
         result_type,
         place,
-        name,
+        name: *name,
     })?;
     Ok(Some(Mode::ParametersFirst { place: *sign_place }))
 }

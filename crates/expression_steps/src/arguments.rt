@@ -72,9 +72,9 @@ pub fn new_name_step(
     view: &View,
     place: Pos,
     name_place: Pos,
-    name: Name,
+    name: &Name,
 ) -> Result<Option<Mode>, Memory>
-    ensures step { let awaited = new_name_step place name_place name nodes.old.all stack.old (seen view.now) in gives result nodes.new.all stack.new awaited ≡ awaited }
+    ensures step { let awaited = new_name_step place name_place name.now nodes.old.all stack.old (seen view.now) in gives result nodes.new.all stack.new awaited ≡ awaited }
     ensures kept { nodes.new.kept ≡ nodes.old.kept }
 {
     let View::Sign(sign, _) = view else {
@@ -84,7 +84,7 @@ pub fn new_name_step(
         stack.push(Entry::NewOpen {
             place,
             name_place,
-            name,
+            name: *name,
         })?;
         stack.push(Entry::ArgumentsOpen {
             list: nodes.empty_list(),
@@ -94,7 +94,7 @@ pub fn new_name_step(
     if *sign == LEFT_BRACKET {
         let element = nodes.put(Node::ClassType {
             place: name_place,
-            name,
+            name: *name,
             argument: None,
             is_array: false,
         })?;

@@ -523,18 +523,18 @@ pub fn local_value_ended(
     view: &View,
     place: Pos,
     name_place: Pos,
-    name: Name,
+    name: &Name,
     flags: Option<NodeId>,
     declared_type: NodeId,
     id: NodeId,
 ) -> Result<Option<Mode>, Memory>
-    ensures step { let awaited = ended (LocalValue place name_place name flags declared_type) id nodes.old.all stack.old (seen view.now) in gives result nodes.new.all stack.new awaited ≡ awaited }
+    ensures step { let awaited = ended (LocalValue place name_place name.now flags declared_type) id nodes.old.all stack.old (seen view.now) in gives result nodes.new.all stack.new awaited ≡ awaited }
     ensures kept { nodes.new.kept ≡ nodes.old.kept }
 {
     let id = nodes.put(Node::LocalWithValue {
         place,
         name_place,
-        name,
+        name: *name,
         flags,
         declared_type,
         value: id,
@@ -580,7 +580,7 @@ pub fn ended(
             view,
             place,
             name_place,
-            name,
+            &name,
             flags,
             declared_type,
             id,

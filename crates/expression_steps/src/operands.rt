@@ -95,15 +95,15 @@ pub fn dot_name_step(
     view: &View,
     object: NodeId,
     place: Pos,
-    name: Name,
+    name: &Name,
 ) -> Result<Option<Mode>, Memory>
-    ensures step { let awaited = dot_name_step object place name nodes.old.all stack.old (seen view.now) in gives result nodes.new.all stack.new awaited ≡ awaited }
+    ensures step { let awaited = dot_name_step object place name.now nodes.old.all stack.old (seen view.now) in gives result nodes.new.all stack.new awaited ≡ awaited }
     ensures kept { nodes.new.kept ≡ nodes.old.kept }
 {
     if let View::Sign(LEFT_PARENTHESIS, _) = view {
         stack.push(Entry::CallOpen {
             place,
-            name,
+            name: *name,
             object: Some(object),
         })?;
         stack.push(Entry::ArgumentsOpen {
@@ -113,7 +113,7 @@ pub fn dot_name_step(
     }
     let id = nodes.put(Node::FieldAccess {
         place,
-        name,
+        name: *name,
         object,
     })?;
     post_step(nodes, stack, view, PostKind::Variable, place, id)
@@ -125,15 +125,15 @@ pub fn compound_step(
     nodes: &mut Nodes,
     stack: &mut Stack,
     place: Pos,
-    name: Name,
+    name: &Name,
     sign_place: Pos,
     operator: u8,
 ) -> Result<Option<Mode>, Memory>
-    ensures step { let awaited = compound_step place name sign_place operator nodes.old.all stack.old in gives result nodes.new.all stack.new awaited ≡ awaited }
+    ensures step { let awaited = compound_step place name.now sign_place operator nodes.old.all stack.old in gives result nodes.new.all stack.new awaited ≡ awaited }
     ensures kept { nodes.new.kept ≡ nodes.old.kept }
 {
-    let target = nodes.put(Node::SimpleName { place, name })?;
-    let left = nodes.put(Node::SimpleName { place, name })?;
+    let target = nodes.put(Node::SimpleName { place, name: *name })?;
+    let left = nodes.put(Node::SimpleName { place, name: *name })?;
     stack.push(Entry::CompoundValue {
         place: sign_place,
         operator,
@@ -149,15 +149,15 @@ pub fn stepping_step(
     nodes: &mut Nodes,
     stack: &mut Stack,
     place: Pos,
-    name: Name,
+    name: &Name,
     sign_place: Pos,
     operator: u8,
 ) -> Result<Option<Mode>, Memory>
-    ensures step { let awaited = stepping_step place name sign_place operator nodes.old.all stack.old in gives result nodes.new.all stack.new awaited ≡ awaited }
+    ensures step { let awaited = stepping_step place name.now sign_place operator nodes.old.all stack.old in gives result nodes.new.all stack.new awaited ≡ awaited }
     ensures kept { nodes.new.kept ≡ nodes.old.kept }
 {
-    let target = nodes.put(Node::SimpleName { place, name })?;
-    let left = nodes.put(Node::SimpleName { place, name })?;
+    let target = nodes.put(Node::SimpleName { place, name: *name })?;
+    let left = nodes.put(Node::SimpleName { place, name: *name })?;
     let right = nodes.put(Node::Number {
         place: sign_place,
         value: 1,
@@ -183,11 +183,11 @@ pub fn target_name_step(
     nodes: &mut Nodes,
     stack: &mut Stack,
     place: Pos,
-    name: Name,
+    name: &Name,
     sign: u8,
     sign_place: Pos,
 ) -> Result<Option<Mode>, Memory>
-    ensures step { let awaited = target_name_step place name nodes.old.all stack.old sign sign_place in gives result nodes.new.all stack.new awaited ≡ awaited }
+    ensures step { let awaited = target_name_step place name.now nodes.old.all stack.old sign sign_place in gives result nodes.new.all stack.new awaited ≡ awaited }
     ensures kept { nodes.new.kept ≡ nodes.old.kept }
 {
     if let Some(operator) = compound(sign) {
@@ -197,7 +197,7 @@ pub fn target_name_step(
         return stepping_step(nodes, stack, place, name, sign_place, operator);
     }
     stack.push(Entry::Target)?;
-    let id = nodes.put(Node::SimpleName { place, name })?;
+    let id = nodes.put(Node::SimpleName { place, name: *name })?;
     let view = View::Sign(sign, sign_place);
     post_step(nodes, stack, &view, PostKind::Variable, place, id)
 }
@@ -208,17 +208,17 @@ pub fn name_sign_step(
     nodes: &mut Nodes,
     stack: &mut Stack,
     place: Pos,
-    name: Name,
+    name: &Name,
     sign: u8,
     sign_place: Pos,
 ) -> Result<Option<Mode>, Memory>
-    ensures step { let awaited = name_sign_step place name nodes.old.all stack.old sign sign_place in gives result nodes.new.all stack.new awaited ≡ awaited }
+    ensures step { let awaited = name_sign_step place name.now nodes.old.all stack.old sign sign_place in gives result nodes.new.all stack.new awaited ≡ awaited }
     ensures kept { nodes.new.kept ≡ nodes.old.kept }
 {
     if stack.pop_target() {
         return target_name_step(nodes, stack, place, name, sign, sign_place);
     }
-    let id = nodes.put(Node::SimpleName { place, name })?;
+    let id = nodes.put(Node::SimpleName { place, name: *name })?;
     let view = View::Sign(sign, sign_place);
     post_step(nodes, stack, &view, PostKind::Variable, place, id)
 }
@@ -230,16 +230,16 @@ pub fn name_step(
     stack: &mut Stack,
     view: &View,
     place: Pos,
-    name: Name,
+    name: &Name,
 ) -> Result<Option<Mode>, Memory>
-    ensures step { let awaited = name_step place name nodes.old.all stack.old (seen view.now) in gives result nodes.new.all stack.new awaited ≡ awaited }
+    ensures step { let awaited = name_step place name.now nodes.old.all stack.old (seen view.now) in gives result nodes.new.all stack.new awaited ≡ awaited }
     ensures kept { nodes.new.kept ≡ nodes.old.kept }
 {
     if let View::Sign(sign, sign_place) = view {
         if *sign == LEFT_PARENTHESIS {
             stack.push(Entry::CallOpen {
                 place,
-                name,
+                name: *name,
                 object: None,
             })?;
             stack.push(Entry::ArgumentsOpen {
@@ -249,7 +249,7 @@ pub fn name_step(
         }
         return name_sign_step(nodes, stack, place, name, *sign, *sign_place);
     }
-    let id = nodes.put(Node::SimpleName { place, name })?;
+    let id = nodes.put(Node::SimpleName { place, name: *name })?;
     post_step(nodes, stack, view, PostKind::Variable, place, id)
 }
 
@@ -405,16 +405,16 @@ pub fn opened_name_step(
     view: &View,
     place: Pos,
     name_place: Pos,
-    name: Name,
+    name: &Name,
 ) -> Result<Option<Mode>, Memory>
-    ensures step { let awaited = opened_name_step place name_place name nodes.old.all stack.old (seen view.now) in gives result nodes.new.all stack.new awaited ≡ awaited }
+    ensures step { let awaited = opened_name_step place name_place name.now nodes.old.all stack.old (seen view.now) in gives result nodes.new.all stack.new awaited ≡ awaited }
     ensures kept { nodes.new.kept ≡ nodes.old.kept }
 {
     if let View::Sign(RIGHT_PARENTHESIS, _) = view {
         return Ok(Some(Mode::ClosedName {
             place,
             name_place,
-            name,
+            name: *name,
         }));
     }
     stack.push(Entry::GroupOpen { place })?;
@@ -429,22 +429,22 @@ pub fn closed_name_step(
     view: &View,
     place: Pos,
     name_place: Pos,
-    name: Name,
+    name: &Name,
 ) -> Result<Option<Mode>, Memory>
-    ensures step { let awaited = closed_name_step place name_place name nodes.old.all stack.old (seen view.now) in gives result nodes.new.all stack.new awaited ≡ awaited }
+    ensures step { let awaited = closed_name_step place name_place name.now nodes.old.all stack.old (seen view.now) in gives result nodes.new.all stack.new awaited ≡ awaited }
     ensures kept { nodes.new.kept ≡ nodes.old.kept }
 {
     if is_unary1_start(view) && !stack.is_target() {
         stack.push(Entry::CastOpen {
             place,
             name_place,
-            name,
+            name: *name,
         })?;
         return operand_start(nodes, stack, view);
     }
     let inner = nodes.put(Node::SimpleName {
         place: name_place,
-        name,
+        name: *name,
     })?;
     let id = nodes.put(Node::Parenthesized { place, inner })?;
     post_step(nodes, stack, view, PostKind::Value, place, id)

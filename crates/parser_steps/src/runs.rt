@@ -57,7 +57,7 @@ pub fn read(
     let mut rest = tokens;
     while let [token, others @ ..] = rest {
         let view = view_of(bytes, token);
-        let Some(next) = step_mode(nodes, stack, &view, mode)? else {
+        let Some(next) = step_mode(nodes, stack, &view, &mode)? else {
             return Ok(Outcome::Stopped(token.pos));
         };
         mode = next;

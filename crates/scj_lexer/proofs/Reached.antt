@@ -1,10 +1,10 @@
 -- How far a text is read: what is left lexes, or breaks, as the whole does.
-use Rattle.std.proofs.Common.{◌≡◌, ℕ, zero, suc, ◌+◌, ◌-◌, ◌<◌, ◌≤◌, List, [], ◌∷◌, ◌++◌, length, take, drop, Some, None, Option, refl, ap, sym, subst, ◌∙◌, arith, append_assoc, length-append, ◌==◌, Bool, false, inl, inr}
-use Rattle.std.proofs.lemmas.Bool.{cases_Bool, false≢true}
-use Rattle.std.specs.Prelude.{fold}
+use Rattle.std.proofs.Common.{◌≡◌, ℕ, zero, suc, ◌+◌, ◌-◌, ◌<◌, ◌≤◌, List, [], ◌∷◌, ◌++◌, length, take, drop, Some, None, Option, refl, ap, sym, subst, ◌∙◌, arith, append_assoc, length-append, ◌==◌, Bool, true, false, inl, inr}
+use Rattle.std.proofs.lemmas.Bool.{cases_Bool, cond-true, false≢true}
+use Rattle.std.specs.Prelude.{fold, slice_index}
 use Rattle.std.proofs.lemmas.List.{take_at, drop_at, append-nil, length-take-le}
 use Rattle.std.proofs.lemmas.List.Sums.{fold-append}
-use Rattle.scj_base.specs.Lexeme.{Piece}
+use Rattle.scj_base.specs.Lexeme.{Piece, is_blank}
 use Rattle.scj_base.specs.Lex.{Lexes, Lex, LexBreak, place_at, place_behind, place_behind_byte, place_of}
 use Rattle.scj_base.specs.Lex.Lexes.{ends}
 use Rattle.scj_base.specs.Lex.LexBreak.{here, later}
@@ -103,6 +103,17 @@ reached_break file bytes (b ∷ s) pos tokens rule found l e q t r =
       place = q ∙ r.place ∙ ap (place_behind file) (sym (ap (take (length r.before)) r.whole ∙ take_at r.before (b ∷ s) (length r.before) refl));
       no_tokens = λ more. not_both file [] bytes more found.rule (length r.before) broken_here;
     }
+
+blank_first : (rest : List ℕ) → 0 < length rest → is_blank (slice_index rest 0) ≡ true → first_of rest ≡ Told None 1
+unfolding first_of
+blank_first [] l e = absurd (omega arith)
+blank_first (b ∷ s) l e = cond-true _ _ _ e
+
+-- behind a blank
+pub reached_blank : (file : ℕ) (bytes rest : List ℕ) (pos : Pos) (tokens : List Token) → 0 < length rest → is_blank (slice_index rest 0) ≡ true → Reached file bytes rest pos tokens → Reached file bytes (drop 1 rest) (place_behind_byte pos (slice_index rest 0)) tokens
+reached_blank file bytes [] pos tokens l e r = absurd (omega arith)
+reached_blank file bytes (b ∷ s) pos tokens l e r =
+    subst (λ ts. Reached file bytes (drop 1 (b ∷ s)) (place_behind_byte pos b) ts) (append-nil tokens) (reached_step file bytes (b ∷ s) None 1 pos tokens l (blank_first (b ∷ s) l e) r)
 
 line_one : (p : Pos) (b : ℕ) → (place_behind_byte p b).line ≤ p.line + 1
 unfolding place_behind_byte

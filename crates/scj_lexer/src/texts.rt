@@ -4,7 +4,7 @@ ghost use Rattle.std.specs.Prelude.{◌≡◌, ◌<◌, ◌≤◌, ◌+◌, ◌+
 ghost use Rattle.scj_base.specs.Lex.{Lex, place_behind_byte};
 ghost use Rattle.scj_lexer.specs.Answer.{Tells, token_of};
 
-use crate::classes::is_line_byte;
+use crate::classes::{is_blank, is_line_byte};
 use crate::pieces::{Front, first};
 use scj_base::{Found, Memory, Pos, Token, TokenKind, Tokens};
 use std::alloc::Global;
@@ -46,6 +46,12 @@ pub fn lex(alloc: Global, file: u8, bytes: &[u8]) -> Result<Tokens, LexAnswer>
     };
     let mut rest = bytes;
     while !rest.is_empty() {
+        if is_blank(rest[0]) {
+            pos = behind_byte(pos, rest[0]);
+            let (_blank, others) = rest.split_at(1);
+            rest = others;
+            continue;
+        }
         match first(rest) {
             Front::Bad(rule) => return Err(LexAnswer::Bad(Found { pos, rule })),
             Front::Piece(kind, len) => {

@@ -3,7 +3,8 @@
 ghost use Rattle.std.specs.Prelude.{◌≡◌, ◌∷◌};
 ghost use Rattle.parser_machine.specs.Blocks.{block_ended, first_start, local_ended, local_named_step, name_bracket_step, name_first_step, return_step, statement_sign, statement_start, statement_word, statements_step, target_start, test_open_step};
 ghost use Rattle.parser_machine.specs.Operands.{operand_start};
-ghost use Rattle.parser_machine.specs.declared.entries.Entry.TheVariants.{IndexOpen, Target};
+ghost use Rattle.parser_machine.specs.declared.entries.Entry.TheVariants.{ForHead, IfTest, IndexOpen, Target, WhileTest};
+ghost use Rattle.parser_machine.specs.declared.modes.Mode.TheVariants.{ForFirst, Operand};
 ghost use Rattle.parser_nodes.specs.Told.{gives, seen};
 ghost use Rattle.scj_tree.specs.Lexemes.{a_sign};
 ghost use Rattle.scj_tree.specs.Headers.{put};
@@ -89,24 +90,24 @@ pub fn name_first_sign(
     nodes: &mut Nodes,
     stack: &mut Stack,
     place: Pos,
-    name: Name,
+    name: &Name,
     sign: u8,
     sign_place: Pos,
 ) -> Result<Option<Mode>, Memory>
-    ensures step { let awaited = name_first_step place name nodes.old.all stack.old (a_sign sign sign_place) in gives result nodes.new.all stack.new awaited ≡ awaited }
+    ensures step { let awaited = name_first_step place name.now nodes.old.all stack.old (a_sign sign sign_place) in gives result nodes.new.all stack.new awaited ≡ awaited }
     ensures kept { nodes.new.kept ≡ nodes.old.kept }
 {
     if sign == LESS {
-        if takes_argument(&name) {
+        if takes_argument(name) {
             stack.push(Entry::LocalOpen { flags: None })?;
-            return Ok(Some(Mode::TypeArgumentName { place, name }));
+            return Ok(Some(Mode::TypeArgumentName { place, name: *name }));
         }
         return Ok(None);
     }
     if sign == LEFT_BRACKET {
         return Ok(Some(Mode::NameBracket {
             place,
-            name,
+            name: *name,
             bracket: sign_place,
         }));
     }
@@ -122,16 +123,16 @@ pub fn name_first_step(
     stack: &mut Stack,
     view: &View,
     place: Pos,
-    name: Name,
+    name: &Name,
 ) -> Result<Option<Mode>, Memory>
-    ensures step { let awaited = name_first_step place name nodes.old.all stack.old (seen view.now) in gives result nodes.new.all stack.new awaited ≡ awaited }
+    ensures step { let awaited = name_first_step place name.now nodes.old.all stack.old (seen view.now) in gives result nodes.new.all stack.new awaited ≡ awaited }
     ensures kept { nodes.new.kept ≡ nodes.old.kept }
 {
     match view {
         View::Name(_, _) => {
             let id = nodes.put(Node::ClassType {
                 place,
-                name,
+                name: *name,
                 argument: None,
                 is_array: false,
             })?;
@@ -157,13 +158,13 @@ pub fn name_index(
     stack: &mut Stack,
     view: &View,
     place: Pos,
-    name: Name,
+    name: &Name,
     bracket: Pos,
 ) -> Result<Option<Mode>, Memory>
-    ensures step { let awaited = operand_start (put nodes.old.all (SimpleName place name)) (IndexOpen bracket (length nodes.old.all) ∷ Target ∷ stack.old) (seen view.now) in gives result nodes.new.all stack.new awaited ≡ awaited }
+    ensures step { let awaited = operand_start (put nodes.old.all (SimpleName place name.now)) (IndexOpen bracket (length nodes.old.all) ∷ Target ∷ stack.old) (seen view.now) in gives result nodes.new.all stack.new awaited ≡ awaited }
     ensures kept { nodes.new.kept ≡ nodes.old.kept }
 {
-    let array = nodes.put(Node::SimpleName { place, name })?;
+    let array = nodes.put(Node::SimpleName { place, name: *name })?;
     stack.push(Entry::Target)?;
     stack.push(Entry::IndexOpen {
         place: bracket,
@@ -179,17 +180,17 @@ pub fn name_bracket_step(
     stack: &mut Stack,
     view: &View,
     place: Pos,
-    name: Name,
+    name: &Name,
     bracket: Pos,
 ) -> Result<Option<Mode>, Memory>
-    ensures step { let awaited = name_bracket_step place name bracket nodes.old.all stack.old (seen view.now) in gives result nodes.new.all stack.new awaited ≡ awaited }
+    ensures step { let awaited = name_bracket_step place name.now bracket nodes.old.all stack.old (seen view.now) in gives result nodes.new.all stack.new awaited ≡ awaited }
     ensures kept { nodes.new.kept ≡ nodes.old.kept }
 {
     if let View::Sign(sign, _) = view {
         if *sign == RIGHT_BRACKET {
             let id = nodes.put(Node::ClassType {
                 place,
-                name,
+                name: *name,
                 argument: None,
                 is_array: true,
             })?;
@@ -209,9 +210,9 @@ pub fn local_ended(
     flags: Option<NodeId>,
     declared_type: NodeId,
     place: Pos,
-    name: Name,
+    name: &Name,
 ) -> Result<Option<Mode>, Memory>
-    ensures step { let awaited = local_ended flags declared_type place name nodes.old.all stack.old in gives result nodes.new.all stack.new awaited ≡ awaited }
+    ensures step { let awaited = local_ended flags declared_type place name.now nodes.old.all stack.old in gives result nodes.new.all stack.new awaited ≡ awaited }
     ensures kept { nodes.new.kept ≡ nodes.old.kept }
 {
     let Some(entry) = stack.pop() else {
@@ -221,7 +222,7 @@ pub fn local_ended(
         Entry::Simple => {
             let id = nodes.put(Node::Local {
                 place,
-                name,
+                name: *name,
                 flags,
                 declared_type,
             })?;
@@ -240,9 +241,9 @@ pub fn local_named_step(
     flags: Option<NodeId>,
     declared_type: NodeId,
     place: Pos,
-    name: Name,
+    name: &Name,
 ) -> Result<Option<Mode>, Memory>
-    ensures step { let awaited = local_named_step flags declared_type place name nodes.old.all stack.old (seen view.now) in gives result nodes.new.all stack.new awaited ≡ awaited }
+    ensures step { let awaited = local_named_step flags declared_type place name.now nodes.old.all stack.old (seen view.now) in gives result nodes.new.all stack.new awaited ≡ awaited }
     ensures kept { nodes.new.kept ≡ nodes.old.kept }
 {
     let View::Sign(sign, sign_place) = view else {
@@ -252,7 +253,7 @@ pub fn local_named_step(
         stack.push(Entry::LocalValue {
             place: *sign_place,
             name_place: place,
-            name,
+            name: *name,
             flags,
             declared_type,
         })?;
@@ -266,7 +267,7 @@ pub fn local_named_step(
 
 /// Behind `if`, `while` and `for`.
 #[tactic(auto, unfolding(parser_machine::specs::Blocks::test_open_step))]
-pub fn test_open_step(
+fn test_open_step(
     nodes: &mut Nodes,
     stack: &mut Stack,
     view: &View,
@@ -284,6 +285,51 @@ pub fn test_open_step(
     }
     stack.push(entry)?;
     Ok(Some(mode))
+}
+
+/// Behind `if`.
+pub fn if_open_step(
+    nodes: &mut Nodes,
+    stack: &mut Stack,
+    view: &View,
+    place: Pos,
+) -> Result<Option<Mode>, Memory>
+    ensures step { let awaited = test_open_step Operand (IfTest place) nodes.old.all stack.old (seen view.now) in gives result nodes.new.all stack.new awaited ≡ awaited }
+    ensures kept { nodes.new.kept ≡ nodes.old.kept }
+{
+    test_open_step(nodes, stack, view, Mode::Operand, Entry::IfTest { place })
+}
+
+/// Behind `while`.
+pub fn while_open_step(
+    nodes: &mut Nodes,
+    stack: &mut Stack,
+    view: &View,
+    place: Pos,
+) -> Result<Option<Mode>, Memory>
+    ensures step { let awaited = test_open_step Operand (WhileTest place) nodes.old.all stack.old (seen view.now) in gives result nodes.new.all stack.new awaited ≡ awaited }
+    ensures kept { nodes.new.kept ≡ nodes.old.kept }
+{
+    test_open_step(
+        nodes,
+        stack,
+        view,
+        Mode::Operand,
+        Entry::WhileTest { place },
+    )
+}
+
+/// Behind `for`.
+pub fn for_open_step(
+    nodes: &mut Nodes,
+    stack: &mut Stack,
+    view: &View,
+    place: Pos,
+) -> Result<Option<Mode>, Memory>
+    ensures step { let awaited = test_open_step ForFirst (ForHead place) nodes.old.all stack.old (seen view.now) in gives result nodes.new.all stack.new awaited ≡ awaited }
+    ensures kept { nodes.new.kept ≡ nodes.old.kept }
+{
+    test_open_step(nodes, stack, view, Mode::ForFirst, Entry::ForHead { place })
 }
 
 /// Behind `return`.

@@ -36,7 +36,7 @@ pub fn class_ended(nodes: &mut Nodes, stack: &mut Stack) -> Result<Option<Mode>,
             name,
             header,
             members,
-        } => class_read(nodes, stack, flags, place, name, header, members),
+        } => class_read(nodes, stack, flags, place, &name, header, members),
         _other => Ok(None),
     }
 }
@@ -48,11 +48,11 @@ pub fn class_read(
     stack: &mut Stack,
     flags: Option<NodeId>,
     place: Pos,
-    name: Name,
+    name: &Name,
     header: Option<NodeId>,
     members: NodeList,
 ) -> Result<Option<Mode>, Memory>
-    ensures step { let awaited = class_ended nodes.old.all (ClassBody flags place name header members ∷ stack.old) in gives result nodes.new.all stack.new awaited ≡ awaited }
+    ensures step { let awaited = class_ended nodes.old.all (ClassBody flags place name.now header members ∷ stack.old) in gives result nodes.new.all stack.new awaited ≡ awaited }
     ensures kept { nodes.new.kept ≡ nodes.old.kept }
 {
     let Some(entry) = stack.pop() else {
@@ -62,7 +62,7 @@ pub fn class_read(
         Entry::FileOpen { classes } => {
             let id = nodes.put(Node::Class {
                 place,
-                name,
+                name: *name,
                 flags,
                 header,
                 members,
@@ -140,15 +140,15 @@ pub fn method_ended(
     flags: Option<NodeId>,
     result_type: NodeId,
     place: Pos,
-    name: Name,
+    name: &Name,
     parameters: Option<NodeId>,
 ) -> Result<Option<Mode>, Memory>
-    ensures step { let awaited = statement_ended id nodes.old.all (MethodBody flags result_type place name parameters ∷ stack.old) (seen view.now) in gives result nodes.new.all stack.new awaited ≡ awaited }
+    ensures step { let awaited = statement_ended id nodes.old.all (MethodBody flags result_type place name.now parameters ∷ stack.old) (seen view.now) in gives result nodes.new.all stack.new awaited ≡ awaited }
     ensures kept { nodes.new.kept ≡ nodes.old.kept }
 {
     let id = nodes.put(Node::Method {
         place,
-        name,
+        name: *name,
         flags,
         result_type,
         parameters,
@@ -166,16 +166,16 @@ pub fn constructor_ended(
     id: NodeId,
     flags: Option<NodeId>,
     place: Pos,
-    name: Name,
+    name: &Name,
     parameters: Option<NodeId>,
     super_call: Option<NodeId>,
 ) -> Result<Option<Mode>, Memory>
-    ensures step { let awaited = statement_ended id nodes.old.all (ConstructorBody flags place name parameters super_call ∷ stack.old) (seen view.now) in gives result nodes.new.all stack.new awaited ≡ awaited }
+    ensures step { let awaited = statement_ended id nodes.old.all (ConstructorBody flags place name.now parameters super_call ∷ stack.old) (seen view.now) in gives result nodes.new.all stack.new awaited ≡ awaited }
     ensures kept { nodes.new.kept ≡ nodes.old.kept }
 {
     let id = nodes.put(Node::Constructor {
         place,
-        name,
+        name: *name,
         flags,
         parameters,
         super_call,
@@ -233,7 +233,7 @@ pub fn whole_ended(
             flags,
             result_type,
             place,
-            name,
+            &name,
             parameters,
         ),
         Entry::ConstructorBody {
@@ -243,7 +243,7 @@ pub fn whole_ended(
             parameters,
             super_call,
         } => constructor_ended(
-            nodes, stack, view, id, flags, place, name, parameters, super_call,
+            nodes, stack, view, id, flags, place, &name, parameters, super_call,
         ),
         Entry::IfThen { place, condition } => {
             if is_else(view) {

@@ -126,9 +126,9 @@ pub fn method_body_step(
     flags: Option<NodeId>,
     result_type: NodeId,
     place: Pos,
-    name: Name,
+    name: &Name,
 ) -> Result<Option<Mode>, Memory>
-    ensures step { let awaited = body_step parameters nodes.old.all (MethodOpen flags result_type place name ∷ stack.old) sign sign_place in gives result nodes.new.all stack.new awaited ≡ awaited }
+    ensures step { let awaited = body_step parameters nodes.old.all (MethodOpen flags result_type place name.now ∷ stack.old) sign sign_place in gives result nodes.new.all stack.new awaited ≡ awaited }
     ensures kept { nodes.new.kept ≡ nodes.old.kept }
 {
     if sign == LEFT_BRACE {
@@ -136,7 +136,7 @@ pub fn method_body_step(
             flags,
             result_type,
             place,
-            name,
+            name: *name,
             parameters,
         })?;
         stack.push(Entry::BlockOpen {
@@ -148,7 +148,7 @@ pub fn method_body_step(
     if sign == SEMICOLON {
         let id = nodes.put(Node::Method {
             place,
-            name,
+            name: *name,
             flags,
             result_type,
             parameters,
@@ -189,7 +189,7 @@ pub fn body_step(
             *flags,
             *result_type,
             *place,
-            *name,
+            name,
         ),
         Entry::ConstructorOpen { flags, place, name } => {
             if sign == LEFT_BRACE {

@@ -67,14 +67,17 @@ pub fn type_end_step(
     stack: &mut Stack,
     view: &View,
     place: Pos,
-    element: ElementType,
+    element: &ElementType,
 ) -> Result<Option<Mode>, Memory>
-    ensures step { let awaited = type_end_step place element nodes.old.all stack.old (seen view.now) in gives result nodes.new.all stack.new awaited ≡ awaited }
+    ensures step { let awaited = type_end_step place element.now nodes.old.all stack.old (seen view.now) in gives result nodes.new.all stack.new awaited ≡ awaited }
     ensures kept { nodes.new.kept ≡ nodes.old.kept }
 {
     if let View::Sign(sign, _) = view {
         if *sign == LEFT_BRACKET {
-            return Ok(Some(Mode::TypeBracket { place, element }));
+            return Ok(Some(Mode::TypeBracket {
+                place,
+                element: *element,
+            }));
         }
         return Ok(None);
     }
@@ -89,9 +92,9 @@ pub fn type_bracket_step(
     stack: &mut Stack,
     view: &View,
     place: Pos,
-    element: ElementType,
+    element: &ElementType,
 ) -> Result<Option<Mode>, Memory>
-    ensures step { let awaited = type_bracket_step place element nodes.old.all stack.old (seen view.now) in gives result nodes.new.all stack.new awaited ≡ awaited }
+    ensures step { let awaited = type_bracket_step place element.now nodes.old.all stack.old (seen view.now) in gives result nodes.new.all stack.new awaited ≡ awaited }
     ensures kept { nodes.new.kept ≡ nodes.old.kept }
 {
     let View::Sign(sign, _) = view else {
@@ -110,10 +113,10 @@ pub fn constructor_step(
     nodes: &mut Nodes,
     stack: &mut Stack,
     place: Pos,
-    name: Name,
+    name: &Name,
     parenthesis: Pos,
 ) -> Result<Option<Mode>, Memory>
-    ensures step { let awaited = constructor_step place name parenthesis nodes.old.all stack.old in gives result nodes.new.all stack.new awaited ≡ awaited }
+    ensures step { let awaited = constructor_step place name.now parenthesis nodes.old.all stack.old in gives result nodes.new.all stack.new awaited ≡ awaited }
     ensures kept { nodes.new.kept ≡ nodes.old.kept }
 {
     let Some(entry) = stack.pop() else {
@@ -124,7 +127,7 @@ pub fn constructor_step(
             stack.push(Entry::ConstructorOpen {
                 flags: *flags,
                 place,
-                name,
+                name: *name,
             })?;
             Ok(Some(Mode::ParametersFirst { place: parenthesis }))
         }
@@ -138,16 +141,16 @@ pub fn type_name_sign(
     nodes: &mut Nodes,
     stack: &mut Stack,
     place: Pos,
-    name: Name,
+    name: &Name,
     sign: u8,
     sign_place: Pos,
 ) -> Result<Option<Mode>, Memory>
-    ensures step { let awaited = type_name_step place name nodes.old.all stack.old (a_sign sign sign_place) in gives result nodes.new.all stack.new awaited ≡ awaited }
+    ensures step { let awaited = type_name_step place name.now nodes.old.all stack.old (a_sign sign sign_place) in gives result nodes.new.all stack.new awaited ≡ awaited }
     ensures kept { nodes.new.kept ≡ nodes.old.kept }
 {
     if sign == LESS {
-        if takes_argument(&name) {
-            return Ok(Some(Mode::TypeArgumentName { place, name }));
+        if takes_argument(name) {
+            return Ok(Some(Mode::TypeArgumentName { place, name: *name }));
         }
         return Ok(None);
     }
@@ -155,7 +158,7 @@ pub fn type_name_sign(
         return Ok(Some(Mode::TypeBracket {
             place,
             element: ElementType::Reference {
-                name,
+                name: *name,
                 argument: None,
             },
         }));
@@ -173,9 +176,9 @@ pub fn type_name_step(
     stack: &mut Stack,
     view: &View,
     place: Pos,
-    name: Name,
+    name: &Name,
 ) -> Result<Option<Mode>, Memory>
-    ensures step { let awaited = type_name_step place name nodes.old.all stack.old (seen view.now) in gives result nodes.new.all stack.new awaited ≡ awaited }
+    ensures step { let awaited = type_name_step place name.now nodes.old.all stack.old (seen view.now) in gives result nodes.new.all stack.new awaited ≡ awaited }
     ensures kept { nodes.new.kept ≡ nodes.old.kept }
 {
     if let View::Sign(sign, sign_place) = view {
@@ -183,7 +186,7 @@ pub fn type_name_step(
     }
     let id = nodes.put(Node::ClassType {
         place,
-        name,
+        name: *name,
         argument: None,
         is_array: false,
     })?;
@@ -197,9 +200,9 @@ pub fn type_argument_name_step(
     stack: &mut Stack,
     view: &View,
     place: Pos,
-    name: Name,
+    name: &Name,
 ) -> Result<Option<Mode>, Memory>
-    ensures step { let awaited = type_argument_name_step place name nodes.old.all stack.old (seen view.now) in gives result nodes.new.all stack.new awaited ≡ awaited }
+    ensures step { let awaited = type_argument_name_step place name.now nodes.old.all stack.old (seen view.now) in gives result nodes.new.all stack.new awaited ≡ awaited }
     ensures kept { nodes.new.kept ≡ nodes.old.kept }
 {
     let View::Name(argument, argument_place) = view else {
@@ -211,7 +214,7 @@ pub fn type_argument_name_step(
     })?;
     Ok(Some(Mode::TypeArgumentEnd {
         place,
-        name,
+        name: *name,
         argument,
     }))
 }
@@ -223,10 +226,10 @@ pub fn type_argument_end_step(
     stack: &mut Stack,
     view: &View,
     place: Pos,
-    name: Name,
+    name: &Name,
     argument: NodeId,
 ) -> Result<Option<Mode>, Memory>
-    ensures step { let awaited = type_argument_end_step place name argument nodes.old.all stack.old (seen view.now) in gives result nodes.new.all stack.new awaited ≡ awaited }
+    ensures step { let awaited = type_argument_end_step place name.now argument nodes.old.all stack.old (seen view.now) in gives result nodes.new.all stack.new awaited ≡ awaited }
     ensures kept { nodes.new.kept ≡ nodes.old.kept }
 {
     let View::Sign(sign, _) = view else {
@@ -236,7 +239,7 @@ pub fn type_argument_end_step(
         return Ok(Some(Mode::TypeEnd {
             place,
             element: ElementType::Reference {
-                name,
+                name: *name,
                 argument: Some(argument),
             },
         }));
