@@ -1,5 +1,6 @@
 pub mod BuildingLemmas
 pub mod ConstructorLemmas
+pub mod FieldLemmas
 pub mod FindLemmas
 pub mod MemberLemmas
 pub mod RowLemmas

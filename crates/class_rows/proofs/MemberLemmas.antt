@@ -41,10 +41,6 @@ own_field_is forest class name = go (slice_get (declarations_of forest).written 
         (sym (find_read (field_at forest.nodes) (λ (f : Declared). is_same name f.name) (members_of row.written))
         ∙ ap (find (λ (f : Declared). is_same name f.name)) (sym (row_sound forest class row e).fields ∙ sym (counted_fields (declarations_of forest) class row)))
 
-pub own_field_found : (forest : Forest) (class : ℕ) (name : List ℕ) (o : Option Declared)
-    → o ≡ option_and_then (field_at forest.nodes) (field_among forest.nodes name (members_in (declarations_of forest) class)) → option_map (on_class class) o ≡ own_field (declarations_of forest).classes name class
-own_field_found forest class name o e = ap (option_map (on_class class)) e ∙ own_field_is forest class name
-
 -- ---- methods
 
 abbrev pub on_method : ℕ → DeclaredMethod → FoundMethod
@@ -70,7 +66,7 @@ own_method_written forest class name =
     go (Some row) = ap (λ (ms : List DeclaredMethod). option_map (on_method class) (named_in name ms)) (counted_methods (declarations_of forest) class row)
 
 -- a node that is found declares a method
-declares_some : {A : Type 0} (o : Option A) (test : A → Bool) (d : A) → holds o test ≡ true → Some (unwrap_or o d) ≡ o
+pub declares_some : {A : Type 0} (o : Option A) (test : A → Bool) (d : A) → holds o test ≡ true → Some (unwrap_or o d) ≡ o
 declares_some None test d h = cc
 declares_some (Some a) test d h = refl
 

@@ -4,10 +4,12 @@
 pub mod building;
 pub mod chains;
 pub mod classes;
+pub mod fields;
 pub mod lookups;
 pub mod tables;
 
 pub use classes::Classes;
+pub use fields::FieldRef;
 pub use tables::ClassTable;
 
 #[cfg(test)]

@@ -1,19 +1,18 @@
 //! Whether a class stands under another, and look-ups of members by name.
 
-ghost use Rattle.std.specs.Prelude.{◌≡◌, ◌<◌, ◌≤◌, option_map, option_and_then};
+ghost use Rattle.std.specs.Prelude.{◌≡◌, ◌<◌, ◌≤◌, option_map};
 ghost use Rattle.scj_rules.specs.Words.{is_among};
 ghost use Rattle.scj_rules.specs.Classes.{superclasses, all_interfaces, is_sub, own_field, field_named, own_method, method_named, method_above, framework_row_named, field_number, method_number};
-ghost use Rattle.scj_rules.specs.Views.{field_at};
 ghost use Rattle.scj_rules.specs.Contexts.{declarations_of};
 ghost use Rattle.method_rows.specs.Methods.{found_method};
+ghost use Rattle.class_rows.specs.Fields.{found_field};
 ghost use Rattle.class_rows.specs.Tables.{field_among, method_among, members_in};
 
 use crate::classes::Classes;
+use crate::fields::FieldRef;
 use class_headers::{MemberKey, NameKey};
 use method_rows::{MethodRef, MethodSource, framework_method};
-use node_views::field_at;
 use scj_base::{ClassId, FieldId, MethodId, Name, NodeId};
-use scj_rules::{Declared, FoundField};
 
 impl<'a> Classes<'a> {
     /// Whether a class is the other one or stands under it by superclasses.
@@ -61,21 +60,12 @@ impl<'a> Classes<'a> {
         self.table.fields.get(&key).copied()
     }
 
-    /// What is declared of the first field of a name in a class.
-    fn field_declared(&self, class: ClassId, name: &Name) -> Option<Declared>
-        ensures { result ≡ option_and_then (field_at self.now.nodes) (field_among self.now.nodes name.now (members_in (declarations_of self.now) class)) }
-    {
-        let node = self.field_node(class, name)?;
-        field_at(self.program, node)
-    }
-
     /// The first field of a name that a class declares itself.
-    #[tactic(auto, using(crate::proofs::MemberLemmas::own_field_is))]
-    pub fn own_field(&self, class: ClassId, name: &Name) -> Option<FoundField>
-        ensures { result ≡ own_field (declarations_of self.now).classes name.now class }
+    pub fn own_field(&self, class: ClassId, name: &Name) -> Option<FieldRef>
+        ensures { option_map (found_field self.now.nodes) result ≡ own_field (declarations_of self.now).classes name.now class }
     {
-        match self.field_declared(class, name) {
-            Some(field) => Some(FoundField { on: class, field }),
+        match self.field_node(class, name) {
+            Some(node) => Some(FieldRef { on: class, node }),
             None => None,
         }
     }
@@ -132,8 +122,8 @@ impl<'a> Classes<'a> {
 
     /// The field of a name that a class has, its own or the nearest above.
     #[tactic(auto, using(crate::proofs::WalkLemmas::along_found, crate::proofs::WalkLemmas::along_next, crate::proofs::WalkLemmas::along_end), unfolding(scj_rules::specs::Classes::field_named))]
-    pub fn field_named(&self, class: ClassId, name: &Name) -> Option<FoundField>
-        ensures { result ≡ field_named (declarations_of self.now).classes class name.now }
+    pub fn field_named(&self, class: ClassId, name: &Name) -> Option<FieldRef>
+        ensures { option_map (found_field self.now.nodes) result ≡ field_named (declarations_of self.now).classes class name.now }
     {
         let mut chain = self.superclasses(class);
         while let Some(at) = chain.next() {

@@ -3,12 +3,14 @@
 ghost use Rattle.std.specs.Prelude.{◌≡◌, ◌+◌, IfOk, None};
 ghost use Rattle.scj_tree.specs.Recursion.{told};
 ghost use Rattle.scj_rules.specs.Contexts.{declarations_of};
+ghost use Rattle.class_rows.specs.Fields.{found_field};
 ghost use Rattle.node_bindings.specs.Arrays.{array_class_at};
 ghost use Rattle.scj_rules.specs.Bindings.{array_class, field_binding, class_binding, access_binding, second_class};
 
-use class_rows::Classes;
+use class_rows::fields::is_static_field;
+use class_rows::{Classes, FieldRef};
 use scj_base::{ClassId, Memory, Name, NodeId};
-use scj_rules::{Binding, Declared, Receiver, Ty};
+use scj_rules::{Binding, Receiver, Ty};
 use type_rules::Known;
 use type_rules::names::{accessed_field, told};
 use type_words::{class_of_type, is_array_value, is_length};
@@ -34,13 +36,13 @@ pub fn class_binding(class: Option<ClassId>) -> Binding
 }
 
 /// A field, by its number.
-#[tactic(auto, unfolding(scj_rules::specs::Bindings::field_binding))]
-pub fn field_binding(classes: &Classes<'_>, field: &Declared) -> Binding
-    ensures { result ≡ field_binding (declarations_of classes.now) field.now }
+#[tactic(auto, using(class_rows::proofs::FieldLemmas::node_of_found), unfolding(scj_rules::specs::Bindings::field_binding))]
+pub fn field_binding(classes: &Classes<'_>, field: &FieldRef) -> Binding
+    ensures { result ≡ field_binding (declarations_of classes.now) (found_field classes.now.nodes field.now).field }
 {
     match classes.field_number(field.node) {
         Some(number) => {
-            if field.modifiers.is_static {
+            if is_static_field(classes.program(), field) {
                 Binding::Static(number)
             } else {
                 Binding::Field(number)
@@ -59,7 +61,7 @@ pub fn access_binding(known: &Known<'_>, receiver: &Receiver, name: &Name) -> Bi
         return Binding::Length;
     }
     match accessed_field(known, receiver, name) {
-        Some(found) => field_binding(known.classes(), &found.field),
+        Some(field) => field_binding(known.classes(), &field),
         None => Binding::Plain,
     }
 }

@@ -7,6 +7,7 @@ ghost use Rattle.scj_rules.specs.Contexts.{declarations_of, contexts_in, context
 ghost use Rattle.scj_rules.specs.Types.{array_of, meaning};
 ghost use Rattle.scj_rules.specs.TypeRules.{written_type};
 ghost use Rattle.scj_rules.specs.Bindings.{array_class, class_binding, meaning_binding, binding_of, binding_at};
+ghost use Rattle.type_rules.specs.Meanings.{meant};
 ghost use Rattle.node_bindings.specs.Numbers.{numbers_before};
 ghost use Rattle.node_bindings.specs.Kinds.{field_here, access_at, new_binding, new_array};
 
@@ -15,33 +16,33 @@ use crate::fields::{access_binding, array_class, class_binding, field_binding};
 use crate::numbers::variable_binding;
 use node_contexts::Contexts;
 use scj_base::{ClassId, Memory, Name, NodeId};
-use scj_rules::{Binding, Meaning, Receiver, Ty};
+use scj_rules::{Binding, Receiver, Ty};
 use scj_tree::Node;
-use type_rules::Known;
 use type_rules::forms::is_form_part;
 use type_rules::names::{accessed_field, meaning, receiver, written_type};
+use type_rules::{Known, NameMeaning};
 use type_words::array_of;
 
 /// What a name stands for.
-#[tactic(auto, unfolding(scj_rules::specs::Bindings::meaning_binding))]
+#[tactic(auto, unfolding(type_rules::specs::Meanings::meant, scj_rules::specs::Bindings::meaning_binding))]
 fn meaning_binding(
     known: &Known<'_>,
     contexts: &Contexts,
     numbers: &[u32],
     id: NodeId,
-    meaning: &Meaning,
+    meaning: &NameMeaning,
 ) -> Result<Binding, Memory>
     requires contexts { contexts.now ≡ contexts_in known.now }
     requires numbers { numbers.now ≡ numbers_before (declarations_of known.now) }
-    ensures { IfOk result (λ b. b ≡ meaning_binding (declarations_of known.now) id meaning.now) }
+    ensures { IfOk result (λ b. b ≡ meaning_binding (declarations_of known.now) id (meant known.now.nodes meaning.now)) }
 {
     match meaning {
-        Meaning::Variable(variable) => {
+        NameMeaning::Variable(variable) => {
             variable_binding(known.program(), contexts, numbers, id, *variable)
         }
-        Meaning::Field(found) => Ok(field_binding(known.classes(), &found.field)),
-        Meaning::Class(class) => Ok(Binding::Class(*class)),
-        Meaning::Nothing => Ok(Binding::Plain),
+        NameMeaning::Field(field) => Ok(field_binding(known.classes(), field)),
+        NameMeaning::Class(class) => Ok(Binding::Class(*class)),
+        NameMeaning::Nothing => Ok(Binding::Plain),
     }
 }
 
@@ -79,7 +80,7 @@ fn field_here(known: &Known<'_>, id: NodeId, name: &Name) -> Binding
         return Binding::Plain;
     };
     match accessed_field(known, &Receiver::Class(class), name) {
-        Some(found) => field_binding(known.classes(), &found.field),
+        Some(field) => field_binding(known.classes(), &field),
         None => Binding::Plain,
     }
 }

@@ -2,6 +2,7 @@
 
 ghost use Rattle.std.specs.Prelude.{◌≡◌, ◌++◌, ◌||◌, ◌&&◌, not, is_some, IfOk, OnOk};
 ghost use Rattle.scj_rules.specs.ClassRules.{c11, has_class_words, has_method_words};
+ghost use Rattle.scj_rules.specs.Views.{modifiers_at};
 ghost use Rattle.scj_rules.specs.Contexts.{contexts_in, context, declarations_of};
 ghost use Rattle.node_rules.specs.Misplaced.{on_class, on_field, on_method, on_constructor, on_variable};
 
@@ -12,7 +13,7 @@ use node_contexts::Contexts;
 use node_views::modifiers_at;
 use scj_base::{Found, Memory, Name, NodeId, Rule};
 use scj_rules::{Modifiers, note};
-use scj_tree::Node;
+use scj_tree::{Node, Program};
 
 /// Whether words stand there that a method alone can have.
 fn has_method_words(m: &Modifiers) -> bool
@@ -89,6 +90,57 @@ fn on_constructor(
     !has_name(classes, context.class, name)
 }
 
+/// Whether what stands before a class holds a word that can't.
+fn is_off_class(program: &Program, flags: Option<NodeId>) -> bool
+    ensures { result ≡ on_class (modifiers_at program.now.nodes flags) }
+{
+    on_class(&modifiers_at(program, flags))
+}
+
+/// Whether what stands before a field holds a word that can't.
+fn is_off_field(program: &Program, flags: Option<NodeId>) -> bool
+    ensures { result ≡ on_field (modifiers_at program.now.nodes flags) }
+{
+    on_field(&modifiers_at(program, flags))
+}
+
+/// Whether what stands before a parameter or a local holds a word that can't.
+fn is_off_variable(program: &Program, flags: Option<NodeId>) -> bool
+    ensures { result ≡ on_variable (modifiers_at program.now.nodes flags) }
+{
+    on_variable(&modifiers_at(program, flags))
+}
+
+/// Whether what stands before a method holds a word that can't.
+fn is_off_method(
+    classes: &Classes<'_>,
+    contexts: &Contexts,
+    id: NodeId,
+    name: &Name,
+    flags: Option<NodeId>,
+) -> Result<bool, Memory>
+    requires { contexts.now ≡ contexts_in classes.now }
+    ensures { IfOk result (λ is_wrong. is_wrong ≡ on_method (declarations_of classes.now) id name.now (modifiers_at classes.now.nodes flags)) }
+{
+    let modifiers = modifiers_at(classes.program(), flags);
+    on_method(classes, contexts, id, name, &modifiers)
+}
+
+/// Whether what stands before a constructor holds a word that can't, or its name is another than the class's.
+fn is_off_constructor(
+    classes: &Classes<'_>,
+    contexts: &Contexts,
+    id: NodeId,
+    name: &Name,
+    flags: Option<NodeId>,
+) -> bool
+    requires { contexts.now ≡ contexts_in classes.now }
+    ensures { result ≡ on_constructor (declarations_of classes.now) id name.now (modifiers_at classes.now.nodes flags) }
+{
+    let modifiers = modifiers_at(classes.program(), flags);
+    on_constructor(classes, contexts, id, name, &modifiers)
+}
+
 /// Notes an annotation or a modifier that stands where it can't, and a constructor with another name than its class.
 #[tactic(auto, unfolding(scj_rules::specs::ClassRules::c11, scj_rules::specs::Contexts::declarations_of))]
 pub fn note_c11(
@@ -104,11 +156,11 @@ pub fn note_c11(
     let program = classes.program();
     match node {
         Node::Class { place, flags, .. } => {
-            let is_wrong = on_class(&modifiers_at(program, *flags));
+            let is_wrong = is_off_class(program, *flags);
             note(found, is_wrong, Rule::C11, *place)
         }
         Node::Field { place, flags, .. } => {
-            let is_wrong = on_field(&modifiers_at(program, *flags));
+            let is_wrong = is_off_field(program, *flags);
             note(found, is_wrong, Rule::C11, *place)
         }
         Node::Method {
@@ -117,7 +169,7 @@ pub fn note_c11(
             flags,
             ..
         } => {
-            let is_wrong = on_method(classes, contexts, id, name, &modifiers_at(program, *flags))?;
+            let is_wrong = is_off_method(classes, contexts, id, name, *flags)?;
             note(found, is_wrong, Rule::C11, *place)
         }
         Node::Constructor {
@@ -126,21 +178,15 @@ pub fn note_c11(
             flags,
             ..
         } => {
-            let is_wrong = on_constructor(
-                classes,
-                contexts,
-                id,
-                name,
-                &modifiers_at(program, *flags),
-            );
+            let is_wrong = is_off_constructor(classes, contexts, id, name, *flags);
             note(found, is_wrong, Rule::C11, *place)
         }
         Node::Parameter { place, flags, .. } => {
-            let is_wrong = on_variable(&modifiers_at(program, *flags));
+            let is_wrong = is_off_variable(program, *flags);
             note(found, is_wrong, Rule::C11, *place)
         }
         Node::Local { place, flags, .. } => {
-            let is_wrong = on_variable(&modifiers_at(program, *flags));
+            let is_wrong = is_off_variable(program, *flags);
             note(found, is_wrong, Rule::C11, *place)
         }
         Node::LocalWithValue {
@@ -148,7 +194,7 @@ pub fn note_c11(
             flags,
             ..
         } => {
-            let is_wrong = on_variable(&modifiers_at(program, *flags));
+            let is_wrong = is_off_variable(program, *flags);
             note(found, is_wrong, Rule::C11, *name_place)
         }
         _ => Ok(()),

@@ -14,6 +14,7 @@ ghost use Rattle.scj_rules.specs.UseRules.{this_at, current_at, result_scope_at}
 ghost use Rattle.method_rows.specs.Methods.{found_method};
 ghost use Rattle.type_rules.specs.Parameters.{taken};
 
+use class_rows::fields::found_field;
 use method_rows::{MethodRef, MethodSource};
 use node_views::is_method;
 use scj_base::{ClassId, Name, NodeId, ScopeId};
@@ -22,6 +23,7 @@ use scj_tree::Program;
 use static_scopes::Scoped;
 use std::marker::Model;
 use type_rules::arguments::{Takes, constructor_parameters};
+use type_rules::meanings::told_meaning;
 use type_rules::{Known, names};
 
 /// A program with its classes, its scopes and the contexts of its nodes. A contract sees the program.
@@ -193,7 +195,8 @@ impl<'a> Uses<'a> {
     pub fn meaning(&self, id: NodeId, name: &Name) -> Meaning
         ensures { result ≡ meaning (declarations_of self.now) id name.now }
     {
-        names::meaning(&self.known, id, name)
+        let meaning = names::meaning(&self.known, id, name);
+        told_meaning(self.known.program(), &meaning)
     }
 
     /// What stands before a dot.
@@ -219,7 +222,10 @@ impl<'a> Uses<'a> {
     pub fn accessed_field(&self, receiver: &Receiver, name: &Name) -> Option<FoundField>
         ensures { result ≡ accessed_field (declarations_of self.now) receiver.now name.now }
     {
-        names::accessed_field(&self.known, receiver, name)
+        match names::accessed_field(&self.known, receiver, name) {
+            Some(field) => Some(found_field(self.known.program(), &field)),
+            None => None,
+        }
     }
 
     /// The method of a name that a receiver has.

@@ -22,6 +22,7 @@ use static_scopes::{Runs, Scoped};
 use std::alloc::Global;
 use type_check::{Types, check_known_types};
 use type_rules::Known;
+use type_rules::names::meanings_of;
 use type_words::returning;
 
 /// What the phases leave of a program.
@@ -34,7 +35,7 @@ pub enum Judgement {
 }
 
 /// Judges a program, phase after phase. What several phases ask is made once: the contexts of the nodes, those that
-/// always return, and where methods run.
+/// always return, what names stand for, and where methods run.
 pub fn judge(alloc: Global, program: &Program) -> Result<Judgement, Memory>
     ensures { IfOk result (λ judgement. IsJudgement program.now judgement) }
 {
@@ -59,6 +60,8 @@ fn judge_types(
 {
     let returns = returning(alloc, program)?;
     let known = Known::new(Classes::new(program, table), contexts, &returns);
+    let meanings = meanings_of(alloc, &known)?;
+    let known = known.with_meanings(&meanings);
     let (types, found) = check_known_types(alloc, &known, contexts)?;
     if found.len() > 0 {
         return Ok(Judgement::Broken(found));

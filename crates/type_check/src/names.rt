@@ -11,9 +11,9 @@ use scj_base::{Found, Memory, Name, NodeId, Pos};
 use scj_rules::Ty;
 use type_rules::Known;
 use type_rules::expressions::note_name;
+use type_rules::meanings::is_instance_field;
 use type_rules::names::{meaning, told};
 use type_rules::results::type_of_meaning;
-use type_words::is_instance_field;
 
 /// The type of a simple name that breaks no rule.
 #[tactic(auto, unfolding(crate::specs::Passes::type_of_right_name))]
@@ -21,7 +21,7 @@ pub fn type_of_name(known: &Known<'_>, id: NodeId, name: &Name) -> Option<Ty>
     ensures { result ≡ type_of_right_name (declarations_of known.now) id name.now }
 {
     let meaning = meaning(known, id, name);
-    if is_instance_field(&meaning) && !known.has_object(id) {
+    if is_instance_field(known.program(), &meaning) && !known.has_object(id) {
         return None;
     }
     type_of_meaning(known, &meaning)

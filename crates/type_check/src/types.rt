@@ -19,7 +19,7 @@ use scj_tree::Program;
 use std::alloc::Global;
 use std::marker::Model;
 use type_rules::Known;
-use type_rules::names::told;
+use type_rules::names::{meanings_of, told};
 use type_words::returning;
 
 /// The types of the nodes of a program, and what these stand for. A contract sees two lists.
@@ -96,5 +96,7 @@ pub fn check_types(
     let contexts = Contexts::of(alloc, program)?;
     let returns = returning(alloc, program)?;
     let known = Known::new(Classes::new(program, table), &contexts, &returns);
+    let meanings = meanings_of(alloc, &known)?;
+    let known = known.with_meanings(&meanings);
     check_known_types(alloc, &known, &contexts)
 }

@@ -1,4 +1,5 @@
 pub mod Forms
 pub mod Kinds
 pub mod KnownFacts
+pub mod Meanings
 pub mod Parameters

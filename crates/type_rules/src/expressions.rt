@@ -13,14 +13,16 @@ ghost use Rattle.scj_rules.specs.TypeRules.{element_class, are_related, lacks_fi
 ghost use Rattle.type_rules.specs.Kinds.{binary_breaks, unary_breaks, element_breaks, array_breaks, cast_breaks, name_breaks, this_breaks, access_breaks, lacks_this_field};
 
 use crate::known::Known;
+use crate::meanings::{is_instance_field, stands_for_nothing};
 use crate::names::{accessed_field, assigns, binary_type, meaning, receiver, told};
+use class_rows::fields::is_static_field;
 use scj_base::{ClassId, Found, Memory, Name, NodeId, Pos, Rule};
 use scj_builtins::ClassKind;
 use scj_rules::{Receiver, Ty, note};
 use scj_tree::Node;
 use type_words::{
-    are_same, is_array, is_array_value, is_instance_field, is_length, is_no_reference,
-    is_reference, is_value, names_class, stands_for_nothing, unary_type,
+    are_same, is_array, is_array_value, is_length, is_no_reference, is_reference, is_value,
+    names_class, unary_type,
 };
 
 /// Whether both operands have types that don't fit.
@@ -194,7 +196,7 @@ pub fn note_name(
 {
     let meaning = meaning(known, id, name);
     note(found, stands_for_nothing(&meaning), Rule::T1, place)?;
-    let lacks_object = is_instance_field(&meaning) && !known.has_object(id);
+    let lacks_object = is_instance_field(known.program(), &meaning) && !known.has_object(id);
     note(found, lacks_object, Rule::T13, place)?;
     Ok(())
 }
@@ -230,7 +232,7 @@ fn lacks_field(known: &Known<'_>, receiver: &Receiver, name: &Name) -> bool
         return false;
     }
     match accessed_field(known, receiver, name) {
-        Some(found) => is_value(receiver) && found.field.modifiers.is_static,
+        Some(field) => is_value(receiver) && is_static_field(known.program(), &field),
         None => true,
     }
 }
@@ -243,7 +245,7 @@ fn lacks_this_field(known: &Known<'_>, id: NodeId, receiver: &Receiver, name: &N
         return false;
     }
     match accessed_field(known, receiver, name) {
-        Some(found) => !found.field.modifiers.is_static,
+        Some(field) => !is_static_field(known.program(), &field),
         None => false,
     }
 }

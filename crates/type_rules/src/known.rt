@@ -1,30 +1,44 @@
 //! What is told of a program before its types are.
 
-ghost use Rattle.std.specs.Prelude.{◌≡◌, slice_get, option_map, option_and_then};
+ghost use Rattle.std.specs.Prelude.{◌≡◌, slice_get, option_map, option_and_then, IfSome};
 ghost use Rattle.scj_rules.specs.Classes.{ClassRow, class_number, superclass_in, all_interfaces, framework_row_named};
 ghost use Rattle.scj_rules.specs.Contexts.{declarations_of, contexts_in, context, variable_named, has_object};
-ghost use Rattle.scj_rules.specs.Types.{constructor_in};
+ghost use Rattle.scj_rules.specs.Types.{constructor_in, meaning};
 ghost use Rattle.scj_rules.specs.Views.{constructor_at};
 ghost use Rattle.scj_rules.specs.TypeRules.{result_at, always_returns};
 ghost use Rattle.scj_rules.specs.Words.{is_among};
 ghost use Rattle.method_rows.specs.Methods.{found_method};
 ghost use Rattle.type_words.specs.Returns.{all_returns};
+ghost use Rattle.type_rules.specs.Meanings.{meant, IsMeaningAt, AreMeanings};
 
+use crate::meanings::NameMeaning;
 use class_rows::Classes;
 use method_rows::MethodRef;
 use node_contexts::Contexts;
 use scj_base::{ClassId, Name, NodeId};
 use scj_builtins::ClassKind;
 use scj_rules::{Context, WrittenType};
-use scj_tree::Program;
+use scj_tree::{Node, Program};
 use std::marker::Model;
 
-/// A program with its classes, the contexts of its nodes and those that always return. A contract sees the program.
+/// The row of a node, if there is one.
+fn row_at(rows: &[NameMeaning], id: NodeId) -> Option<NameMeaning>
+    ensures { result ≡ slice_get rows.now id }
+{
+    match rows.get(id.place()) {
+        Some(row) => Some(*row),
+        None => None,
+    }
+}
+
+/// A program with its classes, the contexts of its nodes, those that always return, and what names stand for as far as
+/// that is told. A contract sees the program.
 #[derive(Drop)]
 pub struct Known<'a> {
     pub(crate) classes: Classes<'a>,
     contexts: &'a Contexts,
     returns: &'a [bool],
+    meanings: &'a [NameMeaning],
 }
 
 impl<'a> Model for Known<'a> {
@@ -36,7 +50,7 @@ impl<'a> Model for Known<'a> {
 
     ghost view = { λ a. a.classes };
 
-    ghost invariant = { λ a. IsKnownOf a.classes a.contexts.now a.returns.now };
+    ghost invariant = { λ a. IsKnownOf a.classes a.contexts.now a.returns.now a.meanings.now };
 }
 
 impl<'a> Known<'a> {
@@ -50,6 +64,43 @@ impl<'a> Known<'a> {
             classes,
             contexts,
             returns,
+            meanings: &[],
+        }
+    }
+
+    /// The same, with what the names of the first nodes stand for, so that it needn't be looked up.
+    pub fn with_meanings(self, meanings: &'a [NameMeaning]) -> Known<'a>
+        requires { AreMeanings self meanings.now }
+        ensures { result ≡ self.entry }
+    {
+        Known {
+            classes: self.classes,
+            contexts: self.contexts,
+            returns: self.returns,
+            meanings,
+        }
+    }
+
+    /// The row of a node, where it is told.
+    fn meaning_row(&self, id: NodeId) -> Option<NameMeaning>
+        ensures { IfSome result (λ row. IsMeaningAt self.now id row) }
+    {
+        row_at(self.meanings, id)
+    }
+
+    /// What the name stands for at a node, where that is told.
+    pub fn told_meaning(&self, id: NodeId, name: &Name) -> Option<NameMeaning>
+        ensures { IfSome result (λ row. meant self.now.nodes row ≡ meaning (declarations_of self.now) id name.now) }
+    {
+        match self.program().get(id)? {
+            Node::SimpleName { name: written, .. } => {
+                if *written == *name {
+                    self.meaning_row(id)
+                } else {
+                    None
+                }
+            }
+            _ => None,
         }
     }
 

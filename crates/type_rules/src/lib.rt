@@ -6,8 +6,10 @@ pub mod calls;
 pub mod expressions;
 pub mod forms;
 pub mod known;
+pub mod meanings;
 pub mod names;
 pub mod results;
 pub mod statements;
 
 pub use known::Known;
+pub use meanings::NameMeaning;

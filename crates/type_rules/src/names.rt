@@ -1,6 +1,6 @@
 //! What names, accesses and calls mean, and which types fit.
 
-ghost use Rattle.std.specs.Prelude.{◌≡◌, ◌&&◌, ◌||◌, [], ◌∷◌, None, option_and_then, option_map};
+ghost use Rattle.std.specs.Prelude.{◌≡◌, ◌&&◌, ◌||◌, [], ◌∷◌, None, option_and_then, option_map, IfOk};
 ghost use Rattle.scj_base.specs.Vocabulary.{sign_equal, sign_not_equal, sign_less, sign_greater, sign_less_equal, sign_greater_equal, sign_and_and, sign_or_or};
 ghost use Rattle.scj_tree.specs.Recursion.{told};
 ghost use Rattle.scj_rules.specs.Definitions.{read};
@@ -10,17 +10,22 @@ ghost use Rattle.scj_rules.specs.Contexts.{declarations_of, context};
 ghost use Rattle.scj_rules.specs.Types.{type_written, assigns, binary_type, is_int, is_boolean, is_reference, meaning, class_meaning, class_at_name, receiver, call_receiver, accessed_field, called_method, is_size_method, is_callable};
 ghost use Rattle.scj_rules.specs.TypeRules.{written_type};
 ghost use Rattle.method_rows.specs.Methods.{found_method};
+ghost use Rattle.class_rows.specs.Fields.{found_field};
+ghost use Rattle.type_rules.specs.Meanings.{meant, IsMeaningAt, AreMeanings};
 
 use crate::known::Known;
+use crate::meanings::{NameMeaning, class_in};
+use class_rows::FieldRef;
 use method_rows::{MethodRef, declared, is_callable_row};
 use node_views::type_at;
 use scj_base::vocabulary::{
     AND_AND, EQUAL, GREATER, GREATER_EQUAL, LESS, LESS_EQUAL, NOT_EQUAL, OR_OR,
 };
-use scj_base::{ClassId, Name, NodeId};
-use scj_rules::{FoundField, Meaning, Receiver, Ty, WrittenType};
+use scj_base::{ClassId, Memory, Name, NodeId};
+use scj_rules::{Receiver, Ty, WrittenType};
 use scj_tree::Node;
-use type_words::{are_same, class_in, class_of_receiver, is_long, is_reference};
+use std::alloc::Global;
+use type_words::{are_same, class_of_receiver, is_long, is_reference};
 
 /// The type of a node, among those that are told.
 pub fn told(types: &[Option<Ty>], id: NodeId) -> Option<Ty>
@@ -154,39 +159,70 @@ pub fn binary_type(known: &Known<'_>, operator: u8, a: &Ty, b: &Ty) -> Option<Ty
 }
 
 /// The field of a name that the class has in which a node stands.
-fn field_here(known: &Known<'_>, id: NodeId, name: &Name) -> Option<FoundField>
-    ensures { result ≡ option_and_then (λ class. field_named (declarations_of known.now).classes class name.now) (context (declarations_of known.now) id).class }
+fn field_here(known: &Known<'_>, id: NodeId, name: &Name) -> Option<FieldRef>
+    ensures { option_map (found_field known.now.nodes) result ≡ option_and_then (λ class. field_named (declarations_of known.now).classes class name.now) (context (declarations_of known.now) id).class }
 {
     let class = known.context(id).class?;
     known.classes.field_named(class, name)
 }
 
 /// What a name stands for that is no variable and no field.
-#[tactic(auto, unfolding(scj_rules::specs::Types::class_meaning))]
-fn class_meaning(known: &Known<'_>, id: NodeId, name: &Name) -> Meaning
-    ensures { result ≡ class_meaning (declarations_of known.now) id name.now }
+#[tactic(auto, unfolding(crate::specs::Meanings::meant, scj_rules::specs::Types::class_meaning))]
+fn class_meaning(known: &Known<'_>, id: NodeId, name: &Name) -> NameMeaning
+    ensures { meant known.now.nodes result ≡ class_meaning (declarations_of known.now) id name.now }
 {
     if !known.context(id).before_dot {
-        return Meaning::Nothing;
+        return NameMeaning::Nothing;
     }
     match known.class_of(name) {
-        Some(class) => Meaning::Class(class),
-        None => Meaning::Nothing,
+        Some(class) => NameMeaning::Class(class),
+        None => NameMeaning::Nothing,
+    }
+}
+
+/// What a name stands for at a node, looked up.
+#[tactic(auto, unfolding(crate::specs::Meanings::meant, scj_rules::specs::Types::meaning))]
+fn looked_up(known: &Known<'_>, id: NodeId, name: &Name) -> NameMeaning
+    ensures { meant known.now.nodes result ≡ meaning (declarations_of known.now) id name.now }
+{
+    if let Some(variable) = known.variable_named(id, name) {
+        return NameMeaning::Variable(variable);
+    }
+    match field_here(known, id, name) {
+        Some(field) => NameMeaning::Field(field),
+        None => class_meaning(known, id, name),
     }
 }
 
 /// What a name stands for at a node (JLS 6.5).
-#[tactic(auto, unfolding(scj_rules::specs::Types::meaning))]
-pub fn meaning(known: &Known<'_>, id: NodeId, name: &Name) -> Meaning
-    ensures { result ≡ meaning (declarations_of known.now) id name.now }
+pub fn meaning(known: &Known<'_>, id: NodeId, name: &Name) -> NameMeaning
+    ensures { meant known.now.nodes result ≡ meaning (declarations_of known.now) id name.now }
 {
-    if let Some(variable) = known.variable_named(id, name) {
-        return Meaning::Variable(variable);
+    match known.told_meaning(id, name) {
+        Some(told) => told,
+        None => looked_up(known, id, name),
     }
-    match field_here(known, id, name) {
-        Some(field) => Meaning::Field(field),
-        None => class_meaning(known, id, name),
+}
+
+/// What the name stands for at a node, if that is one.
+fn meaning_at(known: &Known<'_>, id: NodeId) -> NameMeaning
+    ensures { IsMeaningAt known.now id result }
+{
+    match known.program().get(id) {
+        Some(Node::SimpleName { name, .. }) => looked_up(known, id, name),
+        _ => NameMeaning::Nothing,
     }
+}
+
+/// What the names of all nodes stand for, in time that grows with their number and that of the variables around them.
+pub fn meanings_of(alloc: Global, known: &Known<'_>) -> Result<Vec<NameMeaning>, Memory>
+    ensures { IfOk result (λ rows. AreMeanings known.now rows.items) }
+{
+    let mut rows = Vec::new(alloc);
+    for place in 0..known.program().len() {
+        rows.push(meaning_at(known, NodeId::at(place as u32)))?;
+    }
+    Ok(rows)
 }
 
 /// The class that a node names, where it is a simple name that stands for a class.
@@ -234,8 +270,8 @@ pub fn call_receiver(
 }
 
 /// The field of a name that a receiver has.
-pub fn accessed_field(known: &Known<'_>, receiver: &Receiver, name: &Name) -> Option<FoundField>
-    ensures { result ≡ accessed_field (declarations_of known.now) receiver.now name.now }
+pub fn accessed_field(known: &Known<'_>, receiver: &Receiver, name: &Name) -> Option<FieldRef>
+    ensures { option_map (found_field known.now.nodes) result ≡ accessed_field (declarations_of known.now) receiver.now name.now }
 {
     let class = class_of_receiver(receiver)?;
     known.classes.field_named(class, name)

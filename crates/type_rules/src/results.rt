@@ -1,40 +1,47 @@
 //! The types of what names, accesses and calls stand for.
 
-ghost use Rattle.std.specs.Prelude.{◌≡◌, option_and_then};
+ghost use Rattle.std.specs.Prelude.{◌≡◌, option_and_then, option_map};
 ghost use Rattle.scj_rules.specs.declared.typing.FoundField.{FoundField as Row};
 ghost use Rattle.scj_rules.specs.Types.{type_written};
 ghost use Rattle.scj_rules.specs.Contexts.{declarations_of};
 ghost use Rattle.scj_rules.specs.TypeRules.{type_of_meaning, access_type, call_type};
+ghost use Rattle.method_rows.specs.Methods.{found_method};
+ghost use Rattle.class_rows.specs.Fields.{found_field};
+ghost use Rattle.type_rules.specs.Meanings.{meant};
 
 use crate::known::Known;
+use crate::meanings::NameMeaning;
 use crate::names::{accessed_field, called_method, type_written};
-use method_rows::declared;
-use node_views::variable_type;
+use class_rows::FieldRef;
+use class_rows::fields::field_type as written_of;
+use method_rows::{MethodRef, MethodSource, declared};
+use node_views::{result_type, variable_type};
 use scj_base::Name;
-use scj_rules::{FoundField, Meaning, Receiver, Ty};
+use scj_rules::{Receiver, Ty, WrittenType};
+use scj_tree::Program;
 use type_words::{is_array_value, is_length};
 
 /// The type of what a name stands for.
-#[tactic(auto, unfolding(scj_rules::specs::TypeRules::type_of_meaning, scj_rules::specs::Contexts::declarations_of))]
-pub fn type_of_meaning(known: &Known<'_>, meaning: &Meaning) -> Option<Ty>
-    ensures { result ≡ type_of_meaning (declarations_of known.now) meaning.now }
+#[tactic(auto, unfolding(crate::specs::Meanings::meant, scj_rules::specs::TypeRules::type_of_meaning, scj_rules::specs::Contexts::declarations_of))]
+pub fn type_of_meaning(known: &Known<'_>, meaning: &NameMeaning) -> Option<Ty>
+    ensures { result ≡ type_of_meaning (declarations_of known.now) (meant known.now.nodes meaning.now) }
 {
     match meaning {
-        Meaning::Variable(variable) => match variable_type(known.program(), *variable) {
+        NameMeaning::Variable(variable) => match variable_type(known.program(), *variable) {
             Some(declared_type) => type_written(known, &declared_type),
             None => None,
         },
-        Meaning::Field(found) => type_written(known, &found.field.declared_type),
-        Meaning::Class(_) | Meaning::Nothing => None,
+        NameMeaning::Field(field) => type_written(known, &written_of(known.program(), field)),
+        NameMeaning::Class(_) | NameMeaning::Nothing => None,
     }
 }
 
 /// The type of a field, if there is one.
-fn field_type(known: &Known<'_>, found: &Option<FoundField>) -> Option<Ty>
-    ensures { result ≡ option_and_then (λ (f : Row). type_written (declarations_of known.now).names f.field.declared_type) found.now }
+fn field_type(known: &Known<'_>, found: &Option<FieldRef>) -> Option<Ty>
+    ensures { result ≡ option_and_then (λ (f : Row). type_written (declarations_of known.now).names f.field.declared_type) (option_map (found_field known.now.nodes) found.now) }
 {
     match found {
-        Some(found) => type_written(known, &found.field.declared_type),
+        Some(field) => type_written(known, &written_of(known.program(), field)),
         None => None,
     }
 }
@@ -50,13 +57,26 @@ pub fn access_type(known: &Known<'_>, receiver: &Receiver, name: &Name) -> Optio
     field_type(known, &accessed_field(known, receiver, name))
 }
 
+/// The type of a method's result, as it is written.
+#[tactic(auto, unfolding(method_rows::specs::Methods::found_method, method_rows::specs::Methods::method_from))]
+fn result_written(program: &Program, method: &MethodRef) -> WrittenType
+    ensures { result ≡ (found_method program.now.nodes method.now).method.declared.declared_type }
+{
+    if let MethodSource::Declared(node) = method.source {
+        if let Some(written) = result_type(program, node) {
+            return written;
+        }
+    }
+    declared(program, method).declared_type
+}
+
 /// The type of a call: the method's result.
 #[tactic(auto, unfolding(scj_rules::specs::TypeRules::call_type))]
 pub fn call_type(known: &Known<'_>, receiver: &Receiver, name: &Name) -> Option<Ty>
     ensures { result ≡ call_type (declarations_of known.now) receiver.now name.now }
 {
     match called_method(known, receiver, name) {
-        Some(method) => type_written(known, &declared(known.program(), &method).declared_type),
+        Some(method) => type_written(known, &result_written(known.program(), &method)),
         None => None,
     }
 }

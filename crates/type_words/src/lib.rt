@@ -8,8 +8,7 @@ mod types;
 
 pub use bodies::{is_long, is_size_body, is_void, result_at};
 pub use receivers::{
-    class_in, class_of_receiver, is_array_value, is_instance_field, is_length, is_no_reference,
-    is_value, names_class, stands_for_nothing,
+    class_of_receiver, is_array_value, is_length, is_no_reference, is_value, names_class,
 };
 pub use returns::{always_returns, returning};
 pub use types::{

@@ -1,42 +1,11 @@
-//! What a name stands for, and what an access or a call is asked of.
+//! What an access or a call is asked of.
 
 ghost use Rattle.std.specs.Prelude.{◌≡◌};
-ghost use Rattle.scj_rules.specs.Types.{class_in, class_of_receiver, names_class, is_value, type_of_receiver, is_no_reference, is_array_value, is_length};
-ghost use Rattle.scj_rules.specs.TypeRules.{stands_for_nothing, is_instance_field};
+ghost use Rattle.scj_rules.specs.Types.{class_of_receiver, names_class, is_value, type_of_receiver, is_no_reference, is_array_value, is_length};
 
 use crate::types::{is_array, is_reference};
 use scj_base::{ClassId, Name};
-use scj_rules::{Meaning, Receiver, Ty};
-
-/// The class that a name stands for.
-#[tactic(auto, unfolding(scj_rules::specs::Types::class_in))]
-pub fn class_in(meaning: &Meaning) -> Option<ClassId>
-    ensures { result ≡ class_in meaning.now }
-{
-    match meaning {
-        Meaning::Class(class) => Some(*class),
-        _ => None,
-    }
-}
-
-/// Whether a name stands for nothing.
-#[tactic(auto, unfolding(scj_rules::specs::TypeRules::stands_for_nothing))]
-pub fn stands_for_nothing(meaning: &Meaning) -> bool
-    ensures { result ≡ stands_for_nothing meaning.now }
-{
-    matches!(meaning, Meaning::Nothing)
-}
-
-/// Whether a name stands for an instance field.
-#[tactic(auto, unfolding(scj_rules::specs::TypeRules::is_instance_field))]
-pub fn is_instance_field(meaning: &Meaning) -> bool
-    ensures { result ≡ is_instance_field meaning.now }
-{
-    match meaning {
-        Meaning::Field(found) => !found.field.modifiers.is_static,
-        _ => false,
-    }
-}
+use scj_rules::{Receiver, Ty};
 
 /// The class whose members a receiver has.
 #[tactic(auto, unfolding(scj_rules::specs::Types::class_of_receiver))]

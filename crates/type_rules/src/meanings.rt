@@ -1,0 +1,69 @@
+//! What a simple name stands for, as a row that is copied.
+
+ghost use Rattle.std.specs.Prelude.{◌≡◌, List};
+ghost use Rattle.scj_tree.specs.declared.nodes.Node.{Node as Row};
+ghost use Rattle.scj_rules.specs.Types.{class_in};
+ghost use Rattle.scj_rules.specs.TypeRules.{stands_for_nothing, is_instance_field};
+ghost use Rattle.type_rules.specs.Meanings.{meant};
+
+use class_rows::FieldRef;
+use class_rows::fields::{found_field, is_static_field};
+use scj_base::{ClassId, NodeId};
+use scj_rules::Meaning;
+use scj_tree::Program;
+
+/// What a name stands for where it stands alone (JLS 6.5).
+#[derive(Clone, Copy, Debug)]
+pub enum NameMeaning {
+    /// The local or parameter that this node declares.
+    Variable(NodeId),
+    /// A field.
+    Field(FieldRef),
+    /// A class, directly before a dot.
+    Class(ClassId),
+    /// Nothing.
+    Nothing,
+}
+
+/// The class that a name stands for.
+#[tactic(auto, unfolding(crate::specs::Meanings::meant, scj_rules::specs::Types::class_in))]
+pub fn class_in(meaning: &NameMeaning) -> Option<ClassId>
+    ensures { (nodes : List Row) → result ≡ class_in (meant nodes meaning.now) }
+{
+    match meaning {
+        NameMeaning::Class(class) => Some(*class),
+        _ => None,
+    }
+}
+
+/// Whether a name stands for nothing.
+#[tactic(auto, unfolding(crate::specs::Meanings::meant, scj_rules::specs::TypeRules::stands_for_nothing))]
+pub fn stands_for_nothing(meaning: &NameMeaning) -> bool
+    ensures { (nodes : List Row) → result ≡ stands_for_nothing (meant nodes meaning.now) }
+{
+    matches!(meaning, NameMeaning::Nothing)
+}
+
+/// Whether a name stands for an instance field.
+#[tactic(auto, unfolding(crate::specs::Meanings::meant, scj_rules::specs::TypeRules::is_instance_field))]
+pub fn is_instance_field(program: &Program, meaning: &NameMeaning) -> bool
+    ensures { result ≡ is_instance_field (meant program.now.nodes meaning.now) }
+{
+    match meaning {
+        NameMeaning::Field(field) => !is_static_field(program, field),
+        _ => false,
+    }
+}
+
+/// What a name stands for, with all that is declared of it.
+#[tactic(auto, unfolding(crate::specs::Meanings::meant))]
+pub fn told_meaning(program: &Program, meaning: &NameMeaning) -> Meaning
+    ensures { result ≡ meant program.now.nodes meaning.now }
+{
+    match meaning {
+        NameMeaning::Variable(variable) => Meaning::Variable(*variable),
+        NameMeaning::Field(field) => Meaning::Field(found_field(program, field)),
+        NameMeaning::Class(class) => Meaning::Class(*class),
+        NameMeaning::Nothing => Meaning::Nothing,
+    }
+}
