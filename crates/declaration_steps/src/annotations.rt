@@ -119,7 +119,7 @@ pub fn at_step(
     };
     match &entry {
         Entry::AnnotationOpen { is_local, flags } => annotation_named(
-            nodes, stack, place, name, *is_local, *flags,
+            nodes, stack, place, *name, *is_local, *flags,
         ),
         _ => Ok(None),
     }

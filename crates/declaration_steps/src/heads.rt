@@ -36,7 +36,7 @@ pub fn class_name_step(
     stack.push(Entry::ClassOpen {
         flags,
         place: *place,
-        name: *name,
+        name: **name,
     })?;
     Ok(Some(Mode::ClassNamed))
 }
@@ -131,7 +131,7 @@ pub fn super_name_step(
     };
     Ok(Some(Mode::SuperNamed {
         place: *place,
-        name: *name,
+        name: **name,
     }))
 }
 
@@ -338,7 +338,7 @@ pub fn super_argument_name_step(
     };
     let argument = nodes.put(Node::TypeArgument {
         place: *argument_place,
-        name: *argument,
+        name: **argument,
     })?;
     Ok(Some(Mode::SuperArgumentEnd {
         place,

@@ -210,7 +210,7 @@ pub fn result_step(
         flags,
         result_type,
         place: *place,
-        name: *name,
+        name: **name,
     }))
 }
 

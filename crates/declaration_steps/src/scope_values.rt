@@ -210,12 +210,12 @@ pub fn value_start_step(
             Ok(Some(Mode::ValueRead { id }))
         }
         View::Name(name, place) => {
-            if is_word(name, b"Scope") {
+            if is_word(*name, b"Scope") {
                 return Ok(Some(Mode::ValueScope { place: *place }));
             }
             let id = nodes.put(Node::ScopeName {
                 place: *place,
-                name: *name,
+                name: **name,
             })?;
             Ok(Some(Mode::ValueRead { id }))
         }
@@ -261,7 +261,7 @@ pub fn value_dot_step(
     let View::Name(name, _) = view else {
         return Ok(None);
     };
-    let id = nodes.put(Node::ScopeName { place, name: *name })?;
+    let id = nodes.put(Node::ScopeName { place, name: **name })?;
     Ok(Some(Mode::ValueRead { id }))
 }
 
@@ -299,13 +299,13 @@ pub fn define_name_step(
     let View::Name(name, _) = view else {
         return Ok(None);
     };
-    if is_word(name, b"name") {
+    if is_word(*name, b"name") {
         return Ok(Some(Mode::DefineAssign {
             place,
             parent_first: false,
         }));
     }
-    if is_word(name, b"parent") {
+    if is_word(*name, b"parent") {
         return Ok(Some(Mode::DefineAssign {
             place,
             parent_first: true,
@@ -356,9 +356,9 @@ pub fn define_other_step(
         return Ok(None);
     };
     let is_other = if parent_first {
-        is_word(name, b"name")
+        is_word(*name, b"name")
     } else {
-        is_word(name, b"parent")
+        is_word(*name, b"parent")
     };
     if is_other {
         return Ok(Some(Mode::DefineOtherAssign {

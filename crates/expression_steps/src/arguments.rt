@@ -57,7 +57,7 @@ pub fn new_step(
         View::Name(name, name_place) => Ok(Some(Mode::NewName {
             place,
             name_place: *name_place,
-            name: *name,
+            name: **name,
         })),
         View::Word(word, word_place) => new_word(nodes, stack, *word, place, *word_place),
         _ => Ok(None),

@@ -83,7 +83,7 @@ pub fn dot_step(
     Ok(Some(Mode::DotName {
         object,
         place: *place,
-        name: *name,
+        name: **name,
     }))
 }
 
@@ -322,7 +322,7 @@ pub fn operand_start(
     match view {
         View::Name(name, place) => Ok(Some(Mode::NameRead {
             place: *place,
-            name: *name,
+            name: **name,
         })),
         View::Word(word, place) => operand_word(nodes, stack, *word, *place),
         View::Number(value, place) => {
@@ -390,7 +390,7 @@ pub fn opened_step(
         return Ok(Some(Mode::OpenedName {
             place,
             name_place: *name_place,
-            name: *name,
+            name: **name,
         }));
     }
     stack.push(Entry::GroupOpen { place })?;

@@ -21,7 +21,7 @@ gives (Err e) N s awaited = awaited
 
 -- the lexeme that is seen
 abbrev pub seen : View → Lexeme
-seen (Name w p) = a_name w p
+seen (Name w p) = a_name w.now p
 seen (Word n p) = a_word n p
 seen (Number n p) = a_number n p
 seen (Text w p) = a_text w.now p

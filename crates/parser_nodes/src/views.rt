@@ -6,7 +6,7 @@ use scj_base::{Name, Pos};
 #[derive(Clone, Copy, Debug)]
 pub enum View<'a> {
     /// A name.
-    Name(Name, Pos),
+    Name(&'a Name, Pos),
     /// A reserved word, by its number.
     Word(u8, Pos),
     /// A number, by its value.

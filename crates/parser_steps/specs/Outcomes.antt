@@ -7,7 +7,7 @@ use Rattle.scj_base.specs.declared.errors.Memory.{Memory}
 use Rattle.scj_base.specs.declared.lexemes.Token.{Token}
 use Rattle.scj_base.specs.declared.lexemes.TokenKind.TheVariants.{Name, Word, Number, Text, Sign, End}
 use Rattle.scj_base.specs.declared.places.Pos.{Pos}
-use Rattle.scj_tree.specs.Lexemes.{Lexeme, place_of_lexeme}
+use Rattle.scj_tree.specs.Lexemes.{Lexeme, part_of, place_of_lexeme}
 use Rattle.scj_tree.specs.declared.nodes.Node.{Node}
 use Rattle.parser_steps.specs.declared.runs.Outcome.{Outcome}
 use Rattle.parser_steps.specs.declared.runs.Outcome.TheVariants.{Ended, Stopped}
@@ -26,6 +26,17 @@ abbrev pub leads : Result Outcome Memory → List Node → List Entry → Way �
 leads (Ok (Ended mode)) N s awaited = to (at mode s N)
 leads (Ok (Stopped p)) N s awaited = up_to p
 leads (Err e) N s awaited = awaited
+
+-- the name that a token is; a token of another kind is none
+unfoldable pub name_in : List ℕ → Token → List ℕ
+name_in bytes token = elim token.kind [
+  | Name ↦ part_of bytes token.start token.len
+  | Word n ↦ []
+  | Number n ↦ []
+  | Text ↦ []
+  | Sign n ↦ []
+  | End ↦ []
+]
 
 -- the bytes of a token lie in the file, and those of a name fit into a name
 unfoldable pub Fits : List ℕ → Token → Type 0

@@ -3,7 +3,7 @@
 ghost use Rattle.std.specs.Prelude.{◌≡◌};
 ghost use Rattle.parser_machine.specs.States.{at};
 ghost use Rattle.parser_machine.specs.declared.modes.Mode.TheVariants.{FileStart};
-ghost use Rattle.parser_steps.specs.Outcomes.{way, leads, Fits, AllFit};
+ghost use Rattle.parser_steps.specs.Outcomes.{way, leads, name_in, Fits, AllFit};
 ghost use Rattle.parser_nodes.specs.Told.{seen};
 ghost use Rattle.scj_tree.specs.Lexemes.{lexeme_of, lexemes_of};
 
@@ -23,16 +23,30 @@ pub enum Outcome {
     Stopped(Pos),
 }
 
-/// The lexeme of a token.
-#[tactic(auto, unfolding(crate::specs::Outcomes::Fits, scj_tree::specs::Lexemes::lexeme_of, scj_tree::specs::Lexemes::part_of))]
-fn view_of<'a>(bytes: &'a [u8], token: &Token) -> View<'a>
+/// The name that a token is; of another kind the name without a byte.
+#[tactic(auto, unfolding(crate::specs::Outcomes::Fits, crate::specs::Outcomes::name_in, scj_tree::specs::Lexemes::part_of))]
+fn name_of(bytes: &[u8], token: &Token) -> Name
     requires { Fits bytes.now token.now }
+    ensures { result ≡ name_in bytes.now token.now }
+{
+    let start = token.start as usize;
+    match token.kind {
+        TokenKind::Name => Name::new(&bytes[start..start + token.len as usize]),
+        _ => Name::new(b""),
+    }
+}
+
+/// The lexeme of a token, with the name that it is.
+#[tactic(auto, unfolding(crate::specs::Outcomes::Fits, crate::specs::Outcomes::name_in, scj_tree::specs::Lexemes::lexeme_of, scj_tree::specs::Lexemes::part_of))]
+fn view_of<'a>(bytes: &'a [u8], token: &Token, name: &'a Name) -> View<'a>
+    requires fits { Fits bytes.now token.now }
+    requires named { name.now ≡ name_in bytes.now token.now }
     ensures { seen result ≡ lexeme_of bytes.now token.now }
 {
     let start = token.start as usize;
     let end = start + token.len as usize;
     match token.kind {
-        TokenKind::Name => View::Name(Name::new(&bytes[start..end]), token.pos),
+        TokenKind::Name => View::Name(name, token.pos),
         TokenKind::Word(word) => View::Word(word, token.pos),
         TokenKind::Number(value) => View::Number(value, token.pos),
         TokenKind::Text => View::Text(&bytes[start + 1..end - 1], token.pos),
@@ -56,7 +70,8 @@ pub fn read(
     let mut mode = Mode::FileStart;
     let mut rest = tokens;
     while let [token, others @ ..] = rest {
-        let view = view_of(bytes, token);
+        let name = name_of(bytes, token);
+        let view = view_of(bytes, token, &name);
         let Some(next) = step_mode(nodes, stack, &view, &mode)? else {
             return Ok(Outcome::Stopped(token.pos));
         };

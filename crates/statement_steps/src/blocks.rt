@@ -61,7 +61,7 @@ pub fn first_start(
     match view {
         View::Name(name, place) => Ok(Some(Mode::NameFirst {
             place: *place,
-            name: *name,
+            name: **name,
         })),
         View::Word(word, place) => {
             if *word == INT {

@@ -39,12 +39,12 @@ pub fn typed(
             flags: *flags,
             declared_type: id,
             place: *place,
-            name: *name,
+            name: **name,
         })),
         Entry::ParameterOpen { flags } => {
             let id = nodes.put(Node::Parameter {
                 place: *place,
-                name: *name,
+                name: **name,
                 flags: *flags,
                 declared_type: id,
             })?;
@@ -54,7 +54,7 @@ pub fn typed(
             flags: *flags,
             declared_type: id,
             place: *place,
-            name: *name,
+            name: **name,
         })),
         _ => Ok(None),
     }
@@ -210,7 +210,7 @@ pub fn type_argument_name_step(
     };
     let argument = nodes.put(Node::TypeArgument {
         place: *argument_place,
-        name: *argument,
+        name: **argument,
     })?;
     Ok(Some(Mode::TypeArgumentEnd {
         place,
@@ -256,7 +256,7 @@ pub fn type_start(nodes: &mut Nodes, stack: &mut Stack, view: &View) -> Result<O
     match view {
         View::Name(name, place) => Ok(Some(Mode::TypeName {
             place: *place,
-            name: *name,
+            name: **name,
         })),
         View::Word(INT, place) => Ok(Some(Mode::TypeEnd {
             place: *place,
