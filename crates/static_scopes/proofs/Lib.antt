@@ -1,2 +1,3 @@
 pub mod RunLemmas
 pub mod SafeletLemmas
+pub mod ThingLemmas

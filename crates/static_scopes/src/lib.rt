@@ -4,6 +4,7 @@
 mod framework;
 mod methods;
 mod names;
+mod plain;
 pub mod runs;
 pub mod scoped;
 mod things;

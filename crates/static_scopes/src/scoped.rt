@@ -11,7 +11,9 @@ ghost use Rattle.scj_rules.specs.StaticScopes.{this_in, runs_in, current_in, thi
 ghost use Rattle.scj_rules.specs.AnnotationRules.{variable_thing_at, result_scope};
 ghost use Rattle.scj_rules.specs.UseRules.{this_at, current_at};
 
+use crate::plain::has_plain_type;
 use crate::runs::{Runs, run_in_table};
+use crate::things::has_no_scope;
 use crate::{methods, names, things};
 use method_rows::{MethodRef, MethodSource};
 use node_contexts::{Contexts, is_static_member};
@@ -183,10 +185,13 @@ impl<'a> Scoped<'a> {
     }
 
     /// The scope of a method's parameter.
-    #[tactic(auto, unfolding(method_rows::specs::Methods::found_method))]
+    #[tactic(auto, unfolding(method_rows::specs::Methods::found_method), using(crate::proofs::ThingLemmas::parameter_without_scope))]
     pub fn parameter_scope(&self, method: &MethodRef, parameter: &Declared) -> Option<Scope>
         ensures { result ≡ parameter_scope (declarations_of self.now) (found_method self.now.nodes method.now).on (found_method self.now.nodes method.now).method parameter.now }
     {
+        if has_no_scope(&parameter.declared_type) {
+            return None;
+        }
         let declared = methods::declared_of(&self.scopes, method);
         let modifiers = declared.modifiers;
         let current = self.runs_in(method);
@@ -195,9 +200,13 @@ impl<'a> Scoped<'a> {
     }
 
     /// The scope of a parameter of a class's constructor.
+    #[tactic(auto, using(crate::proofs::ThingLemmas::parameter_without_scope))]
     pub fn constructor_parameter_scope(&self, class: ClassId, parameter: &Declared) -> Option<Scope>
         ensures { result ≡ constructor_parameter_scope (declarations_of self.now) class parameter.now }
     {
+        if has_no_scope(&parameter.declared_type) {
+            return None;
+        }
         let current = self.this_in(class);
         let thing = things::variable_thing(class, &current, false, parameter);
         things::thing_scope(&self.scopes, &thing)
@@ -243,9 +252,13 @@ impl<'a> Scoped<'a> {
     }
 
     /// The scope of the parameter or local that a node declares.
+    #[tactic(auto, using(crate::proofs::ThingLemmas::variable_without_scope))]
     pub fn variable_scope(&self, id: NodeId) -> Option<Scope>
         ensures { result ≡ option_and_then (thing_scope (declarations_of self.now)) (variable_thing_at (declarations_of self.now) id) }
     {
+        if has_plain_type(self.program(), id) {
+            return None;
+        }
         match &self.variable_thing_at(id) {
             Some(thing) => self.thing_scope(thing),
             None => None,
