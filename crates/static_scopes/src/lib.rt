@@ -1,6 +1,7 @@
 //! Static scopes: where the objects lie that classes, methods, variables and fields speak of.
 #![tactic(auto)]
 
+mod bare;
 mod framework;
 mod methods;
 mod names;
