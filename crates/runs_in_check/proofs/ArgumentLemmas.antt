@@ -1,5 +1,5 @@
 -- Arguments in turn, each with the parameter of its number.
-use Rattle.std.proofs.Common.{◌≡◌, ◌+◌, ◌<◌, ◌≤◌, ◌++◌, ℕ, zero, suc, List, [], ◌∷◌, length, drop, get_or, Option, slice_get, refl, sym, ap, ◌∙◌, arith, append-nil, append_assoc}
+use Rattle.std.proofs.Common.{◌≡◌, ◌+◌, ◌<◌, ◌≤◌, ◌++◌, ℕ, zero, suc, List, [], ◌∷◌, length, drop, get_or, Option, None, Some, false, slice_get, refl, sym, ap, ◌∙◌, arith, append-nil, append_assoc}
 use Rattle.std.proofs.lemmas.List.{drop_all, drop_more}
 use Rattle.scj_base.specs.declared.findings.Found.{Found}
 use Rattle.scj_tree.specs.Forest.{Forest}
@@ -7,7 +7,13 @@ use Rattle.scj_rules.specs.declared.typing.Scope.{Scope}
 use Rattle.scj_rules.specs.declared.views.Declared.{Declared}
 use Rattle.scj_rules.specs.Contexts.{declarations_of}
 use Rattle.scj_rules.specs.UseRules.{Scopes, misfit_arguments}
-use Rattle.runs_in_check.specs.Callees.{argument_breaks}
+use Rattle.runs_in_check.specs.Callees.{misfits_parameter, argument_breaks}
+
+-- a value that has no scope fits
+pub none_misfits : (seen : Declared → Option Scope) (o : Option Declared) → misfits_parameter seen o None ≡ false
+unfolding misfits_parameter
+none_misfits seen None = refl
+none_misfits seen (Some d) = refl
 
 module _ (forest : Forest) (scopes : Scopes) (seen : Declared → Option Scope) where
   drop_here : (ids : List ℕ) (i id : ℕ) → i < length ids → id ≡ get_or ids i id → drop i ids ≡ id ∷ drop (i + 1) ids
@@ -20,7 +26,7 @@ module _ (forest : Forest) (scopes : Scopes) (seen : Declared → Option Scope) 
 
   step : (ds : List Declared) (i id : ℕ) (rest : List ℕ)
       → misfit_arguments (declarations_of forest) scopes seen (drop i ds) (id ∷ rest) ≡ argument_breaks forest scopes seen (slice_get ds i) id ++ misfit_arguments (declarations_of forest) scopes seen (drop (suc i) ds) rest
-  unfolding misfit_arguments argument_breaks declarations_of
+  unfolding misfit_arguments misfits_parameter declarations_of
   step [] i id rest = no_parameters_here i
     where
       no_parameters_here : (i : ℕ) → misfit_arguments (declarations_of forest) scopes seen (drop i []) (id ∷ rest) ≡ misfit_arguments (declarations_of forest) scopes seen (drop (suc i) []) rest

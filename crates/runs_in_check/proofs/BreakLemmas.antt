@@ -1,19 +1,22 @@
 -- What is broken at each kind of use.
-use Rattle.std.proofs.Common.{◌≡◌, ◌++◌, ℕ, List, [], ◌∷◌, Option, None, Some, if◌then◌else◌, is_some, option_and_then, refl, ap, append-nil}
+use Rattle.std.proofs.Common.{◌≡◌, ◌++◌, ℕ, Bool, true, false, List, [], ◌∷◌, Option, None, Some, if◌then◌else◌, is_some, option_and_then, refl, sym, ap, append-nil}
+use Rattle.std.proofs.lemmas.Bool.{true≢false}
 use Rattle.scj_base.specs.declared.findings.Found.{Found}
+use Rattle.scj_base.specs.declared.findings.Rule.{Rule}
 use Rattle.scj_base.specs.declared.findings.Rule.TheVariants.{E1, E2, E4, E6, E7, E8, E9, E10}
 use Rattle.scj_base.specs.declared.places.Pos.{Pos}
 use Rattle.scj_tree.specs.declared.nodes.Node.{Node}
 use Rattle.scj_tree.specs.declared.nodes.Node.TheVariants.{SuperCall, LocalWithValue, Assign, Return, Cast, Call, New, NewArray}
 use Rattle.scj_tree.specs.Forest.{Forest}
 use Rattle.scj_rules.specs.declared.typing.Scope.{Scope}
+use Rattle.scj_rules.specs.Definitions.{read}
 use Rattle.scj_rules.specs.Words.{broken, holds}
 use Rattle.scj_rules.specs.Classes.{FoundMethod}
 use Rattle.scj_rules.specs.Contexts.{Declarations, declarations_of}
 use Rattle.scj_rules.specs.TypeRules.{Types, written_type}
 use Rattle.scj_rules.specs.StaticScopes.{thing_scope}
 use Rattle.scj_rules.specs.AnnotationRules.{variable_thing_at}
-use Rattle.scj_rules.specs.UseRules.{Scopes, current_at, receiver_scope, misfit_scope, e3_of_call, e3_of_constructor, result_scope_at, misfits_element, e1, e2, e3, e4_and_e5, e6, e7, e8, e9, e10, use_breaks}
+use Rattle.scj_rules.specs.UseRules.{Scopes, current_at, receiver_scope, misfit_scope, e3_of_call, e3_of_constructor, target_rule, result_scope_at, misfits_element, e1, e2, e3, e4_and_e5, e6, e7, e8, e9, e10, use_breaks}
 use Rattle.runs_in_check.specs.declared.arguments.Called.TheVariants.{Constructor}
 use Rattle.runs_in_check.specs.Callees.{parameters_of, declared_scope, arguments_breaks}
 use Rattle.runs_in_check.specs.Parts.{lies_elsewhere, misfits_new, made_breaks, new_breaks, super_breaks, method_called, misfits_call, user_call_breaks, enters_wrong, executes_wrong, built_in_breaks, call_breaks, called_breaks, assign_breaks, return_breaks, lies_off, misfits_cast, of_user}
@@ -23,6 +26,16 @@ pub constructor_arguments : (forest : Forest) (scopes : Scopes) (object : Option
     ≡ e3_of_constructor (declarations_of forest) scopes object arguments class
 unfolding parameters_of declared_scope e3_of_constructor
 constructor_arguments forest scopes object arguments class = refl
+
+-- an assignment of a value that fits breaks nothing
+pub right_assign : (p : Declarations) (scopes : Scopes) (place : Pos) (target value : ℕ) → false ≡ misfit_scope (scopes value) (scopes target) → assign_breaks p scopes place target value ≡ []
+unfolding assign_breaks
+right_assign p scopes place target value h = go (read p.nodes (target_rule p target) target) (misfit_scope (scopes value) (scopes target)) h
+  where
+    go : (o : Option Rule) (b : Bool) → false ≡ b → elim o as (λ _. List Found) [ None ↦ [] | Some rule ↦ broken b rule place ] ≡ []
+    go None b h = refl
+    go (Some rule) true h = absurd (true≢false (sym h))
+    go (Some rule) false h = refl
 
 module _ (p : Declarations) (types : Types) (scopes : Scopes) (id : ℕ) where
   pub at_new : (place name_place : Pos) (name arguments : List ℕ) → use_breaks p types scopes id (New place name_place name arguments) ≡ new_breaks p scopes id place name arguments

@@ -2,4 +2,4 @@ pub mod ArgumentLemmas
 pub mod BreakLemmas
 pub mod CallLemmas
 pub mod PhaseLemmas
-pub mod ScopeLemmas
+pub mod PlainLemmas

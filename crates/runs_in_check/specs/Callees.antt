@@ -1,5 +1,5 @@
 -- What a call asks of its arguments, as the caller sees it.
-use Rattle.std.specs.Prelude.{ℕ, List, [], Option, Some, None, option_and_then}
+use Rattle.std.specs.Prelude.{ℕ, Bool, false, List, Option, Some, None, option_and_then}
 use Rattle.scj_base.specs.declared.findings.Found.{Found}
 use Rattle.scj_base.specs.declared.findings.Rule.TheVariants.{E3}
 use Rattle.scj_tree.specs.Forest.{Forest}
@@ -30,10 +30,14 @@ declared_scope forest (Constructor class) d = constructor_parameter_scope (decla
 abbrev pub seen_scope : Forest → Callee → Declared → Option Scope
 seen_scope forest callee d = option_and_then (substitute callee.object callee.current) (declared_scope forest callee.called d)
 
+-- a value of a scope doesn't fit a parameter, if there is one
+unfoldable pub misfits_parameter : (Declared → Option Scope) → Option Declared → Option Scope → Bool
+misfits_parameter seen None value = false
+misfits_parameter seen (Some d) value = misfit_scope value (seen d)
+
 -- E3 of an argument, where there is a parameter for it
-unfoldable pub argument_breaks : Forest → Scopes → (Declared → Option Scope) → Option Declared → ℕ → List Found
-argument_breaks forest scopes seen None argument = []
-argument_breaks forest scopes seen (Some d) argument = broken (misfit_scope (scopes argument) (seen d)) E3 (place_at forest.nodes argument)
+abbrev pub argument_breaks : Forest → Scopes → (Declared → Option Scope) → Option Declared → ℕ → List Found
+argument_breaks forest scopes seen o argument = broken (misfits_parameter seen o (scopes argument)) E3 (place_at forest.nodes argument)
 
 -- E3 of all arguments
 abbrev pub arguments_breaks : Forest → Scopes → Callee → List ℕ → List Found

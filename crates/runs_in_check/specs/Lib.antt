@@ -1,3 +1,4 @@
 pub mod Callees
 pub mod Parts
 pub mod Phase
+pub mod Plain

@@ -2,7 +2,7 @@
 
 ghost use Rattle.std.specs.Prelude.{◌≡◌, ◌++◌, None, OnOk, slice_get};
 ghost use Rattle.scj_tree.specs.Recursion.{told};
-ghost use Rattle.runs_in_check.specs.Callees.{parameters_of, declared_scope, seen_scope, argument_breaks, arguments_breaks};
+ghost use Rattle.runs_in_check.specs.Callees.{parameters_of, declared_scope, seen_scope, misfits_parameter, argument_breaks, arguments_breaks};
 
 use crate::uses::Uses;
 use crate::words::{misfit_scope, told};
@@ -62,32 +62,51 @@ fn seen_scope(uses: &Uses<'_>, callee: &Callee, parameter: &Declared) -> Option<
     substitute(&callee.object, &callee.current, &scope)
 }
 
+/// Whether a value of this scope doesn't fit a parameter, if there is one.
+#[tactic(auto, unfolding(crate::specs::Callees::misfits_parameter))]
+fn misfits_parameter(
+    uses: &Uses<'_>,
+    callee: &Callee,
+    parameter: &Option<Declared>,
+    value: &Option<Scope>,
+) -> bool
+    ensures { result ≡ misfits_parameter (seen_scope uses.now callee.now) parameter.now value.now }
+{
+    match parameter {
+        Some(parameter) => misfit_scope(value, &seen_scope(uses, callee, parameter)),
+        None => false,
+    }
+}
+
+/// Whether a value of this scope doesn't fit the parameter of a number, if there is one.
+#[tactic(auto, using(crate::proofs::ArgumentLemmas::none_misfits))]
+fn misfits_numbered(uses: &Uses<'_>, callee: &Callee, i: usize, value: &Option<Scope>) -> bool
+    ensures { result ≡ misfits_parameter (seen_scope uses.now callee.now) (slice_get (parameters_of uses.now callee.now.called) i) value.now }
+{
+    match value {
+        Some(_) => {
+            let parameter = parameter(uses, &callee.called, i);
+            misfits_parameter(uses, callee, &parameter, value)
+        }
+        None => false,
+    }
+}
+
 /// Notes E3 at an argument, where there is a parameter for it.
-#[tactic(auto, unfolding(crate::specs::Callees::argument_breaks))]
 fn note_argument(
     found: &mut Vec<Found>,
     uses: &Uses<'_>,
     scopes: &[Option<Scope>],
     callee: &Callee,
-    parameter: &Option<Declared>,
+    i: usize,
     argument: NodeId,
 ) -> Result<(), Memory>
-    ensures { OnOk result (found.new.items ≡ found.old.items ++ argument_breaks uses.now (told None scopes.now) (seen_scope uses.now callee.now) parameter.now argument) }
+    ensures { OnOk result (found.new.items ≡ found.old.items ++ argument_breaks uses.now (told None scopes.now) (seen_scope uses.now callee.now) (slice_get (parameters_of uses.now callee.now.called) i) argument) }
 {
-    match parameter {
-        Some(parameter) => {
-            let target = seen_scope(uses, callee, parameter);
-            let is_wrong = misfit_scope(&told(scopes, argument), &target);
-            note(
-                found,
-                is_wrong,
-                Rule::E3,
-                place_at(uses.program(), argument),
-            )?;
-            Ok(())
-        }
-        None => Ok(()),
-    }
+    let is_wrong = misfits_numbered(uses, callee, i, &told(scopes, argument));
+    let place = place_at(uses.program(), argument);
+    note(found, is_wrong, Rule::E3, place)?;
+    Ok(())
 }
 
 /// Notes E3 at each argument of a call.
@@ -101,8 +120,7 @@ pub fn note_arguments(
     ensures { OnOk result (found.new.items ≡ found.old.items ++ arguments_breaks uses.now (told None scopes.now) callee.now arguments.now) }
 {
     for i in 0..arguments.len() {
-        let parameter = parameter(uses, &callee.called, i);
-        note_argument(found, uses, scopes, callee, &parameter, arguments[i])?;
+        note_argument(found, uses, scopes, callee, i, arguments[i])?;
     }
     Ok(())
 }

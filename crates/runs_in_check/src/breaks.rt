@@ -9,7 +9,7 @@ ghost use Rattle.scj_rules.specs.Contexts.{declarations_of};
 ghost use Rattle.scj_rules.specs.TypeRules.{written_type};
 ghost use Rattle.scj_rules.specs.StaticScopes.{thing_scope};
 ghost use Rattle.scj_rules.specs.AnnotationRules.{variable_thing_at};
-ghost use Rattle.scj_rules.specs.UseRules.{current_at, e3_of_constructor, target_rule, misfit_scope, is_outer_of_current, misfits_element, use_breaks};
+ghost use Rattle.scj_rules.specs.UseRules.{current_at, e3_of_constructor, target_rule, misfit_scope, result_scope_at, is_outer_of_current, misfits_element, use_breaks};
 ghost use Rattle.runs_in_check.specs.Parts.{lies_elsewhere, misfits_new, made_breaks, new_breaks, super_breaks, assign_breaks, return_breaks, lies_off, misfits_cast};
 
 use crate::arguments::{Called, Callee, note_arguments};
@@ -137,7 +137,7 @@ fn target_rule(uses: &Uses<'_>, target: NodeId) -> Option<Rule>
 }
 
 /// Notes E4 or E5 at an assignment.
-#[tactic(auto, unfolding(crate::specs::Parts::assign_breaks))]
+#[tactic(auto, unfolding(crate::specs::Parts::assign_breaks), using(crate::proofs::BreakLemmas::right_assign))]
 fn note_assign(
     found: &mut Vec<Found>,
     uses: &Uses<'_>,
@@ -148,13 +148,27 @@ fn note_assign(
 ) -> Result<(), Memory>
     ensures { OnOk result (found.new.items ≡ found.old.items ++ assign_breaks (declarations_of uses.now) (told None scopes.now) place target value) }
 {
+    let is_wrong = misfit_scope(&told(scopes, value), &told(scopes, target));
+    if !is_wrong {
+        return Ok(());
+    }
     match target_rule(uses, target) {
         Some(rule) => {
-            let is_wrong = misfit_scope(&told(scopes, value), &told(scopes, target));
             note(found, is_wrong, rule, place)?;
             Ok(())
         }
         None => Ok(()),
+    }
+}
+
+/// Whether a value doesn't fit the variable that a node declares.
+fn misfits_variable(uses: &Uses<'_>, scopes: &[Option<Scope>], id: NodeId, value: NodeId) -> bool
+    ensures { let p = declarations_of uses.now in result ≡ misfit_scope (told None scopes.now value) (option_and_then (thing_scope p) (variable_thing_at p id)) }
+{
+    let scope = told(scopes, value);
+    match &scope {
+        Some(_) => misfit_scope(&scope, &uses.variable_scope(id)),
+        None => false,
     }
 }
 
@@ -169,9 +183,20 @@ fn note_local(
 ) -> Result<(), Memory>
     ensures { let p = declarations_of uses.now in OnOk result (found.new.items ≡ found.old.items ++ broken (misfit_scope (told None scopes.now value) (option_and_then (thing_scope p) (variable_thing_at p id))) E4 place) }
 {
-    let is_wrong = misfit_scope(&told(scopes, value), &uses.variable_scope(id));
+    let is_wrong = misfits_variable(uses, scopes, id, value);
     note(found, is_wrong, Rule::E4, place)?;
     Ok(())
+}
+
+/// Whether a value doesn't fit the result of the method in which a node stands.
+fn misfits_result(uses: &Uses<'_>, scopes: &[Option<Scope>], id: NodeId, value: NodeId) -> bool
+    ensures { result ≡ misfit_scope (told None scopes.now value) (result_scope_at (declarations_of uses.now) id) }
+{
+    let scope = told(scopes, value);
+    match &scope {
+        Some(_) => misfit_scope(&scope, &uses.result_scope_at(id)),
+        None => false,
+    }
 }
 
 /// Notes E6 at a return.
@@ -188,7 +213,7 @@ fn note_return(
 {
     match value {
         Some(value) => {
-            let is_wrong = misfit_scope(&told(scopes, *value), &uses.result_scope_at(id));
+            let is_wrong = misfits_result(uses, scopes, id, *value);
             note(found, is_wrong, Rule::E6, place)?;
             Ok(())
         }

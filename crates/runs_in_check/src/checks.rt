@@ -48,6 +48,7 @@ fn found_at_nodes(
 /// What is broken at uses, by the types of the nodes.
 #[tactic(auto, unfolding(crate::specs::Phase::broken_uses))]
 fn found_uses(alloc: Global, uses: &Uses<'_>, types: &[Option<Ty>]) -> Result<Vec<Found>, Memory>
+    requires { types.now ≡ types_in (declarations_of uses.now) }
     ensures { IfOk result (λ found. found.items ≡ broken_uses (declarations_of uses.now) (told None types.now)) }
 {
     let scopes = scopes_of(alloc, uses, types)?;
@@ -61,6 +62,7 @@ pub fn check_uses(
     uses: &Uses<'_>,
     types: &[Option<Ty>],
 ) -> Result<Vec<Found>, Memory>
+    requires { types.now ≡ types_in (declarations_of uses.now) }
     ensures { IfOk result (λ found. AreInOrder (broken_uses (declarations_of uses.now) (told None types.now)) found.items) }
 {
     let mut found = found_uses(alloc, uses, types)?;
@@ -77,6 +79,7 @@ pub fn check_scopes(
     tree: &ScopeTree,
 ) -> Result<Vec<Found>, Memory>
     requires table { IsTableOf program.now table.now }
+    requires types { types.now ≡ types_in (declarations_of program.now) }
     requires tree { IsTreeOf program.now tree.now }
     ensures { IfOk result (λ found. AreInOrder (broken_uses (declarations_of program.now) (told None types.now)) found.items) }
 {

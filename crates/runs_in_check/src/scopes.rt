@@ -5,8 +5,10 @@ ghost use Rattle.scj_tree.specs.Recursion.{told};
 ghost use Rattle.scj_rules.specs.Classes.{class_number};
 ghost use Rattle.scj_rules.specs.Contexts.{declarations_of};
 ghost use Rattle.scj_rules.specs.Types.{receiver, call_receiver, accessed_field, called_method, meaning};
-ghost use Rattle.scj_rules.specs.UseRules.{current_at, receiver_scope, scope_of_field, scope_of_meaning, scope_of_new, scope_in_class, scope_of_call, scope_of_element, scope_of, scopes_in};
+ghost use Rattle.scj_rules.specs.TypeRules.{types_in};
+ghost use Rattle.scj_rules.specs.UseRules.{current_at, receiver_scope, scope_of_field, scope_of_meaning, scope_of_new, scope_in_class, scope_of_call, scope_of_element, scope_of, scope_of_next, scopes_in};
 ghost use Rattle.method_rows.specs.Methods.{found_method};
+ghost use Rattle.runs_in_check.specs.Plain.{is_asked, is_plain_value};
 
 use crate::uses::Uses;
 use crate::words::told;
@@ -16,6 +18,7 @@ use scj_rules::{ClassScope, FoundField, Meaning, Scope, Ty};
 use scj_tree::Node;
 use static_scopes::substitute;
 use std::alloc::Global;
+use type_words::is_reference;
 
 /// The scope of a receiver: of the value, or of `this`.
 #[tactic(auto, unfolding(scj_rules::specs::UseRules::receiver_scope))]
@@ -252,19 +255,64 @@ fn scope_of(
     }
 }
 
+/// Whether a node stands for a variable or a field, or for a method's value.
+#[tactic(auto, unfolding(crate::specs::Plain::is_asked))]
+fn is_asked(node: &Node) -> bool
+    ensures { result ≡ is_asked node.now }
+{
+    match node {
+        Node::SimpleName { .. } => true,
+        Node::FieldAccess { .. } => true,
+        Node::Call { .. } => true,
+        _ => false,
+    }
+}
+
+/// Whether the type of a node tells that it has no scope.
+fn is_plain_value(types: &[Option<Ty>], id: NodeId, node: &Node) -> bool
+    ensures { result ≡ is_plain_value node.now (told None types.now id) }
+{
+    if !is_asked(node) {
+        return false;
+    }
+    match &type_told(types, id) {
+        Some(t) => !is_reference(t),
+        None => false,
+    }
+}
+
+/// The scope of the node of a number, by what is told of those before it.
+#[tactic(auto, unfolding(scj_rules::specs::UseRules::scope_of_next, scj_rules::specs::Contexts::declarations_of), using(crate::proofs::PlainLemmas::plain_scope))]
+fn scope_at(
+    uses: &Uses<'_>,
+    types: &[Option<Ty>],
+    scopes: &[Option<Scope>],
+    id: NodeId,
+) -> Option<Scope>
+    requires { types.now ≡ types_in (declarations_of uses.now) }
+    ensures { result ≡ scope_of_next (declarations_of uses.now) (told None types.now) id (told None scopes.now) }
+{
+    let node = uses.program().get(id)?;
+    if is_plain_value(types, id, node) {
+        return None;
+    }
+    scope_of(uses, types, scopes, id, node)
+}
+
 /// The static scope of each node.
 pub fn scopes_of(
     alloc: Global,
     uses: &Uses<'_>,
     types: &[Option<Ty>],
 ) -> Result<Vec<Option<Scope>>, Memory>
+    requires { types.now ≡ types_in (declarations_of uses.now) }
     ensures { IfOk result (λ scopes. scopes.items ≡ scopes_in (declarations_of uses.now) (told None types.now)) }
 {
     let program = uses.program();
     let mut scopes = Vec::new(alloc);
     for place in 0..program.len() {
         let id = NodeId::at(place as u32);
-        let scope = scope_of(uses, types, &scopes, id, program.node(id));
+        let scope = scope_at(uses, types, &scopes, id);
         scopes.push(scope)?;
     }
     Ok(scopes)

@@ -1,2 +1,4 @@
+pub mod BareLemmas
 pub mod RunLemmas
 pub mod SafeletLemmas
+pub mod ThingLemmas

@@ -1,9 +1,11 @@
 //! Static scopes: where the objects lie that classes, methods, variables and fields speak of.
 #![tactic(auto)]
 
+mod bare;
 mod framework;
 mod methods;
 mod names;
+mod plain;
 pub mod runs;
 pub mod scoped;
 mod things;

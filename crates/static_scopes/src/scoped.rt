@@ -4,6 +4,8 @@ ghost use Rattle.std.specs.Prelude.{◌≡◌, ℕ, Some, is_some, true, option_
 ghost use Rattle.std.specs.Bool.{OnTrue};
 ghost use Rattle.scj_rules.specs.Views.{method_at, variable_at};
 ghost use Rattle.scj_rules.specs.declared.views.Declared.{Declared as Declaration};
+ghost use Rattle.scj_rules.specs.Definitions.{read};
+ghost use Rattle.static_scopes.specs.Bare.{bare_type_of, bare_scope_at};
 ghost use Rattle.static_scopes.specs.Found.{method_in, at_node};
 ghost use Rattle.method_rows.specs.Methods.{found_method};
 ghost use Rattle.scj_rules.specs.Contexts.{declarations_of, context, contexts_in, is_static_member};
@@ -11,14 +13,17 @@ ghost use Rattle.scj_rules.specs.StaticScopes.{this_in, runs_in, current_in, thi
 ghost use Rattle.scj_rules.specs.AnnotationRules.{variable_thing_at, result_scope};
 ghost use Rattle.scj_rules.specs.UseRules.{this_at, current_at};
 
+use crate::bare::bare_type;
+use crate::plain::has_plain_type;
 use crate::runs::{Runs, run_in_table};
+use crate::things::has_no_scope;
 use crate::{methods, names, things};
 use method_rows::{MethodRef, MethodSource};
 use node_contexts::{Contexts, is_static_member};
 use node_views::{is_method, variable_at};
-use scj_base::{ClassId, NodeId};
-use scj_rules::{Context, Declared, FoundField, Scope, Thing};
-use scj_tree::Program;
+use scj_base::{ClassId, Name, NodeId};
+use scj_rules::{ClassScope, Context, Declared, FoundField, Scope, Thing};
+use scj_tree::{Node, Program};
 use scope_tree::Scopes;
 use std::marker::Model;
 
@@ -183,10 +188,13 @@ impl<'a> Scoped<'a> {
     }
 
     /// The scope of a method's parameter.
-    #[tactic(auto, unfolding(method_rows::specs::Methods::found_method))]
+    #[tactic(auto, unfolding(method_rows::specs::Methods::found_method), using(crate::proofs::ThingLemmas::parameter_without_scope))]
     pub fn parameter_scope(&self, method: &MethodRef, parameter: &Declared) -> Option<Scope>
         ensures { result ≡ parameter_scope (declarations_of self.now) (found_method self.now.nodes method.now).on (found_method self.now.nodes method.now).method parameter.now }
     {
+        if has_no_scope(&parameter.declared_type) {
+            return None;
+        }
         let declared = methods::declared_of(&self.scopes, method);
         let modifiers = declared.modifiers;
         let current = self.runs_in(method);
@@ -195,9 +203,13 @@ impl<'a> Scoped<'a> {
     }
 
     /// The scope of a parameter of a class's constructor.
+    #[tactic(auto, using(crate::proofs::ThingLemmas::parameter_without_scope))]
     pub fn constructor_parameter_scope(&self, class: ClassId, parameter: &Declared) -> Option<Scope>
         ensures { result ≡ constructor_parameter_scope (declarations_of self.now) class parameter.now }
     {
+        if has_no_scope(&parameter.declared_type) {
+            return None;
+        }
         let current = self.this_in(class);
         let thing = things::variable_thing(class, &current, false, parameter);
         things::thing_scope(&self.scopes, &thing)
@@ -242,13 +254,60 @@ impl<'a> Scoped<'a> {
         }
     }
 
-    /// The scope of the parameter or local that a node declares.
-    pub fn variable_scope(&self, id: NodeId) -> Option<Scope>
+    /// The scope of a variable that a node declares, of a class and with nothing written before it.
+    #[tactic(auto, unfolding(crate::specs::Bare::bare_scope, scj_rules::specs::StaticScopes::type_scope, scj_rules::specs::ClassRules::class_written))]
+    fn bare_scope(&self, id: NodeId, name: &Name) -> Option<Scope>
+        ensures { result ≡ bare_scope_at (declarations_of self.now) id name.now }
+    {
+        let context = self.context(id);
+        let class = context.class?;
+        let member = context.member?;
+        match things::named_class_scope(&self.scopes, name) {
+            ClassScope::Unannotated => self.current_in(class, member),
+            ClassScope::Annotated(scope) => Some(Scope::In(scope)),
+            ClassScope::Unknown => None,
+        }
+    }
+
+    /// The scope of the parameter or local that a node declares, by all that is written of it.
+    fn declared_scope(&self, id: NodeId) -> Option<Scope>
         ensures { result ≡ option_and_then (thing_scope (declarations_of self.now)) (variable_thing_at (declarations_of self.now) id) }
     {
         match &self.variable_thing_at(id) {
             Some(thing) => self.thing_scope(thing),
             None => None,
+        }
+    }
+
+    /// The same, where the node of its type is told of a variable before which nothing is written.
+    #[tactic(auto, using(crate::proofs::BareLemmas::bare_variable), unfolding(crate::specs::Bare::class_name_of))]
+    fn scope_of_bare(&self, id: NodeId, declared_type: NodeId) -> Option<Scope>
+        requires { read self.now.nodes bare_type_of id ≡ Some declared_type }
+        ensures { result ≡ option_and_then (thing_scope (declarations_of self.now)) (variable_thing_at (declarations_of self.now) id) }
+    {
+        match self.program().get(declared_type) {
+            Some(
+                Node::ClassType {
+                    name,
+                    is_array: false,
+                    ..
+                },
+            ) => self.bare_scope(id, name),
+            _ => self.declared_scope(id),
+        }
+    }
+
+    /// The scope of the parameter or local that a node declares.
+    #[tactic(auto, using(crate::proofs::ThingLemmas::variable_without_scope))]
+    pub fn variable_scope(&self, id: NodeId) -> Option<Scope>
+        ensures { result ≡ option_and_then (thing_scope (declarations_of self.now)) (variable_thing_at (declarations_of self.now) id) }
+    {
+        if has_plain_type(self.program(), id) {
+            return None;
+        }
+        match bare_type(self.program(), id) {
+            Some(declared_type) => self.scope_of_bare(id, declared_type),
+            None => self.declared_scope(id),
         }
     }
 }

@@ -4,12 +4,13 @@ ghost use Rattle.std.specs.Prelude.{◌≡◌};
 ghost use Rattle.scj_rules.specs.ClassRules.{class_written};
 ghost use Rattle.scj_rules.specs.Contexts.{declarations_of};
 ghost use Rattle.scj_rules.specs.StaticScopes.{has_no_scope, type_scope, is_unannotated, is_unknown_scope, contradicts, is_right_thing, free_thing_scope, thing_scope, variable_thing, field_thing, is_outer_of, suits_field, misfits_field, field_scope};
-ghost use Rattle.static_scopes.specs.Found.{right_thing_scope};
+ghost use Rattle.scj_rules.specs.declared.views.WrittenType.TheVariants.{Class as class_type};
+ghost use Rattle.static_scopes.specs.Found.{right_thing_scope, suited_scope};
 
 use crate::names::{differs_from, this_in, written_scope};
 use crate::words::are_same_scope;
 use class_rows::Classes;
-use scj_base::{ClassId, ScopeId};
+use scj_base::{ClassId, Name, ScopeId};
 use scj_rules::{ClassScope, Declared, Scope, Thing, Written, WrittenType};
 use scope_tree::Scopes;
 
@@ -36,6 +37,17 @@ fn class_written(classes: &Classes, declared_type: &WrittenType) -> Option<Class
     match declared_type {
         WrittenType::Class(name) => classes.class_of(name),
         _ => None,
+    }
+}
+
+/// Where the values of a class of this name lie.
+#[tactic(auto, unfolding(scj_rules::specs::StaticScopes::type_scope, scj_rules::specs::ClassRules::class_written))]
+pub fn named_class_scope(scopes: &Scopes, name: &Name) -> ClassScope
+    ensures { result ≡ type_scope (declarations_of scopes.now) (class_type name.now) }
+{
+    match scopes.classes().class_of(name) {
+        Some(class) => scopes.class_scope(class),
+        None => ClassScope::Unannotated,
     }
 }
 
@@ -224,14 +236,27 @@ pub fn misfits_field(scopes: &Scopes, class: ClassId, field: &Declared) -> bool
     }
 }
 
+/// The scope of a thing, where a field of the class may have it.
+fn suited_scope(scopes: &Scopes, class: ClassId, thing: &Thing) -> Option<Scope>
+    ensures { let p = declarations_of scopes.now in result ≡ suited_scope p class thing.now.is_static (thing_scope p thing.now) }
+{
+    let scope = thing_scope(scopes, thing)?;
+    let class_scope = scopes.class_scope(class);
+    if suits_field(scopes, &class_scope, thing.is_static, &scope) {
+        Some(scope)
+    } else {
+        None
+    }
+}
+
 /// The scope of a field.
-#[tactic(auto, unfolding(scj_rules::specs::StaticScopes::field_scope))]
+#[tactic(auto, using(crate::proofs::ThingLemmas::field_without_scope, crate::proofs::ThingLemmas::suited_field))]
 pub fn field_scope(scopes: &Scopes, class: ClassId, field: &Declared) -> Option<Scope>
     ensures { result ≡ field_scope (declarations_of scopes.now) class field.now }
 {
-    if misfits_field(scopes, class, field) {
+    if has_no_scope(&field.declared_type) {
         return None;
     }
     let thing = field_thing(scopes, class, field);
-    thing_scope(scopes, &thing)
+    suited_scope(scopes, class, &thing)
 }

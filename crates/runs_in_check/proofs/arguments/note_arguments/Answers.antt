@@ -6,7 +6,7 @@ use Rattle.scj_rules.specs.declared.typing.Scope.{Scope}
 use Rattle.scj_rules.specs.declared.views.Declared.{Declared}
 use Rattle.scj_rules.specs.Contexts.{declarations_of}
 use Rattle.scj_rules.specs.UseRules.{Scopes, misfit_arguments}
-use Rattle.runs_in_check.specs.Callees.{parameters_of, seen_scope, argument_breaks, arguments_breaks}
+use Rattle.runs_in_check.specs.Callees.{parameters_of, seen_scope, arguments_breaks}
 use Rattle.runs_in_check.proofs.ArgumentLemmas.{arguments_more, arguments_all}
 use Rattle.runs_in_check.proofs.arguments.note_arguments.Goals as goal
 
@@ -19,10 +19,8 @@ loop-i-preserved c =
     let ids : List ℕ = c.args.arguments.now in
     let i : ℕ = c.loop-i.i in
     let id : ℕ = c.index-arguments-i.result in
-    let found : List Found = c.loop-i.found.items in
-    ap (λ (fs : List Found). fs ++ misfit_arguments (declarations_of forest) scopes seen (drop (i + 1) ds) (drop (i + 1) ids))
-    (c.in_ok-note_argument.ensures ∙ ap (λ (o : Option Declared). found ++ argument_breaks forest scopes seen o id) c.parameter-parameter.ensures)
-    ∙ arguments_more forest scopes seen found c.args.found.now.items (arguments_breaks forest scopes c.args.callee.now ids) ds ids i id c.loop-i-test.true c.index-arguments-i.is c.loop-i.invariant
+    ap (λ (fs : List Found). fs ++ misfit_arguments (declarations_of forest) scopes seen (drop (i + 1) ds) (drop (i + 1) ids)) c.in_ok-note_argument.ensures
+    ∙ arguments_more forest scopes seen c.loop-i.found.items c.args.found.now.items (arguments_breaks forest scopes c.args.callee.now ids) ds ids i id c.loop-i-test.true c.index-arguments-i.is c.loop-i.invariant
 
 pub returns : goal.returns
 returns c =

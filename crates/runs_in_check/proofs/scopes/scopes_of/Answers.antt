@@ -1,13 +1,11 @@
-use Rattle.std.proofs.Common.{◌≡◌, ℕ, List, Some, None, Option, slice_get, ap, ◌∙◌, subst, arith, length}
-use Rattle.scj_tree.specs.declared.nodes.Node.{Node}
+use Rattle.std.proofs.Common.{◌≡◌, ℕ, List, None, Option, ap, ◌∙◌, arith, length}
 use Rattle.scj_tree.specs.Recursion.{told, rising}
 use Rattle.scj_tree.specs.Forest.{Forest}
 use Rattle.scj_rules.specs.Contexts.{Declarations, declarations_of}
 use Rattle.scj_rules.specs.declared.typing.Scope.{Scope}
 use Rattle.scj_rules.specs.TypeRules.{Types}
-use Rattle.scj_rules.specs.UseRules.{scope_of, scope_of_next, scopes_in}
+use Rattle.scj_rules.specs.UseRules.{scope_of_next, scopes_in}
 use Rattle.type_words.proofs.ReturnLemmas.{rising-more}
-use Rattle.runs_in_check.proofs.ScopeLemmas.{next_scope}
 use Rattle.runs_in_check.proofs.scopes.scopes_of.Goals as goal
 
 pub loop-place-init : goal.loop-place-init
@@ -21,14 +19,10 @@ loop-place-preserved c =
     let types : Types = told None c.args.types.now in
     let k : ℕ = c.loop-place.place in
     let said : List (Option Scope) = c.loop-place.scopes.items in
-    let node : Node = c.node.result.now in
-    let P : ℕ → Type 0 = λ n. slice_get c.program-program.result.now.nodes n ≡ Some node in
-    let Q : Forest → Type 0 = λ f. slice_get f.nodes k ≡ Some node in
-    let there : slice_get forest.nodes k ≡ Some node = subst Q c.program-program.ensures (subst P c.at-id.ensures c.node.ensures) in
-    let value : c.scope_of-scope.result ≡ scope_of_next p types k (told None said) =
-    c.scope_of-scope.ensures ∙ ap (λ (rs : List (Option Scope)). scope_of p types (told None rs) c.at-id.result node) c.deref.ensures.value
-    ∙ ap (λ n. scope_of p types (told None said) n node) c.at-id.ensures ∙ next_scope forest types k (told None said) node there in
-    c.in_ok-push.ensures.items ∙ rising-more None (scope_of_next p types) k said c.scope_of-scope.result c.loop-place.invariant value
+    let value : c.scope_at-scope.result ≡ scope_of_next p types k (told None said) =
+    c.scope_at-scope.ensures ∙ ap (λ (rs : List (Option Scope)). scope_of_next p types c.at-id.result (told None rs)) c.deref.ensures.value
+    ∙ ap (λ n. scope_of_next p types n (told None said)) c.at-id.ensures in
+    c.in_ok-push.ensures.items ∙ rising-more None (scope_of_next p types) k said c.scope_at-scope.result c.loop-place.invariant value
 
 pub returns : goal.returns
 unfolding scopes_in declarations_of

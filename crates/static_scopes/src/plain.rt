@@ -1,0 +1,35 @@
+//! Variables whose values are no references, as their nodes tell.
+
+ghost use Rattle.std.specs.Prelude.{◌≡◌, Some, true, option_map};
+ghost use Rattle.std.specs.Bool.{OnTrue};
+ghost use Rattle.scj_rules.specs.Views.{type_at, type_of_node, variable_at, variable_of};
+ghost use Rattle.scj_rules.specs.StaticScopes.{has_no_scope};
+ghost use Rattle.scj_rules.specs.declared.views.Declared.{Declared as Declaration};
+
+use scj_base::NodeId;
+use scj_tree::{Node, Program};
+
+/// Whether a node writes `int` or `boolean`.
+#[tactic(auto, unfolding(scj_rules::specs::Views::type_of_node, scj_rules::specs::StaticScopes::has_no_scope))]
+fn is_plain_type(program: &Program, id: NodeId) -> bool
+    ensures { OnTrue result (true ≡ has_no_scope (type_at program.now.nodes id)) }
+{
+    match program.get(id) {
+        Some(Node::IntType { is_array, .. }) => !*is_array,
+        Some(Node::BooleanType { is_array, .. }) => !*is_array,
+        _ => false,
+    }
+}
+
+/// Whether a node declares a parameter or local of type `int` or `boolean`.
+#[tactic(auto, unfolding(scj_rules::specs::Views::variable_of))]
+pub fn has_plain_type(program: &Program, id: NodeId) -> bool
+    ensures { OnTrue result (Some true ≡ option_map (λ (d : Declaration). has_no_scope d.declared_type) (variable_at program.now.nodes id)) }
+{
+    match program.get(id) {
+        Some(Node::Parameter { declared_type, .. }) => is_plain_type(program, *declared_type),
+        Some(Node::Local { declared_type, .. }) => is_plain_type(program, *declared_type),
+        Some(Node::LocalWithValue { declared_type, .. }) => is_plain_type(program, *declared_type),
+        _ => false,
+    }
+}
