@@ -261,7 +261,10 @@ pub fn value_dot_step(
     let View::Name(name, _) = view else {
         return Ok(None);
     };
-    let id = nodes.put(Node::ScopeName { place, name: **name })?;
+    let id = nodes.put(Node::ScopeName {
+        place,
+        name: **name,
+    })?;
     Ok(Some(Mode::ValueRead { id }))
 }
 
