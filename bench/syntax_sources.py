@@ -7,6 +7,8 @@ written as the programs in examples/, numbered from FIRST), and hostile ones: `o
 
 import sys
 
+from sources import NUMBERS
+
 # A byte is left for a token behind the last.
 LONGEST = 1_048_575
 
@@ -24,22 +26,7 @@ class Tank{number} {{
     level = start;
     overflows = false;
   }}
-
-  // Pours in an amount, and tells how much went in.
-  int pour(int amount, int steps) {{
-    int poured = 0;
-    for (int step = 0; step < steps; step++) {{
-      if (level + amount > limit) {{
-        overflows = true;
-        return poured;
-      }}
-      level += amount;
-      poured = poured + amount * 2 - step / 3;
-    }}
-    while (level > limit && !overflows) level = level - 1;
-    return poured + (level << 2) % 7;
-  }}
-
+{NUMBERS.format(c='', i='')}
   // Whether the levels of two tanks may be levelled out.
   boolean matches(Tank{number} other) {{
     int[] levels = new int[4];
