@@ -14,7 +14,7 @@ use Rattle.scj_base.specs.declared.findings.Rule.{Rule}
 use Rattle.scj_base.specs.declared.findings.Rule.TheVariants.{L1, L2, L3}
 use Rattle.scj_lexer.specs.declared.pieces.Front.{Front}
 use Rattle.scj_lexer.specs.declared.pieces.Front.TheVariants.{Piece as Told, Bad}
-use Rattle.scj_lexer.specs.Tries.{word_of, sign_of, words_from, signs_from}
+use Rattle.scj_lexer.specs.Tries.{word_of, sign_of, only_word_of, signs_from}
 use Rattle.scj_lexer.specs.First.{first_of, name_first, number_first, text_first, comment_first, sign_first, number_of, digits_of, close_of}
 use Rattle.scj_lexer.proofs.Decided.{Begins, piece_sound, break_sound}
 use Rattle.scj_lexer.proofs.Whole.{joined, step}
@@ -60,7 +60,7 @@ sound (suc n) file before (b ∷ s) tokens e =
 
 -- one name to unfold where a text is read that is written out
 unfoldable lexer : Unit {0}
-unfolding words signs is_blank is_letter is_digit is_name_byte is_text_byte is_line_byte value_of opens_comment has_close place_behind place_behind_byte place_of word_of sign_of words_from signs_from first_of name_first number_first text_first comment_first sign_first number_of digits_of close_of tokens_from
+unfolding words signs is_blank is_letter is_digit is_name_byte is_text_byte is_line_byte value_of opens_comment has_close place_behind place_behind_byte place_of word_of sign_of only_word_of signs_from first_of name_first number_first text_first comment_first sign_first number_of digits_of close_of tokens_from
 lexer = tt
 
 abbrev token : TokenKind → ℕ → ℕ → ℕ → ℕ → Token

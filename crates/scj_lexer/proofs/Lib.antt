@@ -1,6 +1,7 @@
 pub mod Decided
 pub mod Exact
 mod Examples
+pub mod Places
 pub mod Reached
 pub mod Runs
 pub mod Searches

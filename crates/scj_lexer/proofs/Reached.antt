@@ -169,3 +169,10 @@ piece_fits file bytes rest kind len pos tokens l h e r =
 pub told_memory : {A : Type 0} (file : ℕ) (bytes : List ℕ) (r : Result A LexAnswer) → IsErrAnd r (λ e. e ≡ Memory) → IfErr r (λ answer. Tells file bytes answer)
 told_memory file bytes (Ok a) h = tt
 told_memory file bytes (Err e) h = subst (Tells file bytes) (sym h) tt
+
+-- behind a space
+pub reached_space : (file : ℕ) (bytes rest : List ℕ) (pos : Pos) (tokens : List Token) → 0 < length rest → slice_index rest 0 ≡ 32 → Reached file bytes rest pos tokens → Reached file bytes (drop 1 rest) (place_at pos.file pos.line (pos.col + 1)) tokens
+unfolding place_behind_byte is_blank
+reached_space file bytes [] pos tokens l e r = absurd (omega arith)
+reached_space file bytes (b ∷ s) pos tokens l e r =
+    subst (λ p. Reached file bytes s p tokens) (rw e refl) (reached_blank file bytes (b ∷ s) pos tokens l (rw e refl) r)

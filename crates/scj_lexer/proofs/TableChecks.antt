@@ -1,16 +1,16 @@
 -- What is computed of the tables of words and signs, and what it tells of each entry.
 use Rattle.std.proofs.Common.{◌≡◌, ℕ, zero, suc, ◌+◌, ◌-◌, ◌<◌, ◌≤◌, List, [], ◌∷◌, ◌++◌, length, take, drop, Bool, true, false, ◌&&◌, ◌==◌, nat_le, not, Some, None, Option, slice_get, get_or, map, refl, ap, sym, subst, ◌∙◌, arith, inl, inr}
-use Rattle.std.specs.Prelude.{bytes_eq, find}
+use Rattle.std.specs.Prelude.{bytes_eq, find, EachIndex, IfSome, slice_index}
 use Rattle.std.specs.List.{list_all, list_any, position_or_len, starts_with}
-use Rattle.std.proofs.lemmas.Bool.{and_parts, or_cases, not-true, leb-true, eqb-true, cond-true, cond-false, cases_Bool, false≢true}
+use Rattle.std.proofs.lemmas.Bool.{and_parts, or_cases, not-true, leb-true, eqb-true, cond-true, cond-false, cases_Bool, cases_lt, false≢true}
 use Rattle.std.proofs.lemmas.List.{take-append-drop, take_at}
-use Rattle.std.proofs.lemmas.Option.{get_or_from_slice_get, slice_get-get_or}
+use Rattle.std.proofs.lemmas.Option.{get_or_from_slice_get, slice_get-get_or, slice_get_past}
 use Rattle.std.proofs.lemmas.Slice.Eq.{bytes_eq-Decides}
 use Rattle.scj_base.specs.Vocabulary.{words, signs}
 use Rattle.scj_base.specs.Lexeme.{is_blank, is_letter, is_digit, is_name_byte, IsWordLike}
-use Rattle.scj_lexer.specs.declared.tables.TheConstants.{SIGNS_FROM}
-use Rattle.scj_lexer.specs.Tries.{words_from, signs_from, is_word, is_sign_first, word_of, sign_of}
-use Rattle.scj_lexer.proofs.Searches.{all_at, signs_in_range, words_in_range}
+use Rattle.scj_lexer.specs.declared.tables.TheConstants.{NAME_BYTES, SIGNS_FROM}
+use Rattle.scj_lexer.specs.Tries.{only_word_of, signs_from, is_word, if_word, is_sign_first, word_of, sign_of, is_second_of_sign, goes_on, last_sign}
+use Rattle.scj_lexer.proofs.Searches.{all_at, signs_in_range, only_word_in_range, sign_of_is}
 use Rattle.scj_lexer.proofs.Runs.{none≢some}
 
 -- the test passes at each element and its place, counted from k
@@ -26,6 +26,22 @@ each_at q k zero j (y ∷ ys) x e h s =
     let place : k ≡ j = omega arith in
     rw (← same, ← place) (and_parts _ _ h).0
 each_at q k (suc n) j (y ∷ ys) x e h s = each_at q (suc k) n j ys x (omega arith) (and_parts _ _ h).1 s
+
+are_same : Bool → Bool → Bool
+are_same true b = b
+are_same false b = not b
+
+same_if : (a b : Bool) → are_same a b ≡ true → a ≡ b
+unfolding are_same
+same_if true b e = sym e
+same_if false b e = sym (not-true b e)
+
+name_bytes_ok : each (λ k x. are_same x (is_name_byte k)) 0 NAME_BYTES ≡ true
+unfolding each are_same is_letter is_digit is_name_byte
+name_bytes_ok = refl
+
+pub name_byte_at : (b : ℕ) → b < 256 → get_or NAME_BYTES b false ≡ is_name_byte b
+name_byte_at b l = same_if _ _ (each_at (λ k x. are_same x (is_name_byte k)) 0 b b NAME_BYTES (get_or NAME_BYTES b false) (omega arith) name_bytes_ok (slice_get-get_or NAME_BYTES b false l))
 
 is_at : Option ℕ → ℕ → Bool
 is_at None n = false
@@ -49,7 +65,7 @@ word_ok : ℕ → List ℕ → Bool
 word_ok n w = word_like w && (nat_le (length w) 64 && is_at (word_of w) n)
 
 words_ok : each word_ok 0 words ≡ true
-unfolding each word_ok word_like is_at words word_of words_from is_letter is_digit is_name_byte
+unfolding each word_ok word_like is_at words word_of only_word_of is_letter is_digit is_name_byte
 words_ok = refl
 
 pub record WordFacts (n : ℕ) (w : List ℕ) : Type 0 where
@@ -201,19 +217,80 @@ sign_sound (b ∷ s) n e =
       | inr f ↦ none≢some (sym (cond-false _ _ _ f) ∙ e)
     ]
 
-word_from : (b n : ℕ) (s : List ℕ) → find (is_word (b ∷ s)) (words_from b) ≡ Some n → slice_get words n ≡ Some (b ∷ s)
+if_word_is : (w : List ℕ) (m n : ℕ) → if_word w m ≡ Some n → (m ≡ n) × (is_word w m ≡ true)
+if_word_is w m n e =
+    elim (cases_Bool (is_word w m)) [
+      | inl t ↦ let same : Some m ≡ Some n = sym (cond-true _ _ _ t) ∙ e in let place : m ≡ n = cc in (place, t)
+      | inr f ↦ none≢some (sym (cond-false _ _ _ f) ∙ e)
+    ]
+
+word_at : (w : List ℕ) (m n : ℕ) → m < 53 → if_word w m ≡ Some n → slice_get words n ≡ Some w
 unfolding words
-word_from b n s e =
-    let (k, l, h) = find_place (is_word (b ∷ s)) (words_from b) n e in
-    let low : n < 53 = rw (← h) (words_in_range b k l) in
-    let same : get_or words n [] ≡ b ∷ s = (bytes_eq-Decides (get_or words n []) (b ∷ s)).0 (find_passes (is_word (b ∷ s)) (words_from b) n e) in
-    slice_get-get_or words n [] low ∙ ap Some same
+word_at w m n low e =
+    let (place, t) = if_word_is w m n e in
+    let same : get_or words m [] ≡ w = (bytes_eq-Decides (get_or words m []) w).0 t in
+    rw (← place) (slice_get-get_or words m [] low ∙ ap Some same)
 
 pub word_sound : (w : List ℕ) (n : ℕ) → word_of w ≡ Some n → slice_get words n ≡ Some w
 unfolding word_of
 word_sound [] n e = none≢some e
-word_sound (b ∷ s) n e =
-    elim (cases_Bool (nat_le 97 b && nat_le b 122)) [
-      | inl t ↦ word_from b n s (sym (cond-true _ _ _ t) ∙ e)
-      | inr f ↦ none≢some (sym (cond-false _ _ _ f) ∙ e)
+word_sound (a ∷ []) n e = none≢some e
+word_sound (a ∷ b ∷ s) n e = word_at (a ∷ b ∷ s) (only_word_of a b (length (a ∷ b ∷ s))) n (only_word_in_range a b (length (a ∷ b ∷ s))) e
+
+-- the last of the signs of a byte is that byte, and each other has a second byte of a sign
+ends_alone : ℕ → List ℕ → Bool
+ends_alone b [] = true
+ends_alone b (n ∷ []) = bytes_eq (get_or signs n []) (b ∷ [])
+ends_alone b (n ∷ m ∷ ns) = goes_on (get_or signs n []) && ends_alone b (m ∷ ns)
+
+all_end_alone : each ends_alone 33 (map (λ r. r.now) SIGNS_FROM) ≡ true
+unfolding each ends_alone goes_on is_second_of_sign signs
+all_end_alone = refl
+
+signs_end_alone : (b : ℕ) → 33 ≤ b → b ≤ 126 → ends_alone b (signs_from b) ≡ true
+unfolding signs_from
+signs_end_alone b l u = each_at ends_alone 33 (b - 33) b (map (λ r. r.now) SIGNS_FROM) (signs_from b) (omega arith) all_end_alone (slice_get-get_or (map (λ r. r.now) SIGNS_FROM) (b - 33) [] (omega arith))
+
+-- bytes with no second byte of a sign do not begin with a sign that has one
+goes_on_front : (v bytes : List ℕ) → goes_on v ≡ true → v ≡ take (length v) bytes → goes_on bytes ≡ true
+unfolding goes_on
+goes_on_front [] bytes g e = absurd (false≢true g)
+goes_on_front (x ∷ []) bytes g e = absurd (false≢true g)
+goes_on_front (x ∷ y ∷ v) [] g e = absurd (cc)
+goes_on_front (x ∷ y ∷ v) (a ∷ []) g e = absurd (cc)
+goes_on_front (x ∷ y ∷ v) (a ∷ b ∷ s) g e = let same : y ≡ b = cc in rw (← same) g
+
+stops : (bytes : List ℕ) (n : ℕ) → goes_on bytes ≡ false → goes_on (get_or signs n []) ≡ true → is_sign_first bytes n ≡ false
+stops bytes n f g =
+    elim (cases_Bool (is_sign_first bytes n)) [
+      | inl t ↦ absurd (false≢true (sym f ∙ goes_on_front (get_or signs n []) bytes g ((bytes_eq-Decides (get_or signs n []) (take (length (get_or signs n [])) bytes)).0 t)))
+      | inr e ↦ e
     ]
+
+starts_alone : (b : ℕ) (s v : List ℕ) → bytes_eq v (b ∷ []) ≡ true → starts_with ◌==◌ (b ∷ s) v ≡ true
+starts_alone b s v e = rw ((bytes_eq-Decides v (b ∷ [])).0 e) (starts_front (b ∷ []) s)
+
+find_alone : (b : ℕ) (s ns : List ℕ) → goes_on (b ∷ s) ≡ false → ends_alone b ns ≡ true → find (is_sign_first (b ∷ s)) ns ≡ slice_get ns (length ns - 1)
+unfolding ends_alone
+find_alone b s [] f e = refl
+find_alone b s (n ∷ []) f e = cond-true _ _ _ (starts_alone b s (get_or signs n []) e)
+find_alone b s (n ∷ m ∷ ns) f e =
+    let parts : (goes_on (get_or signs n []) ≡ true) × (ends_alone b (m ∷ ns) ≡ true) = and_parts _ _ e in
+    let place : length (n ∷ m ∷ ns) - 1 ≡ suc (length (m ∷ ns) - 1) = omega arith in
+    rw place (cond-false _ _ _ (stops (b ∷ s) n f parts.0) ∙ find_alone b s (m ∷ ns) f parts.1)
+
+pub sign_of_alone : (bytes : List ℕ) → 0 < length bytes → 33 ≤ get_or bytes 0 0 → get_or bytes 0 0 ≤ 126 → goes_on bytes ≡ false → sign_of bytes ≡ last_sign (get_or bytes 0 0)
+unfolding last_sign
+sign_of_alone [] h l u f = absurd (omega arith)
+sign_of_alone (b ∷ s) h l u f = sign_of_is (b ∷ s) h l u ∙ find_alone b s (signs_from b) f (signs_end_alone b l u)
+
+if_in_range : (ns : List ℕ) (k : ℕ) → EachIndex ns (λ i. slice_index ns i < 50) → IfSome (slice_get ns k) (λ n. n < 50)
+if_in_range ns k h =
+    elim (cases_lt k (length ns)) [
+      | inl l ↦ rw (slice_get-get_or ns k 0 l) (h k l)
+      | inr g ↦ rw (slice_get_past ns k g) tt
+    ]
+
+pub last_in_range : (b : ℕ) → IfSome (last_sign b) (λ n. n < 50)
+unfolding last_sign
+last_in_range b = if_in_range (signs_from b) (length (signs_from b) - 1) (signs_in_range b)

@@ -1,3 +1,4 @@
 pub mod Answer
 pub mod First
+pub mod Places
 pub mod Tries

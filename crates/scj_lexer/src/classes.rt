@@ -4,6 +4,8 @@ ghost use Rattle.std.specs.Prelude.{◌≡◌, ◌≤◌, length};
 ghost use Rattle.scj_base.specs.Lexeme.{is_blank as blank, is_digit as digit, is_letter as letter, is_line_byte as line_byte, is_name_byte as name_byte, opens_comment as comment_opens, is_text_byte as text_byte};
 ghost use Rattle.std.specs.List.{prefix_len};
 
+use crate::tables::NAME_BYTES;
+
 /// Whether the byte is a blank.
 #[tactic(auto, unfolding(scj_base::specs::Lexeme::is_blank))]
 pub fn is_blank(byte: u8) -> bool
@@ -29,11 +31,10 @@ pub fn is_digit(byte: u8) -> bool
 }
 
 /// Whether the byte can stand in a name.
-#[tactic(auto, unfolding(scj_base::specs::Lexeme::is_name_byte))]
 pub fn is_name_byte(byte: u8) -> bool
     ensures { result ≡ name_byte byte }
 {
-    is_letter(byte) || is_digit(byte)
+    NAME_BYTES[byte as usize]
 }
 
 /// Whether the byte can stand between quotes.

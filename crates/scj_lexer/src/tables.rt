@@ -1,33 +1,36 @@
-//! Which words and signs to try where a byte comes first.
+//! Which bytes stand in names, which word a name may be, and which signs to try where a byte comes first.
 
-/// The words that begin with each letter from `a` to `z`.
-pub const WORDS_FROM: [&[u8]; 26] = [
-    &[0, 1],
-    &[2, 3, 4],
-    &[5, 6, 7, 8, 9, 10],
-    &[11, 12, 13],
-    &[14, 15, 16],
-    &[17, 18, 19, 20, 21],
-    &[22],
-    &[],
-    &[23, 24, 25, 26, 27, 28],
-    &[],
-    &[],
-    &[29],
-    &[],
-    &[30, 31, 32],
-    &[],
-    &[33, 34, 35, 36],
-    &[],
-    &[37],
-    &[38, 39, 40, 41, 42, 43],
-    &[44, 45, 46, 47, 48, 49],
-    &[],
-    &[50, 51],
-    &[52],
-    &[],
-    &[],
-    &[],
+/// Whether each byte can stand in a name.
+pub const NAME_BYTES: [bool; 256] = [
+    false, false, false, false, false, false, false, false, false, false, false, false, false,
+    false, false, false, false, false, false, false, false, false, false, false, false, false,
+    false, false, false, false, false, false, false, false, false, false, true, false, false,
+    false, false, false, false, false, false, false, false, false, true, true, true, true, true,
+    true, true, true, true, true, false, false, false, false, false, false, false, true, true,
+    true, true, true, true, true, true, true, true, true, true, true, true, true, true, true, true,
+    true, true, true, true, true, true, true, true, false, false, false, false, true, false, true,
+    true, true, true, true, true, true, true, true, true, true, true, true, true, true, true, true,
+    true, true, true, true, true, true, true, true, true, false, false, false, false, false, false,
+    false, false, false, false, false, false, false, false, false, false, false, false, false,
+    false, false, false, false, false, false, false, false, false, false, false, false, false,
+    false, false, false, false, false, false, false, false, false, false, false, false, false,
+    false, false, false, false, false, false, false, false, false, false, false, false, false,
+    false, false, false, false, false, false, false, false, false, false, false, false, false,
+    false, false, false, false, false, false, false, false, false, false, false, false, false,
+    false, false, false, false, false, false, false, false, false, false, false, false, false,
+    false, false, false, false, false, false, false, false, false, false, false, false, false,
+    false, false, false, false, false, false, false, false, false, false, false, false, false,
+    false, false, false, false, false, false, false, false, false, false,
+];
+
+/// The only word that can have a hash of a name, by its place among the words. Where no word has the hash, one that
+/// has another stands here.
+pub const WORD_AT: [u8; 128] = [
+    0, 0, 0, 26, 0, 0, 0, 0, 0, 0, 50, 0, 12, 0, 31, 0, 0, 0, 0, 0, 35, 41, 37, 0, 0, 0, 0, 0, 0,
+    8, 0, 0, 11, 39, 32, 23, 0, 0, 0, 0, 0, 0, 30, 25, 44, 38, 0, 14, 0, 5, 0, 0, 0, 9, 0, 0, 0,
+    42, 3, 0, 0, 0, 18, 15, 45, 43, 0, 1, 0, 6, 21, 0, 0, 40, 2, 16, 29, 0, 0, 0, 0, 0, 0, 0, 46,
+    0, 20, 0, 0, 0, 51, 0, 13, 0, 4, 0, 47, 0, 0, 0, 33, 0, 19, 0, 49, 7, 0, 0, 34, 22, 0, 28, 36,
+    10, 0, 0, 0, 0, 0, 27, 0, 52, 0, 24, 48, 0, 17, 0,
 ];
 
 /// The signs that begin with each byte from `!` to `~`, the longer before the shorter.

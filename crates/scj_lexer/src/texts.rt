@@ -1,7 +1,9 @@
 //! The tokens of a whole text.
 
-ghost use Rattle.std.specs.Prelude.{◌≡◌, ◌<◌, ◌≤◌, ◌+◌, ◌++◌, ◌^◌, length, fold, IfOk, IfErr, OnOk};
-ghost use Rattle.scj_base.specs.Lex.{Lex, place_behind_byte};
+ghost use Rattle.std.specs.Prelude.{◌≡◌, ◌<◌, ◌≤◌, ◌+◌, ◌++◌, ◌^◌, length, fold, true, IfOk, IfErr, OnOk};
+ghost use Rattle.scj_base.specs.Lex.{Lex, place_at, place_behind_byte};
+ghost use Rattle.scj_base.specs.Lexeme.{AllOf, is_line_byte as line_byte};
+ghost use Rattle.scj_lexer.specs.Places.{stays_in_line};
 ghost use Rattle.scj_lexer.specs.Answer.{Tells, token_of};
 
 use crate::classes::{is_blank, is_line_byte};
@@ -46,6 +48,13 @@ pub fn lex(alloc: Global, file: u8, bytes: &[u8]) -> Result<Tokens, LexAnswer>
     };
     let mut rest = bytes;
     while !rest.is_empty() {
+        // Most blanks are spaces, and no other blank is tried for them.
+        if rest[0] == b' ' {
+            pos = along(pos, 1);
+            let (_space, others) = rest.split_at(1);
+            rest = others;
+            continue;
+        }
         if is_blank(rest[0]) {
             pos = behind_byte(pos, rest[0]);
             let (_blank, others) = rest.split_at(1);
@@ -57,7 +66,7 @@ pub fn lex(alloc: Global, file: u8, bytes: &[u8]) -> Result<Tokens, LexAnswer>
             Front::Piece(kind, len) => {
                 put(&mut tokens, kind, pos, bytes.len() - rest.len(), len)?;
                 let (piece, others) = rest.split_at(len);
-                pos = behind(pos, piece);
+                pos = behind_piece(pos, kind, piece);
                 rest = others;
             }
         }
@@ -86,6 +95,45 @@ fn put(
             len: len as u32,
         }),
         None => Ok(()),
+    }
+}
+
+/// The place behind a piece, which is looked through for line feeds only where it can have some.
+fn behind_piece(pos: Pos, kind: Option<TokenKind>, piece: &[u8]) -> Pos
+    requires in_line { stays_in_line kind piece.now ≡ true → AllOf line_byte piece.now }
+    requires lines_fit { pos.line + length piece.now < 2 ^ 32 }
+    requires columns_fit { pos.col + length piece.now + 1 < 2 ^ 32 }
+    ensures { result ≡ fold place_behind_byte pos piece.now }
+{
+    if is_in_line(kind, piece) {
+        return along(pos, piece.len() as u32);
+    }
+    behind(pos, piece)
+}
+
+/// Whether a piece is a lexeme or a comment of `//`.
+#[tactic(auto, unfolding(crate::specs::Places::stays_in_line))]
+fn is_in_line(kind: Option<TokenKind>, piece: &[u8]) -> bool
+    ensures { result ≡ stays_in_line kind piece.now }
+{
+    match kind {
+        Some(_) => true,
+        None => match piece {
+            [_, second, ..] => *second == b'/',
+            _ => false,
+        },
+    }
+}
+
+/// The place so many columns further.
+fn along(pos: Pos, len: u32) -> Pos
+    requires { pos.col + len < 2 ^ 32 }
+    ensures { result ≡ place_at pos.file pos.line (pos.col + len) }
+{
+    Pos {
+        file: pos.file,
+        line: pos.line,
+        col: pos.col + len,
     }
 }
 

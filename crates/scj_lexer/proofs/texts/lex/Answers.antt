@@ -1,5 +1,6 @@
 use Rattle.std.proofs.Common.{◌≡◌, ◌<◌, ◌≤◌, length, arith, ◌∙◌, sym, refl, eqb-true}
-use Rattle.scj_lexer.proofs.Reached.{reached_start, reached_blank, reached_small, Small, reached_step, reached_end, reached_break, PieceFits, piece_fits, not_at_end, told_memory}
+use Rattle.scj_lexer.proofs.Reached.{reached_start, reached_blank, reached_space, reached_small, Small, reached_step, reached_end, reached_break, PieceFits, piece_fits, not_at_end, told_memory}
+use Rattle.scj_lexer.proofs.Places.{told_in_line}
 use Rattle.scj_lexer.proofs.texts.lex.Goals as goal
 
 pub loop-rest-init : goal.loop-rest-init
@@ -24,13 +25,13 @@ split_at-requires-in-Piece c =
     let f : PieceFits c.args.bytes.now c.loop-rest.rest.now c.loop-rest.pos c.in-Piece.len = (piece_fits c.args.file c.args.bytes.now c.loop-rest.rest.now c.in-Piece.kind c.in-Piece.len c.loop-rest.pos c.loop-rest.tokens c.requires (not_at_end _ _ c.is_empty.ensures c.loop-rest-test.true) (sym c.first.ensures ∙ c.in-Piece.is) c.loop-rest.invariant.reached) in
     f.within
 
-pub behind-pos-requires-clause-lines_fit : goal.behind-pos-requires-clause-lines_fit
-behind-pos-requires-clause-lines_fit c =
+pub behind_piece-pos-requires-clause-lines_fit : goal.behind_piece-pos-requires-clause-lines_fit
+behind_piece-pos-requires-clause-lines_fit c =
     let f : PieceFits c.args.bytes.now c.loop-rest.rest.now c.loop-rest.pos c.in-Piece.len = (piece_fits c.args.file c.args.bytes.now c.loop-rest.rest.now c.in-Piece.kind c.in-Piece.len c.loop-rest.pos c.loop-rest.tokens c.requires (not_at_end _ _ c.is_empty.ensures c.loop-rest-test.true) (sym c.first.ensures ∙ c.in-Piece.is) c.loop-rest.invariant.reached) in
     rw c.split_at-in-Piece.ensures.front f.line_fits
 
-pub behind-pos-requires-clause-columns_fit : goal.behind-pos-requires-clause-columns_fit
-behind-pos-requires-clause-columns_fit c =
+pub behind_piece-pos-requires-clause-columns_fit : goal.behind_piece-pos-requires-clause-columns_fit
+behind_piece-pos-requires-clause-columns_fit c =
     let f : PieceFits c.args.bytes.now c.loop-rest.rest.now c.loop-rest.pos c.in-Piece.len = (piece_fits c.args.file c.args.bytes.now c.loop-rest.rest.now c.in-Piece.kind c.in-Piece.len c.loop-rest.pos c.loop-rest.tokens c.requires (not_at_end _ _ c.is_empty.ensures c.loop-rest-test.true) (sym c.first.ensures ∙ c.in-Piece.is) c.loop-rest.invariant.reached) in
     rw c.split_at-in-Piece.ensures.front f.col_fits
 
@@ -41,7 +42,7 @@ loop-rest-smaller c =
 
 pub loop-rest-preserved : goal.loop-rest-preserved
 loop-rest-preserved c =
-    rw (c.split_at-in-Piece.ensures.back, c.behind-pos.ensures, c.split_at-in-Piece.ensures.front, c.in_ok-put-in-Piece.ensures)
+    rw (c.split_at-in-Piece.ensures.back, c.behind_piece-pos.ensures, c.split_at-in-Piece.ensures.front, c.in_ok-put-in-Piece.ensures)
     (record { reached = reached_step c.args.file c.args.bytes.now c.loop-rest.rest.now c.in-Piece.kind c.in-Piece.len c.loop-rest.pos c.loop-rest.tokens (not_at_end _ _ c.is_empty.ensures c.loop-rest-test.true) (sym c.first.ensures ∙ c.in-Piece.is) c.loop-rest.invariant.reached })
 
 pub returns-clause-ok : goal.returns-clause-ok
@@ -61,5 +62,19 @@ behind_byte-pos-requires-clause-column_fits c =
 
 pub loop-rest-preserved-then-is_blank : goal.loop-rest-preserved-then-is_blank
 loop-rest-preserved-then-is_blank c =
-    rw (c.split_at.ensures.back, c.behind_byte-pos.ensures.value)
+    rw (c.split_at-then-is_blank.ensures.back, c.behind_byte-pos.ensures.value)
     (record { reached = reached_blank c.args.file c.args.bytes.now c.loop-rest.rest.now c.loop-rest.pos c.loop-rest.tokens (not_at_end _ _ c.is_empty.ensures c.loop-rest-test.true) (sym c.is_blank.ensures ∙ c.if-is_blank.true) c.loop-rest.invariant.reached })
+
+pub behind_piece-pos-requires-clause-in_line : goal.behind_piece-pos-requires-clause-in_line
+behind_piece-pos-requires-clause-in_line c =
+    rw c.split_at-in-Piece.ensures.front (told_in_line c.loop-rest.rest.now c.in-Piece.kind c.in-Piece.len (not_at_end _ _ c.is_empty.ensures c.loop-rest-test.true) (sym c.first.ensures ∙ c.in-Piece.is))
+
+pub along-pos-requires : goal.along-pos-requires
+along-pos-requires c =
+    let f : Small c.loop-rest.pos c.args.bytes.now c.loop-rest.rest.now = reached_small c.args.file c.args.bytes.now c.loop-rest.rest.now c.loop-rest.pos c.loop-rest.tokens c.loop-rest.invariant.reached in
+    omega (arith, f.col, c.requires, not_at_end _ _ c.is_empty.ensures c.loop-rest-test.true)
+
+pub loop-rest-preserved-then-rest-eq32 : goal.loop-rest-preserved-then-rest-eq32
+loop-rest-preserved-then-rest-eq32 c =
+    rw (c.split_at.ensures.back, c.along-pos.ensures)
+    (record { reached = reached_space c.args.file c.args.bytes.now c.loop-rest.rest.now c.loop-rest.pos c.loop-rest.tokens (not_at_end _ _ c.is_empty.ensures c.loop-rest-test.true) (c.if-rest-eq32.true) c.loop-rest.invariant.reached })

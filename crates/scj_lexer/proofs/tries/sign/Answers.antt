@@ -3,7 +3,13 @@ use Rattle.std.specs.Prelude.{◌==◌}
 use Rattle.std.specs.List.{starts_with}
 use Rattle.scj_lexer.specs.Tries.{is_sign_first}
 use Rattle.scj_lexer.proofs.Searches.{find_yes, find_no, is_sign_first_at, signs_in_range, sign_of_is}
+use Rattle.scj_lexer.proofs.TableChecks.{sign_of_alone}
 use Rattle.scj_lexer.proofs.tries.sign.Goals as goal
+
+pub returns-then-not-may_go_on-clause-value : goal.returns-then-not-may_go_on-clause-value
+returns-then-not-may_go_on-clause-value c =
+    let whole = sign_of_alone c.args.bytes.now (omega arith) (omega arith) (omega arith) (sym c.may_go_on.ensures ∙ c.if-not-may_go_on.true) in
+    c.sign_alone.ensures.value ∙ sym whole
 
 pub sign_text-requires : goal.sign_text-requires
 sign_text-requires c = rw c.candidate_signs-place-items.ensures (signs_in_range _ _ (rw (← c.candidate_signs-place-items.ensures) (omega arith)))
