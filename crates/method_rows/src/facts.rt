@@ -1,7 +1,8 @@
 //! What is declared of a method.
 
-ghost use Rattle.std.specs.Prelude.{◌≡◌, length, slice_get, unwrap_or};
+ghost use Rattle.std.specs.Prelude.{◌≡◌, length, slice_get, option_map, unwrap_or};
 ghost use Rattle.scj_rules.specs.Views.{method_at, parameters_at};
+ghost use Rattle.scj_rules.specs.declared.views.Declared.{Declared as Declaration};
 ghost use Rattle.method_rows.specs.Methods.{found_method, no_method};
 
 use crate::framework;
@@ -22,6 +23,62 @@ pub fn declared(program: &Program, method: &MethodRef) -> Declared
             Some(declared) => declared,
             None => framework::made(Name::new(b""), false, false, WrittenType::Void),
         },
+    }
+}
+
+/// Its name alone.
+#[tactic(auto, unfolding(crate::specs::Methods::found_method, crate::specs::Methods::method_from), using(crate::proofs::MethodLemmas::name_of_some, crate::proofs::MethodLemmas::name_of_none))]
+pub fn name(program: &Program, method: &MethodRef) -> Name
+    ensures { result ≡ (found_method program.now.nodes method.now).method.declared.name }
+{
+    match &method.source {
+        MethodSource::Framework(id) => framework::name_of(id.number()),
+        MethodSource::Declared(node) => match views::method_name(program, *node) {
+            Some(name) => name,
+            None => Name::new(b""),
+        },
+    }
+}
+
+/// Its result's type alone.
+#[tactic(auto, unfolding(crate::specs::Methods::found_method, crate::specs::Methods::method_from), using(crate::proofs::MethodLemmas::type_of_some, crate::proofs::MethodLemmas::type_of_none))]
+pub fn result_type(program: &Program, method: &MethodRef) -> WrittenType
+    ensures { result ≡ (found_method program.now.nodes method.now).method.declared.declared_type }
+{
+    match &method.source {
+        MethodSource::Framework(id) => framework::result_type_of(id.number()),
+        MethodSource::Declared(node) => match views::result_type(program, *node) {
+            Some(written) => written,
+            None => WrittenType::Void,
+        },
+    }
+}
+
+/// Whether it is called on the class.
+#[tactic(auto, unfolding(crate::specs::Methods::found_method, crate::specs::Methods::method_from), using(crate::proofs::MethodLemmas::is_static_where_declared))]
+pub fn is_static(program: &Program, method: &MethodRef) -> bool
+    ensures { result ≡ (found_method program.now.nodes method.now).method.declared.modifiers.is_static }
+{
+    match &method.source {
+        MethodSource::Framework(id) => framework::is_static(id.number()),
+        MethodSource::Declared(node) => views::is_static_method(program, *node),
+    }
+}
+
+/// The node that declares it; of a framework's method the first number.
+#[tactic(auto, unfolding(crate::specs::Methods::found_method, crate::specs::Methods::method_from), using(crate::proofs::MethodLemmas::node_where_declared, crate::proofs::MethodLemmas::no_node))]
+pub fn node(program: &Program, method: &MethodRef) -> NodeId
+    ensures { result ≡ (found_method program.now.nodes method.now).method.declared.node }
+{
+    match &method.source {
+        MethodSource::Framework(_) => NodeId::at(0),
+        MethodSource::Declared(node) => {
+            if views::is_method(program, *node) {
+                *node
+            } else {
+                NodeId::at(0)
+            }
+        }
     }
 }
 
@@ -100,6 +157,22 @@ pub fn parameter(program: &Program, method: &MethodRef, i: usize) -> Option<Decl
         MethodSource::Framework(id) => framework::parameter_of(id.number(), i),
         MethodSource::Declared(node) => {
             views::parameter(program, parameters_of(program, *node), i)
+        }
+    }
+}
+
+/// The type of a parameter, if there are as many.
+#[tactic(auto, unfolding(crate::specs::Methods::found_method, crate::specs::Methods::method_from))]
+pub fn parameter_type(program: &Program, method: &MethodRef, i: usize) -> Option<WrittenType>
+    ensures { result ≡ option_map (λ (d : Declaration). d.declared_type) (slice_get (found_method program.now.nodes method.now).method.parameters i) }
+{
+    match &method.source {
+        MethodSource::Framework(id) => match framework::parameter_of(id.number(), i) {
+            Some(declared) => Some(declared.declared_type),
+            None => None,
+        },
+        MethodSource::Declared(node) => {
+            views::parameter_type(program, parameters_of(program, *node), i)
         }
     }
 }

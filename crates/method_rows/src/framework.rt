@@ -34,7 +34,7 @@ pub fn made(name: Name, is_static: bool, is_abstract: bool, declared_type: Writt
 
 /// The name of a framework's method.
 #[tactic(auto, unfolding(crate::specs::Methods::framework_numbered, scj_rules::specs::Classes::framework_method, scj_builtins::specs::Framework::framework_methods))]
-fn name_of(number: u32) -> Name
+pub fn name_of(number: u32) -> Name
     ensures { result ≡ (unwrap_or (framework_numbered number) no_method).declared.name }
 {
     match number {
@@ -63,7 +63,7 @@ fn name_of(number: u32) -> Name
 
 /// The result's type of a framework's method, as a user class writes it.
 #[tactic(auto, unfolding(crate::specs::Methods::framework_numbered, scj_rules::specs::Classes::framework_method, scj_rules::specs::Classes::result_written, scj_builtins::specs::Framework::framework_methods))]
-fn result_type_of(number: u32) -> WrittenType
+pub fn result_type_of(number: u32) -> WrittenType
     ensures { result ≡ (unwrap_or (framework_numbered number) no_method).declared.declared_type }
 {
     match number {
@@ -78,7 +78,7 @@ fn result_type_of(number: u32) -> WrittenType
 
 /// Whether a framework's method is called on the class.
 #[tactic(auto, unfolding(crate::specs::Methods::framework_numbered, scj_rules::specs::Classes::framework_method, scj_builtins::specs::Framework::framework_methods))]
-fn is_static(number: u32) -> bool
+pub fn is_static(number: u32) -> bool
     ensures { result ≡ (unwrap_or (framework_numbered number) no_method).declared.modifiers.is_static }
 {
     match number {

@@ -7,7 +7,8 @@ pub mod names;
 pub mod refs;
 
 pub use facts::{
-    body, builtin, declared, is_callable_row, is_overridable, parameter, parameter_count,
+    body, builtin, declared, is_callable_row, is_overridable, is_static, name, node, parameter,
+    parameter_count, parameter_type, result_type,
 };
 pub use names::framework_method;
 pub use refs::{MethodRef, MethodSource};

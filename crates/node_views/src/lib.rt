@@ -21,7 +21,7 @@ pub use declarations::{field_at, is_field, is_variable, variable_at};
 pub use methods::{
     callable_name, is_method, method_body, method_declared, method_name, method_parameters,
 };
-pub use parameters::{parameter, parameter_count, parameter_nodes};
+pub use parameters::{parameter, parameter_count, parameter_node, parameter_nodes, parameter_type};
 pub use parts::{
     field_type, field_written, is_abstract_at, is_abstract_class, is_abstract_method, is_static_at,
     is_static_field, is_static_method, result_type, variable_type, variable_written,

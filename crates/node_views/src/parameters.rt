@@ -1,11 +1,13 @@
 //! The parameters of methods and constructors.
 
-ghost use Rattle.std.specs.Prelude.{◌≡◌, ℕ, List, [], length, filter_map, slice_get, option_and_then, unwrap_or};
+ghost use Rattle.std.specs.Prelude.{◌≡◌, ℕ, List, [], length, filter_map, slice_get, option_map, option_and_then, unwrap_or};
 ghost use Rattle.scj_rules.specs.Views.{variable_at, parameters_at, parameters_of};
+ghost use Rattle.scj_rules.specs.declared.views.Declared.{Declared as Declaration};
 
 use crate::declarations::{is_variable, variable_at};
+use crate::parts::variable_type;
 use scj_base::NodeId;
-use scj_rules::Declared;
+use scj_rules::{Declared, WrittenType};
 use scj_tree::{Node, Program};
 
 /// The nodes of a list of parameters. [`variable_at`] tells what each declares; one that declares nothing is none.
@@ -38,20 +40,44 @@ pub fn parameter_count(program: &Program, parameters: Option<NodeId>) -> usize
     count
 }
 
-/// The parameter of a number.
-pub fn parameter(program: &Program, parameters: Option<NodeId>, i: usize) -> Option<Declared>
-    ensures { result ≡ slice_get (parameters_at program.now.nodes parameters) i }
+/// The node of the parameter of a number.
+pub fn parameter_node(program: &Program, parameters: Option<NodeId>, i: usize) -> Option<NodeId>
+    ensures { option_and_then (variable_at program.now.nodes) result ≡ slice_get (parameters_at program.now.nodes parameters) i }
 {
     let mut left = i;
     let mut others = parameter_nodes(program, parameters);
     while let [id, rest @ ..] = others {
         if is_variable(program, *id) {
             if left == 0 {
-                return variable_at(program, *id);
+                return Some(*id);
             }
             left -= 1;
         }
         others = rest;
     }
     None
+}
+
+/// The parameter of a number.
+pub fn parameter(program: &Program, parameters: Option<NodeId>, i: usize) -> Option<Declared>
+    ensures { result ≡ slice_get (parameters_at program.now.nodes parameters) i }
+{
+    match parameter_node(program, parameters, i) {
+        Some(id) => variable_at(program, id),
+        None => None,
+    }
+}
+
+/// The type of the parameter of a number.
+pub fn parameter_type(
+    program: &Program,
+    parameters: Option<NodeId>,
+    i: usize,
+) -> Option<WrittenType>
+    ensures { result ≡ option_map (λ (d : Declaration). d.declared_type) (slice_get (parameters_at program.now.nodes parameters) i) }
+{
+    match parameter_node(program, parameters, i) {
+        Some(id) => variable_type(program, id),
+        None => None,
+    }
 }

@@ -1,7 +1,7 @@
 use Rattle.std.proofs.Common.{◌≡◌, length}
 use Rattle.std.specs.Prelude.{filter_map, slice_get}
 use Rattle.scj_rules.specs.Views.{variable_at, parameters_at}
-use Rattle.node_views.proofs.parameters.parameter.Given as goal
+use Rattle.node_views.proofs.parameters.parameter_node.Given as goal
 
 -- the parameter stands among those that are left
 abbrev pub invariant-loop-others : goal.invariant-loop-others
