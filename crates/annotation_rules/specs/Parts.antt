@@ -1,8 +1,10 @@
 -- Parts of what is broken at a node.
-use Rattle.std.specs.Prelude.{ℕ, List, [], ◌++◌, slice_get, Option, Some, None}
+use Rattle.std.specs.Prelude.{ℕ, Bool, true, false, List, [], ◌++◌, slice_get, Option, Some, None, is_some}
 use Rattle.scj_base.specs.declared.findings.Found.{Found}
 use Rattle.scj_base.specs.declared.findings.Rule.TheVariants.{A1, A2, A9}
 use Rattle.scj_base.specs.declared.places.Pos.{Pos}
+use Rattle.scj_tree.specs.declared.nodes.Node.{Node}
+use Rattle.scj_tree.specs.declared.nodes.Node.TheVariants.{Class, Field, Method, Parameter, Local, LocalWithValue}
 use Rattle.scj_rules.specs.Words.{broken}
 use Rattle.scj_rules.specs.Views.{DeclaredMethod}
 use Rattle.scj_rules.specs.Contexts.{Declarations}
@@ -38,3 +40,13 @@ other_of_class p place (Some class) =
 -- what is broken at the node of a number
 unfoldable pub found_at : Declarations → ℕ → List Found
 found_at p id = elim (slice_get p.nodes id) [ None ↦ [] | Some node ↦ annotation_breaks p id node ]
+
+-- a class, a field, a method, or a variable before which something is written: nothing else breaks a rule on annotations
+unfoldable pub may_break : Node → Bool
+may_break (Class place name flags header members) = true
+may_break (Field place name flags declared_type equals value) = true
+may_break (Method place name flags result_type parameters body) = true
+may_break (Parameter place name flags declared_type) = is_some flags
+may_break (Local place name flags declared_type) = is_some flags
+may_break (LocalWithValue place name_place name flags declared_type value) = is_some flags
+may_break _ = false

@@ -1,13 +1,13 @@
 //! All rules on annotations, node after node.
 
-ghost use Rattle.std.specs.Prelude.{◌≡◌, ◌++◌, IfOk, OnOk};
+ghost use Rattle.std.specs.Prelude.{◌≡◌, ◌++◌, Some, IfOk, OnOk, slice_get};
 ghost use Rattle.class_rows.specs.Tables.{IsTableOf};
 ghost use Rattle.scope_tree.specs.Trees.{IsTreeOf};
 ghost use Rattle.scj_rules.specs.Contexts.{declarations_of};
 ghost use Rattle.scj_rules.specs.AnnotationRules.{thing_at, a1, a2, a9, annotation_breaks};
 ghost use Rattle.scj_rules.specs.Phases.{over_nodes, IsFound};
 ghost use Rattle.scj_rules.specs.Report.{IsReport};
-ghost use Rattle.annotation_rules.specs.Parts.{unknown_at, contradiction_at, unknown_of_class, other_of_class, found_at};
+ghost use Rattle.annotation_rules.specs.Parts.{may_break, unknown_at, contradiction_at, unknown_of_class, other_of_class, found_at};
 
 use crate::classes;
 use crate::fields::note_misfit;
@@ -126,9 +126,9 @@ fn note_contradiction(
     }
 }
 
-/// Notes what is broken at a node.
+/// Notes what is broken at a declaration.
 #[tactic(auto, unfolding(scj_rules::specs::AnnotationRules::annotation_breaks))]
-pub fn note_annotation(
+fn note_declaration(
     found: &mut Vec<Found>,
     scoped: &Scoped,
     id: NodeId,
@@ -143,6 +143,38 @@ pub fn note_annotation(
     note_runs_in(found, scoped, id, node)?;
     note_contradiction(found, scoped, id, node, &thing)?;
     Ok(())
+}
+
+/// Whether a rule on annotations may be broken at a node.
+#[tactic(auto, unfolding(crate::specs::Parts::may_break))]
+fn may_break(node: &Node) -> bool
+    ensures { result ≡ may_break node.now }
+{
+    match node {
+        Node::Class { .. } => true,
+        Node::Field { .. } => true,
+        Node::Method { .. } => true,
+        Node::Parameter { flags, .. } => flags.is_some(),
+        Node::Local { flags, .. } => flags.is_some(),
+        Node::LocalWithValue { flags, .. } => flags.is_some(),
+        _ => false,
+    }
+}
+
+/// Notes what is broken at a node.
+fn note_annotation(
+    found: &mut Vec<Found>,
+    scoped: &Scoped,
+    id: NodeId,
+    node: &Node,
+) -> Result<(), Memory>
+    requires { slice_get (declarations_of scoped.now).nodes id ≡ Some node.now }
+    ensures { OnOk result (found.new.items ≡ found.old.items ++ annotation_breaks (declarations_of scoped.now) id node.now) }
+{
+    if !may_break(node) {
+        return Ok(());
+    }
+    note_declaration(found, scoped, id, node)
 }
 
 /// Notes what is broken at the node of a number.

@@ -9,7 +9,7 @@ ghost use Rattle.node_bindings.specs.Calls.{declared_binding, call_binding};
 ghost use Rattle.method_rows.specs.Methods.{found_method};
 
 use crate::fields::second_class;
-use method_rows::{MethodRef, builtin, declared};
+use method_rows::{MethodRef, builtin, is_static, node, result_type};
 use scj_base::ids::MANAGED_MEMORY;
 use scj_base::{ClassId, Memory, MethodId, Name, NodeId};
 use scj_rules::{Binding, Receiver, Target, Ty};
@@ -42,7 +42,7 @@ fn called_on(
     if method.on == MANAGED_MEMORY {
         return or_class(second_class(types, arguments), method.on);
     }
-    if declared(program, method).modifiers.is_static {
+    if is_static(program, method) {
         return method.on;
     }
     or_class(class_of_receiver(receiver), method.on)
@@ -61,7 +61,7 @@ fn target(
     ensures { result ≡ target (told None types.now) receiver.now (found_method program.now.nodes method.now) arguments.now id }
 {
     let on = called_on(program, types, receiver, method, arguments);
-    let gives = !is_void(&declared(program, method).declared_type);
+    let gives = !is_void(&result_type(program, method));
     Target { id, on, gives }
 }
 
@@ -77,12 +77,11 @@ fn declared_binding(
     ensures { IfOk result (λ b. b ≡ declared_binding (declarations_of known.now) (told None types.now) receiver.now arguments.now (found_method known.now.nodes method.now)) }
 {
     let program = known.program();
-    let row = declared(program, method);
-    let Some(number) = known.classes().method_number(row.node) else {
+    let Some(number) = known.classes().method_number(node(program, method)) else {
         return Ok(Binding::Plain);
     };
     let aim = target(program, types, receiver, method, arguments, number);
-    if row.modifiers.is_static {
+    if is_static(program, method) {
         Ok(Binding::StaticMethod(aim))
     } else {
         Ok(Binding::Method(aim))

@@ -13,7 +13,7 @@ ghost use Rattle.scj_rules.specs.declared.typing.Scope.TheVariants.{In, Caller};
 ghost use Rattle.static_scopes.specs.Found.{method_in};
 
 use class_rows::Classes;
-use method_rows::{MethodRef, builtin, declared};
+use method_rows::{MethodRef, builtin};
 use scj_base::ids::{
     APERIODIC_EVENT_HANDLER_HANDLE_ASYNC_EVENT, MISSION_CLEAN_UP, MISSION_INITIALIZE,
     MISSION_MISSION_MEMORY_SIZE, MISSION_SEQUENCER_GET_NEXT_MISSION,
@@ -103,7 +103,7 @@ fn has_declared(classes: &Classes, class: ClassId, name: &Name, node: NodeId) ->
     match &classes.method_named(class, name) {
         Some(method) => {
             let program = classes.program();
-            builtin(program, method).is_none() && declared(program, method).node == node
+            builtin(program, method).is_none() && method_rows::node(program, method) == node
         }
         None => false,
     }
@@ -153,9 +153,10 @@ fn any_inherits(scopes: &Scopes, name: &Name, node: NodeId) -> bool
 pub fn is_inherited_by_safelet(scopes: &Scopes, method: &MethodRef) -> bool
     ensures { result ≡ is_inherited_by_safelet (declarations_of scopes.now) (method_in scopes.now method.now) }
 {
-    let declared = declared(scopes.classes().program(), method);
-    if !safelet_has(scopes.classes(), &declared.name) {
+    let program = scopes.classes().program();
+    let name = method_rows::name(program, method);
+    if !safelet_has(scopes.classes(), &name) {
         return false;
     }
-    any_inherits(scopes, &declared.name, declared.node)
+    any_inherits(scopes, &name, method_rows::node(program, method))
 }

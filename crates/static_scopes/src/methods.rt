@@ -29,7 +29,7 @@ pub fn declared_of(scopes: &Scopes, method: &MethodRef) -> Declared
 pub fn has_unknown_runs_in(scopes: &Scopes, method: &MethodRef, written: &Written) -> bool
     ensures { result ≡ has_unknown_runs_in (declarations_of scopes.now) (method_in scopes.now method.now) written.now }
 {
-    if declared_of(scopes, method).modifiers.is_static {
+    if method_rows::is_static(scopes.classes().program(), method) {
         return written.name.bytes() != b"CALLER".as_slice();
     }
     !is_known_name(scopes, &written.name)
@@ -65,7 +65,7 @@ pub fn has_other_runs_in(
 ) -> bool
     ensures { result ≡ has_other_runs_in (declarations_of scopes.now) class (method_in scopes.now method.now) written.now }
 {
-    let method_name = declared_of(scopes, method).name;
+    let method_name = method_rows::name(scopes.classes().program(), method);
     differs_from_fixed(scopes, class, &method_name, &written.name)
         || (is_inner_scope(scopes, &written.name) && is_inherited_by_safelet(scopes, method))
 }

@@ -1,3 +1,4 @@
 pub mod NameLemmas
 pub mod PassLemmas
 pub mod ValueLemmas
+pub mod TypedLemmas

@@ -1,6 +1,7 @@
 //! The passes over all nodes.
 
 ghost use Rattle.std.specs.Prelude.{◌≡◌, ◌++◌, [], None, IfOk, OnOk, length};
+ghost use Rattle.scj_tree.specs.Forest.{IsForest};
 ghost use Rattle.scj_tree.specs.Recursion.{told};
 ghost use Rattle.scj_rules.specs.Contexts.{declarations_of};
 ghost use Rattle.scj_rules.specs.TypeRules.{types_in, type_of_next};
@@ -8,13 +9,14 @@ ghost use Rattle.scj_rules.specs.Phases.{type_phase};
 ghost use Rattle.type_check.specs.Passes.{breaks_at};
 
 use crate::breaks::note_breaks;
-use crate::names::{note_name_at, type_of_name};
+use crate::names::type_of_name;
 use crate::values::type_of;
 use scj_base::{Found, Memory, NodeId};
 use scj_rules::Ty;
 use scj_tree::Node;
 use std::alloc::Global;
 use type_rules::Known;
+use type_rules::names::told;
 
 /// The type of a node, from those of the nodes before it. `found` is for what is broken there.
 #[tactic(auto, using(crate::proofs::NameLemmas::right_name), unfolding(scj_rules::specs::TypeRules::type_of_next, scj_rules::specs::TypeRules::type_of_right, scj_rules::specs::Classes::is_empty, scj_rules::specs::Contexts::declarations_of))]
@@ -54,23 +56,27 @@ pub fn types_of(alloc: Global, known: &Known<'_>) -> Result<Vec<Option<Ty>>, Mem
     Ok(types)
 }
 
-/// Notes what is broken at the node of a number.
-#[tactic(auto, using(crate::proofs::NameLemmas::name_breaks_are), unfolding(scj_rules::specs::Contexts::declarations_of))]
+/// Notes what is broken at the node of a number. One that has a type breaks nothing, so it isn't asked again.
+#[tactic(auto, unfolding(scj_rules::specs::Contexts::declarations_of))]
 fn note_at(
     known: &Known<'_>,
     types: &[Option<Ty>],
     id: NodeId,
     found: &mut Vec<Found>,
 ) -> Result<(), Memory>
-    requires { types.now ≡ types_in (declarations_of known.now) }
+    requires types { types.now ≡ types_in (declarations_of known.now) }
+    requires whole { IsForest known.now }
     ensures { OnOk result (found.new.items ≡ found.old.items ++ breaks_at (declarations_of known.now) (told None types.now) id) }
 {
-    let Some(node) = known.program().get(id) else {
+    if told(types, id).is_some() {
         return Ok(());
-    };
-    match node {
-        Node::SimpleName { place, name } => note_name_at(known, types, id, *place, name, found),
-        _ => note_breaks(known, types, id, node, found),
+    }
+    match known.program().get(id) {
+        Some(node) => {
+            note_breaks(known, types, id, node, found)?;
+            Ok(())
+        }
+        None => Ok(()),
     }
 }
 

@@ -3,13 +3,24 @@ use Rattle.std.proofs.Common.{◌≡◌, ℕ, ◌+◌, ◌<◌, ◌≤◌, zero,
 use Rattle.std.proofs.lemmas.Bool.{cases_Bool, true≢false}
 use Rattle.std.proofs.lemmas.List.{drop_all, drop_more}
 use Rattle.scj_rules.specs.declared.views.Declared.{Declared}
+use Rattle.scj_rules.specs.declared.views.WrittenType.{WrittenType}
 use Rattle.scj_rules.specs.declared.typing.Ty.{Ty}
 use Rattle.scj_rules.specs.Views.{DeclaredConstructor}
 use Rattle.scj_rules.specs.Words.{holds}
 use Rattle.scj_rules.specs.Contexts.{Declarations}
-use Rattle.scj_rules.specs.Types.{all_types, take_arguments}
+use Rattle.scj_rules.specs.Types.{type_written, assigns, all_types, take_arguments}
 use Rattle.scj_rules.specs.TypeRules.{Types, misfit}
 use Rattle.type_rules.specs.Parameters.{fit_each, takes_type}
+
+-- the type alone of a parameter
+pub taken_by_type : (p : Declarations) (t : Ty) (o : Option Declared) (w : WrittenType) → option_map (λ (d : Declared). d.declared_type) o ≡ Some w
+    → holds o (takes_type p t) ≡ holds (type_written p.names w) (assigns p.classes t)
+taken_by_type p t None w e = cc
+taken_by_type p t (Some d) w e = ap (λ (o : Option WrittenType). holds o (λ (v : WrittenType). holds (type_written p.names v) (assigns p.classes t))) e
+
+pub taken_by_none : (p : Declarations) (t : Ty) (o : Option Declared) → option_map (λ (d : Declared). d.declared_type) o ≡ None → holds o (takes_type p t) ≡ false
+taken_by_none p t None e = refl
+taken_by_none p t (Some d) e = cc
 
 drop_here : (ids : List ℕ) (i id : ℕ) → i < length ids → id ≡ get_or ids i id → drop i ids ≡ id ∷ drop (i + 1) ids
 drop_here ids i id l e = drop_more ids i id l ∙ ap (λ x. x ∷ drop (i + 1) ids) (sym e)

@@ -102,6 +102,14 @@ abbrev pub called_breaks : Declarations → Types → ℕ → Pos → List ℕ �
 called_breaks p types id place name r arguments =
     broken (is_no_reference r) T3 place ++ (broken (lacks_method p r name) T5 place ++ (broken (misfits_method p types r name arguments) T6 place ++ (broken (lacks_this_method p id r name) T13 place ++ [])))
 
+-- the arguments don't fit the method that was found
+abbrev pub misfits_found : Declarations → Types → Option FoundMethod → List ℕ → Bool
+misfits_found p types found arguments = holds found (λ (f : FoundMethod). misfit p types f.method.parameters arguments)
+
+-- the method that was found isn't static
+abbrev pub needs_object : Option FoundMethod → Bool
+needs_object found = holds found (λ (f : FoundMethod). not f.method.declared.modifiers.is_static)
+
 -- what is lacking, where a method was found or none
 abbrev pub lacks_found : Declarations → Receiver → Option FoundMethod → Bool
 lacks_found p r found = not (is_no_reference r) && elim found [ None ↦ true | Some f ↦ not (is_callable p f) || (is_value r && f.method.declared.modifiers.is_static) ]

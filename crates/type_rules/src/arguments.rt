@@ -1,6 +1,7 @@
 //! Arguments and the parameters that take them.
 
-ghost use Rattle.std.specs.Prelude.{◌≡◌, None, length, is_some, slice_get};
+ghost use Rattle.std.specs.Prelude.{◌≡◌, None, length, is_some, option_map, slice_get};
+ghost use Rattle.scj_rules.specs.declared.views.Declared.{Declared as Declaration};
 ghost use Rattle.scj_tree.specs.Recursion.{told};
 ghost use Rattle.scj_rules.specs.Words.{holds};
 ghost use Rattle.scj_rules.specs.Classes.{is_empty};
@@ -13,7 +14,7 @@ use crate::known::Known;
 use crate::names::{assigns, told, type_written};
 use method_rows::MethodRef;
 use scj_base::{ClassId, NodeId};
-use scj_rules::{Declared, Ty};
+use scj_rules::{Ty, WrittenType};
 
 /// Parameters.
 #[derive(Clone, Copy)]
@@ -47,25 +48,26 @@ fn count(known: &Known<'_>, takes: &Takes) -> usize
     }
 }
 
-/// The parameter of a number.
+/// The type of the parameter of a number.
 #[tactic(auto, unfolding(crate::specs::Parameters::taken))]
-fn parameter(known: &Known<'_>, takes: &Takes, i: usize) -> Option<Declared>
-    ensures { result ≡ slice_get (taken known.now.nodes takes.now) i }
+fn parameter_type(known: &Known<'_>, takes: &Takes, i: usize) -> Option<WrittenType>
+    ensures { result ≡ option_map (λ (d : Declaration). d.declared_type) (slice_get (taken known.now.nodes takes.now) i) }
 {
     match takes {
-        Takes::Method(method) => method_rows::parameter(known.program(), method, i),
-        Takes::Listed(parameters) => node_views::parameter(known.program(), *parameters, i),
+        Takes::Method(method) => method_rows::parameter_type(known.program(), method, i),
+        Takes::Listed(parameters) => node_views::parameter_type(known.program(), *parameters, i),
     }
 }
 
 /// Whether the parameter of a number takes a value of the type.
+#[tactic(auto, using(crate::proofs::ArgumentLemmas::taken_by_type, crate::proofs::ArgumentLemmas::taken_by_none))]
 fn fits(known: &Known<'_>, takes: &Takes, i: usize, t: &Ty) -> bool
     ensures { result ≡ holds (slice_get (taken known.now.nodes takes.now) i) (takes_type (declarations_of known.now) t.now) }
 {
-    let Some(declared) = parameter(known, takes, i) else {
+    let Some(declared_type) = parameter_type(known, takes, i) else {
         return false;
     };
-    match type_written(known, &declared.declared_type) {
+    match type_written(known, &declared_type) {
         Some(written) => assigns(known, t, &written),
         None => false,
     }

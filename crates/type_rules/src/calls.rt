@@ -8,9 +8,9 @@ ghost use Rattle.scj_rules.specs.Classes.{FoundMethod, class_number, superclass_
 ghost use Rattle.scj_rules.specs.Words.{holds};
 ghost use Rattle.scj_rules.specs.Contexts.{declarations_of};
 ghost use Rattle.scj_rules.specs.Types.{all_types, called_method, is_size_method, is_callable, is_form_part, is_int, kind_is, is_concrete, is_form, has_form, form_in, constructor_parameters, constructor_in};
-ghost use Rattle.scj_rules.specs.TypeRules.{lacks_method, misfit, misfits_method, misfits_new, misfits_class, calls_unwritten, is_concrete_safelet, is_never_made};
+ghost use Rattle.scj_rules.specs.TypeRules.{misfits_new, misfits_class, calls_unwritten, is_concrete_safelet, is_never_made};
 ghost use Rattle.method_rows.specs.Methods.{found_method};
-ghost use Rattle.type_rules.specs.Kinds.{called_breaks, call_breaks, new_breaks, class_breaks, lacks_this_method, lacks_found};
+ghost use Rattle.type_rules.specs.Kinds.{called_breaks, call_breaks, new_breaks, class_breaks, lacks_found, misfits_found, needs_object};
 
 use crate::arguments::{Takes, are_typed, constructor_parameters, misfit, takes_none};
 use crate::expressions::{is_form_class, lacks_object};
@@ -18,7 +18,7 @@ use crate::forms::{has_form, has_right_form, is_form_part, super_arguments};
 use crate::known::Known;
 use crate::names::{call_receiver, called_method, told};
 use crate::statements::is_long_row;
-use method_rows::{MethodRef, declared, is_callable_row};
+use method_rows::{MethodRef, is_callable_row, is_static, result_type};
 use scj_base::ids::{OBJECT, SAFELET};
 use scj_base::{ClassId, Found, Memory, Name, NodeId, Pos, Rule};
 use scj_builtins::ClassKind;
@@ -26,11 +26,13 @@ use scj_rules::{Receiver, Ty, note};
 use type_words::{are_same, is_long, is_no_reference, is_value};
 
 /// Whether the method is one of the framework's size methods.
+#[tactic(auto, unfolding(method_rows::specs::Methods::found_method))]
 fn is_size_method(known: &Known<'_>, method: &MethodRef) -> bool
     ensures { result ≡ is_size_method (declarations_of known.now) (found_method known.now.nodes method.now) }
 {
-    let declared = declared(known.program(), method);
-    is_long(&declared.declared_type) && is_long_row(known, method.on, &declared.name)
+    let program = known.program();
+    is_long(&result_type(program, method))
+        && is_long_row(known, method.on, &method_rows::name(program, method))
 }
 
 /// Whether a program may call the method.
@@ -40,63 +42,50 @@ fn is_callable(known: &Known<'_>, method: &MethodRef) -> bool
     is_callable_row(known.program(), method) && !is_size_method(known, method)
 }
 
-/// Whether the method is static.
-pub fn is_static(known: &Known<'_>, method: &MethodRef) -> bool
-    ensures { result ≡ (found_method known.now.nodes method.now).method.declared.modifiers.is_static }
-{
-    declared(known.program(), method).modifiers.is_static
-}
-
-/// Whether there is no such callable method of a receiver, or a static one through a value.
-#[tactic(auto, unfolding(scj_rules::specs::TypeRules::lacks_method))]
-fn lacks_method(known: &Known<'_>, receiver: &Receiver, name: &Name) -> bool
-    ensures { result ≡ lacks_method (declarations_of known.now) receiver.now name.now }
+/// Whether no method was found for a receiver that a program may call, or a static one through a value.
+fn lacks_found(known: &Known<'_>, receiver: &Receiver, method: &Option<MethodRef>) -> bool
+    ensures { result ≡ lacks_found (declarations_of known.now) receiver.now (option_map (found_method known.now.nodes) method.now) }
 {
     if is_no_reference(receiver) {
         return false;
     }
-    match called_method(known, receiver, name) {
+    match method {
         Some(method) => {
-            !is_callable(known, &method) || (is_value(receiver) && is_static(known, &method))
+            !is_callable(known, method)
+                || (is_value(receiver) && is_static(known.program(), method))
         }
         None => true,
     }
 }
 
-/// Whether the arguments don't fit the method that a call stands for.
-#[tactic(auto, unfolding(scj_rules::specs::TypeRules::misfits_method, crate::specs::Parameters::taken))]
-fn misfits_method(
+/// Whether the arguments don't fit the method that was found.
+#[tactic(auto, unfolding(crate::specs::Parameters::taken))]
+fn misfits_found(
     known: &Known<'_>,
     types: &[Option<Ty>],
-    receiver: &Receiver,
-    name: &Name,
+    method: &Option<MethodRef>,
     arguments: &[NodeId],
 ) -> bool
-    ensures { result ≡ misfits_method (declarations_of known.now) (told None types.now) receiver.now name.now arguments.now }
+    ensures { result ≡ misfits_found (declarations_of known.now) (told None types.now) (option_map (found_method known.now.nodes) method.now) arguments.now }
 {
-    if lacks_method(known, receiver, name) {
-        return false;
-    }
-    match called_method(known, receiver, name) {
-        Some(method) => misfit(known, types, &Takes::Method(method), arguments),
+    match method {
+        Some(method) => misfit(known, types, &Takes::Method(*method), arguments),
         None => false,
     }
 }
 
-/// Whether a method that isn't static is called where no object is at hand.
-fn lacks_this_method(known: &Known<'_>, id: NodeId, receiver: &Receiver, name: &Name) -> bool
-    ensures { result ≡ lacks_this_method (declarations_of known.now) id receiver.now name.now }
+/// Whether the method that was found isn't static.
+fn needs_object(known: &Known<'_>, method: &Option<MethodRef>) -> bool
+    ensures { result ≡ needs_object (option_map (found_method known.now.nodes) method.now) }
 {
-    if !lacks_object(known, id, receiver) || lacks_method(known, receiver, name) {
-        return false;
-    }
-    match called_method(known, receiver, name) {
-        Some(method) => !is_static(known, &method),
+    match method {
+        Some(method) => !is_static(known.program(), method),
         None => false,
     }
 }
 
 /// Notes what is broken at a call whose receiver is known, and whose arguments have types.
+#[tactic(auto, unfolding(scj_rules::specs::TypeRules::lacks_method, scj_rules::specs::TypeRules::misfits_method))]
 fn note_called(
     known: &Known<'_>,
     types: &[Option<Ty>],
@@ -109,20 +98,14 @@ fn note_called(
 ) -> Result<(), Memory>
     ensures { OnOk result (found.new.items ≡ found.old.items ++ called_breaks (declarations_of known.now) (told None types.now) id place name.now receiver.now arguments.now) }
 {
+    let method = called_method(known, receiver, name);
+    let lacks = lacks_found(known, receiver, &method);
+    let misfits = !lacks && misfits_found(known, types, &method, arguments);
+    let is_apart = lacks_object(known, id, receiver) && !lacks && needs_object(known, &method);
     note(found, is_no_reference(receiver), Rule::T3, place)?;
-    note(found, lacks_method(known, receiver, name), Rule::T5, place)?;
-    note(
-        found,
-        misfits_method(known, types, receiver, name, arguments),
-        Rule::T6,
-        place,
-    )?;
-    note(
-        found,
-        lacks_this_method(known, id, receiver, name),
-        Rule::T13,
-        place,
-    )?;
+    note(found, lacks, Rule::T5, place)?;
+    note(found, misfits, Rule::T6, place)?;
+    note(found, is_apart, Rule::T13, place)?;
     Ok(())
 }
 

@@ -1,6 +1,6 @@
 //! What names, accesses and calls mean, and which types fit.
 
-ghost use Rattle.std.specs.Prelude.{◌≡◌, ◌&&◌, ◌||◌, [], ◌∷◌, None, option_and_then, option_map, IfOk};
+ghost use Rattle.std.specs.Prelude.{◌≡◌, ◌&&◌, ◌||◌, [], ◌∷◌, None, length, option_and_then, option_map, IfOk};
 ghost use Rattle.scj_base.specs.Vocabulary.{sign_equal, sign_not_equal, sign_less, sign_greater, sign_less_equal, sign_greater_equal, sign_and_and, sign_or_or};
 ghost use Rattle.scj_tree.specs.Recursion.{told};
 ghost use Rattle.scj_rules.specs.Definitions.{read};
@@ -216,7 +216,8 @@ fn meaning_at(known: &Known<'_>, id: NodeId) -> NameMeaning
 
 /// What the names of all nodes stand for, in time that grows with their number and that of the variables around them.
 pub fn meanings_of(alloc: Global, known: &Known<'_>) -> Result<Vec<NameMeaning>, Memory>
-    ensures { IfOk result (λ rows. AreMeanings known.now rows.items) }
+    ensures told { IfOk result (λ rows. AreMeanings known.now rows.items) }
+    ensures whole { IfOk result (λ rows. length rows.items ≡ length known.now.nodes) }
 {
     let mut rows = Vec::new(alloc);
     for place in 0..known.program().len() {

@@ -5,7 +5,6 @@ ghost use Rattle.scj_rules.specs.declared.typing.FoundField.{FoundField as Row};
 ghost use Rattle.scj_rules.specs.Types.{type_written};
 ghost use Rattle.scj_rules.specs.Contexts.{declarations_of};
 ghost use Rattle.scj_rules.specs.TypeRules.{type_of_meaning, access_type, call_type};
-ghost use Rattle.method_rows.specs.Methods.{found_method};
 ghost use Rattle.class_rows.specs.Fields.{found_field};
 ghost use Rattle.type_rules.specs.Meanings.{meant};
 
@@ -14,11 +13,10 @@ use crate::meanings::NameMeaning;
 use crate::names::{accessed_field, called_method, type_written};
 use class_rows::FieldRef;
 use class_rows::fields::field_type as written_of;
-use method_rows::{MethodRef, MethodSource, declared};
-use node_views::{result_type, variable_type};
+use method_rows::result_type;
+use node_views::variable_type;
 use scj_base::Name;
-use scj_rules::{Receiver, Ty, WrittenType};
-use scj_tree::Program;
+use scj_rules::{Receiver, Ty};
 use type_words::{is_array_value, is_length};
 
 /// The type of what a name stands for.
@@ -57,26 +55,13 @@ pub fn access_type(known: &Known<'_>, receiver: &Receiver, name: &Name) -> Optio
     field_type(known, &accessed_field(known, receiver, name))
 }
 
-/// The type of a method's result, as it is written.
-#[tactic(auto, unfolding(method_rows::specs::Methods::found_method, method_rows::specs::Methods::method_from))]
-fn result_written(program: &Program, method: &MethodRef) -> WrittenType
-    ensures { result ≡ (found_method program.now.nodes method.now).method.declared.declared_type }
-{
-    if let MethodSource::Declared(node) = method.source {
-        if let Some(written) = result_type(program, node) {
-            return written;
-        }
-    }
-    declared(program, method).declared_type
-}
-
 /// The type of a call: the method's result.
 #[tactic(auto, unfolding(scj_rules::specs::TypeRules::call_type))]
 pub fn call_type(known: &Known<'_>, receiver: &Receiver, name: &Name) -> Option<Ty>
     ensures { result ≡ call_type (declarations_of known.now) receiver.now name.now }
 {
     match called_method(known, receiver, name) {
-        Some(method) => type_written(known, &result_written(known.program(), &method)),
+        Some(method) => type_written(known, &result_type(known.program(), &method)),
         None => None,
     }
 }

@@ -15,7 +15,7 @@ use crate::arguments::{constructor_parameters, misfit};
 use crate::forms::has_form;
 use crate::known::Known;
 use crate::names::{assigns, receiver, told, type_written, written_type};
-use method_rows::declared;
+use method_rows::result_type;
 use node_views::{place_at, type_at};
 use scj_base::{ClassId, Found, Memory, Name, NodeId, Pos, Rule};
 use scj_rules::{Ty, WrittenType, note};
@@ -187,7 +187,7 @@ pub fn is_long_row(known: &Known<'_>, class: ClassId, name: &Name) -> bool
     ensures { result ≡ holds (framework_row_named (declarations_of known.now).classes class name.now) (λ (row : FoundMethod). is_same_type row.method.declared.declared_type long_type) }
 {
     match known.framework_row_named(class, name) {
-        Some(row) => is_long(&declared(known.program(), &row).declared_type),
+        Some(row) => is_long(&result_type(known.program(), &row)),
         None => false,
     }
 }
