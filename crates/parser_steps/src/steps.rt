@@ -53,7 +53,9 @@ use type_steps::types::{
     type_name_step, typed,
 };
 
-/// Takes one lexeme; none where it may not stand here.
+/// Takes one lexeme; none where it may not stand here. Not inlined: the loop over the lexemes then moves a mode as a
+/// whole, and not its parts one by one.
+#[inline(never)]
 #[tactic(auto, unfolding(parser_machine::specs::Machine::step_mode))]
 pub fn step_mode(
     nodes: &mut Nodes,
