@@ -53,9 +53,7 @@ use type_steps::types::{
     type_name_step, typed,
 };
 
-/// Takes one lexeme; none where it may not stand here. Not inlined: the loop over the lexemes then moves a mode as a
-/// whole, and not its parts one by one.
-#[inline(never)]
+/// Takes one lexeme; none where it may not stand here.
 #[tactic(auto, unfolding(parser_machine::specs::Machine::step_mode))]
 pub fn step_mode(
     nodes: &mut Nodes,
