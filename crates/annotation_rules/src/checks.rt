@@ -64,7 +64,7 @@ fn note_unknown(
 {
     match node {
         Node::Class { name, .. } => {
-            let class = scoped.scopes().classes().class_of(name);
+            let class = scoped.scopes().classes().class_of(name.get());
             note_unknown_of_class(found, scoped, class)
         }
         _ => note_unknown_at(found, scoped, thing),
@@ -99,7 +99,7 @@ fn note_other(
     let _ = id;
     match node {
         Node::Class { place, name, .. } => {
-            let class = scoped.scopes().classes().class_of(name);
+            let class = scoped.scopes().classes().class_of(name.get());
             note_other_of_class(found, scoped, class, *place)
         }
         _ => Ok(()),

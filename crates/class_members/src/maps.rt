@@ -45,7 +45,7 @@ fn field_name(program: &Program, id: NodeId) -> Option<Name>
     ensures { result ≡ option_map (λ (f : Declared). f.name) (field_at program.now.nodes id) }
 {
     match program.get(id)? {
-        Node::Field { name, .. } => Some(*name),
+        Node::Field { name, .. } => Some(*name.get()),
         _ => None,
     }
 }

@@ -3,7 +3,7 @@ ghost use Rattle.scj_tree.specs.declared.nodes.Node.TheVariants.{Class as class_
 
 use crate::{ClassTable, Classes};
 use scj_base::ids::{OBJECT, RUNNABLE};
-use scj_base::{ClassId, Memory, Name, NodeId, Pos};
+use scj_base::{ClassId, Memory, Name, NodeId, Pos, SharedName};
 use scj_tree::{Node, NodeList, Program};
 use std::alloc::Global;
 use std::test::Fail;
@@ -17,18 +17,19 @@ fn int_type(place: Pos) -> Node
     }
 }
 
-fn field(place: Pos, name: &[u8], declared_type: u32) -> Node
+fn field(alloc: Global, place: Pos, name: &[u8], declared_type: u32) -> Result<Node, Memory>
     requires { length name.now ≤ 64 }
-    ensures { result ≡ field_node place name.now None declared_type None None }
+    ensures { IfOk result (λ node. node ≡ field_node place name.now None declared_type None None) }
 {
-    Node::Field {
+    let name = SharedName::new(alloc, &Name::new(name))?;
+    Ok(Node::Field {
         place,
-        name: Name::new(name),
+        name,
         flags: None,
         declared_type: NodeId::at(declared_type),
         equals: None,
         value: None,
-    }
+    })
 }
 
 fn void_type(place: Pos) -> Node
@@ -46,56 +47,72 @@ fn block(alloc: Global, place: Pos) -> Node
     }
 }
 
-fn method(place: Pos, name: &[u8], result_type: u32, body: u32) -> Node
+fn method(
+    alloc: Global,
+    place: Pos,
+    name: &[u8],
+    result_type: u32,
+    body: u32,
+) -> Result<Node, Memory>
     requires { length name.now ≤ 64 }
-    ensures { result ≡ method_node place name.now None result_type None (Some body) }
+    ensures { IfOk result (λ node. node ≡ method_node place name.now None result_type None (Some body)) }
 {
-    Node::Method {
+    let name = SharedName::new(alloc, &Name::new(name))?;
+    Ok(Node::Method {
         place,
-        name: Name::new(name),
+        name,
         flags: None,
         result_type: NodeId::at(result_type),
         parameters: None,
         body: Some(NodeId::at(body)),
-    }
+    })
 }
 
-fn constructor(place: Pos, name: &[u8], body: u32) -> Node
+fn constructor(alloc: Global, place: Pos, name: &[u8], body: u32) -> Result<Node, Memory>
     requires { length name.now ≤ 64 }
-    ensures { result ≡ constructor_node place name.now None None None body }
+    ensures { IfOk result (λ node. node ≡ constructor_node place name.now None None None body) }
 {
-    Node::Constructor {
+    let name = SharedName::new(alloc, &Name::new(name))?;
+    Ok(Node::Constructor {
         place,
-        name: Name::new(name),
+        name,
         flags: None,
         parameters: None,
         super_call: None,
         body: NodeId::at(body),
-    }
+    })
 }
 
-fn class(place: Pos, name: &[u8], header: Option<NodeId>, members: Vec<NodeId>) -> Node
+fn class(
+    alloc: Global,
+    place: Pos,
+    name: &[u8],
+    header: Option<NodeId>,
+    members: Vec<NodeId>,
+) -> Result<Node, Memory>
     requires { length name.now ≤ 64 }
-    ensures { result ≡ class_node place name.now None header members.items }
+    ensures { IfOk result (λ node. node ≡ class_node place name.now None header members.items) }
 {
-    Node::Class {
+    let name = SharedName::new(alloc, &Name::new(name))?;
+    Ok(Node::Class {
         place,
-        name: Name::new(name),
+        name,
         flags: None,
         header,
         members: NodeList(members),
-    }
+    })
 }
 
-fn super_type(place: Pos, name: &[u8]) -> Node
+fn super_type(alloc: Global, place: Pos, name: &[u8]) -> Result<Node, Memory>
     requires { length name.now ≤ 64 }
-    ensures { result ≡ super_type_node place name.now None }
+    ensures { IfOk result (λ node. node ≡ super_type_node place name.now None) }
 {
-    Node::SuperType {
+    let name = SharedName::new(alloc, &Name::new(name))?;
+    Ok(Node::SuperType {
         place,
-        name: Name::new(name),
+        name,
         argument: None,
-    }
+    })
 }
 
 fn supers(place: Pos, superclass: u32, interfaces: Vec<NodeId>) -> Node
@@ -120,17 +137,17 @@ fn sample(alloc: Global) -> Result<Program, Memory> {
     let classes = vec![in alloc; NodeId::at(7), NodeId::at(11)]?;
     let files = vec![in alloc; classes]?;
     let int = int_type(place);
-    let f = field(place, b"f", 0);
+    let f = field(alloc, place, b"f", 0)?;
     let void = void_type(place);
     let body = block(alloc, place);
-    let run = method(place, b"run", 2, 3);
+    let run = method(alloc, place, b"run", 2, 3)?;
     let other_body = block(alloc, place);
-    let made = constructor(place, b"B", 5);
-    let b = class(place, b"B", None, members);
-    let above = super_type(place, b"B");
-    let interface = super_type(place, b"Runnable");
+    let made = constructor(alloc, place, b"B", 5)?;
+    let b = class(alloc, place, b"B", None, members)?;
+    let above = super_type(alloc, place, b"B")?;
+    let interface = super_type(alloc, place, b"Runnable")?;
     let header = supers(place, 8, interfaces);
-    let a = class(place, b"A", Some(NodeId::at(10)), Vec::new(alloc));
+    let a = class(alloc, place, b"A", Some(NodeId::at(10)), Vec::new(alloc))?;
     let nodes = vec![in alloc;
         int, f, void, body, run, other_body, made, b, above, interface, header, a,
     ]?;

@@ -43,7 +43,7 @@ pub fn class_parts(program: &Program, id: NodeId) -> Option<ClassParts<'_>>
         } => Some(ClassParts {
             node: id,
             place: *place,
-            name: *name,
+            name: *name.get(),
             modifiers: modifiers_at(program, *flags),
             extends: class_extends(program, id),
             interfaces: interface_nodes(program, id),

@@ -2,7 +2,7 @@ ghost use Rattle.std.specs.Prelude.{◌≡◌, ◌<◌, ◌++◌, IfOk, OnOk};
 ghost use Rattle.class_table.specs.Samples.{field_nodes, sample};
 
 use crate::build;
-use scj_base::{Found, Memory, Name, NodeId, Pos, Rule};
+use scj_base::{Found, Memory, Name, NodeId, Pos, Rule, SharedName};
 use scj_tree::{Node, NodeList, Program};
 use std::alloc::Global;
 use std::test::Fail;
@@ -19,7 +19,7 @@ fn at(col: u32) -> Pos
 
 /// Adds the nodes of `int x;` in a column; the first has the number `from`.
 #[tactic(auto, unfolding(crate::specs::Samples::field_nodes))]
-fn add_field(nodes: &mut Vec<Node>, from: u32, col: u32) -> Result<(), Memory>
+fn add_field(alloc: Global, nodes: &mut Vec<Node>, from: u32, col: u32) -> Result<(), Memory>
     requires { col < 1000 }
     ensures { OnOk result (nodes.new.items ≡ nodes.old.items ++ field_nodes from col) }
 {
@@ -29,7 +29,7 @@ fn add_field(nodes: &mut Vec<Node>, from: u32, col: u32) -> Result<(), Memory>
     })?;
     nodes.push(Node::Field {
         place: at(col + 4),
-        name: Name::new(b"x"),
+        name: SharedName::new(alloc, &Name::new(b"x"))?,
         flags: None,
         declared_type: NodeId::at(from),
         equals: None,
@@ -44,12 +44,12 @@ fn sample_nodes(alloc: Global) -> Result<Vec<Node>, Memory>
     ensures { IfOk result (λ nodes. nodes.items ≡ sample) }
 {
     let mut nodes = Vec::new(alloc);
-    add_field(&mut nodes, 0, 11)?;
-    add_field(&mut nodes, 2, 18)?;
+    add_field(alloc, &mut nodes, 0, 11)?;
+    add_field(alloc, &mut nodes, 2, 18)?;
     let members = vec![in alloc; NodeId::at(1), NodeId::at(3)]?;
     nodes.push(Node::Class {
         place: at(7),
-        name: Name::new(b"A"),
+        name: SharedName::new(alloc, &Name::new(b"A"))?,
         flags: None,
         header: None,
         members: NodeList(members),

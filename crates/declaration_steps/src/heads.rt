@@ -313,9 +313,10 @@ pub fn super_type_ended(
     ensures step { let awaited = super_ended (length nodes.old.all) (put nodes.old.all (SuperType place name.now None)) stack.old (seen view.now) in gives result nodes.new.all stack.new awaited ≡ awaited }
     ensures kept { nodes.new.kept ≡ nodes.old.kept }
 {
+    let shared = nodes.shared(name)?;
     let id = nodes.put(Node::SuperType {
         place,
-        name: *name,
+        name: shared,
         argument: None,
     })?;
     super_ended(nodes, stack, view, id)
@@ -336,9 +337,10 @@ pub fn super_argument_name_step(
     let View::Name(argument, argument_place) = view else {
         return Ok(None);
     };
+    let shared = nodes.shared(*argument)?;
     let argument = nodes.put(Node::TypeArgument {
         place: *argument_place,
-        name: **argument,
+        name: shared,
     })?;
     Ok(Some(Mode::SuperArgumentEnd {
         place,
@@ -366,9 +368,10 @@ pub fn super_argument_end_step(
     if *sign != GREATER {
         return Ok(None);
     }
+    let shared = nodes.shared(name)?;
     let id = nodes.put(Node::SuperType {
         place,
-        name: *name,
+        name: shared,
         argument: Some(argument),
     })?;
     Ok(Some(Mode::SuperDone { id }))

@@ -32,9 +32,10 @@ pub fn member_named_step(
         return Ok(None);
     };
     if *sign == SEMICOLON {
+        let shared = nodes.shared(name)?;
         let id = nodes.put(Node::Field {
             place,
-            name: *name,
+            name: shared,
             flags,
             declared_type,
             equals: None,
@@ -157,9 +158,10 @@ pub fn field_ended(nodes: &mut Nodes, stack: &mut Stack, id: NodeId) -> Result<O
             name,
             equals,
         } => {
+            let shared = nodes.shared(name)?;
             let id = nodes.put(Node::Field {
                 place: *place,
-                name: *name,
+                name: shared,
                 flags: *flags,
                 declared_type: *declared_type,
                 equals: Some(*equals),

@@ -203,9 +203,10 @@ pub fn value_start_step(
             if !is_name(text) {
                 return Ok(None);
             }
+            let shared = nodes.shared(&Name::new(text))?;
             let id = nodes.put(Node::ScopeName {
                 place: *place,
-                name: Name::new(text),
+                name: shared,
             })?;
             Ok(Some(Mode::ValueRead { id }))
         }
@@ -213,9 +214,10 @@ pub fn value_start_step(
             if is_word(*name, b"Scope") {
                 return Ok(Some(Mode::ValueScope { place: *place }));
             }
+            let shared = nodes.shared(*name)?;
             let id = nodes.put(Node::ScopeName {
                 place: *place,
-                name: **name,
+                name: shared,
             })?;
             Ok(Some(Mode::ValueRead { id }))
         }
@@ -240,9 +242,10 @@ pub fn value_scope_step(
     if *sign == DOT {
         return Ok(Some(Mode::ValueDot { place }));
     }
+    let shared = nodes.shared(&Name::new(b"Scope"))?;
     let id = nodes.put(Node::ScopeName {
         place,
-        name: Name::new(b"Scope"),
+        name: shared,
     })?;
     valued(nodes, stack, id, *sign)
 }
@@ -261,9 +264,10 @@ pub fn value_dot_step(
     let View::Name(name, _) = view else {
         return Ok(None);
     };
+    let shared = nodes.shared(*name)?;
     let id = nodes.put(Node::ScopeName {
         place,
-        name: **name,
+        name: shared,
     })?;
     Ok(Some(Mode::ValueRead { id }))
 }

@@ -92,9 +92,10 @@ pub fn new_name_step(
         return Ok(Some(Mode::ArgumentFirst));
     }
     if *sign == LEFT_BRACKET {
+        let shared = nodes.shared(name)?;
         let element = nodes.put(Node::ClassType {
             place: name_place,
-            name: *name,
+            name: shared,
             argument: None,
             is_array: false,
         })?;

@@ -91,9 +91,10 @@ pub fn arguments_ended(
             name,
             object,
         } => {
+            let shared = nodes.shared(name)?;
             let id = nodes.put(Node::Call {
                 place: *place,
-                name: *name,
+                name: shared,
                 object: *object,
                 arguments: list,
             })?;
@@ -108,10 +109,11 @@ pub fn arguments_ended(
             name_place,
             name,
         } => {
+            let shared = nodes.shared(name)?;
             let id = nodes.put(Node::New {
                 place: *place,
                 name_place: *name_place,
-                name: *name,
+                name: shared,
                 arguments: list,
             })?;
             Ok(Some(Mode::PostDone {
@@ -531,10 +533,11 @@ pub fn local_value_ended(
     ensures step { let awaited = ended (LocalValue place name_place name.now flags declared_type) id nodes.old.all stack.old (seen view.now) in gives result nodes.new.all stack.new awaited ≡ awaited }
     ensures kept { nodes.new.kept ≡ nodes.old.kept }
 {
+    let shared = nodes.shared(name)?;
     let id = nodes.put(Node::LocalWithValue {
         place,
         name_place,
-        name: *name,
+        name: shared,
         flags,
         declared_type,
         value: id,
@@ -636,7 +639,7 @@ pub fn closed(
             stack.push(entry)?;
             return shifted(nodes, stack, view, id);
         }
-        let Some(node) = operation(&entry, id) else {
+        let Some(node) = operation(nodes, &entry, id)? else {
             return ended(nodes, stack, view, entry, id);
         };
         id = nodes.put(node)?;

@@ -1,14 +1,14 @@
 //! How tightly operators bind.
 
-ghost use Rattle.std.specs.Prelude.{◌≡◌};
+ghost use Rattle.std.specs.Prelude.{◌≡◌, IfOk};
 ghost use Rattle.parser_machine.specs.Closing.{admits as are_admitted, operation as operation_of};
 ghost use Rattle.parser_machine.specs.States.{level_of as level_of_lexeme};
 ghost use Rattle.parser_nodes.specs.Told.{seen};
 ghost use Rattle.scj_tree.specs.Terminals.{level as level_of_sign, compound as compound_of, stepping as stepping_of};
 
 use parser_machine::Entry;
+use parser_nodes::growing_nodes::Nodes;
 use parser_nodes::views::View;
-use scj_base::NodeId;
 use scj_base::vocabulary::{
     AND, AND_AND, AND_ASSIGN, EQUAL, GREATER, GREATER_EQUAL, LESS, LESS_EQUAL, MINUS, MINUS_ASSIGN,
     MINUS_MINUS, NOT_EQUAL, OR, OR_ASSIGN, OR_OR, PERCENT, PERCENT_ASSIGN, PLUS, PLUS_ASSIGN,
@@ -16,6 +16,7 @@ use scj_base::vocabulary::{
     SHIFT_RIGHT_UNSIGNED, SHIFT_RIGHT_UNSIGNED_ASSIGN, SLASH, SLASH_ASSIGN, STAR, STAR_ASSIGN, XOR,
     XOR_ASSIGN,
 };
+use scj_base::{Memory, NodeId};
 use scj_tree::Node;
 
 /// How tightly a binary operator binds, the loosest 1; 0 for any other sign.
@@ -98,35 +99,36 @@ pub fn admits(entry: &Entry, binding: u8) -> bool
 
 /// The operation of an operator on its last operand.
 #[tactic(auto, unfolding(parser_machine::specs::Closing::operation))]
-pub fn operation(entry: &Entry, id: NodeId) -> Option<Node>
-    ensures { result ≡ operation_of entry.now id }
+pub fn operation(nodes: &mut Nodes, entry: &Entry, id: NodeId) -> Result<Option<Node>, Memory>
+    ensures node { IfOk result (λ node. node ≡ operation_of entry.now id) }
+    ensures same { nodes.new ≡ nodes.old }
 {
     match entry {
         Entry::BinaryLeft {
             place,
             operator,
             left,
-        } => Some(Node::Binary {
+        } => Ok(Some(Node::Binary {
             place: *place,
             operator: *operator,
             left: *left,
             right: id,
-        }),
-        Entry::UnaryOpen { place, operator } => Some(Node::Unary {
+        })),
+        Entry::UnaryOpen { place, operator } => Ok(Some(Node::Unary {
             place: *place,
             operator: *operator,
             operand: id,
-        }),
+        })),
         Entry::CastOpen {
             place,
             name_place,
             name,
-        } => Some(Node::Cast {
+        } => Ok(Some(Node::Cast {
             place: *place,
             name_place: *name_place,
-            name: *name,
+            name: nodes.shared(name)?,
             operand: id,
-        }),
-        _ => None,
+        })),
+        _ => Ok(None),
     }
 }

@@ -111,9 +111,10 @@ pub fn dot_name_step(
         })?;
         return Ok(Some(Mode::ArgumentFirst));
     }
+    let shared = nodes.shared(name)?;
     let id = nodes.put(Node::FieldAccess {
         place,
-        name: *name,
+        name: shared,
         object,
     })?;
     post_step(nodes, stack, view, PostKind::Variable, place, id)
@@ -132,8 +133,16 @@ pub fn compound_step(
     ensures step { let awaited = compound_step place name.now sign_place operator nodes.old.all stack.old in gives result nodes.new.all stack.new awaited ≡ awaited }
     ensures kept { nodes.new.kept ≡ nodes.old.kept }
 {
-    let target = nodes.put(Node::SimpleName { place, name: *name })?;
-    let left = nodes.put(Node::SimpleName { place, name: *name })?;
+    let shared = nodes.shared(name)?;
+    let target = nodes.put(Node::SimpleName {
+        place,
+        name: shared,
+    })?;
+    let shared = nodes.shared(name)?;
+    let left = nodes.put(Node::SimpleName {
+        place,
+        name: shared,
+    })?;
     stack.push(Entry::CompoundValue {
         place: sign_place,
         operator,
@@ -156,8 +165,16 @@ pub fn stepping_step(
     ensures step { let awaited = stepping_step place name.now sign_place operator nodes.old.all stack.old in gives result nodes.new.all stack.new awaited ≡ awaited }
     ensures kept { nodes.new.kept ≡ nodes.old.kept }
 {
-    let target = nodes.put(Node::SimpleName { place, name: *name })?;
-    let left = nodes.put(Node::SimpleName { place, name: *name })?;
+    let shared = nodes.shared(name)?;
+    let target = nodes.put(Node::SimpleName {
+        place,
+        name: shared,
+    })?;
+    let shared = nodes.shared(name)?;
+    let left = nodes.put(Node::SimpleName {
+        place,
+        name: shared,
+    })?;
     let right = nodes.put(Node::Number {
         place: sign_place,
         value: 1,
@@ -197,7 +214,11 @@ pub fn target_name_step(
         return stepping_step(nodes, stack, place, name, sign_place, operator);
     }
     stack.push(Entry::Target)?;
-    let id = nodes.put(Node::SimpleName { place, name: *name })?;
+    let shared = nodes.shared(name)?;
+    let id = nodes.put(Node::SimpleName {
+        place,
+        name: shared,
+    })?;
     let view = View::Sign(sign, sign_place);
     post_step(nodes, stack, &view, PostKind::Variable, place, id)
 }
@@ -218,7 +239,11 @@ pub fn name_sign_step(
     if stack.pop_target() {
         return target_name_step(nodes, stack, place, name, sign, sign_place);
     }
-    let id = nodes.put(Node::SimpleName { place, name: *name })?;
+    let shared = nodes.shared(name)?;
+    let id = nodes.put(Node::SimpleName {
+        place,
+        name: shared,
+    })?;
     let view = View::Sign(sign, sign_place);
     post_step(nodes, stack, &view, PostKind::Variable, place, id)
 }
@@ -249,7 +274,11 @@ pub fn name_step(
         }
         return name_sign_step(nodes, stack, place, name, *sign, *sign_place);
     }
-    let id = nodes.put(Node::SimpleName { place, name: *name })?;
+    let shared = nodes.shared(name)?;
+    let id = nodes.put(Node::SimpleName {
+        place,
+        name: shared,
+    })?;
     post_step(nodes, stack, view, PostKind::Variable, place, id)
 }
 
@@ -442,9 +471,10 @@ pub fn closed_name_step(
         })?;
         return operand_start(nodes, stack, view);
     }
+    let shared = nodes.shared(name)?;
     let inner = nodes.put(Node::SimpleName {
         place: name_place,
-        name: *name,
+        name: shared,
     })?;
     let id = nodes.put(Node::Parenthesized { place, inner })?;
     post_step(nodes, stack, view, PostKind::Value, place, id)

@@ -145,22 +145,22 @@ fn binding_of(
         Node::Parameter { .. } | Node::Local { .. } | Node::LocalWithValue { .. } => {
             variable_binding(known.program(), contexts, numbers, id, id)
         }
-        Node::Field { name, .. } => Ok(field_here(known, id, name)),
-        Node::Class { name, .. } => Ok(superclass_binding(known, known.class_of(name))),
+        Node::Field { name, .. } => Ok(field_here(known, id, name.get())),
+        Node::Class { name, .. } => Ok(superclass_binding(known, known.class_of(name.get()))),
         Node::Constructor { .. } | Node::SuperCall { .. } => {
             Ok(superclass_binding(known, known.context(id).class))
         }
-        Node::SimpleName { name, .. } => name_binding(known, contexts, numbers, id, name),
-        Node::FieldAccess { name, object, .. } => Ok(access_at(known, types, *object, name)),
+        Node::SimpleName { name, .. } => name_binding(known, contexts, numbers, id, name.get()),
+        Node::FieldAccess { name, object, .. } => Ok(access_at(known, types, *object, name.get())),
         Node::Call {
             name,
             object,
             arguments,
             ..
-        } => { call_binding(known, types, id, name, object, arguments.items()) }
-        Node::New { name, .. } => Ok(new_binding(known, id, name)),
+        } => { call_binding(known, types, id, name.get(), object, arguments.items()) }
+        Node::New { name, .. } => Ok(new_binding(known, id, name.get())),
         Node::NewArray { element, .. } => new_array(known, *element),
-        Node::Cast { name, .. } => Ok(class_binding(known.class_of(name))),
+        Node::Cast { name, .. } => Ok(class_binding(known.class_of(name.get()))),
         _ => Ok(Binding::Plain),
     }
 }

@@ -20,7 +20,7 @@ fn declares(program: &Program, id: NodeId, name: &Name) -> bool
             Node::Parameter { name: other, .. }
             | Node::Local { name: other, .. }
             | Node::LocalWithValue { name: other, .. },
-        ) => *name == *other,
+        ) => *name == *other.get(),
         _ => false,
     }
 }

@@ -169,7 +169,7 @@ pub fn note_c11(
             flags,
             ..
         } => {
-            let is_wrong = is_off_method(classes, contexts, id, name, *flags)?;
+            let is_wrong = is_off_method(classes, contexts, id, name.get(), *flags)?;
             note(found, is_wrong, Rule::C11, *place)
         }
         Node::Constructor {
@@ -178,7 +178,7 @@ pub fn note_c11(
             flags,
             ..
         } => {
-            let is_wrong = is_off_constructor(classes, contexts, id, name, *flags);
+            let is_wrong = is_off_constructor(classes, contexts, id, name.get(), *flags);
             note(found, is_wrong, Rule::C11, *place)
         }
         Node::Parameter { place, flags, .. } => {

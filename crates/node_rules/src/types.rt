@@ -30,7 +30,7 @@ fn note_type(found: &mut Vec<Found>, classes: &Classes<'_>, id: NodeId) -> Resul
 {
     match classes.program().get(id) {
         Some(Node::ClassType { place, name, .. }) => {
-            note(found, !is_type_name(classes, name), Rule::C9, *place)
+            note(found, !is_type_name(classes, name.get()), Rule::C9, *place)
         }
         _ => Ok(()),
     }
@@ -42,7 +42,9 @@ fn note_element(found: &mut Vec<Found>, classes: &Classes<'_>, id: NodeId) -> Re
     ensures { OnOk result (found.new.items ≡ found.old.items ++ at_node (declarations_of classes.now) (c9_element (declarations_of classes.now)) id) }
 {
     match classes.program().get(id) {
-        Some(Node::ClassType { place, name, .. }) => { note_no_class(found, classes, name, *place) }
+        Some(Node::ClassType { place, name, .. }) => {
+            note_no_class(found, classes, name.get(), *place)
+        }
         _ => Ok(()),
     }
 }
@@ -82,18 +84,23 @@ pub fn note_c9(found: &mut Vec<Found>, classes: &Classes<'_>, node: &Node) -> Re
         Node::Local { declared_type, .. } => note_type(found, classes, *declared_type),
         Node::LocalWithValue { declared_type, .. } => note_type(found, classes, *declared_type),
         Node::TypeArgument { place, name } => {
-            note(found, !is_mission_name(classes, name), Rule::C9, *place)
+            note(
+                found,
+                !is_mission_name(classes, name.get()),
+                Rule::C9,
+                *place,
+            )
         }
         Node::New {
             name_place,
             name,
             ..
-        } => note_no_class(found, classes, name, *name_place),
+        } => note_no_class(found, classes, name.get(), *name_place),
         Node::Cast {
             name_place,
             name,
             ..
-        } => note_no_class(found, classes, name, *name_place),
+        } => note_no_class(found, classes, name.get(), *name_place),
         Node::NewArray { element, .. } => note_element(found, classes, *element),
         _ => Ok(()),
     }

@@ -15,7 +15,7 @@ pub fn class_name(program: &Program, id: NodeId) -> Option<Name>
     ensures { result ≡ option_map (λ (c : WrittenClass). c.name) (class_at program.now.nodes id) }
 {
     match program.get(id)? {
-        Node::Class { name, .. } => Some(*name),
+        Node::Class { name, .. } => Some(*name.get()),
         _ => None,
     }
 }
@@ -49,7 +49,7 @@ pub fn named_super(program: &Program, id: NodeId) -> Option<Written>
 {
     match program.get(id)? {
         Node::SuperType { place, name, .. } => Some(Written {
-            name: *name,
+            name: *name.get(),
             place: *place,
         }),
         _ => None,

@@ -37,7 +37,7 @@ pub fn constructor_name(program: &Program, id: NodeId) -> Option<Name>
     ensures { result ≡ option_map (λ (c : DeclaredConstructor). c.name) (constructor_at program.now.nodes id) }
 {
     match program.get(id)? {
-        Node::Constructor { name, .. } => Some(*name),
+        Node::Constructor { name, .. } => Some(*name.get()),
         _ => None,
     }
 }

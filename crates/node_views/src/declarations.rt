@@ -41,13 +41,13 @@ pub fn variable_at(program: &Program, id: NodeId) -> Option<Declared>
             name,
             flags,
             declared_type,
-        } => Some(declared(program, id, *place, *name, *flags, *declared_type)),
+        } => Some(declared(program, id, *place, *name.get(), *flags, *declared_type)),
         Node::Local {
             place,
             name,
             flags,
             declared_type,
-        } => Some(declared(program, id, *place, *name, *flags, *declared_type)),
+        } => Some(declared(program, id, *place, *name.get(), *flags, *declared_type)),
         Node::LocalWithValue {
             place: _,
             name_place,
@@ -55,7 +55,14 @@ pub fn variable_at(program: &Program, id: NodeId) -> Option<Declared>
             flags,
             declared_type,
             value: _,
-        } => Some(declared(program, id, *name_place, *name, *flags, *declared_type)),
+        } => Some(declared(
+            program,
+            id,
+            *name_place,
+            *name.get(),
+            *flags,
+            *declared_type,
+        )),
         _ => None,
     }
 }
@@ -86,7 +93,7 @@ pub fn field_at(program: &Program, id: NodeId) -> Option<Declared>
             declared_type,
             equals: _,
             value: _,
-        } => Some(declared(program, id, *place, *name, *flags, *declared_type)),
+        } => Some(declared(program, id, *place, *name.get(), *flags, *declared_type)),
         _ => None,
     }
 }

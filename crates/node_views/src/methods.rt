@@ -33,7 +33,7 @@ pub fn method_declared(program: &Program, id: NodeId) -> Option<Declared>
             result_type,
             parameters: _,
             body: _,
-        } => Some(declared(program, id, *place, *name, *flags, *result_type)),
+        } => Some(declared(program, id, *place, *name.get(), *flags, *result_type)),
         _ => None,
     }
 }
@@ -44,7 +44,7 @@ pub fn method_name(program: &Program, id: NodeId) -> Option<Name>
     ensures { result ≡ option_map (λ (m : DeclaredMethod). m.declared.name) (method_at program.now.nodes id) }
 {
     match program.get(id)? {
-        Node::Method { name, .. } => Some(*name),
+        Node::Method { name, .. } => Some(*name.get()),
         _ => None,
     }
 }
@@ -78,11 +78,11 @@ pub fn callable_name(program: &Program, id: NodeId) -> Option<Written>
 {
     match program.get(id)? {
         Node::Method { place, name, .. } => Some(Written {
-            name: *name,
+            name: *name.get(),
             place: *place,
         }),
         Node::Constructor { place, name, .. } => Some(Written {
-            name: *name,
+            name: *name.get(),
             place: *place,
         }),
         _ => None,

@@ -127,11 +127,11 @@ pub fn variable_written(program: &Program, id: NodeId) -> Option<Written>
 {
     match program.get(id)? {
         Node::Parameter { place, name, .. } => Some(Written {
-            name: *name,
+            name: *name.get(),
             place: *place,
         }),
         Node::Local { place, name, .. } => Some(Written {
-            name: *name,
+            name: *name.get(),
             place: *place,
         }),
         Node::LocalWithValue {
@@ -139,7 +139,7 @@ pub fn variable_written(program: &Program, id: NodeId) -> Option<Written>
             name,
             ..
         } => Some(Written {
-            name: *name,
+            name: *name.get(),
             place: *name_place,
         }),
         _ => None,
@@ -153,7 +153,7 @@ pub fn field_written(program: &Program, id: NodeId) -> Option<Written>
 {
     match program.get(id)? {
         Node::Field { place, name, .. } => Some(Written {
-            name: *name,
+            name: *name.get(),
             place: *place,
         }),
         _ => None,

@@ -29,7 +29,7 @@ fn written(program: &Program, value: NodeId) -> Option<Written>
 {
     match program.get(value)? {
         Node::ScopeName { place, name } => Some(Written {
-            name: *name,
+            name: *name.get(),
             place: *place,
         }),
         _ => None,
@@ -97,8 +97,8 @@ fn type_of_node(node: &Node) -> Option<WrittenType>
             name,
             is_array: true,
             ..
-        } => Some(WrittenType::ClassArray(*name)),
-        Node::ClassType { name, .. } => Some(WrittenType::Class(*name)),
+        } => Some(WrittenType::ClassArray(*name.get())),
+        Node::ClassType { name, .. } => Some(WrittenType::Class(*name.get())),
         Node::VoidType { .. } => Some(WrittenType::Void),
         Node::LongType { .. } => Some(WrittenType::Long),
         _ => None,

@@ -3,7 +3,7 @@
 ghost use Rattle.std.specs.Prelude.{◌≡◌, ◌<◌, ◌^◌, IfOk, OnOk, length, []};
 ghost use Rattle.scj_tree.specs.Headers.{put};
 
-use scj_base::{Memory, NodeId};
+use scj_base::{Memory, Name, NameTable, NodeId, SharedName};
 use scj_tree::{Node, NodeList, TextBytes};
 use std::alloc::Global;
 use std::marker::Model;
@@ -12,6 +12,7 @@ use std::marker::Model;
 #[derive(Drop)]
 pub struct Nodes {
     alloc: Global,
+    names: NameTable,
     items: Vec<Node>,
     kept: usize,
 }
@@ -35,7 +36,12 @@ impl Nodes {
         ensures kept { result.kept ≡ items.items }
     {
         let kept = items.len();
-        Nodes { alloc, items, kept }
+        Nodes {
+            alloc,
+            names: NameTable::new(alloc),
+            items,
+            kept,
+        }
     }
 
     /// A list without a child.
@@ -50,6 +56,14 @@ impl Nodes {
         ensures { IfOk result (λ text. text ≡ bytes.now) }
     {
         Ok(TextBytes(bytes.to_vec(self.alloc)?))
+    }
+
+    /// The name for a node, shared with the nodes that were put lately.
+    pub fn shared(&mut self, name: &Name) -> Result<SharedName, Memory>
+        ensures name { IfOk result (λ shared. shared ≡ name.now) }
+        ensures same { self.new ≡ self.old }
+    {
+        self.names.share(name.bytes())
     }
 
     /// Puts a node last, and tells its number.
@@ -87,6 +101,7 @@ impl Nodes {
     {
         let Nodes {
             alloc: _,
+            names: _,
             items,
             kept: _,
         } = self;
@@ -99,6 +114,7 @@ impl Nodes {
     {
         let Nodes {
             alloc: _,
+            names: _,
             mut items,
             kept,
         } = self;

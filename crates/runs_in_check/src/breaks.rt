@@ -131,7 +131,7 @@ fn target_rule(uses: &Uses<'_>, target: NodeId) -> Option<Rule>
     ensures { let p = declarations_of uses.now in result ≡ read p.nodes (target_rule p target) target }
 {
     match uses.program().get(target)? {
-        Node::SimpleName { name, .. } => Some(target_of_meaning(&uses.meaning(target, name))),
+        Node::SimpleName { name, .. } => Some(target_of_meaning(&uses.meaning(target, name.get()))),
         _ => Some(Rule::E5),
     }
 }
@@ -338,7 +338,15 @@ pub fn note_uses(
             arguments,
             ..
         } => {
-            note_new(found, uses, scopes, id, *place, name, arguments.items())?;
+            note_new(
+                found,
+                uses,
+                scopes,
+                id,
+                *place,
+                name.get(),
+                arguments.items(),
+            )?;
             Ok(())
         }
         Node::Call {
@@ -349,7 +357,15 @@ pub fn note_uses(
         } => {
             let arguments = arguments.items();
             note_call(
-                found, uses, types, scopes, id, *place, name, object, arguments,
+                found,
+                uses,
+                types,
+                scopes,
+                id,
+                *place,
+                name.get(),
+                object,
+                arguments,
             )?;
             Ok(())
         }
@@ -379,7 +395,7 @@ pub fn note_uses(
             operand,
             ..
         } => {
-            note_cast(found, uses, scopes, *place, name, *operand)?;
+            note_cast(found, uses, scopes, *place, name.get(), *operand)?;
             Ok(())
         }
         Node::NewArray { place, element, .. } => {

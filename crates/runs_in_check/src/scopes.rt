@@ -242,15 +242,22 @@ fn scope_of(
         Node::This { .. } => uses.this_at(id),
         Node::Null { .. } => Some(Scope::Any),
         Node::Parenthesized { inner, .. } => told(scopes, *inner),
-        Node::SimpleName { name, .. } => scope_of_meaning(uses, id, &uses.meaning(id, name)),
+        Node::SimpleName { name, .. } => scope_of_meaning(uses, id, &uses.meaning(id, name.get())),
         Node::FieldAccess { name, object, .. } => {
-            scope_of_access(uses, types, scopes, name, *object)
+            scope_of_access(uses, types, scopes, name.get(), *object)
         }
-        Node::Call { name, object, .. } => scope_of_value(uses, types, scopes, id, name, object),
-        Node::New { name, .. } => scope_of_made(uses, id, name),
+        Node::Call { name, object, .. } => scope_of_value(
+            uses,
+            types,
+            scopes,
+            id,
+            name.get(),
+            object,
+        ),
+        Node::New { name, .. } => scope_of_made(uses, id, name.get()),
         Node::NewArray { .. } => uses.current_at(id),
         Node::Element { array, .. } => scope_of_indexed(uses, types, scopes, *array),
-        Node::Cast { name, operand, .. } => scope_of_cast(uses, scopes, name, *operand),
+        Node::Cast { name, operand, .. } => scope_of_cast(uses, scopes, name.get(), *operand),
         _ => None,
     }
 }

@@ -8,6 +8,7 @@ pub mod ids;
 pub mod lexemes;
 pub mod numbers;
 pub mod places;
+pub mod shared_names;
 pub mod statuses;
 pub mod vocabulary;
 pub mod words;
@@ -19,6 +20,7 @@ pub use ids::{ClassId, FieldId, MethodId, ScopeId};
 pub use lexemes::{Token, TokenKind, Tokens};
 pub use numbers::NodeId;
 pub use places::Pos;
+pub use shared_names::{NameTable, SharedName};
 pub use statuses::Status;
 pub use words::Name;
 

@@ -190,7 +190,7 @@ pub fn put_parts(parts: &mut Vec<Part>, node: &Node) -> Result<(), Memory>
             header,
             members,
             ..
-        } => put_class(parts, *name, *flags, *header, members),
+        } => put_class(parts, *name.get(), *flags, *header, members),
         Node::Flags {
             define_scope,
             scope,
@@ -224,7 +224,7 @@ pub fn put_parts(parts: &mut Vec<Part>, node: &Node) -> Result<(), Memory>
                 put_scope_definition(parts, *first, *second)
             }
         }
-        Node::ScopeName { name, .. } => put(parts, &[Part::Quoted(*name)]),
+        Node::ScopeName { name, .. } => put(parts, &[Part::Quoted(*name.get())]),
         Node::Supers {
             superclass,
             interfaces,
@@ -234,10 +234,10 @@ pub fn put_parts(parts: &mut Vec<Part>, node: &Node) -> Result<(), Memory>
             put_implemented(parts, interfaces.items())
         }
         Node::SuperType { name, argument, .. } => {
-            put(parts, &[Part::Named(*name)])?;
+            put(parts, &[Part::Named(*name.get())])?;
             put_argument(parts, *argument)
         }
-        Node::TypeArgument { name, .. } => put(parts, &[Part::Named(*name)]),
+        Node::TypeArgument { name, .. } => put(parts, &[Part::Named(*name.get())]),
         Node::IntType { is_array, .. } => {
             put(parts, &[Part::Word(vocabulary::INT)])?;
             put_brackets(parts, *is_array)
@@ -251,7 +251,7 @@ pub fn put_parts(parts: &mut Vec<Part>, node: &Node) -> Result<(), Memory>
             argument,
             is_array,
             ..
-        } => put_class_type(parts, *name, *argument, *is_array),
+        } => put_class_type(parts, *name.get(), *argument, *is_array),
         Node::VoidType { .. } => put(parts, &[Part::Word(vocabulary::VOID)]),
         Node::LongType { .. } => put(parts, &[Part::Word(vocabulary::LONG)]),
         Node::Field {
@@ -260,7 +260,7 @@ pub fn put_parts(parts: &mut Vec<Part>, node: &Node) -> Result<(), Memory>
             declared_type,
             value,
             ..
-        } => { put_field(parts, *name, *flags, *declared_type, *value) }
+        } => { put_field(parts, *name.get(), *flags, *declared_type, *value) }
         Node::Method {
             name,
             flags,
@@ -268,7 +268,7 @@ pub fn put_parts(parts: &mut Vec<Part>, node: &Node) -> Result<(), Memory>
             parameters,
             body,
             ..
-        } => { put_method(parts, *name, *flags, *result_type, *parameters, *body) }
+        } => { put_method(parts, *name.get(), *flags, *result_type, *parameters, *body) }
         Node::Constructor {
             name,
             flags,
@@ -276,7 +276,7 @@ pub fn put_parts(parts: &mut Vec<Part>, node: &Node) -> Result<(), Memory>
             super_call,
             body,
             ..
-        } => { put_constructor(parts, *name, *flags, *parameters, *super_call, *body) }
+        } => { put_constructor(parts, *name.get(), *flags, *parameters, *super_call, *body) }
         Node::Parameters { list, .. } => put_in_parentheses(parts, list.items()),
         Node::Parameter {
             name,
@@ -285,7 +285,10 @@ pub fn put_parts(parts: &mut Vec<Part>, node: &Node) -> Result<(), Memory>
             ..
         } => {
             put_maybe(parts, *flags)?;
-            put(parts, &[Part::Whole(*declared_type), Part::Named(*name)])
+            put(
+                parts,
+                &[Part::Whole(*declared_type), Part::Named(*name.get())],
+            )
         }
         Node::SuperCall { arguments, .. } => put_super_call(parts, arguments),
         Node::Block { statements, .. } => {
@@ -304,7 +307,7 @@ pub fn put_parts(parts: &mut Vec<Part>, node: &Node) -> Result<(), Memory>
                 parts,
                 &[
                     Part::Whole(*declared_type),
-                    Part::Named(*name),
+                    Part::Named(*name.get()),
                     Part::Sign(vocabulary::SEMICOLON),
                 ],
             )
@@ -321,7 +324,7 @@ pub fn put_parts(parts: &mut Vec<Part>, node: &Node) -> Result<(), Memory>
                 parts,
                 &[
                     Part::Whole(*declared_type),
-                    Part::Named(*name),
+                    Part::Named(*name.get()),
                     Part::Sign(vocabulary::ASSIGN),
                     Part::Whole(*value),
                     Part::Sign(vocabulary::SEMICOLON),
@@ -419,7 +422,7 @@ pub fn put_parts(parts: &mut Vec<Part>, node: &Node) -> Result<(), Memory>
             parts,
             &[
                 Part::Sign(vocabulary::LEFT_PARENTHESIS),
-                Part::Named(*name),
+                Part::Named(*name.get()),
                 Part::Sign(vocabulary::RIGHT_PARENTHESIS),
                 Part::Whole(*operand),
             ],
@@ -432,14 +435,14 @@ pub fn put_parts(parts: &mut Vec<Part>, node: &Node) -> Result<(), Memory>
                 Part::Sign(vocabulary::RIGHT_PARENTHESIS),
             ],
         ),
-        Node::SimpleName { name, .. } => put(parts, &[Part::Named(*name)]),
+        Node::SimpleName { name, .. } => put(parts, &[Part::Named(*name.get())]),
         Node::FieldAccess { name, object, .. } => {
             put(
                 parts,
                 &[
                     Part::Whole(*object),
                     Part::Sign(vocabulary::DOT),
-                    Part::Named(*name),
+                    Part::Named(*name.get()),
                 ],
             )
         }
@@ -448,7 +451,7 @@ pub fn put_parts(parts: &mut Vec<Part>, node: &Node) -> Result<(), Memory>
             object,
             arguments,
             ..
-        } => put_call(parts, *name, *object, arguments),
+        } => put_call(parts, *name.get(), *object, arguments),
         Node::Element { array, index, .. } => put(
             parts,
             &[
@@ -463,7 +466,10 @@ pub fn put_parts(parts: &mut Vec<Part>, node: &Node) -> Result<(), Memory>
             arguments,
             ..
         } => {
-            put(parts, &[Part::Word(vocabulary::NEW), Part::Named(*name)])?;
+            put(
+                parts,
+                &[Part::Word(vocabulary::NEW), Part::Named(*name.get())],
+            )?;
             put_in_parentheses(parts, arguments.items())
         }
         Node::NewArray {

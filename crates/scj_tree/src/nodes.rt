@@ -3,7 +3,7 @@
 ghost use Rattle.std.specs.Prelude.{◌≡◌};
 
 use crate::lists::{NodeList, TextBytes};
-use scj_base::{Name, NodeId, Pos};
+use scj_base::{NodeId, Pos, SharedName};
 use std::mem::size_of;
 
 /// A node of a program's tree. Its children are nodes that were added before it, and stand in the node in the
@@ -16,7 +16,7 @@ pub enum Node {
     /// interface is written.
     Class {
         place: Pos,
-        name: Name,
+        name: SharedName,
         flags: Option<NodeId>,
         header: Option<NodeId>,
         members: NodeList,
@@ -43,7 +43,7 @@ pub enum Node {
     /// The name of a scope in an annotation, written bare, between quotes or behind `Scope.`.
     ScopeName {
         place: Pos,
-        name: Name,
+        name: SharedName,
     },
     /// What stands after the name of a class: the [`Node::SuperType`] after `extends`, and those after `implements`.
     /// `place` is the first of the two words.
@@ -55,13 +55,13 @@ pub enum Node {
     /// A class named after `extends` or `implements`, with its type argument if one is written.
     SuperType {
         place: Pos,
-        name: Name,
+        name: SharedName,
         argument: Option<NodeId>,
     },
     /// A type argument: the name between `<` and `>`.
     TypeArgument {
         place: Pos,
-        name: Name,
+        name: SharedName,
     },
     /// `int`, or `int[]` where `is_array` holds.
     IntType {
@@ -76,7 +76,7 @@ pub enum Node {
     /// A class type, or an array of one where `is_array` holds.
     ClassType {
         place: Pos,
-        name: Name,
+        name: SharedName,
         argument: Option<NodeId>,
         is_array: bool,
     },
@@ -91,7 +91,7 @@ pub enum Node {
     /// A field (JLS 8.3), with the literal after `=` if one is written; `equals` is the place of that `=`.
     Field {
         place: Pos,
-        name: Name,
+        name: SharedName,
         flags: Option<NodeId>,
         declared_type: NodeId,
         equals: Option<Pos>,
@@ -101,7 +101,7 @@ pub enum Node {
     /// there where at least one is written.
     Method {
         place: Pos,
-        name: Name,
+        name: SharedName,
         flags: Option<NodeId>,
         result_type: NodeId,
         parameters: Option<NodeId>,
@@ -111,7 +111,7 @@ pub enum Node {
     /// [`Node::Block`] of the statements behind it, whose place is the `{`.
     Constructor {
         place: Pos,
-        name: Name,
+        name: SharedName,
         flags: Option<NodeId>,
         parameters: Option<NodeId>,
         super_call: Option<NodeId>,
@@ -125,7 +125,7 @@ pub enum Node {
     /// A parameter (JLS 8.4.1).
     Parameter {
         place: Pos,
-        name: Name,
+        name: SharedName,
         flags: Option<NodeId>,
         declared_type: NodeId,
     },
@@ -146,7 +146,7 @@ pub enum Node {
     /// A local without a value (JLS 14.4).
     Local {
         place: Pos,
-        name: Name,
+        name: SharedName,
         flags: Option<NodeId>,
         declared_type: NodeId,
     },
@@ -154,7 +154,7 @@ pub enum Node {
     LocalWithValue {
         place: Pos,
         name_place: Pos,
-        name: Name,
+        name: SharedName,
         flags: Option<NodeId>,
         declared_type: NodeId,
         value: NodeId,
@@ -213,7 +213,7 @@ pub enum Node {
     Cast {
         place: Pos,
         name_place: Pos,
-        name: Name,
+        name: SharedName,
         operand: NodeId,
     },
     /// A parenthesised expression.
@@ -224,18 +224,18 @@ pub enum Node {
     /// A name: a local, a parameter, a field, or a class before a dot.
     SimpleName {
         place: Pos,
-        name: Name,
+        name: SharedName,
     },
     /// `object.name`.
     FieldAccess {
         place: Pos,
-        name: Name,
+        name: SharedName,
         object: NodeId,
     },
     /// `object.name(..)`, or `name(..)` without an object.
     Call {
         place: Pos,
-        name: Name,
+        name: SharedName,
         object: Option<NodeId>,
         arguments: NodeList,
     },
@@ -249,7 +249,7 @@ pub enum Node {
     New {
         place: Pos,
         name_place: Pos,
-        name: Name,
+        name: SharedName,
         arguments: NodeList,
     },
     /// `new Type[length]` (JLS 15.10): `element` is a type that is no array and has no argument.

@@ -1,5 +1,5 @@
 use super::*;
-use scj_base::{Name, Pos};
+use scj_base::{Name, Pos, SharedName};
 use std::test::Fail;
 
 #[test]
@@ -13,7 +13,7 @@ fn a_program_grows_and_is_cut(rt: HostRuntime) -> Result<(), Fail> {
     };
     let id = program.add(Node::Class {
         place,
-        name: Name::new(b"A"),
+        name: SharedName::new(rt.alloc(), &Name::new(b"A"))?,
         flags: None,
         header: None,
         members: NodeList(Vec::new(rt.alloc())),

@@ -59,7 +59,7 @@ fn written(program: &Program, value: NodeId) -> Option<Written>
 {
     match program.get(value)? {
         Node::ScopeName { place, name } => Some(Written {
-            name: *name,
+            name: *name.get(),
             place: *place,
         }),
         _ => None,

@@ -3,7 +3,7 @@ ghost use Rattle.scope_tree.specs.Samples.{header};
 
 use crate::{build, check_definitions};
 use class_rows::ClassTable;
-use scj_base::{ClassId, Found, Memory, Name, NodeId, Pos, Rule, ScopeId};
+use scj_base::{ClassId, Found, Memory, Name, NodeId, Pos, Rule, ScopeId, SharedName};
 use scj_tree::{Node, NodeList, Program};
 use std::alloc::Global;
 use std::test::Fail;
@@ -31,11 +31,11 @@ fn add_header(
 {
     nodes.push(Node::ScopeName {
         place: at(line, 19),
-        name: Name::new(scope),
+        name: SharedName::new(alloc, &Name::new(scope))?,
     })?;
     nodes.push(Node::ScopeName {
         place: at(line, 31),
-        name: Name::new(parent),
+        name: SharedName::new(alloc, &Name::new(parent))?,
     })?;
     nodes.push(Node::DefineScope {
         place: at(line, 1),
@@ -54,7 +54,7 @@ fn add_header(
     })?;
     nodes.push(Node::Class {
         place: at(line, 60),
-        name: Name::new(scope),
+        name: SharedName::new(alloc, &Name::new(scope))?,
         flags: Some(NodeId::at(from + 3)),
         header: None,
         members: NodeList(Vec::new(alloc)),

@@ -130,9 +130,10 @@ pub fn name_first_step(
 {
     match view {
         View::Name(_, _) => {
+            let shared = nodes.shared(name)?;
             let id = nodes.put(Node::ClassType {
                 place,
-                name: *name,
+                name: shared,
                 argument: None,
                 is_array: false,
             })?;
@@ -164,7 +165,11 @@ pub fn name_index(
     ensures step { let awaited = operand_start (put nodes.old.all (SimpleName place name.now)) (IndexOpen bracket (length nodes.old.all) ∷ Target ∷ stack.old) (seen view.now) in gives result nodes.new.all stack.new awaited ≡ awaited }
     ensures kept { nodes.new.kept ≡ nodes.old.kept }
 {
-    let array = nodes.put(Node::SimpleName { place, name: *name })?;
+    let shared = nodes.shared(name)?;
+    let array = nodes.put(Node::SimpleName {
+        place,
+        name: shared,
+    })?;
     stack.push(Entry::Target)?;
     stack.push(Entry::IndexOpen {
         place: bracket,
@@ -188,9 +193,10 @@ pub fn name_bracket_step(
 {
     if let View::Sign(sign, _) = view {
         if *sign == RIGHT_BRACKET {
+            let shared = nodes.shared(name)?;
             let id = nodes.put(Node::ClassType {
                 place,
-                name: *name,
+                name: shared,
                 argument: None,
                 is_array: true,
             })?;
@@ -220,9 +226,10 @@ pub fn local_ended(
     };
     match &entry {
         Entry::Simple => {
+            let shared = nodes.shared(name)?;
             let id = nodes.put(Node::Local {
                 place,
-                name: *name,
+                name: shared,
                 flags,
                 declared_type,
             })?;

@@ -60,9 +60,10 @@ pub fn class_read(
     };
     match entry {
         Entry::FileOpen { classes } => {
+            let shared = nodes.shared(name)?;
             let id = nodes.put(Node::Class {
                 place,
-                name: *name,
+                name: shared,
                 flags,
                 header,
                 members,
@@ -146,9 +147,10 @@ pub fn method_ended(
     ensures step { let awaited = statement_ended id nodes.old.all (MethodBody flags result_type place name.now parameters ∷ stack.old) (seen view.now) in gives result nodes.new.all stack.new awaited ≡ awaited }
     ensures kept { nodes.new.kept ≡ nodes.old.kept }
 {
+    let shared = nodes.shared(name)?;
     let id = nodes.put(Node::Method {
         place,
-        name: *name,
+        name: shared,
         flags,
         result_type,
         parameters,
@@ -173,9 +175,10 @@ pub fn constructor_ended(
     ensures step { let awaited = statement_ended id nodes.old.all (ConstructorBody flags place name.now parameters super_call ∷ stack.old) (seen view.now) in gives result nodes.new.all stack.new awaited ≡ awaited }
     ensures kept { nodes.new.kept ≡ nodes.old.kept }
 {
+    let shared = nodes.shared(name)?;
     let id = nodes.put(Node::Constructor {
         place,
-        name: *name,
+        name: shared,
         flags,
         parameters,
         super_call,

@@ -146,9 +146,10 @@ pub fn method_body_step(
         return Ok(Some(Mode::InStatements));
     }
     if sign == SEMICOLON {
+        let shared = nodes.shared(name)?;
         let id = nodes.put(Node::Method {
             place,
-            name: *name,
+            name: shared,
             flags,
             result_type,
             parameters,

@@ -292,7 +292,7 @@ impl<'a> Scoped<'a> {
                     is_array: false,
                     ..
                 },
-            ) => self.bare_scope(id, name),
+            ) => self.bare_scope(id, name.get()),
             _ => self.declared_scope(id),
         }
     }

@@ -68,7 +68,7 @@ pub fn note_breaks(
     ensures { OnOk result (found.new.items ≡ found.old.items ++ type_breaks (declarations_of known.now) (told None types.now) id node.now) }
 {
     match node {
-        Node::Class { place, name, .. } => note_class(known, *place, name, found),
+        Node::Class { place, name, .. } => note_class(known, *place, name.get(), found),
         Node::Field {
             declared_type,
             equals,
@@ -87,19 +87,19 @@ pub fn note_breaks(
             result_type,
             body: Some(body),
             ..
-        } => note_method(known, id, *place, name, *result_type, *body, found),
+        } => note_method(known, id, *place, name.get(), *result_type, *body, found),
         Node::Method {
             place,
             name,
             result_type,
             body,
             ..
-        } => note_size(known, id, *place, name, *result_type, body, found),
-        Node::Parameter { place, name, .. } => note_variable(known, id, *place, name, found),
+        } => note_size(known, id, *place, name.get(), *result_type, body, found),
+        Node::Parameter { place, name, .. } => note_variable(known, id, *place, name.get(), found),
         Node::SuperCall { place, arguments } => {
             note_super_call(known, types, id, *place, arguments.items(), found)
         }
-        Node::Local { place, name, .. } => note_variable(known, id, *place, name, found),
+        Node::Local { place, name, .. } => note_variable(known, id, *place, name.get(), found),
         Node::LocalWithValue {
             place,
             name_place,
@@ -113,7 +113,7 @@ pub fn note_breaks(
             id,
             *place,
             *name_place,
-            name,
+            name.get(),
             *declared_type,
             *value,
             found,
@@ -143,13 +143,13 @@ pub fn note_breaks(
             name,
             operand,
             ..
-        } => note_cast(known, types, *place, name, *operand, found),
-        Node::SimpleName { place, name } => note_name(known, id, *place, name, found),
+        } => note_cast(known, types, *place, name.get(), *operand, found),
+        Node::SimpleName { place, name } => note_name(known, id, *place, name.get(), found),
         Node::FieldAccess {
             place,
             name,
             object,
-        } => note_access(known, types, id, *place, name, *object, found),
+        } => note_access(known, types, id, *place, name.get(), *object, found),
         Node::Call {
             place,
             name,
@@ -160,7 +160,7 @@ pub fn note_breaks(
             types,
             id,
             *place,
-            name,
+            name.get(),
             object,
             arguments.items(),
             found,
@@ -175,7 +175,15 @@ pub fn note_breaks(
             name,
             arguments,
             ..
-        } => note_new(known, types, id, *place, name, arguments.items(), found),
+        } => note_new(
+            known,
+            types,
+            id,
+            *place,
+            name.get(),
+            arguments.items(),
+            found,
+        ),
         Node::NewArray {
             place,
             element,

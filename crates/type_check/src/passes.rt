@@ -32,7 +32,7 @@ fn next_type(
         return Ok(None);
     };
     if let Node::SimpleName { name, .. } = node {
-        return Ok(type_of_name(known, id, name));
+        return Ok(type_of_name(known, id, name.get()));
     }
     let t = type_of(known, types, id, node);
     if t.is_none() {

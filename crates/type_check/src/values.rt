@@ -152,7 +152,7 @@ pub fn type_of(known: &Known<'_>, types: &[Option<Ty>], id: NodeId, node: &Node)
         Node::Null { .. } => Some(Ty::NullTy),
         Node::Text { .. } => Some(Ty::Label),
         Node::This { .. } => this_type(known, id),
-        Node::SimpleName { name, .. } => type_of_meaning(known, &meaning(known, id, name)),
+        Node::SimpleName { name, .. } => type_of_meaning(known, &meaning(known, id, name.get())),
         Node::Parenthesized { inner, .. } => told(types, *inner),
         Node::Binary {
             operator,
@@ -165,20 +165,20 @@ pub fn type_of(known: &Known<'_>, types: &[Option<Ty>], id: NodeId, node: &Node)
             operand,
             ..
         } => type_of_unary(types, *operator, *operand),
-        Node::Cast { name, operand, .. } => type_of_cast(known, types, name, *operand),
-        Node::FieldAccess { name, object, .. } => type_of_access(known, types, name, *object),
+        Node::Cast { name, operand, .. } => type_of_cast(known, types, name.get(), *operand),
+        Node::FieldAccess { name, object, .. } => type_of_access(known, types, name.get(), *object),
         Node::Call {
             name,
             object,
             arguments,
             ..
-        } => type_of_call(known, types, id, name, object, arguments.items()),
+        } => type_of_call(known, types, id, name.get(), object, arguments.items()),
         Node::Element { array, index, .. } => type_of_element(types, *array, *index),
         Node::New {
             name,
             arguments,
             ..
-        } => type_of_new(known, types, id, name, arguments.items()),
+        } => type_of_new(known, types, id, name.get(), arguments.items()),
         Node::NewArray {
             element,
             length,

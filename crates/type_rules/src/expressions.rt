@@ -126,7 +126,7 @@ fn element_class(known: &Known<'_>, element: NodeId) -> Option<ClassId>
     ensures { result ≡ read (declarations_of known.now).nodes (element_class (declarations_of known.now)) element }
 {
     match known.program().get(element)? {
-        Node::ClassType { name, .. } => known.class_of(name),
+        Node::ClassType { name, .. } => known.class_of(name.get()),
         _ => None,
     }
 }

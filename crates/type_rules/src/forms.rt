@@ -43,7 +43,7 @@ fn new_of<'a>(known: &Known<'a>, class: ClassId, count: usize, id: NodeId) -> Op
             arguments,
             ..
         } => {
-            if known.class_of(name)? == class && arguments.items().len() == count {
+            if known.class_of(name.get())? == class && arguments.items().len() == count {
                 Some(arguments.items())
             } else {
                 None

@@ -94,7 +94,7 @@ impl<'a> Known<'a> {
     {
         match self.program().get(id)? {
             Node::SimpleName { name: written, .. } => {
-                if *written == *name {
+                if *written.get() == *name {
                     self.meaning_row(id)
                 } else {
                     None

@@ -209,7 +209,7 @@ fn meaning_at(known: &Known<'_>, id: NodeId) -> NameMeaning
     ensures { IsMeaningAt known.now id result }
 {
     match known.program().get(id) {
-        Some(Node::SimpleName { name, .. }) => looked_up(known, id, name),
+        Some(Node::SimpleName { name, .. }) => looked_up(known, id, name.get()),
         _ => NameMeaning::Nothing,
     }
 }
@@ -232,7 +232,7 @@ fn class_at_name(known: &Known<'_>, object: NodeId) -> Option<ClassId>
     ensures { result ≡ read (declarations_of known.now).nodes (class_at_name (declarations_of known.now) object) object }
 {
     match known.program().get(object)? {
-        Node::SimpleName { name, .. } => class_in(&meaning(known, object, name)),
+        Node::SimpleName { name, .. } => class_in(&meaning(known, object, name.get())),
         _ => None,
     }
 }

@@ -81,7 +81,7 @@ fn is_length_target(known: &Known<'_>, types: &[Option<Ty>], target: NodeId) -> 
 {
     match known.program().get(target) {
         Some(Node::FieldAccess { name, object, .. }) => match receiver(known, types, *object) {
-            Some(r) => is_array_value(&r) && is_length(name),
+            Some(r) => is_array_value(&r) && is_length(name.get()),
             None => false,
         },
         _ => false,

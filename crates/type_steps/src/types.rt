@@ -42,9 +42,10 @@ pub fn typed(
             name: **name,
         })),
         Entry::ParameterOpen { flags } => {
+            let shared = nodes.shared(*name)?;
             let id = nodes.put(Node::Parameter {
                 place: *place,
-                name: **name,
+                name: shared,
                 flags: *flags,
                 declared_type: id,
             })?;
@@ -81,7 +82,8 @@ pub fn type_end_step(
         }
         return Ok(None);
     }
-    let id = nodes.put(element_node(place, element, false))?;
+    let node = element_node(nodes, place, element, false)?;
+    let id = nodes.put(node)?;
     typed(nodes, stack, view, id)
 }
 
@@ -103,7 +105,8 @@ pub fn type_bracket_step(
     if *sign != RIGHT_BRACKET {
         return Ok(None);
     }
-    let id = nodes.put(element_node(place, element, true))?;
+    let node = element_node(nodes, place, element, true)?;
+    let id = nodes.put(node)?;
     Ok(Some(Mode::TypeDone { id }))
 }
 
@@ -184,9 +187,10 @@ pub fn type_name_step(
     if let View::Sign(sign, sign_place) = view {
         return type_name_sign(nodes, stack, place, name, *sign, *sign_place);
     }
+    let shared = nodes.shared(name)?;
     let id = nodes.put(Node::ClassType {
         place,
-        name: *name,
+        name: shared,
         argument: None,
         is_array: false,
     })?;
@@ -208,9 +212,10 @@ pub fn type_argument_name_step(
     let View::Name(argument, argument_place) = view else {
         return Ok(None);
     };
+    let shared = nodes.shared(*argument)?;
     let argument = nodes.put(Node::TypeArgument {
         place: *argument_place,
-        name: **argument,
+        name: shared,
     })?;
     Ok(Some(Mode::TypeArgumentEnd {
         place,

@@ -3,7 +3,7 @@
 ghost use Rattle.std.specs.Prelude.{◌≡◌};
 
 use crate::show;
-use scj_base::{Name, NodeId, Pos};
+use scj_base::{Name, NodeId, Pos, SharedName};
 use scj_tree::{Node, NodeList, Program};
 use std::test::Fail;
 
@@ -23,7 +23,7 @@ fn a_class_is_shown(rt: HostRuntime) -> Result<(), Fail> {
     let mut program = Program::new(rt.alloc());
     let class = program.add(Node::Class {
         place: place(),
-        name: Name::new(b"A"),
+        name: SharedName::new(rt.alloc(), &Name::new(b"A"))?,
         flags: None,
         header: None,
         members: NodeList(Vec::new(rt.alloc())),

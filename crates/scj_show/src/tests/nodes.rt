@@ -5,7 +5,7 @@ ghost use Rattle.std.specs.Prelude.{◌≡◌};
 use crate::nodes::{put_bare_parts, put_parts};
 use crate::parts::Part;
 use scj_base::vocabulary::*;
-use scj_base::{Name, NodeId, Pos};
+use scj_base::{Name, NodeId, Pos, SharedName};
 use scj_tree::{Node, NodeList, TextBytes};
 use std::test::Fail;
 
@@ -30,7 +30,7 @@ fn a_class_is_put(rt: HostRuntime) -> Result<(), Fail> {
     let mut parts = Vec::new(rt.alloc());
     let class = Node::Class {
         place: place(),
-        name: Name::new(b"A"),
+        name: SharedName::new(rt.alloc(), &Name::new(b"A"))?,
         flags: Some(id(1)),
         header: Some(id(2)),
         members: NodeList(vec![in rt.alloc(); id(3), id(4)]?),
@@ -88,7 +88,7 @@ fn a_type_is_put(rt: HostRuntime) -> Result<(), Fail> {
     let mut parts = Vec::new(rt.alloc());
     let class_type = Node::ClassType {
         place: place(),
-        name: Name::new(b"Safelet"),
+        name: SharedName::new(rt.alloc(), &Name::new(b"Safelet"))?,
         argument: Some(id(1)),
         is_array: true,
     };
@@ -113,7 +113,7 @@ fn a_field_is_put(rt: HostRuntime) -> Result<(), Fail> {
     let mut parts = Vec::new(rt.alloc());
     let field = Node::Field {
         place: place(),
-        name: Name::new(b"x"),
+        name: SharedName::new(rt.alloc(), &Name::new(b"x"))?,
         flags: None,
         declared_type: id(1),
         equals: Some(place()),
@@ -139,7 +139,7 @@ fn a_method_is_put(rt: HostRuntime) -> Result<(), Fail> {
     let mut parts = Vec::new(rt.alloc());
     let method = Node::Method {
         place: place(),
-        name: Name::new(b"m"),
+        name: SharedName::new(rt.alloc(), &Name::new(b"m"))?,
         flags: Some(id(1)),
         result_type: id(2),
         parameters: None,
@@ -166,7 +166,7 @@ fn a_constructor_is_put(rt: HostRuntime) -> Result<(), Fail> {
     let mut parts = Vec::new(rt.alloc());
     let constructor = Node::Constructor {
         place: place(),
-        name: Name::new(b"C"),
+        name: SharedName::new(rt.alloc(), &Name::new(b"C"))?,
         flags: None,
         parameters: Some(id(1)),
         super_call: Some(id(2)),
@@ -196,7 +196,7 @@ fn calls_are_put(rt: HostRuntime) -> Result<(), Fail> {
     };
     let call = Node::Call {
         place: place(),
-        name: Name::new(b"m"),
+        name: SharedName::new(rt.alloc(), &Name::new(b"m"))?,
         object: Some(id(2)),
         arguments: NodeList(Vec::new(rt.alloc())),
     };

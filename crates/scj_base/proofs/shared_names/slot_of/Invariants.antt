@@ -1,0 +1,5 @@
+use Rattle.std.proofs.Common.{◌<◌}
+use Rattle.scj_base.proofs.shared_names.slot_of.Given as goal
+
+abbrev pub invariant-loop-byte : goal.invariant-loop-byte
+invariant-loop-byte l = l.slot < 4096
