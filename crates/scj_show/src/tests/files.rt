@@ -21,12 +21,14 @@ fn place() -> Pos
 #[tactic(auto, unfolding(scj_tree::specs::Forest::joined, scj_tree::specs::Forest::all_children, scj_tree::specs::Forest::AllBelow, scj_tree::specs::Forest::AllClasses, scj_tree::specs::Counts::times, scj_tree::specs::Shape::children))]
 fn a_class_is_shown(rt: HostRuntime) -> Result<(), Fail> {
     let mut program = Program::new(rt.alloc());
+    let name = SharedName::new(rt.alloc(), &Name::new(b"A"))?;
+    let members = Vec::new(rt.alloc());
     let class = program.add(Node::Class {
         place: place(),
-        name: SharedName::new(rt.alloc(), &Name::new(b"A"))?,
+        name,
         flags: None,
         header: None,
-        members: NodeList(Vec::new(rt.alloc())),
+        members: NodeList(members),
     })?;
     let mut classes = Vec::new(rt.alloc());
     classes.push(class)?;

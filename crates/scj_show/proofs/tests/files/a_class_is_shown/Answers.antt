@@ -26,4 +26,4 @@ end_file-requires-clause-fresh g c =
     let none : c.new-program.result.nodes ≡ [] = c.new-program.ensures.nodes in
     let id : c.in_ok-class.class ≡ 0 = c.in_ok-class.ensures.number ∙ ap length none in
     let ids : c.push.new.self.items ≡ 0 ∷ [] = c.in_ok-push.ensures.items ∙ rw (c.new-classes.ensures.items, id) refl in
-    one_class _ _ c.place.result c.new.result (added c.new-program.result _ _ _ none c.new-program.ensures.files (c.in_ok-class.ensures.ok ∙ rw c.new-2.ensures.items refl)) ids
+    one_class _ _ c.place.result c.in_ok-name.name (added c.new-program.result _ c.place.result c.in_ok-name.name none c.new-program.ensures.files (c.in_ok-class.ensures.ok ∙ rw c.new-members.ensures.items refl)) ids
