@@ -21,3 +21,16 @@ fn growing_lists_take_what_they_are_given(rt: HostRuntime) -> Result<(), Fail> {
     assert_eq!(rt; tokens.items().len(), 1);
     Ok(())
 }
+
+#[test]
+fn names_are_shared_by_their_bytes(rt: HostRuntime) -> Result<(), Fail> {
+    let mut table = NameTable::new(rt.alloc());
+    let first = table.share(b"speed")?;
+    let other = table.share(b"level")?;
+    let again = table.share(b"speed")?;
+    let one_more = again.share()?;
+    assert_eq!(rt; first.bytes(), b"speed".as_slice());
+    assert_eq!(rt; other.bytes(), b"level".as_slice());
+    assert_eq!(rt; one_more.bytes(), b"speed".as_slice());
+    Ok(())
+}
