@@ -7,6 +7,7 @@ begin_bench() {
     "$top/scj" >/dev/null 2>&1
     [ $? -eq 2 ] || { echo "bench: the program can't be built" >&2; exit 1; }
     program=$top/crates/scj_main/out/scj_main
+    eval "$(grep '^export GLIBC_TUNABLES=' "$top/scj")" # as the program is started by `scj`
     work=$(mktemp -d) || exit 1
     trap 'rm -rf "$work"' EXIT
     compiler=''
@@ -41,7 +42,7 @@ compiler_time() {
     local runs=$1 spent
     shift
     mkdir -p "$work/classes"
-    spent=$(least "$runs" javac -proc:none -cp "$work/stubs" -d "$work/classes" "$@")
+    spent=$(least "$runs" env -u GLIBC_TUNABLES javac -proc:none -cp "$work/stubs" -d "$work/classes" "$@")
     rm -rf "$work/classes"
     echo "$spent"
 }

@@ -5,13 +5,16 @@ use Rattle.scj_base.specs.declared.findings.Rule.TheVariants.{A1, A2, A9}
 use Rattle.scj_base.specs.declared.places.Pos.{Pos}
 use Rattle.scj_tree.specs.declared.nodes.Node.{Node}
 use Rattle.scj_tree.specs.declared.nodes.Node.TheVariants.{Class, Field, Method, Parameter, Local, LocalWithValue}
+use Rattle.scj_tree.specs.declared.kinds.NodeKind.{NodeKind}
+use Rattle.scj_tree.specs.declared.kinds.NodeKind.TheVariants.{Class as class_kind, Field as field_kind, Method as method_kind, Parameter as parameter_kind, Local as local_kind, LocalWithValue as local_with_value_kind}
 use Rattle.scj_rules.specs.Words.{broken}
 use Rattle.scj_rules.specs.Views.{DeclaredMethod}
 use Rattle.scj_rules.specs.Contexts.{Declarations}
 use Rattle.scj_rules.specs.ScopeRules.{scope_written_in}
-use Rattle.scj_rules.specs.StaticScopes.{has_unknown_scope, differs_from_above, is_implied_immortal, is_unknown_scope, contradicts}
-use Rattle.scj_rules.specs.AnnotationRules.{a6_of, a7_and_a8_of, broken_value, scope_above, a2_place, annotation_breaks}
+use Rattle.scj_rules.specs.StaticScopes.{has_unknown_scope, differs_from_above, is_implied_immortal, is_unknown_scope, contradicts, class_scope, misfits_field}
+use Rattle.scj_rules.specs.AnnotationRules.{a6_of, a7_and_a8_of, broken_value, field_rule, scope_above, a2_place, annotation_breaks}
 use Rattle.scj_rules.specs.declared.scopes.Thing.{Thing}
+use Rattle.scj_rules.specs.declared.views.Declared.{Declared}
 
 -- A6 to A8 at a method of a class
 abbrev pub method_breaks : Declarations → ℕ → Option DeclaredMethod → List Found
@@ -50,3 +53,24 @@ may_break (Parameter place name flags declared_type) = is_some flags
 may_break (Local place name flags declared_type) = is_some flags
 may_break (LocalWithValue place name_place name flags declared_type value) = is_some flags
 may_break _ = false
+
+-- the same, by the kind of the node alone
+unfoldable pub may_break_kind : NodeKind → Bool
+may_break_kind class_kind = true
+may_break_kind field_kind = true
+may_break_kind method_kind = true
+may_break_kind parameter_kind = true
+may_break_kind local_kind = true
+may_break_kind local_with_value_kind = true
+may_break_kind _ = false
+
+-- a field or a method before which nothing is written
+unfoldable pub is_bare : Node → Bool
+is_bare (Field place name None declared_type equals value) = true
+is_bare (Method place name None result_type parameters body) = true
+is_bare _ = false
+
+-- A3 to A5 at a field of a class
+abbrev pub field_breaks : Declarations → ℕ → Option Declared → List Found
+field_breaks p class None = []
+field_breaks p class (Some f) = broken (misfits_field p class f) (field_rule (class_scope p class) f.modifiers.is_static) f.place

@@ -1,13 +1,15 @@
 //! All rules on annotations, node after node.
 
-ghost use Rattle.std.specs.Prelude.{◌≡◌, ◌++◌, Some, IfOk, OnOk, slice_get};
+ghost use Rattle.std.specs.Prelude.{◌≡◌, ◌++◌, Some, true, IfOk, OnOk, option_map, slice_get};
+ghost use Rattle.scj_tree.specs.Kinds.{kind_of};
+ghost use Rattle.scj_rules.specs.Words.{holds};
 ghost use Rattle.class_rows.specs.Tables.{IsTableOf};
 ghost use Rattle.scope_tree.specs.Trees.{IsTreeOf};
 ghost use Rattle.scj_rules.specs.Contexts.{declarations_of};
 ghost use Rattle.scj_rules.specs.AnnotationRules.{thing_at, a1, a2, a9, annotation_breaks};
 ghost use Rattle.scj_rules.specs.Phases.{over_nodes, IsFound};
 ghost use Rattle.scj_rules.specs.Report.{IsReport};
-ghost use Rattle.annotation_rules.specs.Parts.{may_break, unknown_at, contradiction_at, unknown_of_class, other_of_class, found_at};
+ghost use Rattle.annotation_rules.specs.Parts.{may_break, may_break_kind, is_bare, unknown_at, contradiction_at, unknown_of_class, other_of_class, found_at};
 
 use crate::classes;
 use crate::fields::note_misfit;
@@ -17,7 +19,7 @@ use class_rows::ClassTable;
 use node_contexts::Contexts;
 use scj_base::{ClassId, Found, Memory, NodeId, Pos};
 use scj_rules::{Thing, put_in_order};
-use scj_tree::{Node, Program};
+use scj_tree::{Node, NodeKind, Program};
 use scope_tree::{ScopeTree, Scopes};
 use static_scopes::{Runs, Scoped};
 use std::alloc::Global;
@@ -161,6 +163,30 @@ fn may_break(node: &Node) -> bool
     }
 }
 
+/// Whether a node is a field or a method before which nothing is written.
+#[tactic(auto, unfolding(crate::specs::Parts::is_bare))]
+fn is_bare(node: &Node) -> bool
+    ensures { result ≡ is_bare node.now }
+{
+    match node {
+        Node::Field { flags: None, .. } => true,
+        Node::Method { flags: None, .. } => true,
+        _ => false,
+    }
+}
+
+/// Notes what is broken at a field or a method before which nothing is written.
+#[tactic(auto, using(crate::proofs::UnwrittenLemmas::bare_breaks))]
+fn note_bare(found: &mut Vec<Found>, scoped: &Scoped, id: NodeId, node: &Node) -> Result<(), Memory>
+    requires there { slice_get (declarations_of scoped.now).nodes id ≡ Some node.now }
+    requires bare { true ≡ is_bare node.now }
+    ensures { OnOk result (found.new.items ≡ found.old.items ++ annotation_breaks (declarations_of scoped.now) id node.now) }
+{
+    note_misfit(found, scoped, id, node)?;
+    note_runs_in(found, scoped, id, node)?;
+    Ok(())
+}
+
 /// Notes what is broken at a node.
 fn note_annotation(
     found: &mut Vec<Found>,
@@ -174,18 +200,58 @@ fn note_annotation(
     if !may_break(node) {
         return Ok(());
     }
+    if is_bare(node) {
+        return note_bare(found, scoped, id, node);
+    }
     note_declaration(found, scoped, id, node)
 }
 
-/// Notes what is broken at the node of a number.
+/// Whether a rule on annotations may be broken at a node of this kind.
+#[tactic(auto, unfolding(crate::specs::Parts::may_break_kind))]
+fn may_break_kind(kind: NodeKind) -> bool
+    ensures { result ≡ may_break_kind kind }
+{
+    match kind {
+        NodeKind::Class => true,
+        NodeKind::Field => true,
+        NodeKind::Method => true,
+        NodeKind::Parameter => true,
+        NodeKind::Local => true,
+        NodeKind::LocalWithValue => true,
+        _ => false,
+    }
+}
+
+/// Whether a rule on annotations may be broken at the node of a number, as its kind tells.
+fn may_break_at(program: &Program, id: NodeId) -> bool
+    ensures { result ≡ holds (option_map kind_of (slice_get program.now.nodes id)) may_break_kind }
+{
+    match program.kind(id) {
+        Some(kind) => may_break_kind(kind),
+        None => false,
+    }
+}
+
+/// Notes what is broken at the node of a number, by a look at it.
 #[tactic(auto, unfolding(crate::specs::Parts::found_at, scj_rules::specs::Contexts::declarations_of))]
-fn note_node(found: &mut Vec<Found>, scoped: &Scoped, id: NodeId) -> Result<(), Memory>
+fn note_looked_at(found: &mut Vec<Found>, scoped: &Scoped, id: NodeId) -> Result<(), Memory>
     ensures { OnOk result (found.new.items ≡ found.old.items ++ found_at (declarations_of scoped.now) id) }
 {
     match scoped.program().get(id) {
         Some(node) => note_annotation(found, scoped, id, node),
         None => Ok(()),
     }
+}
+
+/// Notes what is broken at the node of a number. Nodes of most kinds break nothing, and aren't looked at.
+#[tactic(auto, using(crate::proofs::UnwrittenLemmas::nothing_of_kind))]
+fn note_node(found: &mut Vec<Found>, scoped: &Scoped, id: NodeId) -> Result<(), Memory>
+    ensures { OnOk result (found.new.items ≡ found.old.items ++ found_at (declarations_of scoped.now) id) }
+{
+    if !may_break_at(scoped.program(), id) {
+        return Ok(());
+    }
+    note_looked_at(found, scoped, id)
 }
 
 /// Notes what is broken at the nodes of a program.

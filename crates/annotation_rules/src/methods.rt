@@ -1,6 +1,7 @@
 //! A6 to A8: the scopes in which methods run, and the scopes of overrides.
 
-ghost use Rattle.std.specs.Prelude.{◌≡◌, ◌++◌, ◌&&◌, not, OnOk};
+ghost use Rattle.std.specs.Prelude.{◌≡◌, ◌++◌, ◌&&◌, not, None, OnOk};
+ghost use Rattle.std.specs.Bool.{OnTrue};
 ghost use Rattle.scj_rules.specs.Words.{holds};
 ghost use Rattle.scj_rules.specs.Views.{method_at};
 ghost use Rattle.scj_rules.specs.Classes.{FoundMethod, is_user_class, method_above};
@@ -16,16 +17,16 @@ use method_rows::{MethodRef, MethodSource, declared};
 use node_views::is_method;
 use scj_base::{ClassId, Found, Memory, NodeId, Rule};
 use scj_rules::{Written, note};
-use scj_tree::Node;
+use scj_tree::{Node, Program};
 use static_scopes::{Scoped, has_other_runs_in, has_unknown_runs_in};
 
 /// Whether a method that isn't static has other scopes than the one that it overrides.
 fn is_other_override(scoped: &Scoped, method: &MethodRef) -> bool
     ensures { let p = declarations_of scoped.now in let f = found_method scoped.now.nodes method.now in result ≡ (not f.method.declared.modifiers.is_static && holds (method_above p.classes f.on f.method.declared.name) (λ (g : FoundMethod). is_user_class g.on && scopes_differ p f.on f.method g.on g.method)) }
 {
-    let declared = declared(scoped.program(), method);
-    let modifiers = declared.modifiers;
-    !modifiers.is_static && overrides_scopes(scoped, method, &declared.name)
+    let is_static = method_rows::is_static(scoped.program(), method);
+    let name = method_rows::name(scoped.program(), method);
+    !is_static && overrides_scopes(scoped, method, &name)
 }
 
 /// Notes A6 at a method.
@@ -34,14 +35,34 @@ fn note_override(found: &mut Vec<Found>, scoped: &Scoped, method: &MethodRef) ->
     ensures { let f = found_method scoped.now.nodes method.now in OnOk result (found.new.items ≡ found.old.items ++ a6_of (declarations_of scoped.now) f.on f.method) }
 {
     let test = is_other_override(scoped, method);
+    if !test {
+        return Ok(());
+    }
     let declared = declared(scoped.program(), method);
     note(found, test, Rule::A6, declared.place)
+}
+
+/// Whether nothing is written before a method.
+#[tactic(auto, unfolding(method_rows::specs::Methods::found_method, method_rows::specs::Methods::method_from, scj_rules::specs::Views::method_of))]
+fn is_bare(program: &Program, method: &MethodRef) -> bool
+    ensures { OnTrue result ((found_method program.now.nodes method.now).method.declared.modifiers.runs_in ≡ None) }
+{
+    match &method.source {
+        MethodSource::Framework(_) => false,
+        MethodSource::Declared(node) => match program.get(*node) {
+            Some(Node::Method { flags: None, .. }) => true,
+            _ => false,
+        },
+    }
 }
 
 /// What a method writes after `@RunsIn`.
 fn runs_in_written(scoped: &Scoped, method: &MethodRef) -> Option<Written>
     ensures { result ≡ (found_method scoped.now.nodes method.now).method.declared.modifiers.runs_in }
 {
+    if is_bare(scoped.program(), method) {
+        return None;
+    }
     let declared = declared(scoped.program(), method);
     let modifiers = declared.modifiers;
     modifiers.runs_in

@@ -4,7 +4,7 @@ ghost use Rattle.scj_tree.specs.declared.nodes.Node.TheVariants.{Class as class_
 use crate::{ClassTable, Classes};
 use scj_base::ids::{OBJECT, RUNNABLE};
 use scj_base::{ClassId, Memory, Name, NodeId, Pos, SharedName};
-use scj_tree::{Node, NodeList, Program};
+use scj_tree::{Arena, Node, NodeList, Program};
 use std::alloc::Global;
 use std::test::Fail;
 
@@ -151,6 +151,7 @@ fn sample(alloc: Global) -> Result<Program, Memory> {
     let nodes = vec![in alloc;
         int, f, void, body, run, other_body, made, b, above, interface, header, a,
     ]?;
+    let nodes = Arena::from_nodes(alloc, nodes)?;
     Ok(Program::from_parts(alloc, nodes, files))
 }
 

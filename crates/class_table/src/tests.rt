@@ -3,7 +3,7 @@ ghost use Rattle.class_table.specs.Samples.{field_nodes, sample};
 
 use crate::build;
 use scj_base::{Found, Memory, Name, NodeId, Pos, Rule, SharedName};
-use scj_tree::{Node, NodeList, Program};
+use scj_tree::{Arena, Node, NodeList, Program};
 use std::alloc::Global;
 use std::test::Fail;
 
@@ -63,6 +63,7 @@ fn small_program_is_reported(rt: HostRuntime) -> Result<(), Fail> {
     let nodes = sample_nodes(alloc)?;
     let classes = vec![in alloc; NodeId::at(4)]?;
     let files = vec![in alloc; classes]?;
+    let nodes = Arena::from_nodes(alloc, nodes)?;
     let program = Program::from_parts(alloc, nodes, files);
     let (_table, found) = build(alloc, &program)?;
     let expected = [(at(1), Rule::C8), (at(22), Rule::C4)];

@@ -9,7 +9,7 @@ use parser_nodes::growing_nodes::Nodes;
 use parser_nodes::stacks::Stack;
 use parser_nodes::views::View;
 use scj_base::vocabulary::{ASSIGN, COMMA, DOT, FALSE, LEFT_PARENTHESIS, RIGHT_PARENTHESIS, TRUE};
-use scj_base::{Memory, Name, Pos};
+use scj_base::{Memory, Pos, SharedName};
 use scj_tree::FlagSet;
 use type_steps::declarations::flags_step;
 use type_steps::names::{is_effectless, is_word};
@@ -77,7 +77,7 @@ pub fn annotation_named(
     nodes: &mut Nodes,
     stack: &mut Stack,
     place: Pos,
-    name: &Name,
+    name: &SharedName,
     is_local: bool,
     flags: FlagSet,
 ) -> Result<Option<Mode>, Memory>
@@ -117,11 +117,11 @@ pub fn at_step(
     let Some(entry) = stack.pop() else {
         return Ok(None);
     };
-    match &entry {
+    match entry {
         Entry::AnnotationOpen { is_local, flags } => annotation_named(
-            nodes, stack, place, *name, *is_local, *flags,
+            nodes, stack, place, *name, is_local, flags,
         ),
-        _ => Ok(None),
+        _other => Ok(None),
     }
 }
 
@@ -134,12 +134,9 @@ pub fn plain_ended(nodes: &mut Nodes, stack: &mut Stack) -> Result<Option<Mode>,
     let Some(entry) = stack.pop() else {
         return Ok(None);
     };
-    match &entry {
-        Entry::AnnotationOpen { is_local, flags } => Ok(Some(Mode::FlagsRead {
-            is_local: *is_local,
-            flags: *flags,
-        })),
-        _ => Ok(None),
+    match entry {
+        Entry::AnnotationOpen { is_local, flags } => Ok(Some(Mode::FlagsRead { is_local, flags })),
+        _other => Ok(None),
     }
 }
 
@@ -156,11 +153,11 @@ pub fn plain_without(
     let Some(entry) = stack.pop() else {
         return Ok(None);
     };
-    match &entry {
+    match entry {
         Entry::AnnotationOpen { is_local, flags } => flags_step(
-            nodes, stack, view, *is_local, *flags,
+            nodes, stack, view, is_local, flags,
         ),
-        _ => Ok(None),
+        _other => Ok(None),
     }
 }
 

@@ -8,8 +8,8 @@ use parser_machine::Mode;
 use parser_nodes::growing_nodes::Nodes;
 use parser_nodes::stacks::Stack;
 use parser_nodes::views::View;
+use scj_base::Memory;
 use scj_base::vocabulary::{DOT, IMPORT, PACKAGE, SEMICOLON, STAR, STATIC};
-use scj_base::{Memory, Name};
 use type_steps::declarations::flags_step;
 use type_steps::flags::no_flags;
 

@@ -15,7 +15,7 @@ use parser_nodes::items::with_item;
 use parser_nodes::stacks::Stack;
 use parser_nodes::views::View;
 use scj_base::vocabulary::{COMMA, EXTENDS, GREATER, IMPLEMENTS, LEFT_BRACE, LESS};
-use scj_base::{Memory, Name, NodeId, Pos};
+use scj_base::{Memory, NodeId, Pos, SharedName};
 use scj_tree::{Node, NodeList};
 use type_steps::names::takes_argument;
 
@@ -36,7 +36,7 @@ pub fn class_name_step(
     stack.push(Entry::ClassOpen {
         flags,
         place: *place,
-        name: **name,
+        name: name.share()?,
     })?;
     Ok(Some(Mode::ClassNamed))
 }
@@ -54,18 +54,18 @@ pub fn class_opened(
     let Some(entry) = stack.pop() else {
         return Ok(None);
     };
-    match &entry {
+    match entry {
         Entry::ClassOpen { flags, place, name } => {
             stack.push(Entry::ClassBody {
-                flags: *flags,
-                place: *place,
-                name: *name,
+                flags,
+                place,
+                name,
                 header,
                 members: nodes.empty_list(),
             })?;
             Ok(Some(Mode::InMembers))
         }
-        _ => Ok(None),
+        _other => Ok(None),
     }
 }
 
@@ -131,7 +131,7 @@ pub fn super_name_step(
     };
     Ok(Some(Mode::SuperNamed {
         place: *place,
-        name: **name,
+        name: name.share()?,
     }))
 }
 
@@ -284,7 +284,7 @@ pub fn super_named_step(
     stack: &mut Stack,
     view: &View,
     place: Pos,
-    name: &Name,
+    name: &SharedName,
 ) -> Result<Option<Mode>, Memory>
     ensures step { let awaited = super_named_step place name.now nodes.old.all stack.old (seen view.now) in gives result nodes.new.all stack.new awaited ≡ awaited }
     ensures kept { nodes.new.kept ≡ nodes.old.kept }
@@ -292,7 +292,10 @@ pub fn super_named_step(
     if let View::Sign(sign, _) = view {
         if *sign == LESS {
             if takes_argument(name) {
-                return Ok(Some(Mode::SuperArgumentName { place, name: *name }));
+                return Ok(Some(Mode::SuperArgumentName {
+                    place,
+                    name: name.share()?,
+                }));
             }
             return Ok(None);
         }
@@ -308,15 +311,14 @@ pub fn super_type_ended(
     stack: &mut Stack,
     view: &View,
     place: Pos,
-    name: &Name,
+    name: &SharedName,
 ) -> Result<Option<Mode>, Memory>
     ensures step { let awaited = super_ended (length nodes.old.all) (put nodes.old.all (SuperType place name.now None)) stack.old (seen view.now) in gives result nodes.new.all stack.new awaited ≡ awaited }
     ensures kept { nodes.new.kept ≡ nodes.old.kept }
 {
-    let shared = nodes.shared(name)?;
     let id = nodes.put(Node::SuperType {
         place,
-        name: shared,
+        name: name.share()?,
         argument: None,
     })?;
     super_ended(nodes, stack, view, id)
@@ -329,7 +331,7 @@ pub fn super_argument_name_step(
     stack: &mut Stack,
     view: &View,
     place: Pos,
-    name: &Name,
+    name: &SharedName,
 ) -> Result<Option<Mode>, Memory>
     ensures step { let awaited = super_argument_name_step place name.now nodes.old.all stack.old (seen view.now) in gives result nodes.new.all stack.new awaited ≡ awaited }
     ensures kept { nodes.new.kept ≡ nodes.old.kept }
@@ -337,14 +339,13 @@ pub fn super_argument_name_step(
     let View::Name(argument, argument_place) = view else {
         return Ok(None);
     };
-    let shared = nodes.shared(*argument)?;
     let argument = nodes.put(Node::TypeArgument {
         place: *argument_place,
-        name: shared,
+        name: argument.share()?,
     })?;
     Ok(Some(Mode::SuperArgumentEnd {
         place,
-        name: *name,
+        name: name.share()?,
         argument,
     }))
 }
@@ -356,7 +357,7 @@ pub fn super_argument_end_step(
     stack: &mut Stack,
     view: &View,
     place: Pos,
-    name: &Name,
+    name: &SharedName,
     argument: NodeId,
 ) -> Result<Option<Mode>, Memory>
     ensures step { let awaited = super_argument_end_step place name.now argument nodes.old.all stack.old (seen view.now) in gives result nodes.new.all stack.new awaited ≡ awaited }
@@ -368,10 +369,9 @@ pub fn super_argument_end_step(
     if *sign != GREATER {
         return Ok(None);
     }
-    let shared = nodes.shared(name)?;
     let id = nodes.put(Node::SuperType {
         place,
-        name: shared,
+        name: name.share()?,
         argument: Some(argument),
     })?;
     Ok(Some(Mode::SuperDone { id }))

@@ -11,7 +11,7 @@ use parser_nodes::read_members::member_read;
 use parser_nodes::stacks::Stack;
 use parser_nodes::views::View;
 use scj_base::vocabulary::{ASSIGN, FALSE, LEFT_PARENTHESIS, MINUS, NULL, SEMICOLON, TRUE};
-use scj_base::{Memory, Name, NodeId, Pos};
+use scj_base::{Memory, NodeId, Pos, SharedName};
 use scj_tree::Node;
 
 /// Behind the type and the name of a member.
@@ -23,7 +23,7 @@ pub fn member_named_step(
     flags: Option<NodeId>,
     declared_type: NodeId,
     place: Pos,
-    name: &Name,
+    name: &SharedName,
 ) -> Result<Option<Mode>, Memory>
     ensures step { let awaited = member_named_step flags declared_type place name.now nodes.old.all stack.old (seen view.now) in gives result nodes.new.all stack.new awaited ≡ awaited }
     ensures kept { nodes.new.kept ≡ nodes.old.kept }
@@ -32,10 +32,9 @@ pub fn member_named_step(
         return Ok(None);
     };
     if *sign == SEMICOLON {
-        let shared = nodes.shared(name)?;
         let id = nodes.put(Node::Field {
             place,
-            name: shared,
+            name: name.share()?,
             flags,
             declared_type,
             equals: None,
@@ -48,7 +47,7 @@ pub fn member_named_step(
             flags,
             declared_type,
             place,
-            name: *name,
+            name: name.share()?,
             equals: *sign_place,
         })?;
         return Ok(Some(Mode::LiteralStart));
@@ -58,7 +57,7 @@ pub fn member_named_step(
             flags,
             result_type: declared_type,
             place,
-            name: *name,
+            name: name.share()?,
         })?;
         return Ok(Some(Mode::ParametersFirst { place: *sign_place }));
     }
@@ -150,7 +149,7 @@ pub fn field_ended(nodes: &mut Nodes, stack: &mut Stack, id: NodeId) -> Result<O
     let Some(entry) = stack.pop() else {
         return Ok(None);
     };
-    match &entry {
+    match entry {
         Entry::FieldOpen {
             flags,
             declared_type,
@@ -158,18 +157,17 @@ pub fn field_ended(nodes: &mut Nodes, stack: &mut Stack, id: NodeId) -> Result<O
             name,
             equals,
         } => {
-            let shared = nodes.shared(name)?;
             let id = nodes.put(Node::Field {
-                place: *place,
-                name: shared,
-                flags: *flags,
-                declared_type: *declared_type,
-                equals: Some(*equals),
+                place,
+                name,
+                flags,
+                declared_type,
+                equals: Some(equals),
                 value: Some(id),
             })?;
             member_read(nodes, stack, id)
         }
-        _ => Ok(None),
+        _other => Ok(None),
     }
 }
 
@@ -212,7 +210,7 @@ pub fn result_step(
         flags,
         result_type,
         place: *place,
-        name: **name,
+        name: name.share()?,
     }))
 }
 
@@ -225,7 +223,7 @@ pub fn method_named_step(
     flags: Option<NodeId>,
     result_type: NodeId,
     place: Pos,
-    name: &Name,
+    name: &SharedName,
 ) -> Result<Option<Mode>, Memory>
     ensures step { let awaited = method_named_step flags result_type place name.now nodes.old.all stack.old (seen view.now) in gives result nodes.new.all stack.new awaited ≡ awaited }
     ensures kept { nodes.new.kept ≡ nodes.old.kept }
@@ -240,7 +238,7 @@ pub fn method_named_step(
         flags,
         result_type,
         place,
-        name: *name,
+        name: name.share()?,
     })?;
     Ok(Some(Mode::ParametersFirst { place: *sign_place }))
 }

@@ -11,7 +11,7 @@ use parser_nodes::growing_nodes::Nodes;
 use parser_nodes::stacks::Stack;
 use parser_nodes::views::View;
 use scj_base::vocabulary::{ASSIGN, COMMA, DOT, LEFT_PARENTHESIS, RIGHT_PARENTHESIS};
-use scj_base::{Memory, Name, NodeId, Pos};
+use scj_base::{Memory, NodeId, Pos};
 use scj_tree::Node;
 use type_steps::flags::{with_define_scope, with_runs_in, with_scope};
 use type_steps::names::is_word;
@@ -30,18 +30,18 @@ pub fn scope_valued(
     let Some(entry) = stack.pop() else {
         return Ok(None);
     };
-    match &entry {
+    match entry {
         Entry::AnnotationOpen { is_local, flags } => {
             if sign == RIGHT_PARENTHESIS {
                 Ok(Some(Mode::FlagsRead {
-                    is_local: *is_local,
-                    flags: with_scope(id, *flags),
+                    is_local,
+                    flags: with_scope(id, flags),
                 }))
             } else {
                 Ok(None)
             }
         }
-        _ => Ok(None),
+        _other => Ok(None),
     }
 }
 
@@ -59,18 +59,18 @@ pub fn runs_in_valued(
     let Some(entry) = stack.pop() else {
         return Ok(None);
     };
-    match &entry {
+    match entry {
         Entry::AnnotationOpen { is_local, flags } => {
             if sign == RIGHT_PARENTHESIS {
                 Ok(Some(Mode::FlagsRead {
-                    is_local: *is_local,
-                    flags: with_runs_in(id, *flags),
+                    is_local,
+                    flags: with_runs_in(id, flags),
                 }))
             } else {
                 Ok(None)
             }
         }
-        _ => Ok(None),
+        _other => Ok(None),
     }
 }
 
@@ -91,7 +91,7 @@ pub fn define_valued(
     let Some(entry) = stack.pop() else {
         return Ok(None);
     };
-    match &entry {
+    match entry {
         Entry::AnnotationOpen { is_local, flags } => {
             if sign == RIGHT_PARENTHESIS {
                 let scope = nodes.put(Node::DefineScope {
@@ -101,14 +101,14 @@ pub fn define_valued(
                     parent_first,
                 })?;
                 Ok(Some(Mode::FlagsRead {
-                    is_local: *is_local,
-                    flags: with_define_scope(scope, *flags),
+                    is_local,
+                    flags: with_define_scope(scope, flags),
                 }))
             } else {
                 Ok(None)
             }
         }
-        _ => Ok(None),
+        _other => Ok(None),
     }
 }
 
@@ -126,7 +126,7 @@ pub fn valued(
     let Some(entry) = stack.pop() else {
         return Ok(None);
     };
-    match &entry {
+    match entry {
         Entry::ScopeOpen => scope_valued(nodes, stack, id, sign),
         Entry::RunsInOpen => runs_in_valued(nodes, stack, id, sign),
         Entry::DefineFirst {
@@ -135,8 +135,8 @@ pub fn valued(
         } => {
             if sign == COMMA {
                 Ok(Some(Mode::DefineOther {
-                    place: *place,
-                    parent_first: *parent_first,
+                    place,
+                    parent_first,
                     first: id,
                 }))
             } else {
@@ -147,8 +147,8 @@ pub fn valued(
             place,
             parent_first,
             first,
-        } => define_valued(nodes, stack, id, sign, *place, *parent_first, *first),
-        _ => Ok(None),
+        } => define_valued(nodes, stack, id, sign, place, parent_first, first),
+        _other => Ok(None),
     }
 }
 
@@ -203,10 +203,10 @@ pub fn value_start_step(
             if !is_name(text) {
                 return Ok(None);
             }
-            let shared = nodes.shared(&Name::new(text))?;
+            let name = nodes.shared(text)?;
             let id = nodes.put(Node::ScopeName {
                 place: *place,
-                name: shared,
+                name,
             })?;
             Ok(Some(Mode::ValueRead { id }))
         }
@@ -214,10 +214,9 @@ pub fn value_start_step(
             if is_word(*name, b"Scope") {
                 return Ok(Some(Mode::ValueScope { place: *place }));
             }
-            let shared = nodes.shared(*name)?;
             let id = nodes.put(Node::ScopeName {
                 place: *place,
-                name: shared,
+                name: name.share()?,
             })?;
             Ok(Some(Mode::ValueRead { id }))
         }
@@ -242,11 +241,8 @@ pub fn value_scope_step(
     if *sign == DOT {
         return Ok(Some(Mode::ValueDot { place }));
     }
-    let shared = nodes.shared(&Name::new(b"Scope"))?;
-    let id = nodes.put(Node::ScopeName {
-        place,
-        name: shared,
-    })?;
+    let name = nodes.shared(b"Scope")?;
+    let id = nodes.put(Node::ScopeName { place, name })?;
     valued(nodes, stack, id, *sign)
 }
 
@@ -264,10 +260,9 @@ pub fn value_dot_step(
     let View::Name(name, _) = view else {
         return Ok(None);
     };
-    let shared = nodes.shared(*name)?;
     let id = nodes.put(Node::ScopeName {
         place,
-        name: shared,
+        name: name.share()?,
     })?;
     Ok(Some(Mode::ValueRead { id }))
 }

@@ -12,7 +12,7 @@ use parser_nodes::growing_nodes::Nodes;
 use parser_nodes::stacks::Stack;
 use parser_nodes::views::View;
 use scj_base::vocabulary::{BOOLEAN, INT, LEFT_BRACKET, LEFT_PARENTHESIS, RIGHT_PARENTHESIS};
-use scj_base::{Memory, Name, NodeId, Pos};
+use scj_base::{Memory, NodeId, Pos, SharedName};
 use scj_tree::Node;
 
 /// Behind `new` and a word.
@@ -57,7 +57,7 @@ pub fn new_step(
         View::Name(name, name_place) => Ok(Some(Mode::NewName {
             place,
             name_place: *name_place,
-            name: **name,
+            name: name.share()?,
         })),
         View::Word(word, word_place) => new_word(nodes, stack, *word, place, *word_place),
         _ => Ok(None),
@@ -72,7 +72,7 @@ pub fn new_name_step(
     view: &View,
     place: Pos,
     name_place: Pos,
-    name: &Name,
+    name: &SharedName,
 ) -> Result<Option<Mode>, Memory>
     ensures step { let awaited = new_name_step place name_place name.now nodes.old.all stack.old (seen view.now) in gives result nodes.new.all stack.new awaited ≡ awaited }
     ensures kept { nodes.new.kept ≡ nodes.old.kept }
@@ -84,7 +84,7 @@ pub fn new_name_step(
         stack.push(Entry::NewOpen {
             place,
             name_place,
-            name: *name,
+            name: name.share()?,
         })?;
         stack.push(Entry::ArgumentsOpen {
             list: nodes.empty_list(),
@@ -92,10 +92,9 @@ pub fn new_name_step(
         return Ok(Some(Mode::ArgumentFirst));
     }
     if *sign == LEFT_BRACKET {
-        let shared = nodes.shared(name)?;
         let element = nodes.put(Node::ClassType {
             place: name_place,
-            name: shared,
+            name: name.share()?,
             argument: None,
             is_array: false,
         })?;
@@ -154,12 +153,12 @@ pub fn no_arguments_step(nodes: &mut Nodes, stack: &mut Stack) -> Result<Option<
     let Some(entry) = stack.pop() else {
         return Ok(None);
     };
-    match &entry {
+    match entry {
         Entry::ArgumentsOpen { .. } => {
             let list = nodes.empty_list();
             arguments_ended(nodes, stack, list)
         }
-        _ => Ok(None),
+        _other => Ok(None),
     }
 }
 

@@ -12,7 +12,7 @@ use parser_nodes::items::with_item;
 use parser_nodes::stacks::Stack;
 use parser_nodes::views::View;
 use scj_base::vocabulary::{ASSIGN, COMMA, RIGHT_BRACKET, RIGHT_PARENTHESIS, SEMICOLON};
-use scj_base::{Memory, Name, NodeId, Pos};
+use scj_base::{Memory, NodeId, Pos, SharedName};
 use scj_tree::{Node, NodeList, PostKind};
 
 /// Behind an assignment or a local with a value.
@@ -32,7 +32,7 @@ pub fn assigned(
     let Some(entry) = stack.pop() else {
         return Ok(None);
     };
-    match &entry {
+    match entry {
         Entry::Simple => {
             if *sign == SEMICOLON {
                 Ok(Some(Mode::StatementEnd { id }))
@@ -42,10 +42,7 @@ pub fn assigned(
         }
         Entry::ForHead { place } => {
             if *sign == SEMICOLON {
-                stack.push(Entry::ForTest {
-                    place: *place,
-                    first: id,
-                })?;
+                stack.push(Entry::ForTest { place, first: id })?;
                 Ok(Some(Mode::Operand))
             } else {
                 Ok(None)
@@ -58,9 +55,9 @@ pub fn assigned(
         } => {
             if *sign == RIGHT_PARENTHESIS {
                 stack.push(Entry::ForBody {
-                    place: *place,
-                    first: *first,
-                    condition: *condition,
+                    place,
+                    first,
+                    condition,
                     step: id,
                 })?;
                 Ok(Some(Mode::StatementStart))
@@ -68,7 +65,7 @@ pub fn assigned(
                 Ok(None)
             }
         }
-        _ => Ok(None),
+        _other => Ok(None),
     }
 }
 
@@ -85,22 +82,21 @@ pub fn arguments_ended(
     let Some(entry) = stack.pop() else {
         return Ok(None);
     };
-    match &entry {
+    match entry {
         Entry::CallOpen {
             place,
             name,
             object,
         } => {
-            let shared = nodes.shared(name)?;
             let id = nodes.put(Node::Call {
-                place: *place,
-                name: shared,
-                object: *object,
+                place,
+                name,
+                object,
                 arguments: list,
             })?;
             Ok(Some(Mode::PostDone {
                 kind: PostKind::Invocation,
-                place: *place,
+                place,
                 id,
             }))
         }
@@ -109,16 +105,15 @@ pub fn arguments_ended(
             name_place,
             name,
         } => {
-            let shared = nodes.shared(name)?;
             let id = nodes.put(Node::New {
-                place: *place,
-                name_place: *name_place,
-                name: shared,
+                place,
+                name_place,
+                name,
                 arguments: list,
             })?;
             Ok(Some(Mode::PostDone {
                 kind: PostKind::Invocation,
-                place: *place,
+                place,
                 id,
             }))
         }
@@ -126,10 +121,10 @@ pub fn arguments_ended(
             nodes,
             stack,
             list,
-            *block_place,
-            *place,
+            block_place,
+            place,
         ),
-        _ => Ok(None),
+        _other => Ok(None),
     }
 }
 
@@ -148,7 +143,7 @@ pub fn super_call_ended(
     let Some(entry) = stack.pop() else {
         return Ok(None);
     };
-    match &entry {
+    match entry {
         Entry::ConstructorBody {
             flags,
             place: body_place,
@@ -161,15 +156,15 @@ pub fn super_call_ended(
                 arguments: list,
             })?;
             stack.push(Entry::ConstructorBody {
-                flags: *flags,
-                place: *body_place,
-                name: *name,
-                parameters: *parameters,
+                flags,
+                place: body_place,
+                name,
+                parameters,
                 super_call: Some(id),
             })?;
             Ok(Some(Mode::SuperEnd { block_place }))
         }
-        _ => Ok(None),
+        _other => Ok(None),
     }
 }
 
@@ -239,7 +234,7 @@ pub fn target_alone(
     let Some(entry) = stack.pop() else {
         return Ok(None);
     };
-    match &entry {
+    match entry {
         Entry::Simple => {
             let id = nodes.put(Node::ExpressionStatement {
                 place,
@@ -247,7 +242,7 @@ pub fn target_alone(
             })?;
             Ok(Some(Mode::StatementEnd { id }))
         }
-        _ => Ok(None),
+        _other => Ok(None),
     }
 }
 
@@ -525,19 +520,18 @@ pub fn local_value_ended(
     view: &View,
     place: Pos,
     name_place: Pos,
-    name: &Name,
+    name: SharedName,
     flags: Option<NodeId>,
     declared_type: NodeId,
     id: NodeId,
 ) -> Result<Option<Mode>, Memory>
-    ensures step { let awaited = ended (LocalValue place name_place name.now flags declared_type) id nodes.old.all stack.old (seen view.now) in gives result nodes.new.all stack.new awaited ≡ awaited }
+    ensures step { let awaited = ended (LocalValue place name_place name flags declared_type) id nodes.old.all stack.old (seen view.now) in gives result nodes.new.all stack.new awaited ≡ awaited }
     ensures kept { nodes.new.kept ≡ nodes.old.kept }
 {
-    let shared = nodes.shared(name)?;
     let id = nodes.put(Node::LocalWithValue {
         place,
         name_place,
-        name: shared,
+        name,
         flags,
         declared_type,
         value: id,
@@ -583,7 +577,7 @@ pub fn ended(
             view,
             place,
             name_place,
-            &name,
+            name,
             flags,
             declared_type,
             id,
@@ -639,7 +633,7 @@ pub fn closed(
             stack.push(entry)?;
             return shifted(nodes, stack, view, id);
         }
-        let Some(node) = operation(nodes, &entry, id)? else {
+        let Some(node) = operation(&entry, id)? else {
             return ended(nodes, stack, view, entry, id);
         };
         id = nodes.put(node)?;

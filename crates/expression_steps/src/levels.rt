@@ -99,9 +99,8 @@ pub fn admits(entry: &Entry, binding: u8) -> bool
 
 /// The operation of an operator on its last operand.
 #[tactic(auto, unfolding(parser_machine::specs::Closing::operation))]
-pub fn operation(nodes: &mut Nodes, entry: &Entry, id: NodeId) -> Result<Option<Node>, Memory>
-    ensures node { IfOk result (λ node. node ≡ operation_of entry.now id) }
-    ensures same { nodes.new ≡ nodes.old }
+pub fn operation(entry: &Entry, id: NodeId) -> Result<Option<Node>, Memory>
+    ensures { IfOk result (λ node. node ≡ operation_of entry.now id) }
 {
     match entry {
         Entry::BinaryLeft {
@@ -126,7 +125,7 @@ pub fn operation(nodes: &mut Nodes, entry: &Entry, id: NodeId) -> Result<Option<
         } => Ok(Some(Node::Cast {
             place: *place,
             name_place: *name_place,
-            name: nodes.shared(name)?,
+            name: name.share()?,
             operand: id,
         })),
         _ => Ok(None),

@@ -15,7 +15,7 @@ use scj_base::vocabulary::{
     DOT, FALSE, LEFT_BRACKET, LEFT_PARENTHESIS, MINUS, NEW, NOT, NULL, RIGHT_PARENTHESIS, THIS,
     TILDE, TRUE,
 };
-use scj_base::{Memory, Name, NodeId, Pos};
+use scj_base::{Memory, NodeId, Pos, SharedName};
 use scj_tree::{Node, PostKind};
 
 /// Behind a whole expression of names, calls and brackets, of which `place` is the begin.
@@ -83,7 +83,7 @@ pub fn dot_step(
     Ok(Some(Mode::DotName {
         object,
         place: *place,
-        name: **name,
+        name: name.share()?,
     }))
 }
 
@@ -95,7 +95,7 @@ pub fn dot_name_step(
     view: &View,
     object: NodeId,
     place: Pos,
-    name: &Name,
+    name: &SharedName,
 ) -> Result<Option<Mode>, Memory>
     ensures step { let awaited = dot_name_step object place name.now nodes.old.all stack.old (seen view.now) in gives result nodes.new.all stack.new awaited ≡ awaited }
     ensures kept { nodes.new.kept ≡ nodes.old.kept }
@@ -103,7 +103,7 @@ pub fn dot_name_step(
     if let View::Sign(LEFT_PARENTHESIS, _) = view {
         stack.push(Entry::CallOpen {
             place,
-            name: *name,
+            name: name.share()?,
             object: Some(object),
         })?;
         stack.push(Entry::ArgumentsOpen {
@@ -111,10 +111,9 @@ pub fn dot_name_step(
         })?;
         return Ok(Some(Mode::ArgumentFirst));
     }
-    let shared = nodes.shared(name)?;
     let id = nodes.put(Node::FieldAccess {
         place,
-        name: shared,
+        name: name.share()?,
         object,
     })?;
     post_step(nodes, stack, view, PostKind::Variable, place, id)
@@ -126,22 +125,20 @@ pub fn compound_step(
     nodes: &mut Nodes,
     stack: &mut Stack,
     place: Pos,
-    name: &Name,
+    name: &SharedName,
     sign_place: Pos,
     operator: u8,
 ) -> Result<Option<Mode>, Memory>
     ensures step { let awaited = compound_step place name.now sign_place operator nodes.old.all stack.old in gives result nodes.new.all stack.new awaited ≡ awaited }
     ensures kept { nodes.new.kept ≡ nodes.old.kept }
 {
-    let shared = nodes.shared(name)?;
     let target = nodes.put(Node::SimpleName {
         place,
-        name: shared,
+        name: name.share()?,
     })?;
-    let shared = nodes.shared(name)?;
     let left = nodes.put(Node::SimpleName {
         place,
-        name: shared,
+        name: name.share()?,
     })?;
     stack.push(Entry::CompoundValue {
         place: sign_place,
@@ -158,22 +155,20 @@ pub fn stepping_step(
     nodes: &mut Nodes,
     stack: &mut Stack,
     place: Pos,
-    name: &Name,
+    name: &SharedName,
     sign_place: Pos,
     operator: u8,
 ) -> Result<Option<Mode>, Memory>
     ensures step { let awaited = stepping_step place name.now sign_place operator nodes.old.all stack.old in gives result nodes.new.all stack.new awaited ≡ awaited }
     ensures kept { nodes.new.kept ≡ nodes.old.kept }
 {
-    let shared = nodes.shared(name)?;
     let target = nodes.put(Node::SimpleName {
         place,
-        name: shared,
+        name: name.share()?,
     })?;
-    let shared = nodes.shared(name)?;
     let left = nodes.put(Node::SimpleName {
         place,
-        name: shared,
+        name: name.share()?,
     })?;
     let right = nodes.put(Node::Number {
         place: sign_place,
@@ -200,7 +195,7 @@ pub fn target_name_step(
     nodes: &mut Nodes,
     stack: &mut Stack,
     place: Pos,
-    name: &Name,
+    name: &SharedName,
     sign: u8,
     sign_place: Pos,
 ) -> Result<Option<Mode>, Memory>
@@ -214,10 +209,9 @@ pub fn target_name_step(
         return stepping_step(nodes, stack, place, name, sign_place, operator);
     }
     stack.push(Entry::Target)?;
-    let shared = nodes.shared(name)?;
     let id = nodes.put(Node::SimpleName {
         place,
-        name: shared,
+        name: name.share()?,
     })?;
     let view = View::Sign(sign, sign_place);
     post_step(nodes, stack, &view, PostKind::Variable, place, id)
@@ -229,7 +223,7 @@ pub fn name_sign_step(
     nodes: &mut Nodes,
     stack: &mut Stack,
     place: Pos,
-    name: &Name,
+    name: &SharedName,
     sign: u8,
     sign_place: Pos,
 ) -> Result<Option<Mode>, Memory>
@@ -239,10 +233,9 @@ pub fn name_sign_step(
     if stack.pop_target() {
         return target_name_step(nodes, stack, place, name, sign, sign_place);
     }
-    let shared = nodes.shared(name)?;
     let id = nodes.put(Node::SimpleName {
         place,
-        name: shared,
+        name: name.share()?,
     })?;
     let view = View::Sign(sign, sign_place);
     post_step(nodes, stack, &view, PostKind::Variable, place, id)
@@ -255,7 +248,7 @@ pub fn name_step(
     stack: &mut Stack,
     view: &View,
     place: Pos,
-    name: &Name,
+    name: &SharedName,
 ) -> Result<Option<Mode>, Memory>
     ensures step { let awaited = name_step place name.now nodes.old.all stack.old (seen view.now) in gives result nodes.new.all stack.new awaited ≡ awaited }
     ensures kept { nodes.new.kept ≡ nodes.old.kept }
@@ -264,7 +257,7 @@ pub fn name_step(
         if *sign == LEFT_PARENTHESIS {
             stack.push(Entry::CallOpen {
                 place,
-                name: *name,
+                name: name.share()?,
                 object: None,
             })?;
             stack.push(Entry::ArgumentsOpen {
@@ -274,10 +267,9 @@ pub fn name_step(
         }
         return name_sign_step(nodes, stack, place, name, *sign, *sign_place);
     }
-    let shared = nodes.shared(name)?;
     let id = nodes.put(Node::SimpleName {
         place,
-        name: shared,
+        name: name.share()?,
     })?;
     post_step(nodes, stack, view, PostKind::Variable, place, id)
 }
@@ -351,7 +343,7 @@ pub fn operand_start(
     match view {
         View::Name(name, place) => Ok(Some(Mode::NameRead {
             place: *place,
-            name: **name,
+            name: name.share()?,
         })),
         View::Word(word, place) => operand_word(nodes, stack, *word, *place),
         View::Number(value, place) => {
@@ -419,7 +411,7 @@ pub fn opened_step(
         return Ok(Some(Mode::OpenedName {
             place,
             name_place: *name_place,
-            name: **name,
+            name: name.share()?,
         }));
     }
     stack.push(Entry::GroupOpen { place })?;
@@ -434,7 +426,7 @@ pub fn opened_name_step(
     view: &View,
     place: Pos,
     name_place: Pos,
-    name: &Name,
+    name: &SharedName,
 ) -> Result<Option<Mode>, Memory>
     ensures step { let awaited = opened_name_step place name_place name.now nodes.old.all stack.old (seen view.now) in gives result nodes.new.all stack.new awaited ≡ awaited }
     ensures kept { nodes.new.kept ≡ nodes.old.kept }
@@ -443,7 +435,7 @@ pub fn opened_name_step(
         return Ok(Some(Mode::ClosedName {
             place,
             name_place,
-            name: *name,
+            name: name.share()?,
         }));
     }
     stack.push(Entry::GroupOpen { place })?;
@@ -458,7 +450,7 @@ pub fn closed_name_step(
     view: &View,
     place: Pos,
     name_place: Pos,
-    name: &Name,
+    name: &SharedName,
 ) -> Result<Option<Mode>, Memory>
     ensures step { let awaited = closed_name_step place name_place name.now nodes.old.all stack.old (seen view.now) in gives result nodes.new.all stack.new awaited ≡ awaited }
     ensures kept { nodes.new.kept ≡ nodes.old.kept }
@@ -467,14 +459,13 @@ pub fn closed_name_step(
         stack.push(Entry::CastOpen {
             place,
             name_place,
-            name: *name,
+            name: name.share()?,
         })?;
         return operand_start(nodes, stack, view);
     }
-    let shared = nodes.shared(name)?;
     let inner = nodes.put(Node::SimpleName {
         place: name_place,
-        name: shared,
+        name: name.share()?,
     })?;
     let id = nodes.put(Node::Parenthesized { place, inner })?;
     post_step(nodes, stack, view, PostKind::Value, place, id)

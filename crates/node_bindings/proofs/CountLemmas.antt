@@ -126,9 +126,9 @@ variable_within p id = go (slice_get p.nodes id) refl
     go None e h = cc
     go (Some node) e h = slice_get_within p.nodes id node e
 
-own_number : (p : Declarations) (member id : ℕ) → holds (context p id).member (λ m. m == member) ≡ true → number_before p id ≡ count_below (is_variable_of p member) id
+own_number : (p : Declarations) (member id : ℕ) → is_some (variable_at p.nodes id) ≡ true → holds (context p id).member (λ m. m == member) ≡ true → number_before p id ≡ count_below (is_variable_of p member) id
 unfolding number_before
-own_number p member id = go (context p id).member
+own_number p member id v = λ h. ap (λ b. if b then elim (context p id).member as (λ _. ℕ) [ None ↦ 0 | Some m ↦ count_below (is_variable_of p m) id ] else 0) v ∙ go (context p id).member h
   where
     go : (o : Option ℕ) → holds o (λ m. m == member) ≡ true → elim o as (λ _. ℕ) [ None ↦ 0 | Some m ↦ count_below (is_variable_of p m) id ] ≡ count_below (is_variable_of p member) id
     go None h = cc
@@ -154,18 +154,25 @@ variable_place p member variable numbers e = go (is_variable_of p member variabl
         let is_told : told 0 numbers variable ≡ number_before p variable =
         ap (λ ns. told 0 ns variable) e ∙ listed-at 0 (number_before p) (length p.nodes) variable ∙ (rw (lt-ltb variable (length p.nodes) l) refl) in
         present (is_variable_of p member) p.nodes 0 variable variable l (omega arith) h
-        ∙ ap (λ n. Some n) (count_is (is_variable_of p member) variable ∙ sym (is_told ∙ own_number p member variable parts.1))
+        ∙ ap (λ n. Some n) (count_is (is_variable_of p member) variable ∙ sym (is_told ∙ own_number p member variable parts.0 parts.1))
 
 -- ---- counting on
 
-pub number_at_member : (p : Declarations) (id member : ℕ) (counts : List ℕ) → (context p id).member ≡ Some member → AreCounted p id counts → number_before p id ≡ told 0 counts member
+pub number_at_member : (p : Declarations) (id member : ℕ) (counts : List ℕ) → is_some (variable_at p.nodes id) ≡ true → (context p id).member ≡ Some member → AreCounted p id counts → number_before p id ≡ told 0 counts member
 unfolding number_before
-number_at_member p id member counts e h =
-    ap (λ (o : Option ℕ). elim o as (λ _. ℕ) [ None ↦ 0 | Some m ↦ count_below (is_variable_of p m) id ]) e ∙ sym (h.at member)
+number_at_member p id member counts v e h =
+    ap (λ b. if b then elim (context p id).member as (λ _. ℕ) [ None ↦ 0 | Some m ↦ count_below (is_variable_of p m) id ] else 0) v
+    ∙ ap (λ (o : Option ℕ). elim o as (λ _. ℕ) [ None ↦ 0 | Some m ↦ count_below (is_variable_of p m) id ]) e ∙ sym (h.at member)
 
-pub number_without_member : (p : Declarations) (id : ℕ) → (context p id).member ≡ None → number_before p id ≡ 0
+pub number_without_member : (p : Declarations) (id : ℕ) → is_some (variable_at p.nodes id) ≡ true → (context p id).member ≡ None → number_before p id ≡ 0
 unfolding number_before
-number_without_member p id e = ap (λ (o : Option ℕ). elim o as (λ _. ℕ) [ None ↦ 0 | Some m ↦ count_below (is_variable_of p m) id ]) e
+number_without_member p id v e =
+    ap (λ b. if b then elim (context p id).member as (λ _. ℕ) [ None ↦ 0 | Some m ↦ count_below (is_variable_of p m) id ] else 0) v
+    ∙ ap (λ (o : Option ℕ). elim o as (λ _. ℕ) [ None ↦ 0 | Some m ↦ count_below (is_variable_of p m) id ]) e
+
+pub number_of_other : (p : Declarations) (id : ℕ) → is_some (variable_at p.nodes id) ≡ false → number_before p id ≡ 0
+unfolding number_before
+number_of_other p id v = ap (λ b. if b then elim (context p id).member as (λ _. ℕ) [ None ↦ 0 | Some m ↦ count_below (is_variable_of p m) id ] else 0) v
 
 count_next : (test : ℕ → Bool) (n : ℕ) → count_below test (n + 1) ≡ count_below test n + (if test n then 1 else 0)
 unfolding count_below

@@ -1,3 +1,4 @@
 pub mod ArrayLemmas
 pub mod CallLemmas
 pub mod CountLemmas
+pub mod KindLemmas

@@ -9,7 +9,7 @@ ghost use Rattle.scj_rules.specs.TypeRules.{written_type};
 ghost use Rattle.scj_rules.specs.Bindings.{array_class, class_binding, meaning_binding, binding_of, binding_at};
 ghost use Rattle.type_rules.specs.Meanings.{meant};
 ghost use Rattle.node_bindings.specs.Numbers.{numbers_before};
-ghost use Rattle.node_bindings.specs.Kinds.{field_here, access_at, new_binding, new_array};
+ghost use Rattle.node_bindings.specs.Kinds.{can_stand, field_here, access_at, new_binding, new_array};
 
 use crate::calls::call_binding;
 use crate::fields::{access_binding, array_class, class_binding, field_binding};
@@ -17,7 +17,7 @@ use crate::numbers::variable_binding;
 use node_contexts::Contexts;
 use scj_base::{ClassId, Memory, Name, NodeId};
 use scj_rules::{Binding, Receiver, Ty};
-use scj_tree::Node;
+use scj_tree::{Node, NodeKind};
 use type_rules::forms::is_form_part;
 use type_rules::names::{accessed_field, meaning, receiver, written_type};
 use type_rules::{Known, NameMeaning};
@@ -165,7 +165,31 @@ fn binding_of(
     }
 }
 
-/// What a node stands for.
+/// Whether nodes of this kind can stand for something.
+fn can_stand(kind: &Option<NodeKind>) -> bool
+    ensures { result ≡ can_stand kind.now }
+{
+    matches!(
+        kind,
+        Some(
+            NodeKind::Parameter
+                | NodeKind::Local
+                | NodeKind::LocalWithValue
+                | NodeKind::Field
+                | NodeKind::Class
+                | NodeKind::Constructor
+                | NodeKind::SuperCall
+                | NodeKind::SimpleName
+                | NodeKind::FieldAccess
+                | NodeKind::Call
+                | NodeKind::New
+                | NodeKind::NewArray
+                | NodeKind::Cast
+        )
+    )
+}
+
+/// What a node stands for. Those that stand for nothing by their kinds aren't looked at.
 #[tactic(auto, unfolding(scj_rules::specs::Bindings::binding_at, scj_rules::specs::Contexts::declarations_of))]
 pub fn binding_at(
     known: &Known<'_>,
@@ -178,6 +202,9 @@ pub fn binding_at(
     requires numbers { numbers.now ≡ numbers_before (declarations_of known.now) }
     ensures { IfOk result (λ b. b ≡ binding_at (declarations_of known.now) (told None types.now) id) }
 {
+    if !can_stand(&known.program().kind(id)) {
+        return Ok(Binding::Plain);
+    }
     match known.program().get(id) {
         Some(node) => binding_of(known, contexts, numbers, types, id, node),
         None => Ok(Binding::Plain),

@@ -79,26 +79,6 @@ pub fn place_of(
     }
 }
 
-/// Counts a variable of a member.
-#[tactic(auto, using(crate::proofs::CountLemmas::one_more))]
-fn count_variable(
-    program: &Program,
-    contexts: &Contexts,
-    counts: &mut [u32],
-    id: NodeId,
-    member: NodeId,
-)
-    requires member { (context (declarations_of program.now) id).member ≡ Some member }
-    requires within { member < length counts.old }
-    requires few { id < 2 ^ 32 - 1 }
-    requires variable { is_some (variable_at (declarations_of program.now).nodes id) ≡ true }
-    requires counted { AreCounted (declarations_of program.now) id counts.old }
-    ensures { AreCounted (declarations_of program.now) (id + 1) counts.new }
-{
-    let number = counted(program, contexts, counts, id, member);
-    counts[member.place()] = number + 1;
-}
-
 /// The place of a variable among those of the member in which a node stands.
 #[tactic(auto, unfolding(scj_rules::specs::Contexts::declarations_of))]
 fn place_here(
@@ -156,7 +136,8 @@ fn member_of(program: &Program, contexts: &Contexts, id: NodeId) -> Option<NodeI
     contexts.get(id).member
 }
 
-/// Counts a node in a member, and tells how many variables of the member stand before it.
+/// Counts a variable of a member, and tells how many of these stand before it.
+#[tactic(auto, using(crate::proofs::CountLemmas::one_more))]
 fn count_in(
     program: &Program,
     contexts: &Contexts,
@@ -167,18 +148,34 @@ fn count_in(
     requires member { (context (declarations_of program.now) id).member ≡ Some member }
     requires within { member < length counts.old }
     requires few { id < 2 ^ 32 - 1 }
+    requires variable { is_some (variable_at (declarations_of program.now).nodes id) ≡ true }
     requires counted { AreCounted (declarations_of program.now) id counts.old }
     ensures value { result ≡ number_before (declarations_of program.now) id }
     ensures counted { AreCounted (declarations_of program.now) (id + 1) counts.new }
 {
     let number = counted(program, contexts, counts, id, member);
-    if is_variable(program, id) {
-        count_variable(program, contexts, counts, id, member);
-    }
+    counts[member.place()] = number + 1;
     number
 }
 
-/// Counts a node, and tells how many variables of its member stand before it.
+/// Counts a variable, and tells how many of its member stand before it.
+fn count_variable(program: &Program, contexts: &Contexts, counts: &mut [u32], id: NodeId) -> u32
+    requires contexts { contexts.now ≡ contexts_in program.now }
+    requires room { length counts.old ≡ length program.now.nodes }
+    requires few { id < 2 ^ 32 - 1 }
+    requires variable { is_some (variable_at (declarations_of program.now).nodes id) ≡ true }
+    requires counted { AreCounted (declarations_of program.now) id counts.old }
+    ensures value { result ≡ number_before (declarations_of program.now) id }
+    ensures counted { AreCounted (declarations_of program.now) (id + 1) counts.new }
+{
+    match member_of(program, contexts, id) {
+        Some(member) => count_in(program, contexts, counts, id, member),
+        None => 0,
+    }
+}
+
+/// Counts a node, and tells how many variables of its member stand before it, if it declares one. The kinds of the nodes
+/// tell which do, so the others aren't looked at.
 fn count(program: &Program, contexts: &Contexts, counts: &mut [u32], id: NodeId) -> u32
     requires contexts { contexts.now ≡ contexts_in program.now }
     requires room { length counts.old ≡ length program.now.nodes }
@@ -187,9 +184,10 @@ fn count(program: &Program, contexts: &Contexts, counts: &mut [u32], id: NodeId)
     ensures value { result ≡ number_before (declarations_of program.now) id }
     ensures counted { AreCounted (declarations_of program.now) (id + 1) counts.new }
 {
-    match member_of(program, contexts, id) {
-        Some(member) => count_in(program, contexts, counts, id, member),
-        None => 0,
+    if is_variable(program, id) {
+        count_variable(program, contexts, counts, id)
+    } else {
+        0
     }
 }
 
@@ -232,7 +230,7 @@ pub fn number_variables(
     ensures { IfOk result (λ numbers. numbers.items ≡ numbers_before (declarations_of program.now)) }
 {
     let mut counts = zeros(alloc, program.len())?;
-    let mut numbers = Vec::new(alloc);
+    let mut numbers = Vec::with_capacity(alloc, program.len())?;
     count_all(program, contexts, counts.as_mut_slice(), &mut numbers)?;
     Ok(numbers)
 }

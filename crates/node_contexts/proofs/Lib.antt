@@ -1,3 +1,4 @@
+pub mod LeafLemmas
 pub mod ListLemmas
 pub mod StepLemmas
 pub mod VariableLemmas

@@ -1,6 +1,8 @@
 -- What the kind of a node says of the contexts of its children, and the contexts as far as some parents tell them.
-use Rattle.std.specs.Prelude.{ℕ, nat_lt, Bool, false, ◌||◌, ◌==◌, List, [], Option, Some, None, if◌then◌else◌}
+use Rattle.std.specs.Prelude.{ℕ, nat_lt, Bool, true, false, ◌||◌, ◌==◌, List, [], Option, Some, None, if◌then◌else◌}
 use Rattle.scj_tree.specs.declared.nodes.Node.{Node}
+use Rattle.scj_tree.specs.declared.kinds.NodeKind.{NodeKind}
+use Rattle.scj_tree.specs.declared.kinds.NodeKind.TheVariants.{ScopeName, TypeArgument, IntType, BooleanType, VoidType, LongType, Empty, SimpleName, Text, Number, True, False, Null, This}
 use Rattle.scj_tree.specs.Forest.{Forest}
 use Rattle.scj_tree.specs.Recursion.{told}
 use Rattle.scj_rules.specs.Words.{is_same, holds, or_else, chain}
@@ -51,3 +53,21 @@ static_flags nodes flags = (modifiers_at nodes flags).is_static
 abbrev pub on_from : Declarations → ℕ → Option ℕ → List ℕ
 on_from p bound None = []
 on_from p bound (Some last) = chain (λ v. (context p v).last) bound last
+
+-- nodes of the kind have no children
+unfoldable pub is_leaf_kind : NodeKind → Bool
+is_leaf_kind ScopeName = true
+is_leaf_kind TypeArgument = true
+is_leaf_kind IntType = true
+is_leaf_kind BooleanType = true
+is_leaf_kind VoidType = true
+is_leaf_kind LongType = true
+is_leaf_kind Empty = true
+is_leaf_kind SimpleName = true
+is_leaf_kind Text = true
+is_leaf_kind Number = true
+is_leaf_kind True = true
+is_leaf_kind False = true
+is_leaf_kind Null = true
+is_leaf_kind This = true
+is_leaf_kind _ = false

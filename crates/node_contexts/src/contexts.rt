@@ -5,7 +5,7 @@ ghost use Rattle.scj_tree.specs.Recursion.{told};
 ghost use Rattle.scj_rules.specs.Contexts.{outermost, contexts_in};
 
 use crate::class_numbers::class_numbers;
-use crate::rows::{list_children, spread};
+use crate::rows::spread_children;
 use scj_base::{Memory, NodeId};
 use scj_rules::Context;
 use scj_tree::Program;
@@ -56,8 +56,7 @@ impl Contexts {
             place -= 1;
             let parent = NodeId::at(place as u32);
             let node = program.node(parent);
-            list_children(&mut ids, node)?;
-            spread(program, &ids, numbers[place], parent, node, &mut rows);
+            spread_children(program, &mut ids, numbers[place], parent, node, &mut rows)?;
         }
         Ok(Contexts { rows })
     }

@@ -1,13 +1,14 @@
 //! What the kind of a node says of the contexts of its children.
 
-ghost use Rattle.std.specs.Prelude.{◌≡◌, ◌++◌, ℕ, List};
+ghost use Rattle.std.specs.Prelude.{◌≡◌, ◌++◌, ℕ, List, [], Some, slice_get};
+ghost use Rattle.std.specs.Bool.{OnTrue};
 ghost use Rattle.scj_tree.specs.declared.nodes.Node.{Node as Tree};
 ghost use Rattle.scj_tree.specs.Shape.{children, optional};
 ghost use Rattle.scj_rules.specs.Contexts.{declared_before, is_member, is_super_call, object_of};
-ghost use Rattle.node_contexts.specs.Steps.{declared_by};
+ghost use Rattle.node_contexts.specs.Steps.{declared_by, is_leaf_kind};
 
 use scj_base::NodeId;
-use scj_tree::Node;
+use scj_tree::{Node, NodeKind, Program};
 
 /// The children of a node: those that stand singly, and behind them those of a list.
 #[derive(Clone, Copy)]
@@ -262,6 +263,42 @@ pub fn parts_of(node: &Node) -> Parts<'_>
         Node::False { .. } => listed(&[]),
         Node::Null { .. } => listed(&[]),
         Node::This { .. } => listed(&[]),
+    }
+}
+
+/// Whether nodes of this kind have no children.
+#[tactic(auto, unfolding(crate::specs::Steps::is_leaf_kind))]
+fn is_leaf_kind(kind: &NodeKind) -> bool
+    ensures { result ≡ is_leaf_kind kind.now }
+{
+    match kind {
+        NodeKind::ScopeName => true,
+        NodeKind::TypeArgument => true,
+        NodeKind::IntType => true,
+        NodeKind::BooleanType => true,
+        NodeKind::VoidType => true,
+        NodeKind::LongType => true,
+        NodeKind::Empty => true,
+        NodeKind::SimpleName => true,
+        NodeKind::Text => true,
+        NodeKind::Number => true,
+        NodeKind::True => true,
+        NodeKind::False => true,
+        NodeKind::Null => true,
+        NodeKind::This => true,
+        _ => false,
+    }
+}
+
+/// Whether a node has no children, where its kind tells that, without a look at the node.
+pub fn is_leaf(program: &Program, id: NodeId, node: &Node) -> bool
+    requires { slice_get program.now.nodes id ≡ Some node.now }
+    ensures { OnTrue result (children node.now ≡ []) }
+{
+    let _ = node;
+    match &program.kind(id) {
+        Some(kind) => is_leaf_kind(kind),
+        None => false,
     }
 }
 

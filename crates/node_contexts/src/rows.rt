@@ -1,17 +1,17 @@
 //! The contexts of the children of a node.
 
-ghost use Rattle.std.specs.Prelude.{◌≡◌, ◌<◌, ◌≤◌, ◌++◌, ℕ, List, [], OnOk, Option, Some, None, length, is_some, if◌then◌else◌};
+ghost use Rattle.std.specs.Prelude.{◌≡◌, ◌<◌, ◌≤◌, ◌++◌, ℕ, List, [], OnOk, Option, Some, None, length, slice_get, if◌then◌else◌};
 ghost use Rattle.scj_tree.specs.Counts.{times};
 ghost use Rattle.scj_tree.specs.Forest.{AllBelow, joined};
 ghost use Rattle.scj_tree.specs.Recursion.{told};
 ghost use Rattle.scj_tree.specs.Shape.{children, optional};
 ghost use Rattle.scj_rules.specs.Definitions.{read};
-ghost use Rattle.scj_rules.specs.Views.{variable_at};
 ghost use Rattle.scj_rules.specs.Words.{is_among};
 ghost use Rattle.scj_rules.specs.Contexts.{outermost, last_variable, parameter_nodes, parameters_before, those_before, number_of_class, child_context};
 ghost use Rattle.node_contexts.specs.Steps.{of_child, shared, declared_by};
 
-use crate::kinds::{Knows, is_member, is_super_call, known_to, object_of, parts_of};
+use crate::kinds::{Knows, is_leaf, is_member, is_super_call, known_to, object_of, parts_of};
+use node_views::is_variable;
 use scj_base::{ClassId, Memory, NodeId};
 use scj_rules::Context;
 use scj_tree::{Node, Program};
@@ -27,7 +27,7 @@ fn add(ids: &mut Vec<NodeId>, child: Option<NodeId>) -> Result<(), Memory>
 }
 
 /// Makes a list that of the children of a node.
-pub fn list_children(ids: &mut Vec<NodeId>, node: &Node) -> Result<(), Memory>
+fn list_children(ids: &mut Vec<NodeId>, node: &Node) -> Result<(), Memory>
     ensures { OnOk result (ids.new.items ≡ children node.now) }
 {
     let parts = parts_of(node);
@@ -38,17 +38,6 @@ pub fn list_children(ids: &mut Vec<NodeId>, node: &Node) -> Result<(), Memory>
     add(ids, parts.fourth)?;
     ids.extend_from_slice(parts.list)?;
     Ok(())
-}
-
-/// Whether the node declares a variable.
-#[tactic(auto, unfolding(scj_rules::specs::Views::variable_of))]
-fn is_variable(program: &Program, id: NodeId) -> bool
-    ensures { result ≡ is_some (variable_at program.now.nodes id) }
-{
-    match program.get(id) {
-        Some(Node::Parameter { .. } | Node::Local { .. } | Node::LocalWithValue { .. }) => true,
-        _ => false,
-    }
 }
 
 /// The last of these nodes that declares a variable, if one does, and else the one that is known before them.
@@ -168,7 +157,7 @@ fn shared(class: Option<ClassId>, parent: NodeId, node: &Node, above: &Context) 
 }
 
 /// Writes the contexts of the children of a node, from its own one. `class` is its number, if it is a class.
-pub fn spread(
+fn spread(
     program: &Program,
     ids: &[NodeId],
     class: Option<ClassId>,
@@ -193,4 +182,30 @@ pub fn spread(
             spread_apart(program, ids, &base, &object, &parameters, rows)
         }
     }
+}
+
+/// Writes the contexts of the children of a node, from its own one. `class` is its number, if it is a class; `ids` is
+/// room for a list of the children.
+pub fn spread_children(
+    program: &Program,
+    ids: &mut Vec<NodeId>,
+    class: Option<ClassId>,
+    parent: NodeId,
+    node: &Node,
+    rows: &mut Vec<Context>,
+) -> Result<(), Memory>
+    requires there { slice_get program.now.nodes parent ≡ Some node.now }
+    requires number { class ≡ number_of_class (joined program.now.files) parent }
+    requires inside { parent < length rows.old.items }
+    requires within { AllBelow (length rows.old.items) (children node.now) }
+    requires apart { (x : ℕ) → times x (children node.now) ≤ 1 }
+    ensures whole { OnOk result (length rows.new.items ≡ length rows.old.items) }
+    ensures exact { OnOk result ((id : ℕ) → told outermost rows.new.items id ≡ (if is_among id (children node.now) then child_context program.now.nodes (joined program.now.files) parent node.now (told outermost rows.old.items parent) id else told outermost rows.old.items id)) }
+{
+    if is_leaf(program, parent, node) {
+        return Ok(());
+    }
+    list_children(ids, node)?;
+    spread(program, ids, class, parent, node, rows);
+    Ok(())
 }

@@ -1,7 +1,6 @@
 -- The numbers that come late among those that pass a test.
-use Rattle.std.proofs.Common.{◌≡◌, ℕ, zero, suc, ◌+◌, ◌-◌, ◌<◌, ◌≤◌, Bool, true, false, List, [], ◌∷◌, length, drop, filter, refl, sym, ap, ◌∙◌, subst, arith, ◌⊎◌, ⊎_elim, if◌then◌else◌, add-zero}
+use Rattle.std.proofs.Common.{◌≡◌, ℕ, zero, suc, ◌+◌, ◌-◌, ◌<◌, ◌≤◌, Bool, true, false, List, [], ◌∷◌, length, drop, filter, refl, sym, ap, ◌∙◌, subst, arith, ⊎_elim, if◌then◌else◌, add-zero}
 use Rattle.std.specs.List.{Contains}
-use Rattle.std.proofs.lemmas.Bool.{true≢false, cases_Bool}
 use Rattle.scj_rules.specs.ClassRules.{numbers_from}
 use Rattle.scj_rules.proofs.ReportLemmas.{Contains-head, Contains-tail, Contains-cases, none_contained}
 use Rattle.node_rules.specs.Counting.{passing}

@@ -1,11 +1,11 @@
 -- Methods that a class inherits as those of an interface.
-use Rattle.std.proofs.Common.{◌≡◌, ◌⊎◌, ⊎_elim, inl, inr, ℕ, zero, suc, ◌+◌, ◌≤◌, ◌<◌, Bool, true, false, not, ◌&&◌, ◌||◌, ◌==◌, List, [], ◌∷◌, length, drop, refl, sym, ap, ◌∙◌, arith, is_some}
+use Rattle.std.proofs.Common.{◌≡◌, ℕ, zero, suc, ◌+◌, ◌≤◌, ◌<◌, Bool, true, false, ◌&&◌, ◌||◌, ◌==◌, List, [], ◌∷◌, length, drop, refl, sym, ap, ◌∙◌, arith, is_some}
 use Rattle.std.specs.List.{list_any}
 use Rattle.std.proofs.lemmas.Bool.Decides.{nat_tests}
 use Rattle.std.proofs.lemmas.List.{drop_all}
 use Rattle.scj_builtins.specs.Framework.{runnable, safelet}
 use Rattle.scj_rules.specs.Words.{is_among, holds}
-use Rattle.scj_rules.specs.Classes.{all_interfaces, own_method, method_named, FoundMethod}
+use Rattle.scj_rules.specs.Classes.{all_interfaces, own_method, method_named}
 use Rattle.scj_rules.specs.ClassRules.{inherits_as, numbers_from}
 use Rattle.scj_rules.specs.Contexts.{Declarations}
 use Rattle.scj_rules.proofs.ChainLemmas.{same_number}

@@ -1,13 +1,11 @@
 -- The variables that come late, told member by member and told in one pass.
-use Rattle.std.proofs.Common.{append_assoc, ◌++◌, append-nil, replicate, ◌≡◌, ◌≢◌, ◌⊎◌, ⊎_elim, inl, inr, nat_lt, min, set, option_map, if◌then◌else◌, ℕ, zero, suc, ◌+◌, ◌<◌, ◌≤◌, nat_le, Bool, true, false, ◌&&◌, ◌==◌, List, [], ◌∷◌, length, drop, filter, filter_map, map, slice_get, Option, Some, None, refl, sym, ap, ◌∙◌, subst, arith, is_some}
+use Rattle.std.proofs.Common.{append_assoc, ◌++◌, append-nil, replicate, ◌≡◌, ◌≢◌, ◌⊎◌, ⊎_elim, inl, inr, nat_lt, min, set, option_map, if◌then◌else◌, ℕ, zero, suc, ◌+◌, ◌<◌, ◌≤◌, nat_le, Bool, true, false, ◌&&◌, ◌==◌, List, [], ◌∷◌, length, drop, filter, filter_map, slice_get, Option, Some, None, refl, sym, ap, ◌∙◌, subst, arith, is_some}
 use Rattle.std.specs.List.{Contains}
 use Rattle.std.proofs.lemmas.Bool.{true≢false, cases_lt}
 use Rattle.std.proofs.lemmas.List.{get_or-set_same, get_or-set_other, length-set, length-replicate}
 use Rattle.std.proofs.lemmas.Bool.Decides.{nat_tests}
 use Rattle.scj_base.specs.declared.findings.Found.{Found}
 use Rattle.scj_base.specs.declared.findings.Rule.TheVariants.{K2}
-use Rattle.scj_base.specs.declared.places.Pos.{Pos}
-use Rattle.scj_tree.specs.declared.nodes.Node.{Node}
 use Rattle.scj_rules.specs.declared.views.Declared.{Declared}
 use Rattle.scj_rules.specs.declared.scopes.Written.{Written}
 use Rattle.scj_tree.specs.Recursion.{told, joined_below}
@@ -21,7 +19,7 @@ use Rattle.scj_rules.specs.LimitRules.{most_locals, variables_of, k2}
 use Rattle.scj_rules.proofs.ChainLemmas.{same_number, is_same_number}
 use Rattle.scj_rules.proofs.ReportLemmas.{none_contained}
 use Rattle.node_rules.specs.Counting.{AreCounts, is_variable_of, passing, is_callable, late_variable, late_variables, raised}
-use Rattle.node_rules.proofs.CountingLemmas.{ComesLate, late_from, late_there}
+use Rattle.node_rules.proofs.CountingLemmas.{late_from, late_there}
 use Rattle.node_rules.proofs.FindingLemmas.{from_joined, to_joined, from_broken, to_broken, from_picked, to_picked, from_map, to_map}
 
 abbrev late_finding : Declared → Found
@@ -157,6 +155,14 @@ none_late p id counts h a =
       ap (late_of p id) none,
       stays p id counts (λ member. ap (λ (o : Option Declared). is_some o && holds (context p id).member (λ m. m == member)) none) a,
     )
+
+-- a node that declares no variable
+pub undeclared_late : (p : Declarations) (id : ℕ) (counts : List ℕ) → is_some (variable_at p.nodes id) ≡ false → AreCounts p id counts → (late_variable p id ≡ []) × AreCounts p (id + 1) counts
+undeclared_late p id counts h a = none_late p id counts (ap (option_map naming) (sym (unnamed (variable_at p.nodes id) h))) a
+  where
+    unnamed : (o : Option Declared) → is_some o ≡ false → o ≡ None
+    unnamed None h = refl
+    unnamed (Some d) h = absurd (true≢false h)
 
 pub memberless : (p : Declarations) (id : ℕ) (counts : List ℕ) → (context p id).member ≡ None → AreCounts p id counts → (late_variable p id ≡ []) × AreCounts p (id + 1) counts
 unfolding late_variable

@@ -1,5 +1,5 @@
 -- The numbers of named classes.
-use Rattle.std.proofs.Common.{◌≡◌, ℕ, ◌+◌, ◌<◌, zero, suc, Bool, true, false, cond, List, [], ◌∷◌, ◌++◌, length, map, slice_get, Option, Some, None, refl, sym, ap, ◌∙◌, subst, arith, nat_lt, position, length-append, option_map, option_and_then, ◌≤◌, ◌-◌}
+use Rattle.std.proofs.Common.{◌≡◌, ℕ, ◌+◌, ◌<◌, zero, suc, Bool, true, false, cond, List, [], ◌∷◌, ◌++◌, length, map, slice_get, Option, Some, None, refl, sym, ap, ◌∙◌, subst, arith, nat_lt, position, option_map, option_and_then, ◌≤◌, ◌-◌}
 use Rattle.std.proofs.lemmas.Bool.Decides.{nat_tests}
 use Rattle.std.specs.List.{position_or_len}
 use Rattle.scj_builtins.specs.Framework.{FrameworkClass, framework_classes}
@@ -10,7 +10,7 @@ use Rattle.class_rows.specs.Tables.{class_written, has_good_header}
 use Rattle.class_rows.proofs.RowLemmas.{class_get, counted, counted_is, kept}
 use Rattle.scj_rules.specs.Views.{WrittenClass}
 use Rattle.scj_rules.specs.Classes.{ClassRow, class_names, class_number, framework_row, framework_rows_from, user_row, written_rows, user_classes, counted_from}
-use Rattle.scj_rules.specs.Contexts.{Declarations, declarations_of}
+use Rattle.scj_rules.specs.Contexts.{declarations_of}
 
 abbrev pub row_name : ClassRow → List ℕ
 row_name row = row.name

@@ -1,11 +1,10 @@
 -- The variables of members, told in one pass over the nodes.
-use Rattle.std.specs.Prelude.{◌≡◌, ◌<◌, ℕ, zero, suc, ◌+◌, nat_le, nat_lt, min, set, Bool, true, false, ◌&&◌, ◌==◌, List, [], ◌++◌, length, Option, Some, None, slice_get, is_some, if◌then◌else◌}
+use Rattle.std.specs.Prelude.{◌≡◌, ◌<◌, ℕ, zero, suc, ◌+◌, nat_le, nat_lt, min, set, Bool, true, false, ◌&&◌, ◌==◌, List, [], length, Some, None, slice_get, is_some, if◌then◌else◌}
 use Rattle.scj_base.specs.declared.findings.Found.{Found}
 use Rattle.scj_base.specs.declared.findings.Rule.TheVariants.{K2}
 use Rattle.scj_tree.specs.declared.nodes.Node.{Node}
 use Rattle.scj_tree.specs.declared.nodes.Node.TheVariants.{Method, Constructor}
 use Rattle.scj_tree.specs.Recursion.{told, joined_below}
-use Rattle.scj_rules.specs.declared.views.Declared.{Declared}
 use Rattle.scj_rules.specs.Words.{broken, holds}
 use Rattle.scj_rules.specs.Views.{variable_at}
 use Rattle.scj_rules.specs.Contexts.{Declarations, context}

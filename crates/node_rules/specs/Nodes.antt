@@ -1,7 +1,9 @@
 -- What is found at the nodes, in the order in which it is noted.
-use Rattle.std.specs.Prelude.{ℕ, List, [], ◌++◌, Option, Some, None}
+use Rattle.std.specs.Prelude.{ℕ, Bool, true, false, List, [], ◌++◌, Option, Some, None}
 use Rattle.scj_base.specs.declared.findings.Found.{Found}
 use Rattle.scj_tree.specs.declared.nodes.Node.{Node}
+use Rattle.scj_tree.specs.declared.kinds.NodeKind.{NodeKind}
+use Rattle.scj_tree.specs.declared.kinds.NodeKind.TheVariants.{Class, Field, Method, Constructor, Parameter, Local, LocalWithValue, TypeArgument, New, Cast, NewArray}
 use Rattle.scj_rules.specs.ClassRules.{c9, c11, node_breaks}
 use Rattle.scj_rules.specs.LimitRules.{node_limits}
 use Rattle.scj_rules.specs.Contexts.{Declarations}
@@ -24,3 +26,18 @@ nodes_broken p = over_nodes p (λ id node. node_breaks p id node ++ node_limits 
 unfoldable pub found_at : Declarations → Option Node → ℕ → List Found
 found_at p None id = []
 found_at p (Some node) id = node_found p id node
+
+-- the rules on single nodes ask nodes of the kind
+unfoldable pub is_asked_kind : Option NodeKind → Bool
+is_asked_kind (Some Class) = true
+is_asked_kind (Some Field) = true
+is_asked_kind (Some Method) = true
+is_asked_kind (Some Constructor) = true
+is_asked_kind (Some Parameter) = true
+is_asked_kind (Some Local) = true
+is_asked_kind (Some LocalWithValue) = true
+is_asked_kind (Some TypeArgument) = true
+is_asked_kind (Some New) = true
+is_asked_kind (Some Cast) = true
+is_asked_kind (Some NewArray) = true
+is_asked_kind _ = false

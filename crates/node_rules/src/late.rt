@@ -8,7 +8,7 @@ ghost use Rattle.scj_rules.specs.Contexts.{contexts_in, declarations_of};
 ghost use Rattle.node_rules.specs.Counting.{AreCounts, is_callable, late_variable, late_variables, raised};
 
 use node_contexts::Contexts;
-use node_views::variable_written;
+use node_views::{is_variable, variable_written};
 use scj_base::{Found, Memory, NodeId, Pos, Rule};
 use scj_rules::note;
 use scj_tree::{Node, Program};
@@ -48,8 +48,8 @@ fn count_variable(
     note(found, is_late, Rule::K2, place)
 }
 
-/// Counts the variable at a node, and notes it where its member has 32 already.
-fn count_node(
+/// Counts the variable that a node declares, and notes it where its member has 32 already.
+fn count_declared(
     found: &mut Vec<Found>,
     program: &Program,
     contexts: &Contexts,
@@ -69,6 +69,26 @@ fn count_node(
         return Ok(());
     };
     count_variable(found, program, counts, member, variable.place)?;
+    Ok(())
+}
+
+/// Counts the variable at a node, if there is one, and notes it where its member has 32 already.
+fn count_node(
+    found: &mut Vec<Found>,
+    program: &Program,
+    contexts: &Contexts,
+    counts: &mut Vec<u8>,
+    id: NodeId,
+) -> Result<(), Memory>
+    requires contexts { contexts.now ≡ contexts_in program.now }
+    requires counts { AreCounts (declarations_of program.now) id counts.old.items }
+    ensures found { OnOk result (found.new.items ≡ found.old.items ++ late_variable (declarations_of program.now) id) }
+    ensures counts { OnOk result (AreCounts (declarations_of program.now) (id + 1) counts.new.items) }
+{
+    if !is_variable(program, id) {
+        return Ok(());
+    }
+    count_declared(found, program, contexts, counts, id)?;
     Ok(())
 }
 

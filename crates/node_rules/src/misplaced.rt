@@ -94,6 +94,9 @@ fn on_constructor(
 fn is_off_class(program: &Program, flags: Option<NodeId>) -> bool
     ensures { result ≡ on_class (modifiers_at program.now.nodes flags) }
 {
+    if flags.is_none() {
+        return false;
+    }
     on_class(&modifiers_at(program, flags))
 }
 
@@ -101,6 +104,9 @@ fn is_off_class(program: &Program, flags: Option<NodeId>) -> bool
 fn is_off_field(program: &Program, flags: Option<NodeId>) -> bool
     ensures { result ≡ on_field (modifiers_at program.now.nodes flags) }
 {
+    if flags.is_none() {
+        return false;
+    }
     on_field(&modifiers_at(program, flags))
 }
 
@@ -108,6 +114,9 @@ fn is_off_field(program: &Program, flags: Option<NodeId>) -> bool
 fn is_off_variable(program: &Program, flags: Option<NodeId>) -> bool
     ensures { result ≡ on_variable (modifiers_at program.now.nodes flags) }
 {
+    if flags.is_none() {
+        return false;
+    }
     on_variable(&modifiers_at(program, flags))
 }
 
@@ -122,6 +131,9 @@ fn is_off_method(
     requires { contexts.now ≡ contexts_in classes.now }
     ensures { IfOk result (λ is_wrong. is_wrong ≡ on_method (declarations_of classes.now) id name.now (modifiers_at classes.now.nodes flags)) }
 {
+    if flags.is_none() {
+        return Ok(false);
+    }
     let modifiers = modifiers_at(classes.program(), flags);
     on_method(classes, contexts, id, name, &modifiers)
 }

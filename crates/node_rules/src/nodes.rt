@@ -6,7 +6,7 @@ ghost use Rattle.scj_base.specs.declared.findings.Found.{Found as Finding};
 ghost use Rattle.scj_tree.specs.Forest.{Forest};
 ghost use Rattle.scj_rules.specs.Contexts.{contexts_in, declarations_of};
 ghost use Rattle.scj_rules.specs.Phases.{over_nodes};
-ghost use Rattle.node_rules.specs.Nodes.{node_found, nodes_found, nodes_broken, found_at};
+ghost use Rattle.node_rules.specs.Nodes.{node_found, nodes_found, nodes_broken, found_at, is_asked_kind};
 
 use crate::late::note_late;
 use crate::limits::note_parameters;
@@ -15,11 +15,33 @@ use crate::types::note_c9;
 use class_rows::Classes;
 use node_contexts::Contexts;
 use scj_base::{Found, Memory, NodeId};
+use scj_tree::NodeKind;
 use std::alloc::Global;
 
-/// Notes what is broken at a node, but for the limit on variables.
+/// Whether the rules on single nodes ask nodes of this kind.
+#[tactic(auto, unfolding(crate::specs::Nodes::is_asked_kind))]
+fn is_asked_kind(kind: &Option<NodeKind>) -> bool
+    ensures { result ≡ is_asked_kind kind.now }
+{
+    match kind {
+        Some(NodeKind::Class) => true,
+        Some(NodeKind::Field) => true,
+        Some(NodeKind::Method) => true,
+        Some(NodeKind::Constructor) => true,
+        Some(NodeKind::Parameter) => true,
+        Some(NodeKind::Local) => true,
+        Some(NodeKind::LocalWithValue) => true,
+        Some(NodeKind::TypeArgument) => true,
+        Some(NodeKind::New) => true,
+        Some(NodeKind::Cast) => true,
+        Some(NodeKind::NewArray) => true,
+        _ => false,
+    }
+}
+
+/// Notes what is broken at a node of a kind that is asked, but for the limit on variables.
 #[tactic(auto, unfolding(crate::specs::Nodes::node_found, crate::specs::Nodes::found_at))]
-fn note_node(
+fn note_asked(
     found: &mut Vec<Found>,
     classes: &Classes<'_>,
     contexts: &Contexts,
@@ -35,6 +57,25 @@ fn note_node(
     note_c9(found, classes, node)?;
     note_c11(found, classes, contexts, id, node)?;
     note_parameters(found, program, node)?;
+    Ok(())
+}
+
+/// Notes what is broken at a node, but for the limit on variables. Most nodes are of kinds that no rule asks, so their
+/// kind is looked at first.
+fn note_node(
+    found: &mut Vec<Found>,
+    classes: &Classes<'_>,
+    contexts: &Contexts,
+    id: NodeId,
+) -> Result<(), Memory>
+    requires { contexts.now ≡ contexts_in classes.now }
+    ensures { OnOk result (found.new.items ≡ found.old.items ++ found_at (declarations_of classes.now) (slice_get classes.now.nodes id) id) }
+{
+    let kind = classes.program().kind(id);
+    if !is_asked_kind(&kind) {
+        return Ok(());
+    }
+    note_asked(found, classes, contexts, id)?;
     Ok(())
 }
 

@@ -1,6 +1,6 @@
 //! Parameters, locals and fields.
 
-ghost use Rattle.std.specs.Prelude.{◌≡◌, is_some, option_map};
+ghost use Rattle.std.specs.Prelude.{◌≡◌, option_map};
 ghost use Rattle.scj_rules.specs.Definitions.{read};
 ghost use Rattle.scj_rules.specs.Views.{declared, variable_at, variable_of, field_at, field_of};
 ghost use Rattle.scj_rules.specs.declared.views.Declared.{Declared as Declaration};
@@ -67,19 +67,6 @@ pub fn variable_at(program: &Program, id: NodeId) -> Option<Declared>
     }
 }
 
-/// Whether a node declares a parameter or a local.
-#[tactic(auto, unfolding(scj_rules::specs::Views::variable_of))]
-pub fn is_variable(program: &Program, id: NodeId) -> bool
-    ensures { result ≡ is_some (variable_at program.now.nodes id) }
-{
-    match program.get(id) {
-        Some(Node::Parameter { .. }) => true,
-        Some(Node::Local { .. }) => true,
-        Some(Node::LocalWithValue { .. }) => true,
-        _ => false,
-    }
-}
-
 /// The field that a node declares.
 #[tactic(auto, unfolding(scj_rules::specs::Views::field_of))]
 pub fn field_at(program: &Program, id: NodeId) -> Option<Declared>
@@ -95,16 +82,5 @@ pub fn field_at(program: &Program, id: NodeId) -> Option<Declared>
             value: _,
         } => Some(declared(program, id, *place, *name.get(), *flags, *declared_type)),
         _ => None,
-    }
-}
-
-/// Whether a node declares a field.
-#[tactic(auto, unfolding(scj_rules::specs::Views::field_of))]
-pub fn is_field(program: &Program, id: NodeId) -> bool
-    ensures { result ≡ is_some (field_at program.now.nodes id) }
-{
-    match program.get(id) {
-        Some(Node::Field { .. }) => true,
-        _ => false,
     }
 }

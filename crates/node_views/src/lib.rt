@@ -4,6 +4,7 @@
 mod classes;
 mod constructors;
 mod declarations;
+mod kinds;
 mod methods;
 mod parameters;
 mod parts;
@@ -17,10 +18,9 @@ pub use constructors::{
     constructor_body, constructor_modifiers, constructor_name, constructor_parameters,
     constructor_place, is_constructor, super_call_arguments,
 };
-pub use declarations::{field_at, is_field, is_variable, variable_at};
-pub use methods::{
-    callable_name, is_method, method_body, method_declared, method_name, method_parameters,
-};
+pub use declarations::{field_at, variable_at};
+pub use kinds::{is_field, is_method, is_variable};
+pub use methods::{callable_name, method_body, method_declared, method_name, method_parameters};
 pub use parameters::{parameter, parameter_count, parameter_node, parameter_nodes, parameter_type};
 pub use parts::{
     field_type, field_written, is_abstract_at, is_abstract_class, is_abstract_method, is_static_at,

@@ -1,6 +1,6 @@
 //! Methods.
 
-ghost use Rattle.std.specs.Prelude.{◌≡◌, [], is_some, option_map, option_and_then, unwrap_or};
+ghost use Rattle.std.specs.Prelude.{◌≡◌, [], option_map, option_and_then, unwrap_or};
 ghost use Rattle.scj_rules.specs.Definitions.{read};
 ghost use Rattle.scj_rules.specs.Views.{method_at, method_of, parameters_at, callable_name, DeclaredMethod};
 
@@ -8,17 +8,6 @@ use crate::declarations::declared;
 use scj_base::{Name, NodeId};
 use scj_rules::{Declared, Written};
 use scj_tree::{Node, Program};
-
-/// Whether a node declares a method.
-#[tactic(auto, unfolding(scj_rules::specs::Views::method_of))]
-pub fn is_method(program: &Program, id: NodeId) -> bool
-    ensures { result ≡ is_some (method_at program.now.nodes id) }
-{
-    match program.get(id) {
-        Some(Node::Method { .. }) => true,
-        _ => false,
-    }
-}
 
 /// What is declared of the method at a node.
 #[tactic(auto, unfolding(scj_rules::specs::Views::method_of))]

@@ -4,7 +4,8 @@ ghost use Rattle.std.specs.Prelude.{◌≡◌, ℕ, List, [], length, filter_map
 ghost use Rattle.scj_rules.specs.Views.{variable_at, parameters_at, parameters_of};
 ghost use Rattle.scj_rules.specs.declared.views.Declared.{Declared as Declaration};
 
-use crate::declarations::{is_variable, variable_at};
+use crate::declarations::variable_at;
+use crate::kinds::is_variable;
 use crate::parts::variable_type;
 use scj_base::NodeId;
 use scj_rules::{Declared, WrittenType};

@@ -1,6 +1,6 @@
 //! What the parser has put aside.
 
-use scj_base::{Name, NodeId, Pos};
+use scj_base::{NodeId, Pos, SharedName};
 use scj_tree::{FlagSet, NodeList};
 
 /// A production that was begun, with the parts of it that were read.
@@ -34,7 +34,7 @@ pub enum Entry {
     ClassOpen {
         flags: Option<NodeId>,
         place: Pos,
-        name: Name,
+        name: SharedName,
     },
     /// `extends` or `implements`, where `is_extends` does not hold, and what was read behind it.
     SupersOpen {
@@ -47,7 +47,7 @@ pub enum Entry {
     ClassBody {
         flags: Option<NodeId>,
         place: Pos,
-        name: Name,
+        name: SharedName,
         header: Option<NodeId>,
         members: NodeList,
     },
@@ -68,7 +68,7 @@ pub enum Entry {
         flags: Option<NodeId>,
         declared_type: NodeId,
         place: Pos,
-        name: Name,
+        name: SharedName,
         equals: Pos,
     },
     /// A method up to its name.
@@ -76,13 +76,13 @@ pub enum Entry {
         flags: Option<NodeId>,
         result_type: NodeId,
         place: Pos,
-        name: Name,
+        name: SharedName,
     },
     /// A constructor up to its name.
     ConstructorOpen {
         flags: Option<NodeId>,
         place: Pos,
-        name: Name,
+        name: SharedName,
     },
     /// The `(` at `place` and the parameters so far.
     ParametersOpen {
@@ -94,14 +94,14 @@ pub enum Entry {
         flags: Option<NodeId>,
         result_type: NodeId,
         place: Pos,
-        name: Name,
+        name: SharedName,
         parameters: Option<NodeId>,
     },
     /// A constructor up to its body, with the super call if there is one.
     ConstructorBody {
         flags: Option<NodeId>,
         place: Pos,
-        name: Name,
+        name: SharedName,
         parameters: Option<NodeId>,
         super_call: Option<NodeId>,
     },
@@ -180,7 +180,7 @@ pub enum Entry {
     LocalValue {
         place: Pos,
         name_place: Pos,
-        name: Name,
+        name: SharedName,
         flags: Option<NodeId>,
         declared_type: NodeId,
     },
@@ -199,7 +199,7 @@ pub enum Entry {
     CastOpen {
         place: Pos,
         name_place: Pos,
-        name: Name,
+        name: SharedName,
     },
     /// `(` around an expression.
     GroupOpen {
@@ -222,14 +222,14 @@ pub enum Entry {
     /// The name of a call.
     CallOpen {
         place: Pos,
-        name: Name,
+        name: SharedName,
         object: Option<NodeId>,
     },
     /// `new Name`.
     NewOpen {
         place: Pos,
         name_place: Pos,
-        name: Name,
+        name: SharedName,
     },
     /// `super`, in a constructor whose body begins at `block_place`.
     SuperCallOpen {

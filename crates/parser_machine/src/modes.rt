@@ -1,10 +1,10 @@
 //! What the parser has in hand between two lexemes.
 
-use scj_base::{Name, NodeId, Pos};
+use scj_base::{NodeId, Pos, SharedName};
 use scj_tree::{FlagSet, PostKind};
 
 /// A type without brackets.
-#[derive(Clone, Copy, Debug)]
+#[derive(Debug, Drop)]
 pub enum ElementType {
     /// `int`.
     Int,
@@ -12,13 +12,13 @@ pub enum ElementType {
     Boolean,
     /// A class, with its argument if one is written.
     Reference {
-        name: Name,
+        name: SharedName,
         argument: Option<NodeId>,
     },
 }
 
 /// What was read last and what is awaited: a mode for each place between two lexemes that must be told apart.
-#[derive(Clone, Copy, Debug)]
+#[derive(Debug, Drop)]
 pub enum Mode {
     /// Nothing was read.
     FileStart,
@@ -119,17 +119,17 @@ pub enum Mode {
     /// The name of a super type: `<`, or what stands behind the super type.
     SuperNamed {
         place: Pos,
-        name: Name,
+        name: SharedName,
     },
     /// `<` behind such a name: a name.
     SuperArgumentName {
         place: Pos,
-        name: Name,
+        name: SharedName,
     },
     /// The argument: `>`.
     SuperArgumentEnd {
         place: Pos,
-        name: Name,
+        name: SharedName,
         argument: NodeId,
     },
     /// A super type.
@@ -141,17 +141,17 @@ pub enum Mode {
     /// A name where a type is due: `<`, `[`, or what stands behind the type; of a member also `(`.
     TypeName {
         place: Pos,
-        name: Name,
+        name: SharedName,
     },
     /// `<` behind such a name: a name.
     TypeArgumentName {
         place: Pos,
-        name: Name,
+        name: SharedName,
     },
     /// The argument: `>`.
     TypeArgumentEnd {
         place: Pos,
-        name: Name,
+        name: SharedName,
         argument: NodeId,
     },
     /// A type: `[`, or what stands behind the type.
@@ -173,7 +173,7 @@ pub enum Mode {
         flags: Option<NodeId>,
         declared_type: NodeId,
         place: Pos,
-        name: Name,
+        name: SharedName,
     },
     /// `void` or `long`: the method's name.
     ResultDone {
@@ -185,7 +185,7 @@ pub enum Mode {
         flags: Option<NodeId>,
         result_type: NodeId,
         place: Pos,
-        name: Name,
+        name: SharedName,
     },
     /// The `=` of a field: a literal.
     LiteralStart,
@@ -253,12 +253,12 @@ pub enum Mode {
     /// A name where a statement or the begin of a `for` is due: a type or a target.
     NameFirst {
         place: Pos,
-        name: Name,
+        name: SharedName,
     },
     /// `[` behind it: `]`, or an index.
     NameBracket {
         place: Pos,
-        name: Name,
+        name: SharedName,
         bracket: Pos,
     },
     /// The type and the name of a local: `;` or `=`.
@@ -266,7 +266,7 @@ pub enum Mode {
         flags: Option<NodeId>,
         declared_type: NodeId,
         place: Pos,
-        name: Name,
+        name: SharedName,
     },
     /// An assignment: what stands behind it.
     Assigned {
@@ -277,7 +277,7 @@ pub enum Mode {
     /// A name as an operand: `(`, an assignment's sign where it is a target, or what may stand behind an operand.
     NameRead {
         place: Pos,
-        name: Name,
+        name: SharedName,
     },
     /// `(` where an operand is due.
     Opened {
@@ -287,13 +287,13 @@ pub enum Mode {
     OpenedName {
         place: Pos,
         name_place: Pos,
-        name: Name,
+        name: SharedName,
     },
     /// `( Name )`: a cast or a name between parentheses.
     ClosedName {
         place: Pos,
         name_place: Pos,
-        name: Name,
+        name: SharedName,
     },
     /// `-` where an operand is due.
     Minus {
@@ -307,7 +307,7 @@ pub enum Mode {
     NewName {
         place: Pos,
         name_place: Pos,
-        name: Name,
+        name: SharedName,
     },
     /// `new int` or `new boolean`, whose type is a node: `[`.
     NewElement {
@@ -328,7 +328,7 @@ pub enum Mode {
     DotName {
         object: NodeId,
         place: Pos,
-        name: Name,
+        name: SharedName,
     },
     /// The `(` of a call: an argument or `)`.
     ArgumentFirst,

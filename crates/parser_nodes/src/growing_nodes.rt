@@ -1,10 +1,10 @@
 //! The nodes of a program while a file is read.
 
-ghost use Rattle.std.specs.Prelude.{◌≡◌, ◌<◌, ◌^◌, IfOk, OnOk, length, []};
+ghost use Rattle.std.specs.Prelude.{◌≡◌, ◌≤◌, ◌<◌, ◌^◌, IfOk, OnOk, length, []};
 ghost use Rattle.scj_tree.specs.Headers.{put};
 
-use scj_base::{Memory, Name, NameTable, NodeId, SharedName};
-use scj_tree::{Node, NodeList, TextBytes};
+use scj_base::{Memory, NameTable, NodeId, SharedName};
+use scj_tree::{Arena, Node, NodeList, TextBytes};
 use std::alloc::Global;
 use std::marker::Model;
 
@@ -13,7 +13,7 @@ use std::marker::Model;
 pub struct Nodes {
     alloc: Global,
     names: NameTable,
-    items: Vec<Node>,
+    items: Arena,
     kept: usize,
 }
 
@@ -23,17 +23,17 @@ impl Model for Nodes {
 
     ghost Value = { Growing };
 
-    ghost view = { λ a. growing (take a.kept a.items.items) a.items.items };
+    ghost view = { λ a. growing (take a.kept a.items) a.items };
 
-    ghost invariant = { λ a. (a.kept ≤ length a.items.items) × (length a.items.items < 2 ^ 32) };
+    ghost invariant = { λ a. (a.kept ≤ length a.items) × (length a.items < 2 ^ 32) };
 }
 
 impl Nodes {
     /// No nodes behind those of the files before.
-    pub fn over(alloc: Global, items: Vec<Node>) -> Nodes
-        requires { length items.items < 2 ^ 32 }
-        ensures all { result.all ≡ items.items }
-        ensures kept { result.kept ≡ items.items }
+    pub fn over(alloc: Global, items: Arena) -> Nodes
+        requires { length items < 2 ^ 32 }
+        ensures all { result.all ≡ items }
+        ensures kept { result.kept ≡ items }
     {
         let kept = items.len();
         Nodes {
@@ -58,12 +58,13 @@ impl Nodes {
         Ok(TextBytes(bytes.to_vec(self.alloc)?))
     }
 
-    /// The name for a node, shared with the nodes that were put lately.
-    pub fn shared(&mut self, name: &Name) -> Result<SharedName, Memory>
-        ensures name { IfOk result (λ shared. shared ≡ name.now) }
+    /// The name of these bytes, shared with those that were asked lately.
+    pub fn shared(&mut self, bytes: &[u8]) -> Result<SharedName, Memory>
+        requires { length bytes.now ≤ 64 }
+        ensures name { IfOk result (λ shared. shared ≡ bytes.now) }
         ensures same { self.new ≡ self.old }
     {
-        self.names.share(name.bytes())
+        self.names.share(bytes)
     }
 
     /// Puts a node last, and tells its number.
@@ -96,8 +97,8 @@ impl Nodes {
     }
 
     /// All nodes.
-    pub fn into_all(self) -> Vec<Node>
-        ensures { result.items ≡ self.all }
+    pub fn into_all(self) -> Arena
+        ensures { result ≡ self.all }
     {
         let Nodes {
             alloc: _,
@@ -109,8 +110,8 @@ impl Nodes {
     }
 
     /// The nodes of the files before.
-    pub fn into_kept(self) -> Vec<Node>
-        ensures { result.items ≡ self.kept }
+    pub fn into_kept(self) -> Arena
+        ensures { result ≡ self.kept }
     {
         let Nodes {
             alloc: _,

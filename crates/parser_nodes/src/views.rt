@@ -1,12 +1,12 @@
 //! Lexemes as the parser sees them.
 
-use scj_base::{Name, Pos};
+use scj_base::{Pos, SharedName};
 
 /// A token with its name or its text.
 #[derive(Clone, Copy, Debug)]
 pub enum View<'a> {
     /// A name.
-    Name(&'a Name, Pos),
+    Name(&'a SharedName, Pos),
     /// A reserved word, by its number.
     Word(u8, Pos),
     /// A number, by its value.

@@ -1,5 +1,5 @@
 -- How the machine goes over the lexemes of a file.
-use Rattle.std.specs.Prelude.{ℕ, ◌+◌, ◌≤◌, List, [], ◌∷◌, length, Some, None, Result, Ok, Err}
+use Rattle.std.specs.Prelude.{ℕ, ◌+◌, ◌≤◌, List, [], ◌∷◌, length, Option, Some, None, Result, Ok, Err}
 use Rattle.parser_machine.specs.Machine.{step}
 use Rattle.parser_machine.specs.States.{State, at}
 use Rattle.parser_machine.specs.declared.entries.Entry.{Entry}
@@ -27,15 +27,15 @@ leads (Ok (Ended mode)) N s awaited = to (at mode s N)
 leads (Ok (Stopped p)) N s awaited = up_to p
 leads (Err e) N s awaited = awaited
 
--- the name that a token is; a token of another kind is none
-unfoldable pub name_in : List ℕ → Token → List ℕ
+-- the name that a token is, if it is one
+unfoldable pub name_in : List ℕ → Token → Option (List ℕ)
 name_in bytes token = elim token.kind [
-  | Name ↦ part_of bytes token.start token.len
-  | Word n ↦ []
-  | Number n ↦ []
-  | Text ↦ []
-  | Sign n ↦ []
-  | End ↦ []
+  | Name ↦ Some (part_of bytes token.start token.len)
+  | Word n ↦ None
+  | Number n ↦ None
+  | Text ↦ None
+  | Sign n ↦ None
+  | End ↦ None
 ]
 
 -- the bytes of a token lie in the file, and those of a name fit into a name

@@ -1,6 +1,6 @@
 //! The run of the parser over the tokens of a file.
 
-ghost use Rattle.std.specs.Prelude.{◌≡◌};
+ghost use Rattle.std.specs.Prelude.{◌≡◌, IfOk};
 ghost use Rattle.parser_machine.specs.States.{at};
 ghost use Rattle.parser_machine.specs.declared.modes.Mode.TheVariants.{FileStart};
 ghost use Rattle.parser_steps.specs.Outcomes.{way, leads, name_in, Fits, AllFit};
@@ -12,10 +12,10 @@ use parser_machine::Mode;
 use parser_nodes::growing_nodes::Nodes;
 use parser_nodes::stacks::Stack;
 use parser_nodes::views::View;
-use scj_base::{Memory, Name, Pos, Token, TokenKind};
+use scj_base::{Memory, Pos, SharedName, Token, TokenKind};
 
 /// How far a run comes.
-#[derive(Clone, Copy, Debug)]
+#[derive(Debug, Drop)]
 pub enum Outcome {
     /// Behind all tokens.
     Ended(Mode),
@@ -23,22 +23,26 @@ pub enum Outcome {
     Stopped(Pos),
 }
 
-/// The name that a token is; of another kind the name without a byte.
+/// The name that a token is, if it is one.
 #[tactic(auto, unfolding(crate::specs::Outcomes::Fits, crate::specs::Outcomes::name_in, scj_tree::specs::Lexemes::part_of))]
-fn name_of(bytes: &[u8], token: &Token) -> Name
+fn name_of(nodes: &mut Nodes, bytes: &[u8], token: &Token) -> Result<Option<SharedName>, Memory>
     requires { Fits bytes.now token.now }
-    ensures { result ≡ name_in bytes.now token.now }
+    ensures name { IfOk result (λ name. name ≡ name_in bytes.now token.now) }
+    ensures same { nodes.new ≡ nodes.old }
 {
     let start = token.start as usize;
     match token.kind {
-        TokenKind::Name => Name::new(&bytes[start..start + token.len as usize]),
-        _ => Name::new(b""),
+        TokenKind::Name => {
+            let name = nodes.shared(&bytes[start..start + token.len as usize])?;
+            Ok(Some(name))
+        }
+        _ => Ok(None),
     }
 }
 
 /// The lexeme of a token, with the name that it is.
 #[tactic(auto, unfolding(crate::specs::Outcomes::Fits, crate::specs::Outcomes::name_in, scj_tree::specs::Lexemes::lexeme_of, scj_tree::specs::Lexemes::part_of))]
-fn view_of<'a>(bytes: &'a [u8], token: &Token, name: &'a Name) -> View<'a>
+fn view_of<'a>(bytes: &'a [u8], token: &Token, name: &'a Option<SharedName>) -> View<'a>
     requires fits { Fits bytes.now token.now }
     requires named { name.now ≡ name_in bytes.now token.now }
     ensures { seen result ≡ lexeme_of bytes.now token.now }
@@ -46,7 +50,10 @@ fn view_of<'a>(bytes: &'a [u8], token: &Token, name: &'a Name) -> View<'a>
     let start = token.start as usize;
     let end = start + token.len as usize;
     match token.kind {
-        TokenKind::Name => View::Name(name, token.pos),
+        TokenKind::Name => match name {
+            Some(name) => View::Name(name, token.pos),
+            None => View::End(token.pos),
+        },
         TokenKind::Word(word) => View::Word(word, token.pos),
         TokenKind::Number(value) => View::Number(value, token.pos),
         TokenKind::Text => View::Text(&bytes[start + 1..end - 1], token.pos),
@@ -70,7 +77,7 @@ pub fn read(
     let mut mode = Mode::FileStart;
     let mut rest = tokens;
     while let [token, others @ ..] = rest {
-        let name = name_of(bytes, token);
+        let name = name_of(nodes, bytes, token)?;
         let view = view_of(bytes, token, &name);
         let Some(next) = step_mode(nodes, stack, &view, &mode)? else {
             return Ok(Outcome::Stopped(token.pos));

@@ -17,6 +17,8 @@ use Rattle.scj_rules.specs.TypeRules.{Types, written_type}
 use Rattle.scj_rules.specs.StaticScopes.{thing_scope}
 use Rattle.scj_rules.specs.AnnotationRules.{variable_thing_at}
 use Rattle.scj_rules.specs.UseRules.{Scopes, current_at, receiver_scope, misfit_scope, e3_of_call, e3_of_constructor, target_rule, result_scope_at, misfits_element, e1, e2, e3, e4_and_e5, e6, e7, e8, e9, e10, use_breaks}
+use Rattle.scj_tree.specs.Kinds.{kind_of}
+use Rattle.runs_in_check.specs.Phase.{may_break}
 use Rattle.runs_in_check.specs.declared.arguments.Called.TheVariants.{Constructor}
 use Rattle.runs_in_check.specs.Callees.{parameters_of, declared_scope, arguments_breaks}
 use Rattle.runs_in_check.specs.Parts.{lies_elsewhere, misfits_new, made_breaks, new_breaks, super_breaks, method_called, misfits_call, user_call_breaks, enters_wrong, executes_wrong, built_in_breaks, call_breaks, called_breaks, assign_breaks, return_breaks, lies_off, misfits_cast, of_user}
@@ -67,6 +69,19 @@ module _ (p : Declarations) (types : Types) (scopes : Scopes) (id : ℕ) where
   pub at_array : (place : Pos) (element length : ℕ) → use_breaks p types scopes id (NewArray place element length) ≡ broken (holds (written_type p element) (misfits_element p id)) E10 place
   unfolding use_breaks e1 e2 e3 e4_and_e5 e6 e7 e8 e9 e10
   at_array place element length = refl
+
+  -- nodes of other kinds break nothing
+  pub no_use_of_kind : (node : Node) → false ≡ may_break (kind_of node) → use_breaks p types scopes id node ≡ []
+  unfolding may_break kind_of use_breaks e1 e2 e3 e4_and_e5 e6 e7 e8 e9 e10
+  no_use_of_kind (SuperCall a b) h = absurd (true≢false (sym h))
+  no_use_of_kind (LocalWithValue a b n f t v) h = absurd (true≢false (sym h))
+  no_use_of_kind (Assign a t v) h = absurd (true≢false (sym h))
+  no_use_of_kind (Return a v) h = absurd (true≢false (sym h))
+  no_use_of_kind (Cast a b n o) h = absurd (true≢false (sym h))
+  no_use_of_kind (Call a n o ids) h = absurd (true≢false (sym h))
+  no_use_of_kind (New a b n ids) h = absurd (true≢false (sym h))
+  no_use_of_kind (NewArray a e l) h = absurd (true≢false (sym h))
+  no_use_of_kind _ h = refl
 
   pub no_use : (node : Node) → ((a : Pos) (b : List ℕ) → node ≡ SuperCall a b → ⊥) → ((a b : Pos) (n : List ℕ) (f : Option ℕ) (t v : ℕ) → node ≡ LocalWithValue a b n f t v → ⊥)
       → ((a : Pos) (t v : ℕ) → node ≡ Assign a t v → ⊥) → ((a : Pos) (v : Option ℕ) → node ≡ Return a v → ⊥) → ((a b : Pos) (n : List ℕ) (o : ℕ) → node ≡ Cast a b n o → ⊥)

@@ -1,5 +1,5 @@
 -- What is found at nodes, one behind the other, and the findings of two rules together.
-use Rattle.std.proofs.Common.{◌≡◌, ◌+◌, ◌++◌, ◌↔◌, ◌⊎◌, inl, inr, ⊎_elim, ℕ, zero, suc, List, [], Option, None, Some, slice_get, sym, ap, ◌∙◌, subst, arith}
+use Rattle.std.proofs.Common.{◌≡◌, ◌+◌, ◌++◌, ◌↔◌, ◌⊎◌, inl, inr, ⊎_elim, ℕ, zero, suc, false, List, [], Option, None, Some, option_map, slice_get, refl, sym, ap, subst, arith}
 use Rattle.std.proofs.lemmas.List.Elements.{Contains-append_left, Contains-append_right, Contains-append_cases}
 use Rattle.std.specs.List.{Contains}
 use Rattle.std.specs.List.Sorted.{IsStrictlySortedBy}
@@ -9,18 +9,28 @@ use Rattle.scj_tree.specs.Forest.{Forest}
 use Rattle.scj_tree.specs.Recursion.{told, joined_below}
 use Rattle.scj_rules.specs.Contexts.{Declarations, declarations_of}
 use Rattle.scj_rules.specs.Report.{IsReport, report_order}
-use Rattle.scj_rules.specs.TypeRules.{types_in}
+use Rattle.scj_rules.specs.Words.{holds}
+use Rattle.scj_rules.specs.TypeRules.{Types, types_in}
 use Rattle.scj_rules.specs.AnnotationRules.{annotation_breaks}
-use Rattle.scj_rules.specs.UseRules.{scopes_in, use_breaks}
+use Rattle.scj_rules.specs.UseRules.{Scopes, scopes_in, use_breaks}
 use Rattle.scj_rules.specs.Phases.{over_nodes, use_phase, BreaksUseRules}
-use Rattle.runs_in_check.specs.Phase.{at_node, broken_uses, broken_annotations, AreInOrder}
+use Rattle.scj_tree.specs.Kinds.{kind_of}
+use Rattle.runs_in_check.proofs.BreakLemmas.{no_use_of_kind}
+use Rattle.runs_in_check.specs.Phase.{at_node, may_break, broken_uses, broken_annotations, AreInOrder}
 
-pub nodes_more : (forest : Forest) (rule : ℕ → Node → List Found) (k : ℕ) (node : Node) → slice_get forest.nodes k ≡ Some node
-    → joined_below (at_node (declarations_of forest) rule) k ++ rule k node ≡ joined_below (at_node (declarations_of forest) rule) (k + 1)
-unfolding joined_below declarations_of
-nodes_more forest rule k node e =
-    sym (ap (λ (o : Option Node). joined_below (at_node (declarations_of forest) rule) k ++ elim o as (λ _. List Found) [ None ↦ [] | Some node ↦ rule k node ]) e)
-    ∙ ap (joined_below (at_node (declarations_of forest) rule)) (let g : suc k ≡ k + 1 = omega arith in g)
+pub nodes_more : (f : ℕ → List Found) (k : ℕ) → joined_below f k ++ f k ≡ joined_below f (k + 1)
+unfolding joined_below
+nodes_more f k = ap (joined_below f) (let g : suc k ≡ k + 1 = omega arith in g)
+
+-- a node of another kind than those at which something may be broken
+pub nothing_of_kind : (forest : Forest) (types : Types) (scopes : Scopes) (id : ℕ) → false ≡ holds (option_map kind_of (slice_get forest.nodes id)) may_break
+    → at_node (declarations_of forest) (use_breaks (declarations_of forest) types scopes) id ≡ []
+unfolding declarations_of
+nothing_of_kind forest types scopes id h = go (slice_get forest.nodes id) h
+  where
+    go : (o : Option Node) → false ≡ holds (option_map kind_of o) may_break → elim o as (λ _. List Found) [ None ↦ [] | Some node ↦ use_breaks (declarations_of forest) types scopes id node ] ≡ []
+    go None h = refl
+    go (Some node) h = no_use_of_kind (declarations_of forest) types scopes id node h
 
 pub put_in_order_is : (findings old new : List Found) → old ≡ findings → IsStrictlySortedBy report_order new → ((z : Found) → Contains new z ↔ Contains old z) → AreInOrder findings new
 put_in_order_is findings old new e sorted same = record { in_order = sorted; same = λ z. subst (λ (fs : List Found). Contains new z ↔ Contains fs z) e (same z) }

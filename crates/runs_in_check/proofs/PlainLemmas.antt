@@ -1,9 +1,10 @@
--- Names, accesses and calls whose types tell that they have no scope.
+-- Nodes whose kinds tell that they have no scope, and names, accesses and calls whose types tell it.
 use Rattle.std.proofs.Common.{◌≡◌, ◌<◌, ℕ, Bool, true, false, ◌&&◌, List, length, Option, Some, None, option_and_then, option_map, if◌then◌else◌, slice_get, nat_lt, refl, sym, ap, ◌∙◌, subst}
 use Rattle.std.proofs.lemmas.Bool.{true≢false}
 use Rattle.std.proofs.lemmas.Option.{slice_get_within}
 use Rattle.scj_tree.specs.declared.nodes.Node.{Node}
-use Rattle.scj_tree.specs.declared.nodes.Node.TheVariants.{SimpleName, FieldAccess, Call}
+use Rattle.scj_tree.specs.declared.nodes.Node.TheVariants.{Cast, Parenthesized, SimpleName, FieldAccess, Call, Element, New, NewArray, Null, This}
+use Rattle.scj_tree.specs.Kinds.{kind_of}
 use Rattle.scj_tree.specs.Forest.{Forest}
 use Rattle.scj_tree.specs.Recursion.{told, below}
 use Rattle.scj_tree.proofs.RecursionLemmas.{rising-is}
@@ -19,6 +20,7 @@ use Rattle.scj_rules.specs.declared.views.Declared.{Declared}
 use Rattle.scj_rules.specs.declared.views.WrittenType.{WrittenType}
 use Rattle.scj_rules.specs.declared.views.WrittenType.TheVariants.{Boolean as boolean_type, BooleanArray as boolean_array, Class as class_type, ClassArray as class_array, Int as int_type, IntArray as int_array, Long as long_type, Text as text_type, Void as void_type}
 use Rattle.scj_rules.specs.Definitions.{read}
+use Rattle.scj_rules.specs.Words.{holds}
 use Rattle.scj_rules.specs.Views.{variable_at}
 use Rattle.scj_rules.specs.Classes.{FoundMethod, class_number, field_named, is_empty}
 use Rattle.scj_rules.specs.Contexts.{Declarations, declarations_of}
@@ -27,7 +29,7 @@ use Rattle.scj_rules.specs.Types.{type_written, is_reference, meaning, class_at_
 use Rattle.scj_rules.specs.TypeRules.{Types, type_breaks, type_of, type_of_meaning, type_of_right, type_of_next, types_in, access_type, call_type}
 use Rattle.scj_rules.specs.UseRules.{Scopes, current_at, receiver_scope, this_at, scope_of, scope_of_next, scope_of_field, scope_of_meaning, scope_of_call}
 use Rattle.static_scopes.proofs.ThingLemmas.{no_scope, variable_without_scope, field_without_scope}
-use Rattle.runs_in_check.specs.Plain.{is_asked, is_plain, is_plain_value}
+use Rattle.runs_in_check.specs.Plain.{is_asked, is_plain, is_plain_value, is_scopeless}
 
 -- ---- what is written as such a type has no scope
 
@@ -156,7 +158,7 @@ both true b h = (refl, h)
 both false b h = absurd (true≢false h)
 
 -- a name, an access or a call of such a type has no scope
-pub plain_scope : (forest : Forest) (types : List (Option Ty)) (scopes : Scopes) (id : ℕ) (node : Node) → types ≡ types_in (declarations_of forest) → slice_get forest.nodes id ≡ Some node
+plain_scope : (forest : Forest) (types : List (Option Ty)) (scopes : Scopes) (id : ℕ) (node : Node) → types ≡ types_in (declarations_of forest) → slice_get forest.nodes id ≡ Some node
     → true ≡ is_plain_value node (told None types id) → scope_of_next (declarations_of forest) (told None types) id scopes ≡ None
 unfolding scope_of_next declarations_of type_of_next types_in
 plain_scope forest types scopes id node right there h =
@@ -170,3 +172,28 @@ plain_scope forest types scopes id node right there h =
     ∙ ap (λ (o : Option Node). option_and_then (type_of_right p (below None id all) id) o) there in
     ap (λ (o : Option Node). option_and_then (scope_of p all scopes id) o) there
     ∙ plain_node forest all scopes id node parts.0 (parts.1 ∙ ap (λ (o : Option Ty). is_plain o) typed)
+
+-- ---- a node whose kind or type tells it
+
+scopeless_node : (forest : Forest) (types : List (Option Ty)) (scopes : Scopes) (id : ℕ) (node : Node) → types ≡ types_in (declarations_of forest) → slice_get forest.nodes id ≡ Some node
+    → true ≡ is_scopeless (told None types id) (kind_of node) → scope_of_next (declarations_of forest) (told None types) id scopes ≡ None
+unfolding scope_of_next declarations_of is_scopeless kind_of scope_of is_asked
+scopeless_node forest types scopes id (SimpleName place name) right there h = plain_scope forest types scopes id (SimpleName place name) right there h
+scopeless_node forest types scopes id (FieldAccess place name object) right there h = plain_scope forest types scopes id (FieldAccess place name object) right there h
+scopeless_node forest types scopes id (Call place name object arguments) right there h = plain_scope forest types scopes id (Call place name object arguments) right there h
+scopeless_node forest types scopes id (This place) right there h = absurd (true≢false h)
+scopeless_node forest types scopes id (Null place) right there h = absurd (true≢false h)
+scopeless_node forest types scopes id (Parenthesized place inner) right there h = absurd (true≢false h)
+scopeless_node forest types scopes id (New place name_place name arguments) right there h = absurd (true≢false h)
+scopeless_node forest types scopes id (NewArray place element size) right there h = absurd (true≢false h)
+scopeless_node forest types scopes id (Element place array index) right there h = absurd (true≢false h)
+scopeless_node forest types scopes id (Cast place name_place name operand) right there h = absurd (true≢false h)
+scopeless_node forest types scopes id _ right there h = ap (λ (o : Option Node). option_and_then (scope_of (declarations_of forest) (told None types) scopes id) o) there
+
+pub scopeless : (forest : Forest) (types : List (Option Ty)) (scopes : Scopes) (id : ℕ) → types ≡ types_in (declarations_of forest)
+    → true ≡ holds (option_map kind_of (slice_get forest.nodes id)) (is_scopeless (told None types id)) → scope_of_next (declarations_of forest) (told None types) id scopes ≡ None
+scopeless forest types scopes id right h = go (slice_get forest.nodes id) refl h
+  where
+    go : (o : Option Node) → slice_get forest.nodes id ≡ o → true ≡ holds (option_map kind_of o) (is_scopeless (told None types id)) → scope_of_next (declarations_of forest) (told None types) id scopes ≡ None
+    go None e h = absurd (true≢false h)
+    go (Some node) e h = scopeless_node forest types scopes id node right e h

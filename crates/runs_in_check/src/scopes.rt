@@ -1,23 +1,29 @@
 //! The static scope of each expression.
 
-ghost use Rattle.std.specs.Prelude.{◌≡◌, None, Some, IfOk, option_map, option_and_then};
+ghost use Rattle.std.specs.Prelude.{◌≡◌, None, IfOk, option_map, option_and_then, slice_get};
+ghost use Rattle.scj_tree.specs.Kinds.{kind_of};
 ghost use Rattle.scj_tree.specs.Recursion.{told};
+ghost use Rattle.scj_rules.specs.Words.{holds};
 ghost use Rattle.scj_rules.specs.Classes.{class_number};
 ghost use Rattle.scj_rules.specs.Contexts.{declarations_of};
 ghost use Rattle.scj_rules.specs.Types.{receiver, call_receiver, accessed_field, called_method, meaning};
 ghost use Rattle.scj_rules.specs.TypeRules.{types_in};
 ghost use Rattle.scj_rules.specs.UseRules.{current_at, receiver_scope, scope_of_field, scope_of_meaning, scope_of_new, scope_in_class, scope_of_call, scope_of_element, scope_of, scope_of_next, scopes_in};
+ghost use Rattle.class_rows.specs.Fields.{found_field};
 ghost use Rattle.method_rows.specs.Methods.{found_method};
-ghost use Rattle.runs_in_check.specs.Plain.{is_asked, is_plain_value};
+ghost use Rattle.type_rules.specs.Meanings.{meant};
+ghost use Rattle.runs_in_check.specs.Plain.{is_plain, is_scopeless};
 
 use crate::uses::Uses;
 use crate::words::told;
+use class_rows::FieldRef;
 use method_rows::MethodRef;
 use scj_base::{ClassId, Memory, Name, NodeId};
-use scj_rules::{ClassScope, FoundField, Meaning, Scope, Ty};
-use scj_tree::Node;
+use scj_rules::{ClassScope, Scope, Ty};
+use scj_tree::{Node, NodeKind};
 use static_scopes::substitute;
 use std::alloc::Global;
+use type_rules::NameMeaning;
 use type_words::is_reference;
 
 /// The scope of a receiver: of the value, or of `this`.
@@ -38,8 +44,8 @@ pub fn receiver_scope(
 
 /// A field's scope, with that of its object for THIS.
 #[tactic(auto, unfolding(scj_rules::specs::UseRules::scope_of_field))]
-fn scope_of_field(uses: &Uses<'_>, object: &Option<Scope>, field: &FoundField) -> Option<Scope>
-    ensures { result ≡ scope_of_field (declarations_of uses.now) object.now field.now }
+fn scope_of_field(uses: &Uses<'_>, object: &Option<Scope>, field: &FieldRef) -> Option<Scope>
+    ensures { result ≡ scope_of_field (declarations_of uses.now) object.now (found_field uses.now.nodes field.now) }
 {
     let scope = uses.field_scope(field)?;
     substitute(object, &None, &scope)
@@ -49,9 +55,9 @@ fn scope_of_field(uses: &Uses<'_>, object: &Option<Scope>, field: &FoundField) -
 fn scope_of_found(
     uses: &Uses<'_>,
     object: &Option<Scope>,
-    field: &Option<FoundField>,
+    field: &Option<FieldRef>,
 ) -> Option<Scope>
-    ensures { result ≡ option_and_then (scope_of_field (declarations_of uses.now) object.now) field.now }
+    ensures { result ≡ option_and_then (scope_of_field (declarations_of uses.now) object.now) (option_map (found_field uses.now.nodes) field.now) }
 {
     match field {
         Some(field) => scope_of_field(uses, object, field),
@@ -60,15 +66,15 @@ fn scope_of_found(
 }
 
 /// The scope of what a name stands for.
-#[tactic(auto, unfolding(scj_rules::specs::UseRules::scope_of_meaning))]
-fn scope_of_meaning(uses: &Uses<'_>, id: NodeId, meaning: &Meaning) -> Option<Scope>
-    ensures { result ≡ scope_of_meaning (declarations_of uses.now) id meaning.now }
+#[tactic(auto, unfolding(scj_rules::specs::UseRules::scope_of_meaning, type_rules::specs::Meanings::meant))]
+fn scope_of_meaning(uses: &Uses<'_>, id: NodeId, meaning: &NameMeaning) -> Option<Scope>
+    ensures { result ≡ scope_of_meaning (declarations_of uses.now) id (meant uses.now.nodes meaning.now) }
 {
     match meaning {
-        Meaning::Variable(variable) => uses.variable_scope(*variable),
-        Meaning::Field(field) => scope_of_field(uses, &uses.this_at(id), field),
-        Meaning::Class(_) => None,
-        Meaning::Nothing => None,
+        NameMeaning::Variable(variable) => uses.variable_scope(*variable),
+        NameMeaning::Field(field) => scope_of_field(uses, &uses.this_at(id), field),
+        NameMeaning::Class(_) => None,
+        NameMeaning::Nothing => None,
     }
 }
 
@@ -262,34 +268,49 @@ fn scope_of(
     }
 }
 
-/// Whether a node stands for a variable or a field, or for a method's value.
-#[tactic(auto, unfolding(crate::specs::Plain::is_asked))]
-fn is_asked(node: &Node) -> bool
-    ensures { result ≡ is_asked node.now }
+/// Whether the values of a node are no references, as its type tells.
+fn is_plain(types: &[Option<Ty>], id: NodeId) -> bool
+    ensures { result ≡ is_plain (told None types.now id) }
 {
-    match node {
-        Node::SimpleName { .. } => true,
-        Node::FieldAccess { .. } => true,
-        Node::Call { .. } => true,
-        _ => false,
-    }
-}
-
-/// Whether the type of a node tells that it has no scope.
-fn is_plain_value(types: &[Option<Ty>], id: NodeId, node: &Node) -> bool
-    ensures { result ≡ is_plain_value node.now (told None types.now id) }
-{
-    if !is_asked(node) {
-        return false;
-    }
     match &type_told(types, id) {
         Some(t) => !is_reference(t),
         None => false,
     }
 }
 
-/// The scope of the node of a number, by what is told of those before it.
-#[tactic(auto, unfolding(scj_rules::specs::UseRules::scope_of_next, scj_rules::specs::Contexts::declarations_of), using(crate::proofs::PlainLemmas::plain_scope))]
+/// Whether the node of a number, which is of this kind, has no scope, as its kind or its type tells.
+#[tactic(auto, unfolding(crate::specs::Plain::is_scopeless))]
+fn is_scopeless(types: &[Option<Ty>], id: NodeId, kind: NodeKind) -> bool
+    ensures { result ≡ is_scopeless (told None types.now id) kind }
+{
+    match kind {
+        NodeKind::SimpleName => is_plain(types, id),
+        NodeKind::FieldAccess => is_plain(types, id),
+        NodeKind::Call => is_plain(types, id),
+        NodeKind::This => false,
+        NodeKind::Null => false,
+        NodeKind::Parenthesized => false,
+        NodeKind::New => false,
+        NodeKind::NewArray => false,
+        NodeKind::Element => false,
+        NodeKind::Cast => false,
+        _ => true,
+    }
+}
+
+/// Whether there is a node of this number that has no scope, as its kind or its type tells.
+fn is_scopeless_at(uses: &Uses<'_>, types: &[Option<Ty>], id: NodeId) -> bool
+    ensures { result ≡ holds (option_map kind_of (slice_get uses.now.nodes id)) (is_scopeless (told None types.now id)) }
+{
+    match uses.program().kind(id) {
+        Some(kind) => is_scopeless(types, id, kind),
+        None => false,
+    }
+}
+
+/// The scope of the node of a number, by what is told of those before it. Most have none, which their kinds and types
+/// tell without a look at them.
+#[tactic(auto, unfolding(scj_rules::specs::UseRules::scope_of_next, scj_rules::specs::Contexts::declarations_of), using(crate::proofs::PlainLemmas::scopeless))]
 fn scope_at(
     uses: &Uses<'_>,
     types: &[Option<Ty>],
@@ -299,10 +320,10 @@ fn scope_at(
     requires { types.now ≡ types_in (declarations_of uses.now) }
     ensures { result ≡ scope_of_next (declarations_of uses.now) (told None types.now) id (told None scopes.now) }
 {
-    let node = uses.program().get(id)?;
-    if is_plain_value(types, id, node) {
+    if is_scopeless_at(uses, types, id) {
         return None;
     }
+    let node = uses.program().get(id)?;
     scope_of(uses, types, scopes, id, node)
 }
 
@@ -316,7 +337,7 @@ pub fn scopes_of(
     ensures { IfOk result (λ scopes. scopes.items ≡ scopes_in (declarations_of uses.now) (told None types.now)) }
 {
     let program = uses.program();
-    let mut scopes = Vec::new(alloc);
+    let mut scopes = Vec::with_capacity(alloc, program.len())?;
     for place in 0..program.len() {
         let id = NodeId::at(place as u32);
         let scope = scope_at(uses, types, &scopes, id);

@@ -1,6 +1,6 @@
 //! What is told of a program before the scopes of its expressions are.
 
-ghost use Rattle.std.specs.Prelude.{◌≡◌, None, slice_get, option_map, option_and_then};
+ghost use Rattle.std.specs.Prelude.{◌≡◌, None, slice_get, option_copied, option_map, option_and_then};
 ghost use Rattle.scj_tree.specs.Recursion.{told};
 ghost use Rattle.scj_rules.specs.Classes.{class_number, method_named};
 ghost use Rattle.scj_rules.specs.Views.{DeclaredMethod, method_at};
@@ -11,20 +11,21 @@ ghost use Rattle.scj_rules.specs.ScopeRules.{defined_by_chain, parent_scope, is_
 ghost use Rattle.scj_rules.specs.StaticScopes.{class_scope, runs_in, thing_scope, field_scope, parameter_scope, constructor_parameter_scope};
 ghost use Rattle.scj_rules.specs.AnnotationRules.{variable_thing_at, result_scope};
 ghost use Rattle.scj_rules.specs.UseRules.{this_at, current_at, result_scope_at};
+ghost use Rattle.class_rows.specs.Fields.{found_field};
 ghost use Rattle.method_rows.specs.Methods.{found_method};
+ghost use Rattle.type_rules.specs.Meanings.{meant};
 ghost use Rattle.type_rules.specs.Parameters.{taken};
 
-use class_rows::fields::found_field;
+use class_rows::FieldRef;
 use method_rows::{MethodRef, MethodSource};
 use node_views::is_method;
 use scj_base::{ClassId, Name, NodeId, ScopeId};
-use scj_rules::{ClassScope, Context, Declared, FoundField, Meaning, Receiver, Scope, Ty};
-use scj_tree::Program;
+use scj_rules::{ClassScope, Context, Declared, Receiver, Scope, Ty};
+use scj_tree::{Node, Program};
 use static_scopes::Scoped;
 use std::marker::Model;
 use type_rules::arguments::{Takes, constructor_parameters};
-use type_rules::meanings::told_meaning;
-use type_rules::{Known, names};
+use type_rules::{Known, NameMeaning, names};
 
 /// A program with its classes, its scopes and the contexts of its nodes. A contract sees the program.
 #[derive(Drop)]
@@ -59,6 +60,14 @@ impl<'a> Uses<'a> {
         ensures { result.now ≡ self.now }
     {
         self.known.program()
+    }
+
+    /// The node of a number, if there is one.
+    #[tactic(auto, unfolding(scj_rules::specs::Contexts::declarations_of))]
+    pub fn node(&self, id: NodeId) -> Option<&'a Node>
+        ensures { option_copied result ≡ slice_get (declarations_of self.now).nodes id }
+    {
+        self.program().get(id)
     }
 
     /// Where a node stands.
@@ -131,11 +140,11 @@ impl<'a> Uses<'a> {
         self.scoped.constructor_parameter_scope(class, parameter)
     }
 
-    /// The scope of a field.
-    pub fn field_scope(&self, field: &FoundField) -> Option<Scope>
-        ensures { result ≡ field_scope (declarations_of self.now) field.now.on field.now.field }
+    /// The scope of the field for which a row stands.
+    pub fn field_scope(&self, field: &FieldRef) -> Option<Scope>
+        ensures { let f = found_field self.now.nodes field.now in result ≡ field_scope (declarations_of self.now) f.on f.field }
     {
-        self.scoped.field_scope(field)
+        self.scoped.found_field_scope(field)
     }
 
     /// The scope of the variable that a node declares.
@@ -191,12 +200,11 @@ impl<'a> Uses<'a> {
         self.result_of(context.class?, context.member?)
     }
 
-    /// What a name stands for at a node (JLS 6.5).
-    pub fn meaning(&self, id: NodeId, name: &Name) -> Meaning
-        ensures { result ≡ meaning (declarations_of self.now) id name.now }
+    /// What a name stands for at a node (JLS 6.5), as a short row.
+    pub fn meaning(&self, id: NodeId, name: &Name) -> NameMeaning
+        ensures { meant self.now.nodes result ≡ meaning (declarations_of self.now) id name.now }
     {
-        let meaning = names::meaning(&self.known, id, name);
-        told_meaning(self.known.program(), &meaning)
+        names::meaning(&self.known, id, name)
     }
 
     /// What stands before a dot.
@@ -218,14 +226,11 @@ impl<'a> Uses<'a> {
         names::call_receiver(&self.known, types, id, object)
     }
 
-    /// The field of a name that a receiver has.
-    pub fn accessed_field(&self, receiver: &Receiver, name: &Name) -> Option<FoundField>
-        ensures { result ≡ accessed_field (declarations_of self.now) receiver.now name.now }
+    /// The field of a name that a receiver has, as a short row.
+    pub fn accessed_field(&self, receiver: &Receiver, name: &Name) -> Option<FieldRef>
+        ensures { option_map (found_field self.now.nodes) result ≡ accessed_field (declarations_of self.now) receiver.now name.now }
     {
-        match names::accessed_field(&self.known, receiver, name) {
-            Some(field) => Some(found_field(self.known.program(), &field)),
-            None => None,
-        }
+        names::accessed_field(&self.known, receiver, name)
     }
 
     /// The method of a name that a receiver has.

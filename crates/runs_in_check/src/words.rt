@@ -1,12 +1,15 @@
 //! Scopes beside each other, where some may be missing.
 
-ghost use Rattle.std.specs.Prelude.{◌≡◌, None};
+ghost use Rattle.std.specs.Prelude.{◌≡◌, None, List};
+ghost use Rattle.scj_tree.specs.declared.nodes.Node.{Node as Row};
 ghost use Rattle.scj_tree.specs.Recursion.{told};
 ghost use Rattle.scj_rules.specs.UseRules.{misfit_scope, is_named_scope, target_of_meaning};
+ghost use Rattle.type_rules.specs.Meanings.{meant};
 
 use scj_base::{NodeId, Rule};
-use scj_rules::{Meaning, Scope};
+use scj_rules::Scope;
 use static_scopes::fits;
+use type_rules::NameMeaning;
 
 /// The scope of a node, among those that are told.
 pub fn told(scopes: &[Option<Scope>], id: NodeId) -> Option<Scope>
@@ -40,12 +43,12 @@ pub fn is_named_scope(scope: &Scope) -> bool
 }
 
 /// The rule on an assignment to what a name stands for.
-#[tactic(auto, unfolding(scj_rules::specs::UseRules::target_of_meaning))]
-pub fn target_of_meaning(meaning: &Meaning) -> Rule
-    ensures { result ≡ target_of_meaning meaning.now }
+#[tactic(auto, unfolding(scj_rules::specs::UseRules::target_of_meaning, type_rules::specs::Meanings::meant))]
+pub fn target_of_meaning(meaning: &NameMeaning) -> Rule
+    ensures { (nodes : List Row) → result ≡ target_of_meaning (meant nodes meaning.now) }
 {
     match meaning {
-        Meaning::Variable(_) => Rule::E4,
+        NameMeaning::Variable(_) => Rule::E4,
         _ => Rule::E5,
     }
 }

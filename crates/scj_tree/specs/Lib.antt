@@ -4,6 +4,7 @@ pub mod Forest
 pub mod Grammar
 pub mod Headers
 pub mod Heights
+pub mod Kinds
 pub mod Lexemes
 pub mod Recursion
 pub mod Shape

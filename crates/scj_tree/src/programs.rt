@@ -1,8 +1,11 @@
 //! Programs: the trees of the sources of a call.
 
 ghost use Rattle.std.specs.Prelude.{◌≡◌, ◌<◌, ◌≤◌, [], ◌∷◌, ◌++◌, length, take, IfOk, OnOk, OnErr, slice_get, Some, option_copied, option_map, map};
+ghost use Rattle.scj_tree.specs.Kinds.{kind_of};
 ghost use Rattle.scj_tree.specs.Shape.{place_of};
 
+use crate::arenas::Arena;
+use crate::kinds::NodeKind;
 use crate::nodes::Node;
 use scj_base::{Memory, NodeId, Pos};
 use std::alloc::Global;
@@ -13,7 +16,7 @@ use std::marker::Model;
 #[derive(Drop)]
 pub struct Program {
     alloc: Global,
-    nodes: Vec<Node>,
+    nodes: Arena,
     files: Vec<Vec<NodeId>>,
 }
 
@@ -23,9 +26,9 @@ impl Model for Program {
 
     ghost Value = { Forest };
 
-    ghost view = { λ a. record { nodes = a.nodes.items; files = map (λ f. f.items) a.files.items } };
+    ghost view = { λ a. record { nodes = a.nodes; files = map (λ f. f.items) a.files.items } };
 
-    ghost invariant = { λ a. IsForest (record { nodes = a.nodes.items; files = map (λ f. f.items) a.files.items }) };
+    ghost invariant = { λ a. IsForest (record { nodes = a.nodes; files = map (λ f. f.items) a.files.items }) };
 }
 
 impl Program {
@@ -38,7 +41,7 @@ impl Program {
     {
         Program {
             alloc,
-            nodes: Vec::new(alloc),
+            nodes: Arena::new(alloc),
             files: Vec::new(alloc),
         }
     }
@@ -96,7 +99,14 @@ impl Program {
         requires { id < length self.now.nodes }
         ensures { slice_get self.now.nodes id ≡ Some result.now }
     {
-        &self.nodes[id.place()]
+        self.nodes.at(id.place())
+    }
+
+    /// The kind of the node of a number, if there is one.
+    pub fn kind(&self, id: NodeId) -> Option<NodeKind>
+        ensures { result ≡ option_map kind_of (slice_get self.now.nodes id) }
+    {
+        self.nodes.kind(id.place())
     }
 
     /// Where reports name the node of a number.
@@ -119,8 +129,8 @@ impl Program {
     }
 
     /// The nodes and the files' classes, taken apart.
-    pub fn into_parts(self) -> (Vec<Node>, Vec<Vec<NodeId>>)
-        ensures nodes { result.0.items ≡ self.nodes }
+    pub fn into_parts(self) -> (Arena, Vec<Vec<NodeId>>)
+        ensures nodes { result.0 ≡ self.nodes }
         ensures files { map (λ f. f.items) result.1.items ≡ self.files }
         ensures whole { IsForest self }
     {
@@ -133,9 +143,9 @@ impl Program {
     }
 
     /// A program of these nodes and files.
-    pub fn from_parts(alloc: Global, nodes: Vec<Node>, files: Vec<Vec<NodeId>>) -> Program
-        requires { IsForest (forest_of nodes.items (map (λ f. f.items) files.items)) }
-        ensures { result ≡ forest_of nodes.items (map (λ f. f.items) files.items) }
+    pub fn from_parts(alloc: Global, nodes: Arena, files: Vec<Vec<NodeId>>) -> Program
+        requires { IsForest (forest_of nodes (map (λ f. f.items) files.items)) }
+        ensures { result ≡ forest_of nodes (map (λ f. f.items) files.items) }
     {
         Program {
             alloc,

@@ -4,7 +4,7 @@ ghost use Rattle.scope_tree.specs.Samples.{header};
 use crate::{build, check_definitions};
 use class_rows::ClassTable;
 use scj_base::{ClassId, Found, Memory, Name, NodeId, Pos, Rule, ScopeId, SharedName};
-use scj_tree::{Node, NodeList, Program};
+use scj_tree::{Arena, Node, NodeList, Program};
 use std::alloc::Global;
 use std::test::Fail;
 
@@ -70,6 +70,7 @@ fn three_headers(alloc: Global) -> Result<Program, Memory> {
     add_header(alloc, &mut nodes, 10, 3, b"THIS", b"IMMORTAL")?;
     let classes = vec![in alloc; NodeId::at(4), NodeId::at(9), NodeId::at(14)]?;
     let files = vec![in alloc; classes]?;
+    let nodes = Arena::from_nodes(alloc, nodes)?;
     Ok(Program::from_parts(alloc, nodes, files))
 }
 

@@ -20,7 +20,7 @@ use scj_base::vocabulary::{
     ASSIGN, AT, BOOLEAN, FINAL, FOR, IF, INT, LEFT_BRACE, LEFT_BRACKET, LEFT_PARENTHESIS, LESS,
     RETURN, RIGHT_BRACE, RIGHT_BRACKET, SEMICOLON, WHILE,
 };
-use scj_base::{Memory, Name, NodeId, Pos};
+use scj_base::{Memory, NodeId, Pos, SharedName};
 use scj_tree::Node;
 use type_steps::declarations::flags_step;
 use type_steps::flags::no_flags;
@@ -61,7 +61,7 @@ pub fn first_start(
     match view {
         View::Name(name, place) => Ok(Some(Mode::NameFirst {
             place: *place,
-            name: **name,
+            name: name.share()?,
         })),
         View::Word(word, place) => {
             if *word == INT {
@@ -90,7 +90,7 @@ pub fn name_first_sign(
     nodes: &mut Nodes,
     stack: &mut Stack,
     place: Pos,
-    name: &Name,
+    name: &SharedName,
     sign: u8,
     sign_place: Pos,
 ) -> Result<Option<Mode>, Memory>
@@ -100,14 +100,17 @@ pub fn name_first_sign(
     if sign == LESS {
         if takes_argument(name) {
             stack.push(Entry::LocalOpen { flags: None })?;
-            return Ok(Some(Mode::TypeArgumentName { place, name: *name }));
+            return Ok(Some(Mode::TypeArgumentName {
+                place,
+                name: name.share()?,
+            }));
         }
         return Ok(None);
     }
     if sign == LEFT_BRACKET {
         return Ok(Some(Mode::NameBracket {
             place,
-            name: *name,
+            name: name.share()?,
             bracket: sign_place,
         }));
     }
@@ -123,17 +126,16 @@ pub fn name_first_step(
     stack: &mut Stack,
     view: &View,
     place: Pos,
-    name: &Name,
+    name: &SharedName,
 ) -> Result<Option<Mode>, Memory>
     ensures step { let awaited = name_first_step place name.now nodes.old.all stack.old (seen view.now) in gives result nodes.new.all stack.new awaited ≡ awaited }
     ensures kept { nodes.new.kept ≡ nodes.old.kept }
 {
     match view {
         View::Name(_, _) => {
-            let shared = nodes.shared(name)?;
             let id = nodes.put(Node::ClassType {
                 place,
-                name: shared,
+                name: name.share()?,
                 argument: None,
                 is_array: false,
             })?;
@@ -159,16 +161,15 @@ pub fn name_index(
     stack: &mut Stack,
     view: &View,
     place: Pos,
-    name: &Name,
+    name: &SharedName,
     bracket: Pos,
 ) -> Result<Option<Mode>, Memory>
     ensures step { let awaited = operand_start (put nodes.old.all (SimpleName place name.now)) (IndexOpen bracket (length nodes.old.all) ∷ Target ∷ stack.old) (seen view.now) in gives result nodes.new.all stack.new awaited ≡ awaited }
     ensures kept { nodes.new.kept ≡ nodes.old.kept }
 {
-    let shared = nodes.shared(name)?;
     let array = nodes.put(Node::SimpleName {
         place,
-        name: shared,
+        name: name.share()?,
     })?;
     stack.push(Entry::Target)?;
     stack.push(Entry::IndexOpen {
@@ -185,7 +186,7 @@ pub fn name_bracket_step(
     stack: &mut Stack,
     view: &View,
     place: Pos,
-    name: &Name,
+    name: &SharedName,
     bracket: Pos,
 ) -> Result<Option<Mode>, Memory>
     ensures step { let awaited = name_bracket_step place name.now bracket nodes.old.all stack.old (seen view.now) in gives result nodes.new.all stack.new awaited ≡ awaited }
@@ -193,10 +194,9 @@ pub fn name_bracket_step(
 {
     if let View::Sign(sign, _) = view {
         if *sign == RIGHT_BRACKET {
-            let shared = nodes.shared(name)?;
             let id = nodes.put(Node::ClassType {
                 place,
-                name: shared,
+                name: name.share()?,
                 argument: None,
                 is_array: true,
             })?;
@@ -216,7 +216,7 @@ pub fn local_ended(
     flags: Option<NodeId>,
     declared_type: NodeId,
     place: Pos,
-    name: &Name,
+    name: &SharedName,
 ) -> Result<Option<Mode>, Memory>
     ensures step { let awaited = local_ended flags declared_type place name.now nodes.old.all stack.old in gives result nodes.new.all stack.new awaited ≡ awaited }
     ensures kept { nodes.new.kept ≡ nodes.old.kept }
@@ -224,18 +224,17 @@ pub fn local_ended(
     let Some(entry) = stack.pop() else {
         return Ok(None);
     };
-    match &entry {
+    match entry {
         Entry::Simple => {
-            let shared = nodes.shared(name)?;
             let id = nodes.put(Node::Local {
                 place,
-                name: shared,
+                name: name.share()?,
                 flags,
                 declared_type,
             })?;
             Ok(Some(Mode::StatementEnd { id }))
         }
-        _ => Ok(None),
+        _other => Ok(None),
     }
 }
 
@@ -248,7 +247,7 @@ pub fn local_named_step(
     flags: Option<NodeId>,
     declared_type: NodeId,
     place: Pos,
-    name: &Name,
+    name: &SharedName,
 ) -> Result<Option<Mode>, Memory>
     ensures step { let awaited = local_named_step flags declared_type place name.now nodes.old.all stack.old (seen view.now) in gives result nodes.new.all stack.new awaited ≡ awaited }
     ensures kept { nodes.new.kept ≡ nodes.old.kept }
@@ -260,7 +259,7 @@ pub fn local_named_step(
         stack.push(Entry::LocalValue {
             place: *sign_place,
             name_place: place,
-            name: *name,
+            name: name.share()?,
             flags,
             declared_type,
         })?;

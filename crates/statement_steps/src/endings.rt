@@ -15,7 +15,7 @@ use parser_nodes::items::with_item;
 use parser_nodes::stacks::Stack;
 use parser_nodes::views::View;
 use scj_base::vocabulary::RIGHT_BRACE;
-use scj_base::{Memory, Name, NodeId, Pos};
+use scj_base::{Memory, NodeId, Pos, SharedName};
 use scj_tree::{Node, NodeList};
 use type_steps::declarations::flags_step;
 use type_steps::flags::no_flags;
@@ -36,7 +36,7 @@ pub fn class_ended(nodes: &mut Nodes, stack: &mut Stack) -> Result<Option<Mode>,
             name,
             header,
             members,
-        } => class_read(nodes, stack, flags, place, &name, header, members),
+        } => class_read(nodes, stack, flags, place, name, header, members),
         _other => Ok(None),
     }
 }
@@ -48,11 +48,11 @@ pub fn class_read(
     stack: &mut Stack,
     flags: Option<NodeId>,
     place: Pos,
-    name: &Name,
+    name: SharedName,
     header: Option<NodeId>,
     members: NodeList,
 ) -> Result<Option<Mode>, Memory>
-    ensures step { let awaited = class_ended nodes.old.all (ClassBody flags place name.now header members ∷ stack.old) in gives result nodes.new.all stack.new awaited ≡ awaited }
+    ensures step { let awaited = class_ended nodes.old.all (ClassBody flags place name header members ∷ stack.old) in gives result nodes.new.all stack.new awaited ≡ awaited }
     ensures kept { nodes.new.kept ≡ nodes.old.kept }
 {
     let Some(entry) = stack.pop() else {
@@ -60,10 +60,9 @@ pub fn class_read(
     };
     match entry {
         Entry::FileOpen { classes } => {
-            let shared = nodes.shared(name)?;
             let id = nodes.put(Node::Class {
                 place,
-                name: shared,
+                name,
                 flags,
                 header,
                 members,
@@ -141,16 +140,15 @@ pub fn method_ended(
     flags: Option<NodeId>,
     result_type: NodeId,
     place: Pos,
-    name: &Name,
+    name: SharedName,
     parameters: Option<NodeId>,
 ) -> Result<Option<Mode>, Memory>
-    ensures step { let awaited = statement_ended id nodes.old.all (MethodBody flags result_type place name.now parameters ∷ stack.old) (seen view.now) in gives result nodes.new.all stack.new awaited ≡ awaited }
+    ensures step { let awaited = statement_ended id nodes.old.all (MethodBody flags result_type place name parameters ∷ stack.old) (seen view.now) in gives result nodes.new.all stack.new awaited ≡ awaited }
     ensures kept { nodes.new.kept ≡ nodes.old.kept }
 {
-    let shared = nodes.shared(name)?;
     let id = nodes.put(Node::Method {
         place,
-        name: shared,
+        name,
         flags,
         result_type,
         parameters,
@@ -168,17 +166,16 @@ pub fn constructor_ended(
     id: NodeId,
     flags: Option<NodeId>,
     place: Pos,
-    name: &Name,
+    name: SharedName,
     parameters: Option<NodeId>,
     super_call: Option<NodeId>,
 ) -> Result<Option<Mode>, Memory>
-    ensures step { let awaited = statement_ended id nodes.old.all (ConstructorBody flags place name.now parameters super_call ∷ stack.old) (seen view.now) in gives result nodes.new.all stack.new awaited ≡ awaited }
+    ensures step { let awaited = statement_ended id nodes.old.all (ConstructorBody flags place name parameters super_call ∷ stack.old) (seen view.now) in gives result nodes.new.all stack.new awaited ≡ awaited }
     ensures kept { nodes.new.kept ≡ nodes.old.kept }
 {
-    let shared = nodes.shared(name)?;
     let id = nodes.put(Node::Constructor {
         place,
-        name: shared,
+        name,
         flags,
         parameters,
         super_call,
@@ -236,7 +233,7 @@ pub fn whole_ended(
             flags,
             result_type,
             place,
-            &name,
+            name,
             parameters,
         ),
         Entry::ConstructorBody {
@@ -246,7 +243,7 @@ pub fn whole_ended(
             parameters,
             super_call,
         } => constructor_ended(
-            nodes, stack, view, id, flags, place, &name, parameters, super_call,
+            nodes, stack, view, id, flags, place, name, parameters, super_call,
         ),
         Entry::IfThen { place, condition } => {
             if is_else(view) {

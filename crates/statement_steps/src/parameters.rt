@@ -19,7 +19,7 @@ use parser_nodes::views::View;
 use scj_base::vocabulary::{
     COMMA, LEFT_BRACE, LEFT_PARENTHESIS, RIGHT_PARENTHESIS, SEMICOLON, SUPER,
 };
-use scj_base::{Memory, Name, NodeId, Pos};
+use scj_base::{Memory, NodeId, Pos, SharedName};
 use scj_tree::Node;
 use type_steps::declarations::flags_step;
 use type_steps::flags::no_flags;
@@ -126,9 +126,9 @@ pub fn method_body_step(
     flags: Option<NodeId>,
     result_type: NodeId,
     place: Pos,
-    name: &Name,
+    name: SharedName,
 ) -> Result<Option<Mode>, Memory>
-    ensures step { let awaited = body_step parameters nodes.old.all (MethodOpen flags result_type place name.now ∷ stack.old) sign sign_place in gives result nodes.new.all stack.new awaited ≡ awaited }
+    ensures step { let awaited = body_step parameters nodes.old.all (MethodOpen flags result_type place name ∷ stack.old) sign sign_place in gives result nodes.new.all stack.new awaited ≡ awaited }
     ensures kept { nodes.new.kept ≡ nodes.old.kept }
 {
     if sign == LEFT_BRACE {
@@ -136,7 +136,7 @@ pub fn method_body_step(
             flags,
             result_type,
             place,
-            name: *name,
+            name,
             parameters,
         })?;
         stack.push(Entry::BlockOpen {
@@ -146,10 +146,9 @@ pub fn method_body_step(
         return Ok(Some(Mode::InStatements));
     }
     if sign == SEMICOLON {
-        let shared = nodes.shared(name)?;
         let id = nodes.put(Node::Method {
             place,
-            name: shared,
+            name,
             flags,
             result_type,
             parameters,
@@ -175,7 +174,7 @@ pub fn body_step(
     let Some(entry) = stack.pop() else {
         return Ok(None);
     };
-    match &entry {
+    match entry {
         Entry::MethodOpen {
             flags,
             result_type,
@@ -187,17 +186,17 @@ pub fn body_step(
             parameters,
             sign,
             sign_place,
-            *flags,
-            *result_type,
-            *place,
+            flags,
+            result_type,
+            place,
             name,
         ),
         Entry::ConstructorOpen { flags, place, name } => {
             if sign == LEFT_BRACE {
                 stack.push(Entry::ConstructorBody {
-                    flags: *flags,
-                    place: *place,
-                    name: *name,
+                    flags,
+                    place,
+                    name,
                     parameters,
                     super_call: None,
                 })?;
@@ -206,7 +205,7 @@ pub fn body_step(
                 Ok(None)
             }
         }
-        _ => Ok(None),
+        _other => Ok(None),
     }
 }
 

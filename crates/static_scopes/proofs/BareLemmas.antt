@@ -1,7 +1,7 @@
--- The scope of a variable before which nothing is written.
-use Rattle.std.proofs.Common.{◌≡◌, ℕ, Bool, false, List, Option, Some, None, unwrap_or, option_map, option_and_then, slice_get, refl, sym, ap, ◌∙◌}
+-- The scope of a variable, and of a field, before which nothing is written.
+use Rattle.std.proofs.Common.{◌≡◌, ℕ, Bool, true, false, if◌then◌else◌, List, Option, Some, None, unwrap_or, option_map, option_and_then, slice_get, refl, sym, ap, ◌∙◌}
 use Rattle.scj_tree.specs.declared.nodes.Node.{Node}
-use Rattle.scj_tree.specs.declared.nodes.Node.TheVariants.{ClassType, Parameter, Local, LocalWithValue}
+use Rattle.scj_tree.specs.declared.nodes.Node.TheVariants.{ClassType, Field, Parameter, Local, LocalWithValue}
 use Rattle.scj_tree.specs.Forest.{Forest}
 use Rattle.scj_rules.specs.declared.scopes.Thing.{Thing}
 use Rattle.scj_rules.specs.declared.scopes.Written.{Written}
@@ -10,11 +10,17 @@ use Rattle.scj_rules.specs.declared.views.Declared.{Declared}
 use Rattle.scj_rules.specs.declared.views.WrittenType.{WrittenType}
 use Rattle.scj_rules.specs.declared.views.WrittenType.TheVariants.{Class as class_type, Void as void_type}
 use Rattle.scj_rules.specs.Definitions.{read}
-use Rattle.scj_rules.specs.Views.{declared, type_at, type_of_node, variable_at, variable_of}
+use Rattle.scj_rules.specs.Views.{declared, type_at, type_of_node, variable_at, variable_of, field_at, field_of}
 use Rattle.scj_rules.specs.Contexts.{Declarations, declarations_of, context, is_static_member}
-use Rattle.scj_rules.specs.StaticScopes.{has_no_scope, free_thing_scope, thing_scope, variable_thing, current_in}
+use Rattle.scj_rules.specs.StaticScopes.{has_no_scope, free_thing_scope, thing_scope, variable_thing, current_in, this_in, field_thing, field_scope}
+use Rattle.scj_rules.specs.ScopeRules.{immortal_scope}
+use Rattle.scj_rules.specs.declared.typing.Scope.TheVariants.{In}
 use Rattle.scj_rules.specs.AnnotationRules.{variable_thing_at}
-use Rattle.static_scopes.specs.Bare.{bare_type_of, class_name_of, bare_scope, bare_scope_at}
+use Rattle.class_rows.specs.declared.fields.FieldRef.{FieldRef}
+use Rattle.class_rows.specs.Fields.{found_field, no_field}
+use Rattle.static_scopes.specs.Found.{suited_scope}
+use Rattle.static_scopes.proofs.ThingLemmas.{suited_field}
+use Rattle.static_scopes.specs.Bare.{bare_type_of, bare_field_type_of, class_name_of, bare_scope, bare_scope_at}
 
 -- a variable of a class before which nothing is written
 record IsBare (d : Declared) (name : List ℕ) : Type 0 where
@@ -81,3 +87,56 @@ unfolding declarations_of
 bare_variable forest id t name h k =
     let found = bare_declared forest.nodes id t name h (class_written_at forest.nodes t name k) in
     sym (bare_at (declarations_of forest) id found.0 name found.1.0 found.1.1)
+
+-- ---- a field of a class before which nothing is written
+
+record IsBareField (d : Declared) (name : List ℕ) : Type 0 where
+  no_value : d.modifiers.scope ≡ None
+  not_static : d.modifiers.is_static ≡ false
+  of_class : d.declared_type ≡ class_type name
+
+field_declared : (nodes : List Node) (id t : ℕ) (name : List ℕ) → read nodes bare_field_type_of id ≡ Some t → type_at nodes t ≡ class_type name → (d : Declared) × ((field_at nodes id ≡ Some d) × IsBareField d name)
+unfolding bare_field_type_of field_of
+field_declared nodes id t name h e = go (slice_get nodes id) h
+  where
+    same : (u : ℕ) → Some u ≡ Some t → type_at nodes u ≡ class_type name
+    same u k = ap (type_at nodes) (let j : Some u ≡ Some t = k in cc) ∙ e
+
+    go : (o : Option Node) → option_and_then bare_field_type_of o ≡ Some t → (d : Declared) × ((option_and_then (field_of nodes id) o ≡ Some d) × IsBareField d name)
+    go None h = absurd (let k : None ≡ Some t = h in cc)
+    go (Some (Field place n None u equals value)) h = (declared nodes id place n None u, (refl, record { no_value = refl; not_static = refl; of_class = same u h }))
+    go (Some _) h = absurd (let k : None ≡ Some t = h in cc)
+
+field_thing_is : (p : Declarations) (class : ℕ) (d : Declared) (name : List ℕ) → IsBareField d name → thing_scope p (field_thing p class d) ≡ bare_scope p (this_in p class) name
+unfolding thing_scope has_no_scope free_thing_scope bare_scope
+field_thing_is p class d name bare =
+    ap (λ (b : Bool). thing_scope p (made b d.declared_type d.modifiers.scope)) bare.not_static
+    ∙ ap (λ (t : WrittenType). thing_scope p (made false t d.modifiers.scope)) bare.of_class
+    ∙ ap (λ (w : Option Written). thing_scope p (made false (class_type name) w)) bare.no_value ∙ refl
+  where
+    made : Bool → WrittenType → Option Written → Thing
+    made is_static declared_type scope =
+        record {
+          class = class;
+          current = None;
+          default = if is_static then Some (In immortal_scope) else this_in p class;
+          is_field = true;
+          is_static = is_static;
+          declared_type = declared_type;
+          scope = scope;
+        }
+
+field_scope_is : (p : Declarations) (class : ℕ) (d : Declared) (name : List ℕ) → IsBareField d name → suited_scope p class false (bare_scope p (this_in p class) name) ≡ field_scope p class d
+field_scope_is p class d name bare =
+    ap (λ (s : Option Scope). suited_scope p class false s) (sym (field_thing_is p class d name bare))
+    ∙ ap (λ (b : Bool). suited_scope p class b (thing_scope p (field_thing p class d))) (sym bare.not_static)
+    ∙ suited_field p class d
+
+pub bare_field : (forest : Forest) (f : FieldRef) (t : ℕ) (name : List ℕ) → read forest.nodes bare_field_type_of f.node ≡ Some t → read forest.nodes class_name_of t ≡ Some name
+    → suited_scope (declarations_of forest) f.on false (bare_scope (declarations_of forest) (this_in (declarations_of forest) f.on) name)
+    ≡ field_scope (declarations_of forest) (found_field forest.nodes f).on (found_field forest.nodes f).field
+unfolding found_field
+bare_field forest f t name h k =
+    let found = field_declared forest.nodes f.node t name h (class_written_at forest.nodes t name k) in
+    field_scope_is (declarations_of forest) f.on found.0 name found.1.1
+    ∙ ap (λ (o : Option Declared). field_scope (declarations_of forest) f.on (unwrap_or o (no_field f.node))) (sym found.1.0)

@@ -1,19 +1,22 @@
 -- What the table of runs tells of a method.
-use Rattle.std.proofs.Common.{◌≡◌, ℕ, ◌<◌, ◌≤◌, true, false, length, Option, Some, None, is_some, option_and_then, refl, sym, ap, ◌∙◌, arith, ⊎_elim, nat_lt, slice_get, true≢false}
+use Rattle.std.proofs.Common.{◌≡◌, ℕ, ◌<◌, ◌≤◌, true, false, List, length, Option, Some, None, is_some, option_map, option_and_then, refl, sym, ap, ◌∙◌, arith, ⊎_elim, nat_lt, slice_get, true≢false}
 use Rattle.std.proofs.lemmas.Bool.Decides.{nat_tests}
 use Rattle.std.proofs.lemmas.Bool.{cases_lt}
 use Rattle.std.proofs.lemmas.Option.{slice_get_past}
 use Rattle.scj_tree.specs.declared.nodes.Node.{Node}
+use Rattle.scj_tree.specs.declared.nodes.Node.TheVariants.{Method}
+use Rattle.scj_tree.specs.Kinds.{kind_of}
 use Rattle.scj_tree.specs.Forest.{Forest}
 use Rattle.scj_tree.specs.Recursion.{told}
 use Rattle.scj_tree.proofs.RecursionLemmas.{listed-at}
 use Rattle.scj_rules.specs.declared.typing.Scope.{Scope}
+use Rattle.scj_rules.specs.Words.{holds}
 use Rattle.scj_rules.specs.Views.{DeclaredMethod, method_at, method_of}
 use Rattle.scj_rules.specs.Contexts.{declarations_of, context}
 use Rattle.scj_rules.specs.StaticScopes.{runs_in, this_in, current_in}
 use Rattle.method_rows.specs.Methods.{found_method, method_from}
 use Rattle.static_scopes.specs.Found.{method_in, at_node}
-use Rattle.static_scopes.specs.Runs.{AreRuns, run_at, runs_in_at}
+use Rattle.static_scopes.specs.Runs.{AreRuns, is_method_kind, run_at, runs_in_at}
 use Rattle.static_scopes.specs.declared.runs.Runs.{Runs}
 
 pub method_at_node : (forest : Forest) (class id : ℕ) (m : DeclaredMethod) → method_at forest.nodes id ≡ Some m → method_in forest (at_node class id) ≡ m
@@ -38,6 +41,27 @@ no_run_in_class forest class id h = go (method_at forest.nodes id) h
     go : (o : Option DeclaredMethod) → false ≡ is_some o → option_and_then (runs_in (declarations_of forest) class) o ≡ None
     go None h = refl
     go (Some m) h = absurd (true≢false (sym h))
+
+no_method : (nodes : List Node) (id : ℕ) (node : Node) → false ≡ is_method_kind (kind_of node) → false ≡ is_some (method_of nodes id node)
+unfolding is_method_kind kind_of method_of
+no_method nodes id (Method place name flags result_type parameters body) h = absurd (true≢false (sym h))
+no_method nodes id _ h = refl
+
+no_method_of_kind : (nodes : List Node) (id : ℕ) → false ≡ holds (option_map kind_of (slice_get nodes id)) is_method_kind → false ≡ is_some (method_at nodes id)
+no_method_of_kind nodes id h = go (slice_get nodes id) h
+  where
+    go : (o : Option Node) → false ≡ holds (option_map kind_of o) is_method_kind → false ≡ is_some (option_and_then (method_of nodes id) o)
+    go None h = refl
+    go (Some node) h = no_method nodes id node h
+
+-- a node of another kind than methods' has no row
+pub no_run : (forest : Forest) (id : ℕ) → false ≡ holds (option_map kind_of (slice_get forest.nodes id)) is_method_kind → run_at (declarations_of forest) id ≡ None
+unfolding run_at
+no_run forest id h = go (context (declarations_of forest) id).class
+  where
+    go : (o : Option ℕ) → option_and_then (λ (class : ℕ). runs_in_at (declarations_of forest) class id) o ≡ None
+    go None = refl
+    go (Some class) = no_run_in_class forest class id (no_method_of_kind forest.nodes id h)
 
 -- what stands in the table is right for the class in which the method stands
 no_method_past : (forest : Forest) (id : ℕ) → length forest.nodes ≤ id → true ≡ is_some (method_at forest.nodes id) → ⊥

@@ -1,7 +1,7 @@
--- Variables before which nothing is written: no annotation says where their values lie.
+-- Variables and fields before which nothing is written: no annotation says where their values lie.
 use Rattle.std.specs.Prelude.{ℕ, false, List, Option, Some, None, option_and_then}
 use Rattle.scj_tree.specs.declared.nodes.Node.{Node}
-use Rattle.scj_tree.specs.declared.nodes.Node.TheVariants.{ClassType, Parameter, Local, LocalWithValue}
+use Rattle.scj_tree.specs.declared.nodes.Node.TheVariants.{ClassType, Field, Parameter, Local, LocalWithValue}
 use Rattle.scj_rules.specs.declared.scopes.ClassScope.TheVariants.{Unannotated as unannotated, Annotated as annotated, Unknown as unknown}
 use Rattle.scj_rules.specs.declared.typing.Scope.{Scope}
 use Rattle.scj_rules.specs.declared.typing.Scope.TheVariants.{In}
@@ -15,6 +15,11 @@ bare_type_of (Parameter place name None declared_type) = Some declared_type
 bare_type_of (Local place name None declared_type) = Some declared_type
 bare_type_of (LocalWithValue place name_place name None declared_type value) = Some declared_type
 bare_type_of _ = None
+
+-- the same of a field
+unfoldable pub bare_field_type_of : Node → Option ℕ
+bare_field_type_of (Field place name None declared_type equals value) = Some declared_type
+bare_field_type_of _ = None
 
 -- a class that is written as a type
 unfoldable pub class_name_of : Node → Option (List ℕ)

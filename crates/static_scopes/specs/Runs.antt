@@ -1,5 +1,7 @@
 -- The table of the scopes in which methods run.
-use Rattle.std.specs.Prelude.{◌≡◌, ℕ, List, length, Option, option_and_then}
+use Rattle.std.specs.Prelude.{◌≡◌, ℕ, Bool, true, false, List, length, Option, option_and_then}
+use Rattle.scj_tree.specs.declared.kinds.NodeKind.{NodeKind}
+use Rattle.scj_tree.specs.declared.kinds.NodeKind.TheVariants.{Method as method_kind}
 use Rattle.scj_tree.specs.Forest.{Forest}
 use Rattle.scj_tree.specs.Recursion.{listed}
 use Rattle.scj_rules.specs.declared.typing.Scope.{Scope}
@@ -8,6 +10,11 @@ use Rattle.scj_rules.specs.Contexts.{Declarations, declarations_of, context, con
 use Rattle.scj_rules.specs.declared.contexts.Context.{Context}
 use Rattle.scj_rules.specs.StaticScopes.{runs_in}
 use Rattle.static_scopes.specs.declared.runs.Runs.{Runs}
+
+-- nodes of this kind declare methods
+unfoldable pub is_method_kind : NodeKind → Bool
+is_method_kind method_kind = true
+is_method_kind _ = false
 
 -- RunsIn of the method at a node, in a class
 unfoldable pub runs_in_at : Declarations → ℕ → ℕ → Option Scope

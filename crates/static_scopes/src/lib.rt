@@ -2,6 +2,7 @@
 #![tactic(auto)]
 
 mod bare;
+mod fields;
 mod framework;
 mod methods;
 mod names;
@@ -12,6 +13,7 @@ mod things;
 mod words;
 
 pub use methods::{has_other_runs_in, has_unknown_runs_in};
+pub use plain::has_plain_field;
 pub use runs::Runs;
 pub use scoped::Scoped;
 pub use things::{contradicts, field_thing, is_unknown_scope, misfits_field};

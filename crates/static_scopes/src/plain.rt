@@ -1,8 +1,8 @@
-//! Variables whose values are no references, as their nodes tell.
+//! Variables and fields whose values are no references, as their nodes tell.
 
 ghost use Rattle.std.specs.Prelude.{◌≡◌, Some, true, option_map};
 ghost use Rattle.std.specs.Bool.{OnTrue};
-ghost use Rattle.scj_rules.specs.Views.{type_at, type_of_node, variable_at, variable_of};
+ghost use Rattle.scj_rules.specs.Views.{type_at, type_of_node, variable_at, variable_of, field_at, field_of};
 ghost use Rattle.scj_rules.specs.StaticScopes.{has_no_scope};
 ghost use Rattle.scj_rules.specs.declared.views.Declared.{Declared as Declaration};
 
@@ -30,6 +30,17 @@ pub fn has_plain_type(program: &Program, id: NodeId) -> bool
         Some(Node::Parameter { declared_type, .. }) => is_plain_type(program, *declared_type),
         Some(Node::Local { declared_type, .. }) => is_plain_type(program, *declared_type),
         Some(Node::LocalWithValue { declared_type, .. }) => is_plain_type(program, *declared_type),
+        _ => false,
+    }
+}
+
+/// Whether a node declares a field of type `int` or `boolean`.
+#[tactic(auto, unfolding(scj_rules::specs::Views::field_of))]
+pub fn has_plain_field(program: &Program, id: NodeId) -> bool
+    ensures { OnTrue result (Some true ≡ option_map (λ (d : Declaration). has_no_scope d.declared_type) (field_at program.now.nodes id)) }
+{
+    match program.get(id) {
+        Some(Node::Field { declared_type, .. }) => is_plain_type(program, *declared_type),
         _ => false,
     }
 }

@@ -2,8 +2,9 @@
 
 ghost use Rattle.std.specs.Prelude.{◌≡◌, IfOk, length};
 ghost use Rattle.scj_tree.specs.Recursion.{told, listed};
+ghost use Rattle.scj_rules.specs.Words.{holds};
 ghost use Rattle.scj_rules.specs.Contexts.{declarations_of, contexts_in};
-ghost use Rattle.static_scopes.specs.Runs.{AreRuns, run_at, runs_in_at};
+ghost use Rattle.static_scopes.specs.Runs.{AreRuns, is_method_kind, run_at, runs_in_at};
 
 use crate::methods::runs_in;
 use method_rows::{MethodRef, MethodSource};
@@ -11,6 +12,7 @@ use node_contexts::Contexts;
 use node_views::is_method;
 use scj_base::{ClassId, Memory, NodeId};
 use scj_rules::Scope;
+use scj_tree::NodeKind;
 use scope_tree::Scopes;
 use std::alloc::Global;
 
@@ -35,9 +37,9 @@ fn run_in(scopes: &Scopes, class: ClassId, id: NodeId) -> Option<Scope>
     runs_in(scopes, class, &method)
 }
 
-/// What the table has at a node.
+/// What the table has at a node, by the class in which it stands.
 #[tactic(auto, unfolding(crate::specs::Runs::run_at, scj_rules::specs::Contexts::declarations_of))]
-fn run_at(scopes: &Scopes, contexts: &Contexts, id: NodeId) -> Option<Scope>
+fn run_here(scopes: &Scopes, contexts: &Contexts, id: NodeId) -> Option<Scope>
     requires { contexts.now ≡ contexts_in scopes.now }
     ensures { result ≡ run_at (declarations_of scopes.now) id }
 {
@@ -46,6 +48,29 @@ fn run_at(scopes: &Scopes, contexts: &Contexts, id: NodeId) -> Option<Scope>
         Some(class) => run_in(scopes, class, id),
         None => None,
     }
+}
+
+/// Whether a node of this kind, if there is one, declares a method.
+#[tactic(auto, unfolding(crate::specs::Runs::is_method_kind))]
+fn is_method_kind(kind: Option<NodeKind>) -> bool
+    ensures { result ≡ holds kind is_method_kind }
+{
+    match kind {
+        Some(NodeKind::Method) => true,
+        _ => false,
+    }
+}
+
+/// What the table has at a node. Other nodes than methods are told by their kinds.
+#[tactic(auto, using(crate::proofs::RunLemmas::no_run))]
+fn run_at(scopes: &Scopes, contexts: &Contexts, id: NodeId) -> Option<Scope>
+    requires { contexts.now ≡ contexts_in scopes.now }
+    ensures { result ≡ run_at (declarations_of scopes.now) id }
+{
+    if !is_method_kind(scopes.classes().program().kind(id)) {
+        return None;
+    }
+    run_here(scopes, contexts, id)
 }
 
 /// The rows of the table.
@@ -58,8 +83,9 @@ fn rows_of(
     requires { contexts.now ≡ contexts_in scopes.now }
     ensures { IfOk result (λ rows. rows.items ≡ listed (run_at (declarations_of scopes.now)) (length scopes.now.nodes)) }
 {
-    let mut rows = Vec::new(alloc);
-    for number in 0..scopes.classes().program().len() {
+    let count = scopes.classes().program().len();
+    let mut rows = Vec::with_capacity(alloc, count)?;
+    for number in 0..count {
         rows.push(run_at(scopes, contexts, NodeId::at(number as u32)))?;
     }
     Ok(rows)

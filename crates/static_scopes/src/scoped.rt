@@ -7,6 +7,7 @@ ghost use Rattle.scj_rules.specs.declared.views.Declared.{Declared as Declaratio
 ghost use Rattle.scj_rules.specs.Definitions.{read};
 ghost use Rattle.static_scopes.specs.Bare.{bare_type_of, bare_scope_at};
 ghost use Rattle.static_scopes.specs.Found.{method_in, at_node};
+ghost use Rattle.class_rows.specs.Fields.{found_field};
 ghost use Rattle.method_rows.specs.Methods.{found_method};
 ghost use Rattle.scj_rules.specs.Contexts.{declarations_of, context, contexts_in, is_static_member};
 ghost use Rattle.scj_rules.specs.StaticScopes.{this_in, runs_in, current_in, thing_scope, variable_thing, result_thing, parameter_scope, constructor_parameter_scope, field_scope};
@@ -17,7 +18,8 @@ use crate::bare::bare_type;
 use crate::plain::has_plain_type;
 use crate::runs::{Runs, run_in_table};
 use crate::things::has_no_scope;
-use crate::{methods, names, things};
+use crate::{fields, methods, names, things};
+use class_rows::FieldRef;
 use method_rows::{MethodRef, MethodSource};
 use node_contexts::{Contexts, is_static_member};
 use node_views::{is_method, variable_at};
@@ -220,6 +222,13 @@ impl<'a> Scoped<'a> {
         ensures { result ≡ field_scope (declarations_of self.now) field.now.on field.now.field }
     {
         things::field_scope(&self.scopes, field.on, &field.field)
+    }
+
+    /// The scope of the field for which a row stands.
+    pub fn found_field_scope(&self, field: &FieldRef) -> Option<Scope>
+        ensures { let f = found_field self.now.nodes field.now in result ≡ field_scope (declarations_of self.now) f.on f.field }
+    {
+        fields::found_field_scope(&self.scopes, field)
     }
 
     /// The scope of a thing.

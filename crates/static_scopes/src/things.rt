@@ -236,16 +236,25 @@ pub fn misfits_field(scopes: &Scopes, class: ClassId, field: &Declared) -> bool
     }
 }
 
-/// The scope of a thing, where a field of the class may have it.
-fn suited_scope(scopes: &Scopes, class: ClassId, thing: &Thing) -> Option<Scope>
-    ensures { let p = declarations_of scopes.now in result ≡ suited_scope p class thing.now.is_static (thing_scope p thing.now) }
+/// A scope, where a field of the class may have it.
+pub fn suited_scope(
+    scopes: &Scopes,
+    class: ClassId,
+    is_static: bool,
+    scope: &Option<Scope>,
+) -> Option<Scope>
+    ensures { result ≡ suited_scope (declarations_of scopes.now) class is_static scope.now }
 {
-    let scope = thing_scope(scopes, thing)?;
-    let class_scope = scopes.class_scope(class);
-    if suits_field(scopes, &class_scope, thing.is_static, &scope) {
-        Some(scope)
-    } else {
-        None
+    match scope {
+        Some(scope) => {
+            let class_scope = scopes.class_scope(class);
+            if suits_field(scopes, &class_scope, is_static, scope) {
+                Some(*scope)
+            } else {
+                None
+            }
+        }
+        None => None,
     }
 }
 
@@ -258,5 +267,6 @@ pub fn field_scope(scopes: &Scopes, class: ClassId, field: &Declared) -> Option<
         return None;
     }
     let thing = field_thing(scopes, class, field);
-    suited_scope(scopes, class, &thing)
+    let scope = thing_scope(scopes, &thing);
+    suited_scope(scopes, class, thing.is_static, &scope)
 }

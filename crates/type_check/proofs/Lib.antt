@@ -1,3 +1,4 @@
+pub mod KindLemmas
 pub mod NameLemmas
 pub mod PassLemmas
 pub mod ValueLemmas

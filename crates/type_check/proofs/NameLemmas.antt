@@ -1,14 +1,9 @@
 -- What is broken at a simple name, and its type, from what it stands for.
-use Rattle.std.proofs.Common.{◌≡◌, ◌<◌, ℕ, Bool, true, false, not, ◌&&◌, List, [], ◌∷◌, ◌++◌, length, Option, Some, None, is_some, option_and_then, if◌then◌else◌, slice_get, refl, sym, ap, ◌∙◌}
-use Rattle.std.proofs.lemmas.Bool.{true≢false}
-use Rattle.std.proofs.lemmas.Option.{slice_get_within}
+use Rattle.std.proofs.Common.{◌≡◌, ℕ, Bool, true, false, not, ◌&&◌, List, [], ◌++◌, Option, None, if◌then◌else◌, refl}
 use Rattle.scj_base.specs.declared.findings.Found.{Found}
 use Rattle.scj_base.specs.declared.findings.Rule.TheVariants.{T1, T13}
 use Rattle.scj_base.specs.declared.places.Pos.{Pos}
-use Rattle.scj_tree.specs.declared.nodes.Node.{Node}
 use Rattle.scj_tree.specs.declared.nodes.Node.TheVariants.{SimpleName}
-use Rattle.scj_tree.specs.Recursion.{told, rising, below, by_smaller}
-use Rattle.scj_tree.proofs.RecursionLemmas.{rising-at, by_smaller-is}
 use Rattle.scj_rules.specs.declared.typing.Ty.{Ty}
 use Rattle.scj_rules.specs.declared.typing.Meaning.{Meaning}
 use Rattle.scj_rules.specs.declared.typing.Meaning.TheVariants.{Class as a_class, Field as a_field, Nothing as nothing, Variable as a_variable}
@@ -16,8 +11,7 @@ use Rattle.scj_rules.specs.Words.{broken}
 use Rattle.scj_rules.specs.Classes.{is_empty}
 use Rattle.scj_rules.specs.Contexts.{Declarations, has_object}
 use Rattle.scj_rules.specs.Types.{meaning}
-use Rattle.scj_rules.specs.TypeRules.{Types, t1, t2, t3, t4, t5, t6, t7, t8, t9, t10, t11, t12, t13, t14, type_breaks, type_of, type_of_meaning, type_of_right, type_of_next, types_in, stands_for_nothing, is_instance_field}
-use Rattle.type_rules.specs.Kinds.{name_breaks}
+use Rattle.scj_rules.specs.TypeRules.{Types, t1, t2, t3, t4, t5, t6, t7, t8, t9, t10, t11, t12, t13, t14, type_breaks, type_of, type_of_meaning, type_of_right, stands_for_nothing, is_instance_field}
 use Rattle.type_check.specs.Passes.{type_of_right_name}
 
 -- T1 and T13, by what a name stands for and whether its field lacks an object

@@ -1,17 +1,16 @@
--- A node that has a type breaks no rule on types: what is broken there hangs on the types of its children alone.
-use Rattle.std.proofs.Common.{◌≡◌, ◌<◌, ◌+◌, ◌==◌, ℕ, zero, suc, Bool, true, false, not, ◌&&◌, ◌||◌, List, [], ◌∷◌, ◌++◌, length, Option, Some, None, is_some, option_map, option_and_then, if◌then◌else◌, slice_get, refl, sym, ap, ◌∙◌, subst, arith}
+-- What is broken at a node hangs on the types of the nodes before it alone.
+use Rattle.std.proofs.Common.{◌≡◌, ◌<◌, ◌+◌, ◌==◌, ℕ, zero, suc, Bool, true, not, ◌&&◌, ◌||◌, List, [], ◌∷◌, ◌++◌, length, Option, Some, None, is_some, option_map, option_and_then, if◌then◌else◌, slice_get, refl, sym, ap, ◌∙◌, subst, arith}
 use Rattle.std.proofs.lemmas.Bool.{true≢false}
 use Rattle.std.proofs.lemmas.Option.{slice_get_within}
 use Rattle.std.specs.List.{list_any}
 use Rattle.scj_base.specs.declared.findings.Found.{Found}
-use Rattle.scj_base.specs.declared.findings.Rule.TheVariants.{T3, T4, T5, T6, T11, T12, T13, T14}
-use Rattle.scj_base.specs.declared.places.Pos.{Pos}
+use Rattle.scj_base.specs.declared.findings.Rule.TheVariants.{T2, T3, T4, T5, T6, T7, T8, T9, T11, T12, T13, T14}
 use Rattle.scj_tree.specs.declared.nodes.Node.{Node}
-use Rattle.scj_tree.specs.declared.nodes.Node.TheVariants.{Binary, Unary, Cast, Parenthesized, SimpleName, FieldAccess, Call, Element, New, NewArray, Text, Number, True, False, Null, This}
+use Rattle.scj_tree.specs.declared.nodes.Node.TheVariants.{Field, Method, SuperCall, LocalWithValue, Assign, If, While, For, Return, Binary, Unary, Cast, FieldAccess, Call, Element, New, NewArray}
 use Rattle.scj_tree.specs.Forest.{Forest, IsForest, AllBelow, ChildrenFirst}
 use Rattle.scj_tree.specs.Shape.{children, optional}
-use Rattle.scj_tree.specs.Recursion.{told, rising, below, by_smaller}
-use Rattle.scj_tree.proofs.RecursionLemmas.{rising-at, rising-below, by_smaller-is}
+use Rattle.scj_tree.specs.Recursion.{told, rising}
+use Rattle.scj_tree.proofs.RecursionLemmas.{rising-at}
 use Rattle.scj_rules.specs.declared.typing.Ty.{Ty}
 use Rattle.scj_rules.specs.declared.typing.Ty.TheVariants.{Class as ClassTy}
 use Rattle.scj_rules.specs.declared.typing.FoundField.{FoundField}
@@ -20,10 +19,11 @@ use Rattle.scj_rules.specs.declared.typing.Receiver.TheVariants.{Class as the_cl
 use Rattle.scj_rules.specs.Definitions.{read}
 use Rattle.scj_rules.specs.Words.{broken, holds}
 use Rattle.scj_rules.specs.Classes.{FoundMethod, class_number, is_empty, is_user_class}
-use Rattle.scj_rules.specs.Contexts.{Declarations, declarations_of}
-use Rattle.scj_rules.specs.Types.{receiver, call_receiver, class_at_name, all_types, take_arguments, is_no_reference, called_method, accessed_field, is_int, is_array, binary_type, unary_type, kind_is, is_form, is_form_part, constructor_parameters}
+use Rattle.scj_rules.specs.Views.{place_at}
+use Rattle.scj_rules.specs.Contexts.{Declarations, declarations_of, variable_named}
+use Rattle.scj_rules.specs.Types.{receiver, call_receiver, class_at_name, all_types, take_arguments, is_no_reference, called_method, accessed_field, is_int, is_boolean, is_array, is_array_value, is_length, binary_type, unary_type, kind_is, is_form, has_form, is_form_part, constructor_parameters}
 use Rattle.type_check.specs.Passes.{breaks_at}
-use Rattle.scj_rules.specs.TypeRules.{Types, t1, t2, t3, t4, t5, t6, t7, t8, t9, t10, t11, t12, t13, t14, type_breaks, type_of, type_of_right, type_of_next, types_in, lacks_field, lacks_method, lacks_object, misfits_method, misfits_new, is_never_made, are_related, element_class}
+use Rattle.scj_rules.specs.TypeRules.{Types, t1, t2, t3, t4, t5, t6, t7, t8, t9, t10, t11, t12, t13, t14, type_breaks, type_of, type_of_right, type_of_next, types_in, lacks_field, lacks_method, lacks_object, misfits_method, misfits_new, is_never_made, are_related, element_class, written_type, misfits_value, is_length_target, superclass_at, result_at, fits_result}
 
 -- the types of the smaller numbers are the same
 abbrev Same : ℕ → Types → Types → Type 0
@@ -62,33 +62,41 @@ module _ (p : Declarations) where
   call-receiver-same id t u None arguments same b = refl
   call-receiver-same id t u (Some object) arguments same b = receiver-same t u object (same object b.0)
 
-  -- a node of a kind that has a type
-  breaks-same : (id : ℕ) (t u : Types) (node : Node) → Same id t u → AllBelow id (children node) → is_some (type_of p u id node) ≡ true → type_breaks p t id node ≡ type_breaks p u id node
-  unfolding AllBelow children type_of type_breaks t1 t2 t3 t4 t5 t6 t7 t8 t9 t10 t11 t12 t13 t14 misfits_method misfits_new
-  breaks-same id t u (Number place value is_negative) same b typed = refl
-  breaks-same id t u (True place) same b typed = refl
-  breaks-same id t u (False place) same b typed = refl
-  breaks-same id t u (Null place) same b typed = refl
-  breaks-same id t u (Text place text) same b typed = refl
-  breaks-same id t u (This place) same b typed = refl
-  breaks-same id t u (SimpleName place name) same b typed = refl
-  breaks-same id t u (Parenthesized place inner) same b typed = refl
-  breaks-same id t u (Binary place operator left right) same b typed =
+  -- each node stands behind its children
+  abbrev BehindChildren : Type 0
+  BehindChildren = (k : ℕ) (node : Node) → slice_get p.nodes k ≡ Some node → AllBelow k (children node)
+
+  length-same : BehindChildren → (id : ℕ) (t u : Types) (target : ℕ) → Same id t u → target < id → read p.nodes (is_length_target p t) target ≡ read p.nodes (is_length_target p u) target
+  unfolding AllBelow children is_length_target
+  length-same first id t u target same l = go (slice_get p.nodes target) refl
+    where
+      of : (node : Node) → AllBelow target (children node) → is_length_target p t node ≡ is_length_target p u node
+      of (FieldAccess place name object) b =
+          ap (λ (o : Option Receiver). Some (holds o (λ r. is_array_value r && is_length name))) (receiver-same t u object (same object (omega (arith, l, b.0))))
+      of _ b = refl
+
+      go : (o : Option Node) → slice_get p.nodes target ≡ o → option_and_then (is_length_target p t) o ≡ option_and_then (is_length_target p u) o
+      go None there = refl
+      go (Some node) there = of node (first target node there)
+
+  breaks-same : BehindChildren → (id : ℕ) (t u : Types) (node : Node) → Same id t u → AllBelow id (children node) → type_breaks p t id node ≡ type_breaks p u id node
+  unfolding AllBelow children type_breaks t1 t2 t3 t4 t5 t6 t7 t8 t9 t10 t11 t12 t13 t14 misfits_method misfits_new
+  breaks-same first id t u (Binary place operator left right) same b =
       let f : Option Ty → Option Ty → List Found = λ l r. broken (holds l (λ x. holds r (λ y. not (is_some (binary_type p.classes operator x y))))) T3 place ++ [] in
       ap (λ l. f l (t right)) (same left b.0) ∙ ap (λ r. f (u left) r) (same right b.1.0)
-  breaks-same id t u (Unary place operator operand) same b typed =
+  breaks-same first id t u (Unary place operator operand) same b =
       ap (λ (o : Option Ty). broken (holds o (λ x. not (is_some (unary_type operator x)))) T3 place ++ []) (same operand b.0)
-  breaks-same id t u (Element place array index) same b typed =
+  breaks-same first id t u (Element place array index) same b =
       let f : Option Ty → Option Ty → List Found = λ l r. broken (holds l (λ x. holds r (λ i. not (is_array x && is_int i)))) T3 place ++ [] in
       ap (λ l. f l (t index)) (same array b.0) ∙ ap (λ r. f (u array) r) (same index b.1.0)
-  breaks-same id t u (NewArray place element length) same b typed =
+  breaks-same first id t u (NewArray place element length) same b =
       ap (λ (o : Option Ty). broken (holds o (λ n. not (is_int n))) T3 place ++ broken (holds (read p.nodes (element_class p) element) (kind_is is_form p)) T14 place) (same length b.1.0)
-  breaks-same id t u (Cast place name_place name operand) same b typed =
+  breaks-same first id t u (Cast place name_place name operand) same b =
       ap (λ (o : Option Ty). broken (holds o (λ x. holds (class_number p.names name) (λ class. not (are_related p.classes x (ClassTy class))))) T12 place ++ []) (same operand b.0)
-  breaks-same id t u (FieldAccess place name object) same b typed =
+  breaks-same first id t u (FieldAccess place name object) same b =
       ap (λ (o : Option Receiver). broken (holds o is_no_reference) T3 place ++ (broken (holds o (λ r. lacks_field p r name)) T4 place ++ (broken (holds o (λ r. lacks_object p id r && holds (accessed_field p r name) (λ (f : FoundField). not f.field.modifiers.is_static))) T13 place ++ [])))
       (receiver-same t u object (same object b.0))
-  breaks-same id t u (Call place name object arguments) same b typed =
+  breaks-same first id t u (Call place name object arguments) same b =
       let f : Option Receiver → Option (List Ty) → List Found = λ o ts.
       broken (holds o (λ r. holds ts (λ _. is_no_reference r))) T3 place
       ++ (broken (holds o (λ r. holds ts (λ _. lacks_method p r name))) T5 place
@@ -96,42 +104,54 @@ module _ (p : Declarations) where
       ++ (broken (holds o (λ r. holds ts (λ _. lacks_object p id r && (not (lacks_method p r name) && holds (called_method p r name) (λ (m : FoundMethod). not m.method.declared.modifiers.is_static))))) T13 place ++ []))) in
       ap (λ o. f o (all_types t arguments)) (call-receiver-same id t u object arguments same b)
       ∙ ap (λ ts. f (call_receiver p u id object) ts) (all-same id t u arguments same (below-right id (optional object) arguments b))
-  breaks-same id t u (New place name_place name arguments) same b typed =
+  breaks-same first id t u (New place name_place name arguments) same b =
       let f : Bool → Option (List Ty) → List Found = λ ints ts.
       broken (if is_form_part p id then ints else holds (class_number p.names name) (λ class. (is_user_class class || (class == 0)) && holds ts (λ xs. not (take_arguments p (constructor_parameters p.classes class) xs)))) T6 place
       ++ (broken (holds ts (λ _. holds (class_number p.names name) (kind_is is_never_made p))) T11 place
       ++ broken (holds (class_number p.names name) (kind_is is_form p) && not (is_form_part p id)) T14 place) in
       ap (λ ints. f ints (all_types t arguments)) (ints-same id t u arguments same b)
       ∙ ap (λ ts. f (list_any (no-int u) arguments) ts) (all-same id t u arguments same b)
-  breaks-same id t u _ same b typed = absurd (true≢false (sym typed))
+  breaks-same first id t u (Field place name flags declared_type None value) same b = refl
+  breaks-same first id t u (Field place name flags declared_type (Some equals) None) same b = refl
+  breaks-same first id t u (Field place name flags declared_type (Some equals) (Some value)) same b =
+      ap (λ (o : Option Ty). broken (misfits_value p (written_type p declared_type) o) T7 equals ++ []) (same value (below-right id (optional flags) (declared_type ∷ value ∷ []) b).1.0)
+  breaks-same first id t u (Method place name flags result_type parameters None) same b = refl
+  breaks-same first id t u (Method place name flags result_type parameters (Some body)) same b = refl
+  breaks-same first id t u (SuperCall place arguments) same b =
+      ap (λ (o : Option (List Ty)). broken (holds (superclass_at p id) (λ superclass. not (has_form superclass) && holds o (λ ts. not (take_arguments p (constructor_parameters p.classes superclass) ts)))) T6 place ++ [])
+      (all-same id t u arguments same b)
+  breaks-same first id t u (LocalWithValue place name_place name flags declared_type value) same b =
+      ap (λ (o : Option Ty). broken (is_some (variable_named p id name)) T2 name_place ++ (broken (misfits_value p (written_type p declared_type) o) T7 place ++ []))
+      (same value (below-right id (optional flags) (declared_type ∷ value ∷ []) b).1.0)
+  breaks-same first id t u (Assign place target value) same b =
+      let f : Option Ty → Option Ty → Option Bool → List Found = λ a v o. broken (is_some a && (is_some v && (misfits_value p a v || holds o (λ h. h)))) T7 place ++ [] in
+      ap (λ a. f a (t value) (read p.nodes (is_length_target p t) target)) (same target b.0)
+      ∙ ap (λ v. f (u target) v (read p.nodes (is_length_target p t) target)) (same value b.1.0)
+      ∙ ap (λ o. f (u target) (u value) o) (length-same first id t u target same b.0)
+  breaks-same first id t u (If place condition then_part else_part) same b =
+      ap (λ (o : Option Ty). broken (holds o (λ ty. not (is_boolean ty))) T8 (place_at p.nodes condition) ++ []) (same condition b.0)
+  breaks-same first id t u (While place condition body) same b =
+      ap (λ (o : Option Ty). broken (holds o (λ ty. not (is_boolean ty))) T8 (place_at p.nodes condition) ++ []) (same condition b.0)
+  breaks-same first id t u (For place start condition step body) same b =
+      ap (λ (o : Option Ty). broken (holds o (λ ty. not (is_boolean ty))) T8 (place_at p.nodes condition) ++ []) (same condition b.1.0)
+  breaks-same first id t u (Return place None) same b = refl
+  breaks-same first id t u (Return place (Some value)) same b =
+      ap (λ (o : Option Ty). broken (holds o (λ ty. not (fits_result p (result_at p id) ty))) T9 place ++ []) (same value b.0)
+  breaks-same first id t u _ same b = refl
 
-  next-is : (t : Types) (id : ℕ) (node : Node) → slice_get p.nodes id ≡ Some node → type_of_next p id t ≡ type_of_right p t id node
-  unfolding type_of_next
-  next-is t id node there = ap (λ (o : Option Node). option_and_then (type_of_right p t id) o) there
-
-  same-below : (id : ℕ) → id < length p.nodes → Same id (told None (types_in p)) (below None id (by_smaller None (type_of_next p)))
+  -- the types so far are those of all nodes
+  same-so-far : (id : ℕ) → id < length p.nodes → Same id (told None (rising None (type_of_next p) id)) (told None (types_in p))
   unfolding types_in
-  same-below id inside c l =
-      rising-at None (type_of_next p) (length p.nodes) c (omega (arith, inside, l))
-      ∙ sym (rising-at None (type_of_next p) id c l) ∙ rising-below None (type_of_next p) id c
+  same-so-far id inside c l = rising-at None (type_of_next p) id c l ∙ sym (rising-at None (type_of_next p) (length p.nodes) c (omega (arith, inside, l)))
 
-  right-typed : (t : Types) (id : ℕ) (node : Node) → is_some (type_of_right p t id node) ≡ true → (is_some (type_of p t id node) ≡ true) × (type_breaks p t id node ≡ [])
+  -- what has a type breaks nothing
+  pub right_typed : (t : Types) (id : ℕ) (node : Node) → is_some (type_of_right p t id node) ≡ true → type_breaks p t id node ≡ []
   unfolding type_of_right is_empty
-  right-typed t id node h = go (type_breaks p t id node) h
+  right_typed t id node h = go (type_breaks p t id node) h
     where
-      go : (fs : List Found) → is_some (if is_empty fs then type_of p t id node else None) ≡ true → (is_some (type_of p t id node) ≡ true) × (fs ≡ [])
-      go [] h = (h, refl)
+      go : (fs : List Found) → is_some (if is_empty fs then type_of p t id node else None) ≡ true → fs ≡ []
+      go [] h = refl
       go (f ∷ fs) h = absurd (true≢false (sym h))
-
-  pub typed_right : (id : ℕ) (node : Node) → slice_get p.nodes id ≡ Some node → AllBelow id (children node) → is_some (told None (types_in p) id) ≡ true → type_breaks p (told None (types_in p)) id node ≡ []
-  unfolding types_in
-  typed_right id node there b typed =
-      let step : ℕ → Types → Option Ty = type_of_next p in
-      let earlier : Types = below None id (by_smaller None step) in
-      let inside : id < length p.nodes = slice_get_within p.nodes id node there in
-      let is : told None (types_in p) id ≡ type_of_right p earlier id node = rising-at None step (length p.nodes) id inside ∙ by_smaller-is None step id ∙ next-is earlier id node there in
-      let right = right-typed earlier id node (ap (λ (o : Option Ty). is_some o) (sym is) ∙ typed) in
-      breaks-same id (told None (types_in p)) earlier node (same-below id inside) b right.0 ∙ right.1
 
 children-below : (from : ℕ) (nodes : List Node) (k : ℕ) (node : Node) → ChildrenFirst from nodes → slice_get nodes k ≡ Some node → AllBelow (from + k) (children node)
 unfolding ChildrenFirst
@@ -147,18 +167,29 @@ children-below from (n ∷ ns) (suc k) node f e =
     let Q : ℕ → Type 0 = λ m. AllBelow m (children node) in
     subst Q next (children-below (from + 1) ns k node f.1 e)
 
--- what has a type breaks nothing
-pub typed_breaks_nothing : (forest : Forest) → IsForest forest → (id : ℕ) → is_some (told None (types_in (declarations_of forest)) id) ≡ true
-    → breaks_at (declarations_of forest) (told None (types_in (declarations_of forest))) id ≡ []
+behind-children : (forest : Forest) → IsForest forest → BehindChildren (declarations_of forest)
 unfolding declarations_of
-typed_breaks_nothing forest whole id typed = go (slice_get forest.nodes id) refl
+behind-children forest whole k node there =
+    let same : 0 + k ≡ k = omega arith in
+    let Q : ℕ → Type 0 = λ m. AllBelow m (children node) in
+    subst Q same (children-below 0 forest.nodes k node whole.children_first there)
+
+-- with the types of the nodes before a node the same is broken there as with those of all nodes
+pub breaks_so_far : (forest : Forest) → IsForest forest → (id : ℕ)
+    → breaks_at (declarations_of forest) (told None (rising None (type_of_next (declarations_of forest)) id)) id ≡ breaks_at (declarations_of forest) (told None (types_in (declarations_of forest))) id
+breaks_so_far forest whole id = go (slice_get p.nodes id) refl
   where
     p : Declarations
     p = declarations_of forest
 
-    go : (o : Option Node) → slice_get forest.nodes id ≡ o → elim o as (λ _. List Found) [ None ↦ [] | Some node ↦ type_breaks p (told None (types_in p)) id node ] ≡ []
+    before : Types
+    before = told None (rising None (type_of_next p) id)
+
+    all : Types
+    all = told None (types_in p)
+
+    go : (o : Option Node) → slice_get p.nodes id ≡ o
+        → elim o as (λ _. List Found) [ None ↦ [] | Some node ↦ type_breaks p before id node ] ≡ elim o as (λ _. List Found) [ None ↦ [] | Some node ↦ type_breaks p all id node ]
     go None there = refl
     go (Some node) there =
-        let same : 0 + id ≡ id = omega arith in
-        let Q : ℕ → Type 0 = λ m. AllBelow m (children node) in
-        typed_right p id node there (subst Q same (children-below 0 forest.nodes id node whole.children_first there)) typed
+        breaks-same p (behind-children forest whole) id before all node (same-so-far p id (slice_get_within p.nodes id node there)) (behind-children forest whole id node there)

@@ -2,6 +2,7 @@
 #![tactic(auto)]
 
 mod breaks;
+mod kinds;
 mod names;
 mod passes;
 mod types;

@@ -1,14 +1,14 @@
-//! The passes over all nodes.
+//! The pass over all nodes.
 
-ghost use Rattle.std.specs.Prelude.{◌≡◌, ◌++◌, [], None, IfOk, OnOk, length};
-ghost use Rattle.scj_tree.specs.Forest.{IsForest};
+ghost use Rattle.std.specs.Prelude.{◌≡◌, ◌++◌, None, IfOk, OnOk};
 ghost use Rattle.scj_tree.specs.Recursion.{told};
 ghost use Rattle.scj_rules.specs.Contexts.{declarations_of};
-ghost use Rattle.scj_rules.specs.TypeRules.{types_in, type_of_next};
+ghost use Rattle.scj_rules.specs.TypeRules.{types_in, type_breaks, type_of_right, type_of_next};
 ghost use Rattle.scj_rules.specs.Phases.{type_phase};
 ghost use Rattle.type_check.specs.Passes.{breaks_at};
 
 use crate::breaks::note_breaks;
+use crate::kinds::type_by_kind;
 use crate::names::type_of_name;
 use crate::values::type_of;
 use scj_base::{Found, Memory, NodeId};
@@ -16,82 +16,116 @@ use scj_rules::Ty;
 use scj_tree::Node;
 use std::alloc::Global;
 use type_rules::Known;
-use type_rules::names::told;
 
-/// The type of a node, from those of the nodes before it. `found` is for what is broken there.
-#[tactic(auto, using(crate::proofs::NameLemmas::right_name), unfolding(scj_rules::specs::TypeRules::type_of_next, scj_rules::specs::TypeRules::type_of_right, scj_rules::specs::Classes::is_empty, scj_rules::specs::Contexts::declarations_of))]
+/// Notes what is broken at a node, and tells its type, which it has if there is nothing.
+#[tactic(auto, using(crate::proofs::PassLemmas::broken_type, crate::proofs::PassLemmas::right_type))]
+fn noted_type(
+    known: &Known<'_>,
+    types: &[Option<Ty>],
+    id: NodeId,
+    node: &Node,
+    found: &mut Vec<Found>,
+) -> Result<Option<Ty>, Memory>
+    ensures type_of { IfOk result (λ t. t ≡ type_of_right (declarations_of known.now) (told None types.now) id node.now) }
+    ensures found { OnOk result (found.new.items ≡ found.old.items ++ type_breaks (declarations_of known.now) (told None types.now) id node.now) }
+{
+    let count = found.len();
+    note_breaks(known, types, id, node, found)?;
+    if found.len() > count {
+        return Ok(None);
+    }
+    Ok(type_of(known, types, id, node))
+}
+
+/// Notes what is broken at a node of this type. One that has a type breaks nothing, so it isn't asked again.
+fn note_untyped(
+    known: &Known<'_>,
+    types: &[Option<Ty>],
+    id: NodeId,
+    node: &Node,
+    t: &Option<Ty>,
+    found: &mut Vec<Found>,
+) -> Result<(), Memory>
+    requires { t.now ≡ type_of_right (declarations_of known.now) (told None types.now) id node.now }
+    ensures { OnOk result (found.new.items ≡ found.old.items ++ type_breaks (declarations_of known.now) (told None types.now) id node.now) }
+{
+    if t.is_some() {
+        return Ok(());
+    }
+    note_breaks(known, types, id, node, found)?;
+    Ok(())
+}
+
+/// The type of a node, from those of the nodes before it. Notes what is broken there.
+#[tactic(auto, using(crate::proofs::NameLemmas::right_name))]
+fn node_type(
+    known: &Known<'_>,
+    types: &[Option<Ty>],
+    id: NodeId,
+    node: &Node,
+    found: &mut Vec<Found>,
+) -> Result<Option<Ty>, Memory>
+    ensures type_of { IfOk result (λ t. t ≡ type_of_right (declarations_of known.now) (told None types.now) id node.now) }
+    ensures found { OnOk result (found.new.items ≡ found.old.items ++ type_breaks (declarations_of known.now) (told None types.now) id node.now) }
+{
+    match node {
+        Node::SimpleName { name, .. } => {
+            let t = type_of_name(known, id, name.get());
+            note_untyped(known, types, id, node, &t, found)?;
+            Ok(t)
+        }
+        _ => noted_type(known, types, id, node, found),
+    }
+}
+
+/// The type of the node of a number, from those of the nodes before it. Notes what is broken there.
+#[tactic(auto, unfolding(scj_rules::specs::TypeRules::type_of_next, scj_rules::specs::Contexts::declarations_of))]
+fn type_at(
+    known: &Known<'_>,
+    types: &[Option<Ty>],
+    id: NodeId,
+    found: &mut Vec<Found>,
+) -> Result<Option<Ty>, Memory>
+    ensures type_of { IfOk result (λ t. t ≡ type_of_next (declarations_of known.now) id (told None types.now)) }
+    ensures found { OnOk result (found.new.items ≡ found.old.items ++ breaks_at (declarations_of known.now) (told None types.now) id) }
+{
+    match known.program().get(id) {
+        Some(node) => node_type(known, types, id, node, found),
+        None => Ok(None),
+    }
+}
+
+/// The same, without a look at the nodes whose kinds tell their types.
 fn next_type(
     known: &Known<'_>,
     types: &[Option<Ty>],
     id: NodeId,
     found: &mut Vec<Found>,
 ) -> Result<Option<Ty>, Memory>
-    ensures { IfOk result (λ t. t ≡ type_of_next (declarations_of known.now) id (told None types.now)) }
+    ensures type_of { IfOk result (λ t. t ≡ type_of_next (declarations_of known.now) id (told None types.now)) }
+    ensures found { OnOk result (found.new.items ≡ found.old.items ++ breaks_at (declarations_of known.now) (told None types.now) id) }
 {
-    let Some(node) = known.program().get(id) else {
-        return Ok(None);
-    };
-    if let Node::SimpleName { name, .. } = node {
-        return Ok(type_of_name(known, id, name.get()));
+    match type_by_kind(known, id) {
+        Some(t) => Ok(t),
+        None => type_at(known, types, id, found),
     }
-    let t = type_of(known, types, id, node);
-    if t.is_none() {
-        return Ok(None);
-    }
-    found.clear();
-    note_breaks(known, types, id, node, found)?;
-    if found.is_empty() { Ok(t) } else { Ok(None) }
 }
 
-/// The types of all nodes.
-pub fn types_of(alloc: Global, known: &Known<'_>) -> Result<Vec<Option<Ty>>, Memory>
-    ensures { IfOk result (λ types. types.items ≡ types_in (declarations_of known.now)) }
+/// The types of all nodes, and what breaks the rules on types there. What is broken at a node hangs on the types of those
+/// before it alone, so one pass tells both.
+pub fn types_and_breaks(
+    alloc: Global,
+    known: &Known<'_>,
+) -> Result<(Vec<Option<Ty>>, Vec<Found>), Memory>
+    ensures types { IfOk result (λ r. r.0.items ≡ types_in (declarations_of known.now)) }
+    ensures breaks { IfOk result (λ r. r.1.items ≡ type_phase (declarations_of known.now)) }
 {
-    let mut types = Vec::new(alloc);
+    let program = known.program();
+    let mut types = Vec::with_capacity(alloc, program.len())?;
     let mut found = Vec::new(alloc);
-    for place in 0..known.program().len() {
+    for place in 0..program.len() {
         let t = next_type(known, &types, NodeId::at(place as u32), &mut found)?;
         types.push(t)?;
     }
-    Ok(types)
-}
-
-/// Notes what is broken at the node of a number. One that has a type breaks nothing, so it isn't asked again.
-#[tactic(auto, unfolding(scj_rules::specs::Contexts::declarations_of))]
-fn note_at(
-    known: &Known<'_>,
-    types: &[Option<Ty>],
-    id: NodeId,
-    found: &mut Vec<Found>,
-) -> Result<(), Memory>
-    requires types { types.now ≡ types_in (declarations_of known.now) }
-    requires whole { IsForest known.now }
-    ensures { OnOk result (found.new.items ≡ found.old.items ++ breaks_at (declarations_of known.now) (told None types.now) id) }
-{
-    if told(types, id).is_some() {
-        return Ok(());
-    }
-    match known.program().get(id) {
-        Some(node) => {
-            note_breaks(known, types, id, node, found)?;
-            Ok(())
-        }
-        None => Ok(()),
-    }
-}
-
-/// What breaks the rules on types at all nodes.
-pub fn breaks_of(
-    alloc: Global,
-    known: &Known<'_>,
-    types: &[Option<Ty>],
-) -> Result<Vec<Found>, Memory>
-    requires { types.now ≡ types_in (declarations_of known.now) }
-    ensures { IfOk result (λ found. found.items ≡ type_phase (declarations_of known.now)) }
-{
-    let mut found = Vec::new(alloc);
-    for place in 0..known.program().len() {
-        note_at(known, types, NodeId::at(place as u32), &mut found)?;
-    }
-    Ok(found)
+    Ok((types, found))
 }

@@ -9,7 +9,7 @@ ghost use Rattle.scj_rules.specs.Phases.{BreaksTypeRules};
 ghost use Rattle.scj_rules.specs.TypeRules.{types_in};
 ghost use Rattle.class_rows.specs.Tables.{IsTableOf};
 
-use crate::passes::{breaks_of, types_of};
+use crate::passes::types_and_breaks;
 use class_rows::{ClassTable, Classes};
 use node_bindings::bindings_of;
 use node_contexts::Contexts;
@@ -73,8 +73,7 @@ pub fn check_known_types(
     ensures bindings { IfOk result (λ r. r.0.bindings ≡ bindings_in (declarations_of known.now)) }
     ensures report { IfOk result (λ r. IsReport (BreaksTypeRules known.now) r.1.items) }
 {
-    let types = types_of(alloc, known)?;
-    let mut found = breaks_of(alloc, known, &types)?;
+    let (types, mut found) = types_and_breaks(alloc, known)?;
     put_in_order(&mut found);
     let bindings = bindings_of(alloc, known, contexts, &types)?;
     Ok((Types { types, bindings }, found))

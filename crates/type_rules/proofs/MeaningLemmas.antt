@@ -1,13 +1,16 @@
 -- What rows tell of names, with one row more.
-use Rattle.std.proofs.Common.{◌≡◌, ℕ, zero, suc, List, [], ◌∷◌, ◌++◌, length, refl, ap, sym, subst, Option, Some, None, slice_get, ◌⊎◌, inl, inr}
+use Rattle.std.proofs.Common.{◌≡◌, ℕ, zero, suc, List, [], ◌∷◌, ◌++◌, length, refl, ap, sym, subst, ◌∙◌, Option, Some, None, true, false, option_map, slice_get, ◌⊎◌, inl, inr}
+use Rattle.std.proofs.lemmas.Bool.{true≢false}
 use Rattle.std.specs.Prelude.{IfSome}
 use Rattle.scj_base.specs.declared.places.Pos.{Pos}
+use Rattle.scj_tree.specs.declared.nodes.Node.{Node}
 use Rattle.scj_tree.specs.declared.nodes.Node.TheVariants.{SimpleName}
 use Rattle.scj_tree.specs.Forest.{Forest}
+use Rattle.scj_tree.specs.Kinds.{kind_of}
 use Rattle.scj_rules.specs.Contexts.{declarations_of}
 use Rattle.scj_rules.specs.Types.{meaning}
 use Rattle.type_rules.specs.declared.meanings.NameMeaning.{NameMeaning}
-use Rattle.type_rules.specs.Meanings.{meant, IsMeaningAt, AreMeanings}
+use Rattle.type_rules.specs.Meanings.{is_name_kind, meant, IsMeaningAt, AreMeanings}
 
 one_more : (rows : List NameMeaning) (last row : NameMeaning) (id : ℕ) → slice_get (rows ++ last ∷ []) id ≡ Some row → (slice_get rows id ≡ Some row) ⊎ ((length rows ≡ id) × (last ≡ row))
 one_more [] last row zero e = inr (refl, cc)
@@ -33,3 +36,10 @@ pub told_there : (forest : Forest) (id : ℕ) (place : Pos) (written name : List
     → IfSome o (λ row. IsMeaningAt forest id row) → IfSome o (λ row. meant forest.nodes row ≡ meaning (declarations_of forest) id name)
 told_there forest id place written name None there same is = tt
 told_there forest id place written name (Some row) there same is = subst (λ n. meant forest.nodes row ≡ meaning (declarations_of forest) id n) same (is place written there)
+
+-- a node of another kind is no name
+pub no_name : (forest : Forest) (id : ℕ) (row : NameMeaning) → is_name_kind (option_map kind_of (slice_get forest.nodes id)) ≡ false → IsMeaningAt forest id row
+unfolding kind_of
+no_name forest id row other place name there =
+    let named : is_name_kind (option_map kind_of (slice_get forest.nodes id)) ≡ true = ap (λ (o : Option Node). is_name_kind (option_map kind_of o)) there in
+    absurd (true≢false (sym named ∙ other))

@@ -1,8 +1,10 @@
 -- What a name stands for, by a short row.
-use Rattle.std.specs.Prelude.{ℕ, ◌≡◌, List, Some, slice_get}
+use Rattle.std.specs.Prelude.{ℕ, ◌≡◌, Bool, true, false, List, Option, Some, slice_get}
 use Rattle.scj_base.specs.declared.places.Pos.{Pos}
 use Rattle.scj_tree.specs.declared.nodes.Node.{Node}
 use Rattle.scj_tree.specs.declared.nodes.Node.TheVariants.{SimpleName}
+use Rattle.scj_tree.specs.declared.kinds.NodeKind.{NodeKind}
+use Rattle.scj_tree.specs.declared.kinds.NodeKind.TheVariants.{SimpleName as simple_name_kind}
 use Rattle.scj_tree.specs.Forest.{Forest}
 use Rattle.scj_rules.specs.Contexts.{declarations_of}
 use Rattle.scj_rules.specs.Types.{meaning}
@@ -11,6 +13,11 @@ use Rattle.scj_rules.specs.declared.typing.Meaning.TheVariants.{Variable as a_va
 use Rattle.class_rows.specs.Fields.{found_field}
 use Rattle.type_rules.specs.declared.meanings.NameMeaning.{NameMeaning}
 use Rattle.type_rules.specs.declared.meanings.NameMeaning.TheVariants.{Variable as variable_row, Field as field_row, Class as class_row, Nothing as no_row}
+
+-- the kind of simple names
+abbrev pub is_name_kind : Option NodeKind → Bool
+is_name_kind (Some simple_name_kind) = true
+is_name_kind _ = false
 
 unfoldable pub meant : List Node → NameMeaning → Meaning
 meant nodes (variable_row variable) = a_variable variable

@@ -11,19 +11,18 @@ ghost use Rattle.scj_rules.specs.Types.{type_written, assigns, binary_type, is_i
 ghost use Rattle.scj_rules.specs.TypeRules.{written_type};
 ghost use Rattle.method_rows.specs.Methods.{found_method};
 ghost use Rattle.class_rows.specs.Fields.{found_field};
-ghost use Rattle.type_rules.specs.Meanings.{meant, IsMeaningAt, AreMeanings};
+ghost use Rattle.type_rules.specs.Meanings.{is_name_kind, meant, IsMeaningAt, AreMeanings};
 
 use crate::known::Known;
 use crate::meanings::{NameMeaning, class_in};
 use class_rows::FieldRef;
 use method_rows::{MethodRef, declared, is_callable_row};
-use node_views::type_at;
 use scj_base::vocabulary::{
     AND_AND, EQUAL, GREATER, GREATER_EQUAL, LESS, LESS_EQUAL, NOT_EQUAL, OR_OR,
 };
 use scj_base::{ClassId, Memory, Name, NodeId};
 use scj_rules::{Receiver, Ty, WrittenType};
-use scj_tree::Node;
+use scj_tree::{Node, NodeKind};
 use std::alloc::Global;
 use type_words::{are_same, class_of_receiver, is_long, is_reference};
 
@@ -61,13 +60,33 @@ pub fn type_written(known: &Known<'_>, t: &WrittenType) -> Option<Ty>
     }
 }
 
-/// The type that a node writes.
-#[tactic(auto, unfolding(scj_rules::specs::Contexts::declarations_of))]
+/// The type that a node writes, of which no name is copied.
+#[tactic(auto, unfolding(scj_rules::specs::Contexts::declarations_of, scj_rules::specs::Types::type_written, scj_rules::specs::Views::type_of_node))]
 pub fn written_type(known: &Known<'_>, node: NodeId) -> Option<Ty>
     ensures { result ≡ written_type (declarations_of known.now) node }
 {
-    let written = type_at(known.program(), node);
-    type_written(known, &written)
+    match known.program().get(node) {
+        Some(Node::IntType { is_array: true, .. }) => Some(Ty::IntArray),
+        Some(Node::IntType { .. }) => Some(Ty::Int),
+        Some(Node::BooleanType { is_array: true, .. }) => Some(Ty::BoolArray),
+        Some(Node::BooleanType { .. }) => Some(Ty::Bool),
+        Some(
+            Node::ClassType {
+                name,
+                is_array: true,
+                ..
+            },
+        ) => {
+            let class = known.class_of(name.get())?;
+            Some(Ty::ClassArray(class))
+        }
+        Some(Node::ClassType { name, .. }) => {
+            let class = known.class_of(name.get())?;
+            Some(Ty::Class(class))
+        }
+        Some(Node::LongType { .. }) => None,
+        _ => Some(Ty::Void),
+    }
 }
 
 /// Whether a value of the first type may be assigned to a variable of the second (JLS 5.2).
@@ -204,8 +223,8 @@ pub fn meaning(known: &Known<'_>, id: NodeId, name: &Name) -> NameMeaning
     }
 }
 
-/// What the name stands for at a node, if that is one.
-fn meaning_at(known: &Known<'_>, id: NodeId) -> NameMeaning
+/// What the name stands for at a node that is one.
+fn name_meaning(known: &Known<'_>, id: NodeId) -> NameMeaning
     ensures { IsMeaningAt known.now id result }
 {
     match known.program().get(id) {
@@ -214,12 +233,31 @@ fn meaning_at(known: &Known<'_>, id: NodeId) -> NameMeaning
     }
 }
 
+/// Whether nodes of this kind are simple names.
+fn is_name_kind(kind: &Option<NodeKind>) -> bool
+    ensures { result ≡ is_name_kind kind.now }
+{
+    matches!(kind, Some(NodeKind::SimpleName))
+}
+
+/// What the name stands for at a node, if that is one, without a look at other nodes.
+#[tactic(auto, using(crate::proofs::MeaningLemmas::no_name))]
+fn meaning_at(known: &Known<'_>, id: NodeId) -> NameMeaning
+    ensures { IsMeaningAt known.now id result }
+{
+    if is_name_kind(&known.program().kind(id)) {
+        name_meaning(known, id)
+    } else {
+        NameMeaning::Nothing
+    }
+}
+
 /// What the names of all nodes stand for, in time that grows with their number and that of the variables around them.
 pub fn meanings_of(alloc: Global, known: &Known<'_>) -> Result<Vec<NameMeaning>, Memory>
     ensures told { IfOk result (λ rows. AreMeanings known.now rows.items) }
     ensures whole { IfOk result (λ rows. length rows.items ≡ length known.now.nodes) }
 {
-    let mut rows = Vec::new(alloc);
+    let mut rows = Vec::with_capacity(alloc, known.program().len())?;
     for place in 0..known.program().len() {
         rows.push(meaning_at(known, NodeId::at(place as u32)))?;
     }

@@ -2,7 +2,9 @@
 
 ghost use Rattle.std.specs.Prelude.{◌≡◌, option_and_then, option_map};
 ghost use Rattle.scj_rules.specs.declared.typing.FoundField.{FoundField as Row};
+ghost use Rattle.scj_rules.specs.declared.views.Declared.{Declared as Declaration};
 ghost use Rattle.scj_rules.specs.Types.{type_written};
+ghost use Rattle.scj_rules.specs.Views.{variable_at};
 ghost use Rattle.scj_rules.specs.Contexts.{declarations_of};
 ghost use Rattle.scj_rules.specs.TypeRules.{type_of_meaning, access_type, call_type};
 ghost use Rattle.class_rows.specs.Fields.{found_field};
@@ -10,14 +12,27 @@ ghost use Rattle.type_rules.specs.Meanings.{meant};
 
 use crate::known::Known;
 use crate::meanings::NameMeaning;
-use crate::names::{accessed_field, called_method, type_written};
+use crate::names::{accessed_field, called_method, type_written, written_type};
 use class_rows::FieldRef;
 use class_rows::fields::field_type as written_of;
 use method_rows::result_type;
-use node_views::variable_type;
-use scj_base::Name;
+use scj_base::{Name, NodeId};
 use scj_rules::{Receiver, Ty};
+use scj_tree::Node;
 use type_words::{is_array_value, is_length};
+
+/// The type of a variable.
+#[tactic(auto, unfolding(scj_rules::specs::Views::variable_of, scj_rules::specs::Contexts::declarations_of))]
+fn type_of_variable(known: &Known<'_>, variable: NodeId) -> Option<Ty>
+    ensures { result ≡ option_and_then (λ (d : Declaration). type_written (declarations_of known.now).names d.declared_type) (variable_at known.now.nodes variable) }
+{
+    match known.program().get(variable)? {
+        Node::Parameter { declared_type, .. } => written_type(known, *declared_type),
+        Node::Local { declared_type, .. } => written_type(known, *declared_type),
+        Node::LocalWithValue { declared_type, .. } => written_type(known, *declared_type),
+        _ => None,
+    }
+}
 
 /// The type of what a name stands for.
 #[tactic(auto, unfolding(crate::specs::Meanings::meant, scj_rules::specs::TypeRules::type_of_meaning, scj_rules::specs::Contexts::declarations_of))]
@@ -25,10 +40,7 @@ pub fn type_of_meaning(known: &Known<'_>, meaning: &NameMeaning) -> Option<Ty>
     ensures { result ≡ type_of_meaning (declarations_of known.now) (meant known.now.nodes meaning.now) }
 {
     match meaning {
-        NameMeaning::Variable(variable) => match variable_type(known.program(), *variable) {
-            Some(declared_type) => type_written(known, &declared_type),
-            None => None,
-        },
+        NameMeaning::Variable(variable) => type_of_variable(known, *variable),
         NameMeaning::Field(field) => type_written(known, &written_of(known.program(), field)),
         NameMeaning::Class(_) | NameMeaning::Nothing => None,
     }

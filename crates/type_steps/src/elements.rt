@@ -1,30 +1,37 @@
-//! The nodes of types.
+//! Types without brackets, and their nodes.
 
 ghost use Rattle.std.specs.Prelude.{◌≡◌, IfOk};
 ghost use Rattle.parser_machine.specs.Declarations.{element_node as node_of_element};
 
 use parser_machine::ElementType;
-use parser_nodes::growing_nodes::Nodes;
 use scj_base::{Memory, Pos};
 use scj_tree::Node;
 
+/// The type once more.
+pub fn same_element(element: &ElementType) -> Result<ElementType, Memory>
+    ensures { IfOk result (λ same. same ≡ element.now) }
+{
+    match element {
+        ElementType::Int => Ok(ElementType::Int),
+        ElementType::Boolean => Ok(ElementType::Boolean),
+        ElementType::Reference { name, argument } => Ok(ElementType::Reference {
+            name: name.share()?,
+            argument: *argument,
+        }),
+    }
+}
+
 /// The node of a type, an array's where `is_array` holds.
 #[tactic(auto, unfolding(parser_machine::specs::Declarations::element_node))]
-pub fn element_node(
-    nodes: &mut Nodes,
-    place: Pos,
-    element: &ElementType,
-    is_array: bool,
-) -> Result<Node, Memory>
-    ensures node { IfOk result (λ node. node ≡ node_of_element place element.now is_array) }
-    ensures same { nodes.new ≡ nodes.old }
+pub fn element_node(place: Pos, element: &ElementType, is_array: bool) -> Result<Node, Memory>
+    ensures { IfOk result (λ node. node ≡ node_of_element place element.now is_array) }
 {
     match element {
         ElementType::Int => Ok(Node::IntType { place, is_array }),
         ElementType::Boolean => Ok(Node::BooleanType { place, is_array }),
         ElementType::Reference { name, argument } => Ok(Node::ClassType {
             place,
-            name: nodes.shared(name)?,
+            name: name.share()?,
             argument: *argument,
             is_array,
         }),

@@ -4,10 +4,10 @@ ghost use Rattle.std.specs.Prelude.{◌≡◌};
 ghost use Rattle.scj_tree.specs.Lexemes.{same};
 ghost use Rattle.scj_tree.specs.Terminals.{is_effectless as has_no_effect, takes_argument as has_an_argument};
 
-use scj_base::Name;
+use scj_base::SharedName;
 
 /// Whether the name is this word.
-pub fn is_word(name: &Name, word: &[u8]) -> bool
+pub fn is_word(name: &SharedName, word: &[u8]) -> bool
     ensures { result ≡ same name.now word.now }
 {
     name.bytes() == word
@@ -15,7 +15,7 @@ pub fn is_word(name: &Name, word: &[u8]) -> bool
 
 /// Whether an annotation of this name has no effect.
 #[tactic(auto, unfolding(scj_tree::specs::Terminals::is_effectless, scj_tree::specs::Lexemes::is_one_of))]
-pub fn is_effectless(name: &Name) -> bool
+pub fn is_effectless(name: &SharedName) -> bool
     ensures { result ≡ has_no_effect name.now }
 {
     if is_word(name, b"Override") {
@@ -32,7 +32,7 @@ pub fn is_effectless(name: &Name) -> bool
 
 /// Whether a class of this name takes a type argument.
 #[tactic(auto, unfolding(scj_tree::specs::Terminals::takes_argument, scj_tree::specs::Lexemes::is_one_of))]
-pub fn takes_argument(name: &Name) -> bool
+pub fn takes_argument(name: &SharedName) -> bool
     ensures { result ≡ has_an_argument name.now }
 {
     if is_word(name, b"MissionSequencer") {

@@ -5,7 +5,7 @@ ghost use Rattle.parser_machine.specs.Declarations.{constructor_step, type_argum
 ghost use Rattle.parser_nodes.specs.Told.{gives, seen};
 ghost use Rattle.scj_tree.specs.Lexemes.{a_sign};
 
-use crate::elements::element_node;
+use crate::elements::{element_node, same_element};
 use crate::names::takes_argument;
 use parser_machine::{ElementType, Entry, Mode};
 use parser_nodes::growing_nodes::Nodes;
@@ -14,7 +14,7 @@ use parser_nodes::views::View;
 use scj_base::vocabulary::{
     BOOLEAN, GREATER, INT, LEFT_BRACKET, LEFT_PARENTHESIS, LESS, RIGHT_BRACKET,
 };
-use scj_base::{Memory, Name, NodeId, Pos};
+use scj_base::{Memory, NodeId, Pos, SharedName};
 use scj_tree::Node;
 
 /// Behind a type.
@@ -34,30 +34,29 @@ pub fn typed(
     let Some(entry) = stack.pop() else {
         return Ok(None);
     };
-    match &entry {
+    match entry {
         Entry::MemberOpen { flags } => Ok(Some(Mode::MemberNamed {
-            flags: *flags,
+            flags,
             declared_type: id,
             place: *place,
-            name: **name,
+            name: name.share()?,
         })),
         Entry::ParameterOpen { flags } => {
-            let shared = nodes.shared(*name)?;
             let id = nodes.put(Node::Parameter {
                 place: *place,
-                name: shared,
-                flags: *flags,
+                name: name.share()?,
+                flags,
                 declared_type: id,
             })?;
             Ok(Some(Mode::ParameterDone { id }))
         }
         Entry::LocalOpen { flags } => Ok(Some(Mode::LocalNamed {
-            flags: *flags,
+            flags,
             declared_type: id,
             place: *place,
-            name: **name,
+            name: name.share()?,
         })),
-        _ => Ok(None),
+        _other => Ok(None),
     }
 }
 
@@ -77,12 +76,12 @@ pub fn type_end_step(
         if *sign == LEFT_BRACKET {
             return Ok(Some(Mode::TypeBracket {
                 place,
-                element: *element,
+                element: same_element(element)?,
             }));
         }
         return Ok(None);
     }
-    let node = element_node(nodes, place, element, false)?;
+    let node = element_node(place, element, false)?;
     let id = nodes.put(node)?;
     typed(nodes, stack, view, id)
 }
@@ -105,7 +104,7 @@ pub fn type_bracket_step(
     if *sign != RIGHT_BRACKET {
         return Ok(None);
     }
-    let node = element_node(nodes, place, element, true)?;
+    let node = element_node(place, element, true)?;
     let id = nodes.put(node)?;
     Ok(Some(Mode::TypeDone { id }))
 }
@@ -116,7 +115,7 @@ pub fn constructor_step(
     nodes: &mut Nodes,
     stack: &mut Stack,
     place: Pos,
-    name: &Name,
+    name: &SharedName,
     parenthesis: Pos,
 ) -> Result<Option<Mode>, Memory>
     ensures step { let awaited = constructor_step place name.now parenthesis nodes.old.all stack.old in gives result nodes.new.all stack.new awaited ≡ awaited }
@@ -125,16 +124,16 @@ pub fn constructor_step(
     let Some(entry) = stack.pop() else {
         return Ok(None);
     };
-    match &entry {
+    match entry {
         Entry::MemberOpen { flags } => {
             stack.push(Entry::ConstructorOpen {
-                flags: *flags,
+                flags,
                 place,
-                name: *name,
+                name: name.share()?,
             })?;
             Ok(Some(Mode::ParametersFirst { place: parenthesis }))
         }
-        _ => Ok(None),
+        _other => Ok(None),
     }
 }
 
@@ -144,7 +143,7 @@ pub fn type_name_sign(
     nodes: &mut Nodes,
     stack: &mut Stack,
     place: Pos,
-    name: &Name,
+    name: &SharedName,
     sign: u8,
     sign_place: Pos,
 ) -> Result<Option<Mode>, Memory>
@@ -153,7 +152,10 @@ pub fn type_name_sign(
 {
     if sign == LESS {
         if takes_argument(name) {
-            return Ok(Some(Mode::TypeArgumentName { place, name: *name }));
+            return Ok(Some(Mode::TypeArgumentName {
+                place,
+                name: name.share()?,
+            }));
         }
         return Ok(None);
     }
@@ -161,7 +163,7 @@ pub fn type_name_sign(
         return Ok(Some(Mode::TypeBracket {
             place,
             element: ElementType::Reference {
-                name: *name,
+                name: name.share()?,
                 argument: None,
             },
         }));
@@ -179,7 +181,7 @@ pub fn type_name_step(
     stack: &mut Stack,
     view: &View,
     place: Pos,
-    name: &Name,
+    name: &SharedName,
 ) -> Result<Option<Mode>, Memory>
     ensures step { let awaited = type_name_step place name.now nodes.old.all stack.old (seen view.now) in gives result nodes.new.all stack.new awaited ≡ awaited }
     ensures kept { nodes.new.kept ≡ nodes.old.kept }
@@ -187,10 +189,9 @@ pub fn type_name_step(
     if let View::Sign(sign, sign_place) = view {
         return type_name_sign(nodes, stack, place, name, *sign, *sign_place);
     }
-    let shared = nodes.shared(name)?;
     let id = nodes.put(Node::ClassType {
         place,
-        name: shared,
+        name: name.share()?,
         argument: None,
         is_array: false,
     })?;
@@ -204,7 +205,7 @@ pub fn type_argument_name_step(
     stack: &mut Stack,
     view: &View,
     place: Pos,
-    name: &Name,
+    name: &SharedName,
 ) -> Result<Option<Mode>, Memory>
     ensures step { let awaited = type_argument_name_step place name.now nodes.old.all stack.old (seen view.now) in gives result nodes.new.all stack.new awaited ≡ awaited }
     ensures kept { nodes.new.kept ≡ nodes.old.kept }
@@ -212,14 +213,13 @@ pub fn type_argument_name_step(
     let View::Name(argument, argument_place) = view else {
         return Ok(None);
     };
-    let shared = nodes.shared(*argument)?;
     let argument = nodes.put(Node::TypeArgument {
         place: *argument_place,
-        name: shared,
+        name: argument.share()?,
     })?;
     Ok(Some(Mode::TypeArgumentEnd {
         place,
-        name: *name,
+        name: name.share()?,
         argument,
     }))
 }
@@ -231,7 +231,7 @@ pub fn type_argument_end_step(
     stack: &mut Stack,
     view: &View,
     place: Pos,
-    name: &Name,
+    name: &SharedName,
     argument: NodeId,
 ) -> Result<Option<Mode>, Memory>
     ensures step { let awaited = type_argument_end_step place name.now argument nodes.old.all stack.old (seen view.now) in gives result nodes.new.all stack.new awaited ≡ awaited }
@@ -244,7 +244,7 @@ pub fn type_argument_end_step(
         return Ok(Some(Mode::TypeEnd {
             place,
             element: ElementType::Reference {
-                name: *name,
+                name: name.share()?,
                 argument: Some(argument),
             },
         }));
@@ -261,7 +261,7 @@ pub fn type_start(nodes: &mut Nodes, stack: &mut Stack, view: &View) -> Result<O
     match view {
         View::Name(name, place) => Ok(Some(Mode::TypeName {
             place: *place,
-            name: **name,
+            name: name.share()?,
         })),
         View::Word(INT, place) => Ok(Some(Mode::TypeEnd {
             place: *place,

@@ -1,1 +1,2 @@
+pub mod NeverLemmas
 pub mod ReturnLemmas

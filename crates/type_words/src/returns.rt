@@ -7,10 +7,10 @@ ghost use Rattle.scj_rules.specs.Definitions.{read};
 ghost use Rattle.scj_rules.specs.Contexts.{declarations_of};
 ghost use Rattle.scj_rules.specs.Types.{is_true_literal, returns_of};
 ghost use Rattle.scj_rules.specs.TypeRules.{always_returns};
-ghost use Rattle.type_words.specs.Returns.{all_returns, returns_next};
+ghost use Rattle.type_words.specs.Returns.{all_returns, returns_next, is_returning_kind};
 
 use scj_base::{Memory, NodeId};
-use scj_tree::{Node, Program};
+use scj_tree::{Node, NodeKind, Program};
 use std::alloc::Global;
 
 /// What is told of a node.
@@ -64,14 +64,42 @@ fn returns_of(program: &Program, returns: &[bool], node: &Node) -> bool
     }
 }
 
+/// Whether nodes of this kind may always return.
+#[tactic(auto, unfolding(crate::specs::Returns::is_returning_kind))]
+fn is_returning_kind(kind: &Option<NodeKind>) -> bool
+    ensures { result ≡ is_returning_kind kind.now }
+{
+    match kind {
+        Some(NodeKind::Return) => true,
+        Some(NodeKind::Block) => true,
+        Some(NodeKind::If) => true,
+        Some(NodeKind::While) => true,
+        _ => false,
+    }
+}
+
+/// Whether the node of a number returns, by what is told of those before it. Its kind is looked at first, since most
+/// nodes are no statements.
+fn returns_at(program: &Program, returns: &[bool], id: NodeId) -> bool
+    ensures { result ≡ returns_next program.now.nodes id (told false returns.now) }
+{
+    let kind = program.kind(id);
+    if !is_returning_kind(&kind) {
+        return false;
+    }
+    match program.get(id) {
+        Some(node) => returns_of(program, returns, node),
+        None => false,
+    }
+}
+
 /// Whether each node always returns.
 pub fn returning(alloc: Global, program: &Program) -> Result<Vec<bool>, Memory>
     ensures { IfOk result (λ returns. returns.items ≡ all_returns program.now.nodes) }
 {
     let mut returns = Vec::new(alloc);
     for place in 0..program.len() {
-        let node = program.node(NodeId::at(place as u32));
-        let value = returns_of(program, &returns, node);
+        let value = returns_at(program, &returns, NodeId::at(place as u32));
         returns.push(value)?;
     }
     Ok(returns)

@@ -1,4 +1,4 @@
-use Rattle.std.proofs.Common.{◌≡◌, sym, ◌∙◌, subst}
+use Rattle.std.proofs.Common.{◌≡◌, sym, subst}
 use Rattle.std.specs.List.{Contains}
 use Rattle.scj_rules.specs.AnnotationRules.{annotation_breaks}
 use Rattle.scj_rules.specs.Contexts.{declarations_of}

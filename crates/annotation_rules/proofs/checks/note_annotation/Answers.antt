@@ -1,4 +1,4 @@
-use Rattle.std.proofs.Common.{◌≡◌, ◌++◌, List, append-nil, sym, ap, ◌∙◌}
+use Rattle.std.proofs.Common.{◌++◌, List, append-nil, sym, ap, ◌∙◌}
 use Rattle.scj_base.specs.declared.findings.Found.{Found}
 use Rattle.scj_rules.specs.Contexts.{declarations_of}
 use Rattle.annotation_rules.proofs.UnwrittenLemmas.{breaks_nothing}

@@ -1,15 +1,16 @@
-use Rattle.std.proofs.Common.{ℕ, ◌<◌, sym, ◌∙◌, subst}
+use Rattle.std.proofs.Common.{sym, ◌∙◌}
 use Rattle.scj_rules.specs.Contexts.{declarations_of}
-use Rattle.node_bindings.proofs.CountLemmas.{number_without_member, no_member, member_below}
+use Rattle.node_bindings.proofs.CountLemmas.{number_of_other, no_variable}
 use Rattle.node_bindings.proofs.numbers.count.Goals as goal
 
-pub count_in-requires-clause-within : goal.count_in-requires-clause-within
-count_in-requires-clause-within c =
-    let l = member_below c.args.program.now c.args.id c.in-Some.member (sym c.member_of.ensures ∙ c.in-Some.is) in
-    let P : ℕ → Type 0 = λ n. c.in-Some.member < n in subst P (sym c.requires.room) l
+pub count_variable-requires-clause-variable : goal.count_variable-requires-clause-variable
+unfolding declarations_of
+count_variable-requires-clause-variable c = sym c.is_variable.ensures ∙ c.if-is_variable.true
 
-pub returns-in-None-clause-value : goal.returns-in-None-clause-value
-returns-in-None-clause-value c = sym (number_without_member (declarations_of c.args.program.now) c.args.id (sym c.member_of.ensures ∙ c.in-None.is))
+pub returns-else-is_variable-clause-value : goal.returns-else-is_variable-clause-value
+unfolding declarations_of
+returns-else-is_variable-clause-value c = sym (number_of_other (declarations_of c.args.program.now) c.args.id (sym c.is_variable.ensures ∙ c.if-is_variable.false))
 
-pub returns-in-None-clause-counted : goal.returns-in-None-clause-counted
-returns-in-None-clause-counted c = no_member (declarations_of c.args.program.now) c.args.id _ (sym c.member_of.ensures ∙ c.in-None.is) c.requires.counted
+pub returns-else-is_variable-clause-counted : goal.returns-else-is_variable-clause-counted
+unfolding declarations_of
+returns-else-is_variable-clause-counted c = no_variable (declarations_of c.args.program.now) c.args.id _ (sym c.is_variable.ensures ∙ c.if-is_variable.false) c.requires.counted

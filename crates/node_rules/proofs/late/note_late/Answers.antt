@@ -1,4 +1,4 @@
-use Rattle.std.proofs.Common.{◌≡◌, ◌∙◌, ◌++◌, ap, sym, arith, refl, length, append-nil, ◌+◌, subst}
+use Rattle.std.proofs.Common.{◌≡◌, ◌∙◌, ◌++◌, ap, sym, arith, length, append-nil, ◌+◌, subst}
 use Rattle.scj_tree.specs.Recursion.{joined_below}
 use Rattle.scj_rules.specs.Contexts.{declarations_of}
 use Rattle.node_rules.specs.Counting.{AreCounts, late_variable, late_variables}

@@ -1,4 +1,4 @@
-use Rattle.std.proofs.Common.{◌≡◌, ◌≤◌, ◌++◌, length, drop}
+use Rattle.std.proofs.Common.{◌≡◌, ◌++◌, length, drop}
 use Rattle.std.specs.Prelude.{filter_map, map}
 use Rattle.scj_rules.specs.Views.{variable_at}
 use Rattle.scj_rules.specs.LimitRules.{k3}

@@ -1,6 +1,5 @@
-use Rattle.std.proofs.Common.{◌≡◌, ◌++◌, ℕ, List, Some, None, slice_get, ap, ◌∙◌, subst, arith, length}
+use Rattle.std.proofs.Common.{◌≡◌, ◌++◌, ℕ, List, None, ap, ◌∙◌, arith, length}
 use Rattle.scj_base.specs.declared.findings.Found.{Found}
-use Rattle.scj_tree.specs.declared.nodes.Node.{Node}
 use Rattle.scj_tree.specs.Recursion.{told, joined_below}
 use Rattle.scj_tree.specs.Forest.{Forest}
 use Rattle.scj_rules.specs.Contexts.{Declarations, declarations_of}
@@ -16,16 +15,11 @@ loop-place-init c = c.new-found.ensures.items
 
 pub loop-place-preserved : goal.loop-place-preserved
 loop-place-preserved c =
-    let forest : Forest = c.args.uses.now in
-    let p : Declarations = declarations_of forest in
-    let rule : ℕ → Node → List Found = use_breaks p (told None c.args.types.now) (told None c.args.scopes.now) in
+    let p : Declarations = declarations_of c.args.uses.now in
+    let f : ℕ → List Found = at_node p (use_breaks p (told None c.args.types.now) (told None c.args.scopes.now)) in
     let k : ℕ = c.loop-place.place in
-    let node : Node = c.node.result.now in
-    let P : ℕ → Type 0 = λ n. slice_get c.program-program.result.now.nodes n ≡ Some node in
-    let Q : Forest → Type 0 = λ f. slice_get f.nodes k ≡ Some node in
-    let there : slice_get forest.nodes k ≡ Some node = subst Q c.program-program.ensures (subst P c.at-id.ensures c.node.ensures) in
-    c.in_ok-note_uses.ensures ∙ ap (λ n. c.loop-place.found.items ++ rule n node) c.at-id.ensures
-    ∙ ap (λ (fs : List Found). fs ++ rule k node) c.loop-place.invariant ∙ nodes_more forest rule k node there
+    c.in_ok-note_node.ensures ∙ ap (λ n. c.loop-place.found.items ++ f n) c.at-id.ensures
+    ∙ ap (λ (fs : List Found). fs ++ f k) c.loop-place.invariant ∙ nodes_more f k
 
 pub returns : goal.returns
 unfolding over_nodes declarations_of

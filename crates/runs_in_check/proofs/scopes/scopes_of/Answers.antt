@@ -10,7 +10,7 @@ use Rattle.runs_in_check.proofs.scopes.scopes_of.Goals as goal
 
 pub loop-place-init : goal.loop-place-init
 unfolding rising
-loop-place-init c = c.new-scopes.ensures.items
+loop-place-init c = c.in_ok-scopes.ensures.items
 
 pub loop-place-preserved : goal.loop-place-preserved
 loop-place-preserved c =

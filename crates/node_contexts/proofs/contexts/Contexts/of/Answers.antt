@@ -21,19 +21,16 @@ loop-place-init c =
           subst P (sym full) (init forest c.len.ensures.whole c.in_ok-rows.rows.items rows);
     }
 
-pub spread-requires-clause-within : goal.spread-requires-clause-within
-spread-requires-clause-within c =
+pub spread_children-requires-clause-within : goal.spread_children-requires-clause-within
+spread_children-requires-clause-within c =
     let node = c.node-node.result.now in
-    let ids : c.deref.result.now ≡ children node = c.deref.ensures.value ∙ c.in_ok-list_children.ensures in
-    let P : List ℕ → Type 0 = λ t. AllBelow (length c.loop-place.rows.items) t in
     let Q : ℕ → Type 0 = λ n. AllBelow n (children node) in
-    subst P (sym ids) (subst Q (sym c.loop-place.invariant.whole) (children_within c.args.program.now c.len.ensures.whole c.at-parent.result node c.node-node.ensures))
+    subst Q (sym c.loop-place.invariant.whole) (children_within c.args.program.now c.len.ensures.whole c.at-parent.result node c.node-node.ensures)
 
-pub spread-requires-clause-apart : goal.spread-requires-clause-apart
-spread-requires-clause-apart c = λ x.
+pub spread_children-requires-clause-apart : goal.spread_children-requires-clause-apart
+spread_children-requires-clause-apart c = λ x.
     let node = c.node-node.result.now in
-    let ids : c.deref.result.now ≡ children node = c.deref.ensures.value ∙ c.in_ok-list_children.ensures in
-    rw ids (children_apart c.args.program.now c.len.ensures.whole c.at-parent.result node c.node-node.ensures x)
+    children_apart c.args.program.now c.len.ensures.whole c.at-parent.result node c.node-node.ensures x
 
 pub loop-place-preserved : goal.loop-place-preserved
 loop-place-preserved c =
@@ -44,9 +41,9 @@ loop-place-preserved c =
     let P : ℕ → Type 0 = λ k. (id : ℕ) → id < length forest.nodes → told outermost rows id ≡ told_from forest k id in
     record {
       within = omega (arith, c.loop-place.invariant.within);
-      whole = c.spread.ensures.whole ∙ c.loop-place.invariant.whole;
+      whole = c.in_ok-spread_children.ensures.whole ∙ c.loop-place.invariant.whole;
       exact = λ id l.
-          step forest c.len.ensures.whole parent c.node-node.result.now rows c.spread.new.rows.items c.node-node.ensures (subst P up c.loop-place.invariant.exact) c.spread.ensures.exact id l
+          step forest c.len.ensures.whole parent c.node-node.result.now rows c.spread_children.new.rows.items c.node-node.ensures (subst P up c.loop-place.invariant.exact) c.in_ok-spread_children.ensures.exact id l
           ∙ ap (λ k. told_from forest k id) c.at-parent.ensures;
     }
 

@@ -1,0 +1,122 @@
+//! Nodes in one list, with their kinds beside them.
+
+ghost use Rattle.std.specs.Prelude.{◌≡◌, ◌<◌, [], length, take, OnOk, OnErr, IfOk, slice_get, Some, option_copied, option_map, map};
+ghost use Rattle.scj_tree.specs.Headers.{put};
+ghost use Rattle.scj_tree.specs.Kinds.{kind_of};
+
+use crate::kinds::NodeKind;
+use crate::nodes::Node;
+use scj_base::Memory;
+use std::alloc::Global;
+use std::marker::Model;
+
+/// Nodes in the order in which they were put, and beside them their kinds, a byte for each. A contract sees the nodes.
+#[derive(Drop)]
+pub struct Arena {
+    nodes: Vec<Node>,
+    kinds: Vec<NodeKind>,
+}
+
+impl Model for Arena {
+    ghost use Rattle.std.specs.Prelude.{◌≡◌, List, map};
+    ghost use Rattle.scj_tree.specs.declared.nodes.Node.{Node as Row};
+    ghost use Rattle.scj_tree.specs.Kinds.{kind_of};
+
+    ghost Value = { List Row };
+
+    ghost view = { λ a. a.nodes.items };
+
+    ghost invariant = { λ a. a.kinds.items ≡ map kind_of a.nodes.items };
+}
+
+/// The kinds of nodes.
+fn kinds_of(alloc: Global, nodes: &[Node]) -> Result<Vec<NodeKind>, Memory>
+    ensures { IfOk result (λ kinds. kinds.items ≡ map kind_of nodes.now) }
+{
+    let mut kinds = Vec::new(alloc);
+    for node in nodes {
+        kinds.push(node.kind())?;
+    }
+    Ok(kinds)
+}
+
+impl Arena {
+    /// No nodes.
+    pub fn new(alloc: Global) -> Arena
+        ensures { result ≡ [] }
+    {
+        Arena {
+            nodes: Vec::new(alloc),
+            kinds: Vec::new(alloc),
+        }
+    }
+
+    /// These nodes.
+    pub fn from_nodes(alloc: Global, nodes: Vec<Node>) -> Result<Arena, Memory>
+        ensures { IfOk result (λ arena. arena ≡ nodes.items) }
+    {
+        let kinds = kinds_of(alloc, &nodes)?;
+        Ok(Arena { nodes, kinds })
+    }
+
+    /// The number of nodes.
+    pub fn len(&self) -> usize
+        ensures { result ≡ length self.now }
+    {
+        self.nodes.len()
+    }
+
+    /// Puts a node last.
+    pub fn push(&mut self, node: Node) -> Result<(), Memory>
+        ensures ok { OnOk result (self.new ≡ put self.old node) }
+        ensures err { OnErr result (self.new ≡ self.old) }
+    {
+        let count = self.kinds.len();
+        self.kinds.push(node.kind())?;
+        if self.nodes.push(node).is_err() {
+            self.kinds.truncate(count);
+            return Err(Memory);
+        }
+        Ok(())
+    }
+
+    /// Forgets the nodes from a place on.
+    pub fn truncate(&mut self, count: usize)
+        ensures { self.new ≡ take count self.old }
+    {
+        self.nodes.truncate(count);
+        self.kinds.truncate(count);
+    }
+
+    /// The node at a place, if there is one.
+    pub fn get(&self, place: usize) -> Option<&Node>
+        ensures { option_copied result ≡ slice_get self.now place }
+    {
+        self.nodes.get(place)
+    }
+
+    /// The node at a place.
+    pub fn at(&self, place: usize) -> &Node
+        requires { place < length self.now }
+        ensures { slice_get self.now place ≡ Some result.now }
+    {
+        &self.nodes[place]
+    }
+
+    /// The kind of the node at a place, if there is one.
+    pub fn kind(&self, place: usize) -> Option<NodeKind>
+        ensures { result ≡ option_map kind_of (slice_get self.now place) }
+    {
+        match self.kinds.get(place) {
+            Some(kind) => Some(*kind),
+            None => None,
+        }
+    }
+
+    /// The nodes in order.
+    pub fn as_slice(&self) -> &[Node]
+        ensures { result.now ≡ self.now }
+    {
+        self.nodes.as_slice()
+    }
+}
