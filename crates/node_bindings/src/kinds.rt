@@ -1,7 +1,8 @@
 //! What a node stands for, by its kind.
 
-ghost use Rattle.std.specs.Prelude.{◌≡◌, IfOk, None, Option, option_and_then};
+ghost use Rattle.std.specs.Prelude.{◌≡◌, IfOk, None, Option, Some, option_and_then, slice_get};
 ghost use Rattle.scj_tree.specs.Recursion.{told};
+ghost use Rattle.scj_tree.specs.declared.nodes.Node.TheVariants.{SimpleName};
 ghost use Rattle.scj_rules.specs.Classes.{superclass_in};
 ghost use Rattle.scj_rules.specs.Contexts.{declarations_of, contexts_in, context};
 ghost use Rattle.scj_rules.specs.Types.{array_of, meaning};
@@ -15,11 +16,11 @@ use crate::calls::call_binding;
 use crate::fields::{access_binding, array_class, class_binding, field_binding};
 use crate::numbers::variable_binding;
 use node_contexts::Contexts;
-use scj_base::{ClassId, Memory, Name, NodeId};
+use scj_base::{ClassId, Memory, Name, NodeId, Pos};
 use scj_rules::{Binding, Receiver, Ty};
 use scj_tree::{Node, NodeKind};
 use type_rules::forms::is_form_part;
-use type_rules::names::{accessed_field, meaning, receiver, written_type};
+use type_rules::names::{accessed_field, meaning_there, receiver, written_type};
 use type_rules::{Known, NameMeaning};
 use type_words::array_of;
 
@@ -52,13 +53,15 @@ fn name_binding(
     contexts: &Contexts,
     numbers: &[u32],
     id: NodeId,
+    place: Pos,
     name: &Name,
 ) -> Result<Binding, Memory>
     requires contexts { contexts.now ≡ contexts_in known.now }
     requires numbers { numbers.now ≡ numbers_before (declarations_of known.now) }
+    requires there { slice_get known.now.nodes id ≡ Some (SimpleName place name.now) }
     ensures { IfOk result (λ b. b ≡ meaning_binding (declarations_of known.now) id (meaning (declarations_of known.now) id name.now)) }
 {
-    let stands_for = meaning(known, id, name);
+    let stands_for = meaning_there(known, id, place, name);
     meaning_binding(known, contexts, numbers, id, &stands_for)
 }
 
@@ -139,6 +142,7 @@ fn binding_of(
 ) -> Result<Binding, Memory>
     requires contexts { contexts.now ≡ contexts_in known.now }
     requires numbers { numbers.now ≡ numbers_before (declarations_of known.now) }
+    requires there { slice_get known.now.nodes id ≡ Some node.now }
     ensures { IfOk result (λ b. b ≡ binding_of (declarations_of known.now) (told None types.now) id node.now) }
 {
     match node {
@@ -150,7 +154,9 @@ fn binding_of(
         Node::Constructor { .. } | Node::SuperCall { .. } => {
             Ok(superclass_binding(known, known.context(id).class))
         }
-        Node::SimpleName { name, .. } => name_binding(known, contexts, numbers, id, name.get()),
+        Node::SimpleName { place, name } => {
+            name_binding(known, contexts, numbers, id, *place, name.get())
+        }
         Node::FieldAccess { name, object, .. } => Ok(access_at(known, types, *object, name.get())),
         Node::Call {
             name,

@@ -54,7 +54,7 @@ pub fn bindings_of(
     ensures { IfOk result (λ bindings. bindings ≡ bindings_in (declarations_of known.now)) }
 {
     let numbers = number_variables(alloc, known.program(), contexts)?;
-    let mut bindings = Bindings::new(alloc);
+    let mut bindings = Bindings::with_capacity(alloc, known.program().len())?;
     bind_all(known, contexts, &numbers, types, &mut bindings)?;
     Ok(bindings)
 }

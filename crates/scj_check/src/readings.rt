@@ -1,6 +1,6 @@
 //! Sources read into a program.
 
-ghost use Rattle.std.specs.Prelude.{◌≡◌, ◌+◌, ◌<◌, ◌≤◌, length, IfOk, IfErr};
+ghost use Rattle.std.specs.Prelude.{◌≡◌, [], ◌+◌, ◌<◌, ◌≤◌, length, IfOk, IfErr};
 ghost use Rattle.scj_base.specs.Lex.{Lex};
 ghost use Rattle.scj_tree.specs.Lexemes.{lexemes_of};
 ghost use Rattle.scj_check.specs.Texts.{texts_of};
@@ -14,6 +14,10 @@ use scj_parser::{ParseAnswer, parse};
 use scj_tree::Program;
 use std::alloc::Global;
 
+/// The bytes of source for which room for one node is made before reading, so that the nodes needn't be moved to a larger
+/// place as they grow. Ordinary source has 6.2 bytes a node.
+const BYTES_A_NODE: usize = 6;
+
 /// What sources are read as.
 #[derive(Drop)]
 pub enum Reading {
@@ -21,6 +25,14 @@ pub enum Reading {
     Read(Program),
     /// The break of the lexemes or of the grammar that is told of them.
     Broken(Found),
+}
+
+/// No nodes and no files, with room for as many nodes as the sources are likely to have.
+fn empty_program(alloc: Global, sources: &Sources) -> Result<Program, Memory>
+    ensures nodes { IfOk result (λ program. program.nodes ≡ []) }
+    ensures files { IfOk result (λ program. program.files ≡ []) }
+{
+    Program::with_capacity(alloc, sources.byte_count() / BYTES_A_NODE)
 }
 
 /// Reads sources into a program, in time that grows with their bytes alone.
@@ -31,7 +43,8 @@ pub enum Reading {
 pub fn read(alloc: Global, sources: &Sources) -> Result<Reading, Memory>
     ensures { IfOk result (λ reading. IsReading (texts_of sources.now) reading) }
 {
-    let mut reading = Reading::Read(Program::new(alloc));
+    let program = empty_program(alloc, sources)?;
+    let mut reading = Reading::Read(program);
     for file in 0..sources.len() {
         reading = match add_text(alloc, file as u8, sources.text(file), reading) {
             Ok(more) => more,

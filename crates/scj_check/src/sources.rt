@@ -60,6 +60,15 @@ impl Sources {
         self.items.len()
     }
 
+    /// The bytes of all files.
+    pub(crate) fn byte_count(&self) -> usize {
+        let mut count: usize = 0;
+        for source in &self.items {
+            count = count.saturating_add(source.text.len());
+        }
+        count
+    }
+
     /// The bytes of a file.
     pub fn text(&self, file: usize) -> &[u8]
         requires { file < length self.now }

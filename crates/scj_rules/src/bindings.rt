@@ -1,6 +1,6 @@
 //! What the nodes of a program stand for, as a list.
 
-ghost use Rattle.std.specs.Prelude.{◌≡◌, [], ◌∷◌, ◌++◌, OnOk, OnErr, slice_get, option_copied};
+ghost use Rattle.std.specs.Prelude.{◌≡◌, [], ◌∷◌, ◌++◌, IfOk, OnOk, OnErr, slice_get, option_copied};
 
 use crate::typing::Binding;
 use scj_base::{Memory, NodeId};
@@ -30,6 +30,14 @@ impl Bindings {
         Bindings {
             rows: Vec::new(alloc),
         }
+    }
+
+    /// The same, with room for so many nodes.
+    pub fn with_capacity(alloc: Global, count: usize) -> Result<Bindings, Memory>
+        ensures { IfOk result (λ bindings. bindings ≡ []) }
+    {
+        let rows = Vec::with_capacity(alloc, count)?;
+        Ok(Bindings { rows })
     }
 
     /// Tells of one more node what it stands for.

@@ -33,7 +33,7 @@ impl Model for Arena {
 fn kinds_of(alloc: Global, nodes: &[Node]) -> Result<Vec<NodeKind>, Memory>
     ensures { IfOk result (λ kinds. kinds.items ≡ map kind_of nodes.now) }
 {
-    let mut kinds = Vec::new(alloc);
+    let mut kinds = Vec::with_capacity(alloc, nodes.len())?;
     for node in nodes {
         kinds.push(node.kind())?;
     }
@@ -49,6 +49,15 @@ impl Arena {
             nodes: Vec::new(alloc),
             kinds: Vec::new(alloc),
         }
+    }
+
+    /// No nodes, and room for so many.
+    pub fn with_capacity(alloc: Global, count: usize) -> Result<Arena, Memory>
+        ensures { IfOk result (λ arena. arena ≡ []) }
+    {
+        let nodes = Vec::with_capacity(alloc, count)?;
+        let kinds = Vec::with_capacity(alloc, count)?;
+        Ok(Arena { nodes, kinds })
     }
 
     /// These nodes.

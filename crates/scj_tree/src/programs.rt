@@ -46,6 +46,23 @@ impl Program {
         }
     }
 
+    /// No nodes and no files, and room for so many nodes.
+    ///
+    /// # Errors
+    ///
+    /// `Memory`, where there is no such room.
+    pub fn with_capacity(alloc: Global, count: usize) -> Result<Program, Memory>
+        ensures nodes { IfOk result (λ program. program.nodes ≡ []) }
+        ensures files { IfOk result (λ program. program.files ≡ []) }
+    {
+        let nodes = Arena::with_capacity(alloc, count)?;
+        Ok(Program {
+            alloc,
+            nodes,
+            files: Vec::new(alloc),
+        })
+    }
+
     /// The number of nodes.
     pub fn len(&self) -> usize
         ensures value { result ≡ length self.now.nodes }

@@ -1,6 +1,6 @@
 //! The pass over all nodes.
 
-ghost use Rattle.std.specs.Prelude.{◌≡◌, ◌++◌, None, IfOk, OnOk};
+ghost use Rattle.std.specs.Prelude.{◌≡◌, ◌++◌, None, Some, slice_get, IfOk, OnOk};
 ghost use Rattle.scj_tree.specs.Recursion.{told};
 ghost use Rattle.scj_rules.specs.Contexts.{declarations_of};
 ghost use Rattle.scj_rules.specs.TypeRules.{types_in, type_breaks, type_of_right, type_of_next};
@@ -65,12 +65,13 @@ fn node_type(
     node: &Node,
     found: &mut Vec<Found>,
 ) -> Result<Option<Ty>, Memory>
+    requires { slice_get known.now.nodes id ≡ Some node.now }
     ensures type_of { IfOk result (λ t. t ≡ type_of_right (declarations_of known.now) (told None types.now) id node.now) }
     ensures found { OnOk result (found.new.items ≡ found.old.items ++ type_breaks (declarations_of known.now) (told None types.now) id node.now) }
 {
     match node {
-        Node::SimpleName { name, .. } => {
-            let t = type_of_name(known, id, name.get());
+        Node::SimpleName { place, name } => {
+            let t = type_of_name(known, id, *place, name.get());
             note_untyped(known, types, id, node, &t, found)?;
             Ok(t)
         }

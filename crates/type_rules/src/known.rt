@@ -82,7 +82,7 @@ impl<'a> Known<'a> {
     }
 
     /// The row of a node, where it is told.
-    fn meaning_row(&self, id: NodeId) -> Option<NameMeaning>
+    pub(crate) fn meaning_row(&self, id: NodeId) -> Option<NameMeaning>
         ensures { IfSome result (λ row. IsMeaningAt self.now id row) }
     {
         row_at(self.meanings, id)

@@ -1,8 +1,9 @@
 //! What names, accesses and calls mean, and which types fit.
 
-ghost use Rattle.std.specs.Prelude.{◌≡◌, ◌&&◌, ◌||◌, [], ◌∷◌, None, length, option_and_then, option_map, IfOk};
+ghost use Rattle.std.specs.Prelude.{◌≡◌, ◌&&◌, ◌||◌, [], ◌∷◌, None, Some, length, option_and_then, option_map, slice_get, IfOk};
 ghost use Rattle.scj_base.specs.Vocabulary.{sign_equal, sign_not_equal, sign_less, sign_greater, sign_less_equal, sign_greater_equal, sign_and_and, sign_or_or};
 ghost use Rattle.scj_tree.specs.Recursion.{told};
+ghost use Rattle.scj_tree.specs.declared.nodes.Node.TheVariants.{SimpleName};
 ghost use Rattle.scj_rules.specs.Definitions.{read};
 ghost use Rattle.scj_rules.specs.Words.{is_among};
 ghost use Rattle.scj_rules.specs.Classes.{field_named};
@@ -20,7 +21,7 @@ use method_rows::{MethodRef, declared, is_callable_row};
 use scj_base::vocabulary::{
     AND_AND, EQUAL, GREATER, GREATER_EQUAL, LESS, LESS_EQUAL, NOT_EQUAL, OR_OR,
 };
-use scj_base::{ClassId, Memory, Name, NodeId};
+use scj_base::{ClassId, Memory, Name, NodeId, Pos};
 use scj_rules::{Receiver, Ty, WrittenType};
 use scj_tree::{Node, NodeKind};
 use std::alloc::Global;
@@ -218,6 +219,17 @@ pub fn meaning(known: &Known<'_>, id: NodeId, name: &Name) -> NameMeaning
     ensures { meant known.now.nodes result ≡ meaning (declarations_of known.now) id name.now }
 {
     match known.told_meaning(id, name) {
+        Some(told) => told,
+        None => looked_up(known, id, name),
+    }
+}
+
+/// The same at a node that is this name. Where it is told, no names are compared.
+pub fn meaning_there(known: &Known<'_>, id: NodeId, place: Pos, name: &Name) -> NameMeaning
+    requires { slice_get known.now.nodes id ≡ Some (SimpleName place name.now) }
+    ensures { meant known.now.nodes result ≡ meaning (declarations_of known.now) id name.now }
+{
+    match known.meaning_row(id) {
         Some(told) => told,
         None => looked_up(known, id, name),
     }

@@ -7,7 +7,7 @@ use Rattle.scj_check.proofs.StandLaws.{rest_at, at_the_begin, with_text, at_a_br
 use Rattle.scj_check.proofs.readings.read.Goals as goal
 
 pub loop-file-init : goal.loop-file-init
-loop-file-init c = (rw c.new.ensures.files refl, at_the_begin _ _ c.new.ensures.nodes c.new.ensures.files)
+loop-file-init c = (rw c.in_ok-program.ensures.files refl, at_the_begin _ _ c.in_ok-program.ensures.nodes c.in_ok-program.ensures.files)
 
 pub returns-in-Err-Bad : goal.returns-in-Err-Bad
 returns-in-Err-Bad c =
