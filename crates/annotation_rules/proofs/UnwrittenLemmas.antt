@@ -139,14 +139,13 @@ nothing_of_kind forest id h = go (slice_get forest.nodes id) h
     go (Some node) h = kind_breaks_nothing (declarations_of forest) id node h
 
 -- a field whose type has no scope
-pub plain_field : (forest : Forest) (class id : ℕ) → Some true ≡ option_map (λ (f : Declared). has_no_scope f.declared_type) (field_at forest.nodes id)
+pub plain_field : (forest : Forest) (class id : ℕ) → true ≡ holds (field_at forest.nodes id) (λ (f : Declared). has_no_scope f.declared_type)
     → field_breaks (declarations_of forest) class (field_at forest.nodes id) ≡ []
 unfolding misfits_field
 plain_field forest class id h = go (field_at forest.nodes id) h
   where
-    go : (o : Option Declared) → Some true ≡ option_map (λ (f : Declared). has_no_scope f.declared_type) o → field_breaks (declarations_of forest) class o ≡ []
+    go : (o : Option Declared) → true ≡ holds o (λ (f : Declared). has_no_scope f.declared_type) → field_breaks (declarations_of forest) class o ≡ []
     go None h = refl
     go (Some f) h =
-        let plain : true ≡ has_no_scope f.declared_type = (let k : Some true ≡ Some (has_no_scope f.declared_type) = h in cc) in
         ap (λ (s : Option Scope). broken (holds s (λ (t : Scope). not (suits_field (declarations_of forest) (class_scope (declarations_of forest) class) f.modifiers.is_static t))) (field_rule (class_scope (declarations_of forest) class) f.modifiers.is_static) f.place)
-        (no_scope (declarations_of forest) (field_thing (declarations_of forest) class f) plain)
+        (no_scope (declarations_of forest) (field_thing (declarations_of forest) class f) h)

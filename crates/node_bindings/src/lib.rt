@@ -7,4 +7,4 @@ pub mod kinds;
 pub mod numbers;
 pub mod programs;
 
-pub use programs::{bindings, bindings_of};
+pub use programs::bindings_of;

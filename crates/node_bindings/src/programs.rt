@@ -10,13 +10,11 @@ ghost use Rattle.node_bindings.specs.Programs.{bound_by};
 
 use crate::kinds::binding_at;
 use crate::numbers::number_variables;
-use class_rows::Classes;
 use node_contexts::Contexts;
 use scj_base::{Memory, NodeId};
 use scj_rules::{Bindings, Ty};
 use std::alloc::Global;
 use type_rules::Known;
-use type_words::returning;
 
 /// Tells of each node in turn what it stands for.
 fn bind_all(
@@ -57,20 +55,4 @@ pub fn bindings_of(
     let mut bindings = Bindings::with_capacity(alloc, known.program().len())?;
     bind_all(known, contexts, &numbers, types, &mut bindings)?;
     Ok(bindings)
-}
-
-/// What each node of a program stands for; for numbers that fit no more as [`bindings_of`].
-pub fn bindings(
-    alloc: Global,
-    classes: &Classes<'_>,
-    contexts: &Contexts,
-    types: &[Option<Ty>],
-) -> Result<Bindings, Memory>
-    requires contexts { contexts.now ≡ contexts_in classes.now }
-    requires types { types.now ≡ types_in (declarations_of classes.now) }
-    ensures { IfOk result (λ bindings. bindings ≡ bindings_in (declarations_of classes.now)) }
-{
-    let returns = returning(alloc, classes.program())?;
-    let known = Known::new(classes.again(), contexts, &returns);
-    bindings_of(alloc, &known, contexts, types)
 }

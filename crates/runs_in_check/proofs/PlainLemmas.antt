@@ -71,9 +71,9 @@ unfolding type_of_meaning scope_of_meaning declarations_of
 plain_meaning forest id (a_variable v) h = variable_without_scope forest v (go (variable_at forest.nodes v) h)
   where
     go : (o : Option Declared) → true ≡ is_plain (option_and_then (λ (d : Declared). type_written (declarations_of forest).names d.declared_type) o)
-        → Some true ≡ option_map (λ (d : Declared). has_no_scope d.declared_type) o
+        → true ≡ holds o (λ (d : Declared). has_no_scope d.declared_type)
     go None h = absurd (true≢false h)
-    go (Some d) h = ap (λ b. Some b) (plain_written (declarations_of forest).names d.declared_type h)
+    go (Some d) h = plain_written (declarations_of forest).names d.declared_type h
 plain_meaning forest id (a_field f) h = plain_field (declarations_of forest) (this_at (declarations_of forest) id) (Some f) h
 plain_meaning forest id (a_class class) h = refl
 plain_meaning forest id nothing h = refl

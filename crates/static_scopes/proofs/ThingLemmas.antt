@@ -39,16 +39,16 @@ pub field_without_scope : (p : Declarations) (class : ℕ) (f : Declared) → tr
 field_without_scope p class f h = sym (suited_field p class f) ∙ ap (suited_scope p class f.modifiers.is_static) (no_scope p (field_thing p class f) h)
 
 -- a variable whose type has no scope
-plain_variable : (p : Declarations) (id : ℕ) → Some true ≡ option_map (λ (d : Declared). has_no_scope d.declared_type) (variable_at p.nodes id) → option_and_then (thing_scope p) (variable_thing_at p id) ≡ None
+plain_variable : (p : Declarations) (id : ℕ) → true ≡ holds (variable_at p.nodes id) (λ (d : Declared). has_no_scope d.declared_type) → option_and_then (thing_scope p) (variable_thing_at p id) ≡ None
 unfolding variable_thing_at
 plain_variable p id h = classes (context p id).class
   where
     made : ℕ → ℕ → Declared → Thing
     made class member d = variable_thing class (current_in p class member) (is_static_member p.nodes member) d
 
-    variables : (class member : ℕ) (o : Option Declared) → Some true ≡ option_map (λ (d : Declared). has_no_scope d.declared_type) o → option_and_then (thing_scope p) (option_map (made class member) o) ≡ None
+    variables : (class member : ℕ) (o : Option Declared) → true ≡ holds o (λ (d : Declared). has_no_scope d.declared_type) → option_and_then (thing_scope p) (option_map (made class member) o) ≡ None
     variables class member None h = refl
-    variables class member (Some d) h = no_scope p (made class member d) (let e : Some true ≡ Some (has_no_scope d.declared_type) = h in cc)
+    variables class member (Some d) h = no_scope p (made class member d) h
 
     members : (class : ℕ) (o : Option ℕ) → option_and_then (thing_scope p) (option_and_then (λ member. option_map (made class member) (variable_at p.nodes id)) o) ≡ None
     members class None = refl
@@ -58,7 +58,7 @@ plain_variable p id h = classes (context p id).class
     classes None = refl
     classes (Some class) = members class (context p id).member
 
-pub variable_without_scope : (forest : Forest) (id : ℕ) → Some true ≡ option_map (λ (d : Declared). has_no_scope d.declared_type) (variable_at forest.nodes id)
+pub variable_without_scope : (forest : Forest) (id : ℕ) → true ≡ holds (variable_at forest.nodes id) (λ (d : Declared). has_no_scope d.declared_type)
     → option_and_then (thing_scope (declarations_of forest)) (variable_thing_at (declarations_of forest) id) ≡ None
 unfolding declarations_of
 variable_without_scope forest id h = plain_variable (declarations_of forest) id h

@@ -24,7 +24,7 @@ use method_rows::{MethodRef, MethodSource};
 use node_contexts::{Contexts, is_static_member};
 use node_views::{is_method, variable_at};
 use scj_base::{ClassId, Name, NodeId};
-use scj_rules::{ClassScope, Context, Declared, FoundField, Scope, Thing};
+use scj_rules::{ClassScope, Context, Declared, Scope, Thing};
 use scj_tree::{Node, Program};
 use scope_tree::Scopes;
 use std::marker::Model;
@@ -215,13 +215,6 @@ impl<'a> Scoped<'a> {
         let current = self.this_in(class);
         let thing = things::variable_thing(class, &current, false, parameter);
         things::thing_scope(&self.scopes, &thing)
-    }
-
-    /// The scope of a field.
-    pub fn field_scope(&self, field: &FoundField) -> Option<Scope>
-        ensures { result ≡ field_scope (declarations_of self.now) field.now.on field.now.field }
-    {
-        things::field_scope(&self.scopes, field.on, &field.field)
     }
 
     /// The scope of the field for which a row stands.

@@ -89,7 +89,7 @@ impl<'a> Known<'a> {
     }
 
     /// What the name stands for at a node, where that is told.
-    pub fn told_meaning(&self, id: NodeId, name: &Name) -> Option<NameMeaning>
+    pub(crate) fn told_meaning(&self, id: NodeId, name: &Name) -> Option<NameMeaning>
         ensures { IfSome result (λ row. meant self.now.nodes row ≡ meaning (declarations_of self.now) id name.now) }
     {
         match self.program().get(id)? {

@@ -7,9 +7,8 @@ ghost use Rattle.scj_rules.specs.TypeRules.{stands_for_nothing, is_instance_fiel
 ghost use Rattle.type_rules.specs.Meanings.{meant};
 
 use class_rows::FieldRef;
-use class_rows::fields::{found_field, is_static_field};
+use class_rows::fields::is_static_field;
 use scj_base::{ClassId, NodeId};
-use scj_rules::Meaning;
 use scj_tree::Program;
 
 /// What a name stands for where it stands alone (JLS 6.5).
@@ -52,18 +51,5 @@ pub fn is_instance_field(program: &Program, meaning: &NameMeaning) -> bool
     match meaning {
         NameMeaning::Field(field) => !is_static_field(program, field),
         _ => false,
-    }
-}
-
-/// What a name stands for, with all that is declared of it.
-#[tactic(auto, unfolding(crate::specs::Meanings::meant))]
-pub fn told_meaning(program: &Program, meaning: &NameMeaning) -> Meaning
-    ensures { result ≡ meant program.now.nodes meaning.now }
-{
-    match meaning {
-        NameMeaning::Variable(variable) => Meaning::Variable(*variable),
-        NameMeaning::Field(field) => Meaning::Field(found_field(program, field)),
-        NameMeaning::Class(class) => Meaning::Class(*class),
-        NameMeaning::Nothing => Meaning::Nothing,
     }
 }
