@@ -3,6 +3,7 @@
 ghost use Rattle.std.specs.Prelude.{◌≡◌, ◌++◌, ℕ, List, [], Some, slice_get};
 ghost use Rattle.std.specs.Bool.{OnTrue};
 ghost use Rattle.scj_tree.specs.declared.nodes.Node.{Node as Tree};
+ghost use Rattle.scj_tree.specs.Kinds.{kind_of};
 ghost use Rattle.scj_tree.specs.Shape.{children, optional};
 ghost use Rattle.scj_rules.specs.Contexts.{declared_before, is_member, is_super_call, object_of};
 ghost use Rattle.node_contexts.specs.Steps.{declared_by, is_leaf_kind};
@@ -293,7 +294,8 @@ fn is_leaf_kind(kind: &NodeKind) -> bool
 /// Whether a node has no children, where its kind tells that, without a look at the node.
 pub fn is_leaf(program: &Program, id: NodeId, node: &Node) -> bool
     requires { slice_get program.now.nodes id ≡ Some node.now }
-    ensures { OnTrue result (children node.now ≡ []) }
+    ensures kind { result ≡ is_leaf_kind (kind_of node.now) }
+    ensures leaf { OnTrue result (children node.now ≡ []) }
 {
     let _ = node;
     match &program.kind(id) {
