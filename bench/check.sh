@@ -16,35 +16,49 @@ make() {
     bytes=$(cat "${files[@]}" | wc -c)
 }
 
-# Tells the time of a shape, and its growth against the size before it, if there was one. A `ratio` asks the compiler.
+# Times the program and, where there is one, the compiler on `files` by turns, since the machine may be slow for a while:
+# sets `spent` and `other` to the least of each.
+by_turns() {
+    local round took
+    spent=$(least 3 "$program" check "${files[@]}")
+    other=0
+    if [ -z "$compiler" ]; then return; fi
+    other=$(compiler_time 1 "${files[@]}")
+    for round in 2 3 4 5; do
+        took=$(least 3 "$program" check "${files[@]}")
+        if [ "$took" -lt "$spent" ]; then spent=$took; fi
+        took=$(compiler_time 1 "${files[@]}")
+        if [ "$took" -lt "$other" ]; then other=$took; fi
+    done
+}
+
+# Tells the time of a shape, and its growth against the size before it, if there was one. It is the least of so many
+# runs, or for `ratio` that of runs by turns with the compiler's.
 tell() {
-    local line spent other answer
+    local line spent other=0 answer
     make "$1" "$2"
     answer=$("$program" check "${files[@]}" 2>&1 | head -1 | sed "s|$work/sources/||")
-    spent=$(least "$4" "$program" check "${files[@]}")
+    if [ "$3" = ratio ]; then by_turns; else spent=$(least "$3" "$program" check "${files[@]}"); fi
     line="$1 $2: $bytes bytes, $spent us, $(per "$bytes" "$spent" 1) MB/s"
     if [ "$before" -gt 0 ]; then
         line="$line, growth $(per "$((spent * before_bytes / 1000))" "$((before * bytes / 1000))" 2) times the size's"
     fi
     before=$spent
     before_bytes=$bytes
-    if [ "$3" = ratio ] && [ -n "$compiler" ]; then
-        other=$(compiler_time 3 "${files[@]}")
-        line="$line, javac $other us, ratio 1/$(per "$other" "$spent" 0)"
-    fi
+    if [ "$other" -gt 0 ]; then line="$line, javac $other us, ratio 1/$(per "$other" "$spent" 0)"; fi
     echo "$line: $answer"
 }
 
 begin_bench
 echo "start of the program: $(least 20 "$program" check /dev/null) us (included below)"
 before=0
-for size in 65536 262144 1048576; do tell ordinary "$size" ratio 7; done
+for size in 65536 262144 1048576; do tell ordinary "$size" ratio; done
 before=0
-for size in 1048576 4194304 16777216; do tell few "$size" alone 3; done
+for size in 1048576 4194304 16777216; do tell few "$size" 7; done
 while read -r shape count; do
     before=0
-    tell "$shape" $((count / 4)) alone 5
-    tell "$shape" "$count" alone 5
+    tell "$shape" $((count / 4)) 20
+    tell "$shape" "$count" 20
 done <<'SHAPES'
 chain 255
 fields 255
