@@ -16,20 +16,19 @@ make() {
     bytes=$(cat "${files[@]}" | wc -c)
 }
 
+# The least of numbers.
+lowest() { printf '%s\n' "$@" | sort -n | head -1; }
+
 # Times the program and, where there is one, the compiler on `files` by turns, since the machine may be slow for a while:
 # sets `spent` and `other` to the least of each.
 by_turns() {
-    local round took
-    spent=$(least 3 "$program" check "${files[@]}")
-    other=0
-    if [ -z "$compiler" ]; then return; fi
-    other=$(compiler_time 1 "${files[@]}")
-    for round in 2 3 4 5; do
-        took=$(least 3 "$program" check "${files[@]}")
-        if [ "$took" -lt "$spent" ]; then spent=$took; fi
-        took=$(compiler_time 1 "${files[@]}")
-        if [ "$took" -lt "$other" ]; then other=$took; fi
+    local round ours=() theirs=()
+    for round in 1 2 3 4 5; do
+        ours+=("$(least 3 "$program" check "${files[@]}")")
+        if [ -n "$compiler" ]; then theirs+=("$(compiler_time 1 "${files[@]}")"); fi
     done
+    spent=$(lowest "${ours[@]}")
+    other=$(lowest "${theirs[@]:-0}")
 }
 
 # Tells the time of a shape, and its growth against the size before it, if there was one. It is the least of so many
