@@ -4,7 +4,7 @@ use Rattle.scj_tree.specs.Forest.{Forest}
 use Rattle.scj_rules.specs.Views.{DeclaredMethod, method_at}
 use Rattle.scj_rules.specs.Classes.{FoundMethod}
 use Rattle.scj_rules.specs.Contexts.{declarations_of}
-use Rattle.scj_rules.specs.StaticScopes.{result_thing}
+use Rattle.scj_rules.specs.StaticScopes.{scoped_result}
 use Rattle.scj_rules.specs.AnnotationRules.{a6_of, a7_and_a8_of, annotation_breaks}
 use Rattle.scj_rules.specs.Phases.{over_nodes}
 use Rattle.scj_tree.specs.Recursion.{joined_below}
@@ -21,19 +21,19 @@ unfolding found_method
 on_class forest class id = refl
 
 pub result_at_node : (forest : Forest) (class id : ℕ) → true ≡ is_some (method_at forest.nodes id)
-    → option_map (λ (m : DeclaredMethod). result_thing (declarations_of forest) class m) (method_at forest.nodes id) ≡ Some (result_thing (declarations_of forest) (row forest class id).on (row forest class id).method)
+    → option_map (λ (m : DeclaredMethod). scoped_result (declarations_of forest) class m) (method_at forest.nodes id) ≡ Some (scoped_result (declarations_of forest) (row forest class id).on (row forest class id).method)
 unfolding found_method
 result_at_node forest class id h = go (method_at forest.nodes id) refl h
   where
     go : (o : Option DeclaredMethod) → method_at forest.nodes id ≡ o → true ≡ is_some o
-        → option_map (λ (m : DeclaredMethod). result_thing (declarations_of forest) class m) o ≡ Some (result_thing (declarations_of forest) class (row forest class id).method)
+        → option_map (λ (m : DeclaredMethod). scoped_result (declarations_of forest) class m) o ≡ Some (scoped_result (declarations_of forest) class (row forest class id).method)
     go None e h = absurd (true≢false h)
-    go (Some m) e h = ap (λ (x : DeclaredMethod). Some (result_thing (declarations_of forest) class x)) (sym (method_at_node forest class id m e))
+    go (Some m) e h = ap (λ (x : DeclaredMethod). Some (scoped_result (declarations_of forest) class x)) (sym (method_at_node forest class id m e))
 
-pub no_result_at_node : (forest : Forest) (class id : ℕ) → false ≡ is_some (method_at forest.nodes id) → option_map (λ (m : DeclaredMethod). result_thing (declarations_of forest) class m) (method_at forest.nodes id) ≡ None
+pub no_result_at_node : (forest : Forest) (class id : ℕ) → false ≡ is_some (method_at forest.nodes id) → option_map (λ (m : DeclaredMethod). scoped_result (declarations_of forest) class m) (method_at forest.nodes id) ≡ None
 no_result_at_node forest class id h = go (method_at forest.nodes id) h
   where
-    go : (o : Option DeclaredMethod) → false ≡ is_some o → option_map (λ (m : DeclaredMethod). result_thing (declarations_of forest) class m) o ≡ None
+    go : (o : Option DeclaredMethod) → false ≡ is_some o → option_map (λ (m : DeclaredMethod). scoped_result (declarations_of forest) class m) o ≡ None
     go None h = refl
     go (Some m) h = absurd (true≢false (sym h))
 

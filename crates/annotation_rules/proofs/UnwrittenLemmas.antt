@@ -8,68 +8,68 @@ use Rattle.scj_tree.specs.declared.nodes.Node.{Node}
 use Rattle.scj_tree.specs.declared.nodes.Node.TheVariants.{Class, Field, Method, Parameter, Local, LocalWithValue}
 use Rattle.scj_tree.specs.Kinds.{kind_of}
 use Rattle.scj_tree.specs.Forest.{Forest}
-use Rattle.scj_rules.specs.declared.scopes.Thing.{Thing}
+use Rattle.scj_rules.specs.declared.scopes.ScopedDeclaration.{ScopedDeclaration}
 use Rattle.scj_rules.specs.declared.typing.Scope.{Scope}
 use Rattle.scj_rules.specs.Words.{broken, holds}
 use Rattle.scj_rules.specs.declared.scopes.Written.{Written}
 use Rattle.scj_rules.specs.declared.views.Declared.{Declared}
 use Rattle.scj_rules.specs.Views.{DeclaredMethod, declared, variable_at, variable_of, field_at, field_of, method_at, method_of, parameters_at}
 use Rattle.scj_rules.specs.Contexts.{Declarations, declarations_of, context, is_static_member}
-use Rattle.scj_rules.specs.StaticScopes.{has_no_scope, is_unknown_scope, contradicts, variable_thing, current_in, result_thing, field_thing, class_scope, suits_field, misfits_field}
-use Rattle.scj_rules.specs.AnnotationRules.{a1, a2, a3_to_a5, a6_to_a8, a9, annotation_breaks, broken_value, field_rule, thing_at, variable_thing_at}
+use Rattle.scj_rules.specs.StaticScopes.{has_no_scope, is_unknown_scope, contradicts, scoped_variable, current_in, scoped_result, scoped_field, class_scope, suits_field, misfits_field}
+use Rattle.scj_rules.specs.AnnotationRules.{a1, a2, a3_to_a5, a6_to_a8, a9, annotation_breaks, broken_value, field_rule, scoped_declaration_at, scoped_variable_at}
 use Rattle.static_scopes.proofs.ThingLemmas.{no_scope}
 use Rattle.annotation_rules.specs.Parts.{may_break, may_break_kind, is_bare, found_at, field_breaks}
 
 module _ (p : Declarations) (id : ℕ) where
   -- what a rule finds at the value of a thing, if there is one
-  abbrev of_thing : Option Thing → (Thing → Written → Bool) → Rule → List Found
+  abbrev of_thing : Option ScopedDeclaration → (ScopedDeclaration → Written → Bool) → Rule → List Found
   of_thing o test rule = elim o as (λ _. List Found) [ None ↦ [] | Some t ↦ broken_value t.scope (test t) rule ]
 
-  nothing-written : (d : Declared) (test : Thing → Written → Bool) (rule : Rule) → variable_at p.nodes id ≡ Some d → d.modifiers.scope ≡ None → of_thing (variable_thing_at p id) test rule ≡ []
-  unfolding variable_thing_at
+  nothing-written : (d : Declared) (test : ScopedDeclaration → Written → Bool) (rule : Rule) → variable_at p.nodes id ≡ Some d → d.modifiers.scope ≡ None → of_thing (scoped_variable_at p id) test rule ≡ []
+  unfolding scoped_variable_at
   nothing-written d test rule there none = classes (context p id).class
     where
       members : (class : ℕ) (o : Option ℕ)
-          → of_thing (option_and_then (λ member. option_map (λ (d : Declared). variable_thing class (current_in p class member) (is_static_member p.nodes member) d) (variable_at p.nodes id)) o) test rule ≡ []
+          → of_thing (option_and_then (λ member. option_map (λ (d : Declared). scoped_variable class (current_in p class member) (is_static_member p.nodes member) d) (variable_at p.nodes id)) o) test rule ≡ []
       members class None = refl
       members class (Some member) =
-          ap (λ (v : Option Declared). of_thing (option_map (λ (d : Declared). variable_thing class (current_in p class member) (is_static_member p.nodes member) d) v) test rule) there
-          ∙ ap (λ (w : Option Written). broken_value w (test (variable_thing class (current_in p class member) (is_static_member p.nodes member) d)) rule) none
+          ap (λ (v : Option Declared). of_thing (option_map (λ (d : Declared). scoped_variable class (current_in p class member) (is_static_member p.nodes member) d) v) test rule) there
+          ∙ ap (λ (w : Option Written). broken_value w (test (scoped_variable class (current_in p class member) (is_static_member p.nodes member) d)) rule) none
 
       classes : (o : Option ℕ)
-          → of_thing (option_and_then (λ class. option_and_then (λ member. option_map (λ (d : Declared). variable_thing class (current_in p class member) (is_static_member p.nodes member) d) (variable_at p.nodes id)) (context p id).member) o) test rule ≡ []
+          → of_thing (option_and_then (λ class. option_and_then (λ member. option_map (λ (d : Declared). scoped_variable class (current_in p class member) (is_static_member p.nodes member) d) (variable_at p.nodes id)) (context p id).member) o) test rule ≡ []
       classes None = refl
       classes (Some class) = members class (context p id).member
 
   bare : (d : Declared) → variable_at p.nodes id ≡ Some d → d.modifiers.scope ≡ None
-      → of_thing (variable_thing_at p id) (is_unknown_scope p) A1 ++ of_thing (variable_thing_at p id) (contradicts p) A9 ≡ []
+      → of_thing (scoped_variable_at p id) (is_unknown_scope p) A1 ++ of_thing (scoped_variable_at p id) (contradicts p) A9 ≡ []
   bare d there none =
-      ap (λ (fs : List Found). fs ++ of_thing (variable_thing_at p id) (contradicts p) A9) (nothing-written d (is_unknown_scope p) A1 there none)
+      ap (λ (fs : List Found). fs ++ of_thing (scoped_variable_at p id) (contradicts p) A9) (nothing-written d (is_unknown_scope p) A1 there none)
       ∙ nothing-written d (contradicts p) A9 there none
 
   variable-there : (node : Node) → slice_get p.nodes id ≡ Some node → variable_at p.nodes id ≡ variable_of p.nodes id node
   variable-there node there = ap (λ (o : Option Node). option_and_then (variable_of p.nodes id) o) there
 
   -- the same of a field, and of a method
-  field-unwritten : (d : Declared) (test : Thing → Written → Bool) (rule : Rule) → field_at p.nodes id ≡ Some d → d.modifiers.scope ≡ None
-      → of_thing (option_and_then (λ class. option_map (λ (f : Declared). field_thing p class f) (field_at p.nodes id)) (context p id).class) test rule ≡ []
+  field-unwritten : (d : Declared) (test : ScopedDeclaration → Written → Bool) (rule : Rule) → field_at p.nodes id ≡ Some d → d.modifiers.scope ≡ None
+      → of_thing (option_and_then (λ class. option_map (λ (f : Declared). scoped_field p class f) (field_at p.nodes id)) (context p id).class) test rule ≡ []
   field-unwritten d test rule there none = classes (context p id).class
     where
-      classes : (o : Option ℕ) → of_thing (option_and_then (λ class. option_map (λ (f : Declared). field_thing p class f) (field_at p.nodes id)) o) test rule ≡ []
+      classes : (o : Option ℕ) → of_thing (option_and_then (λ class. option_map (λ (f : Declared). scoped_field p class f) (field_at p.nodes id)) o) test rule ≡ []
       classes None = refl
       classes (Some class) =
-          ap (λ (v : Option Declared). of_thing (option_map (λ (f : Declared). field_thing p class f) v) test rule) there
-          ∙ ap (λ (w : Option Written). broken_value w (test (field_thing p class d)) rule) none
+          ap (λ (v : Option Declared). of_thing (option_map (λ (f : Declared). scoped_field p class f) v) test rule) there
+          ∙ ap (λ (w : Option Written). broken_value w (test (scoped_field p class d)) rule) none
 
-  method-unwritten : (m : DeclaredMethod) (test : Thing → Written → Bool) (rule : Rule) → method_at p.nodes id ≡ Some m → m.declared.modifiers.scope ≡ None
-      → of_thing (option_and_then (λ class. option_map (λ (m : DeclaredMethod). result_thing p class m) (method_at p.nodes id)) (context p id).class) test rule ≡ []
+  method-unwritten : (m : DeclaredMethod) (test : ScopedDeclaration → Written → Bool) (rule : Rule) → method_at p.nodes id ≡ Some m → m.declared.modifiers.scope ≡ None
+      → of_thing (option_and_then (λ class. option_map (λ (m : DeclaredMethod). scoped_result p class m) (method_at p.nodes id)) (context p id).class) test rule ≡ []
   method-unwritten m test rule there none = classes (context p id).class
     where
-      classes : (o : Option ℕ) → of_thing (option_and_then (λ class. option_map (λ (m : DeclaredMethod). result_thing p class m) (method_at p.nodes id)) o) test rule ≡ []
+      classes : (o : Option ℕ) → of_thing (option_and_then (λ class. option_map (λ (m : DeclaredMethod). scoped_result p class m) (method_at p.nodes id)) o) test rule ≡ []
       classes None = refl
       classes (Some class) =
-          ap (λ (v : Option DeclaredMethod). of_thing (option_map (λ (m : DeclaredMethod). result_thing p class m) v) test rule) there
-          ∙ ap (λ (w : Option Written). broken_value w (test (result_thing p class m)) rule) none
+          ap (λ (v : Option DeclaredMethod). of_thing (option_map (λ (m : DeclaredMethod). scoped_result p class m) v) test rule) there
+          ∙ ap (λ (w : Option Written). broken_value w (test (scoped_result p class m)) rule) none
 
   field-there : (node : Node) → slice_get p.nodes id ≡ Some node → field_at p.nodes id ≡ field_of p.nodes id node
   field-there node there = ap (λ (o : Option Node). option_and_then (field_of p.nodes id) o) there
@@ -85,7 +85,7 @@ module _ (p : Declarations) (id : ℕ) where
       ∙ ap (λ (fs : List Found). misfits ++ fs) (append-nil others)
 
   pub bare_breaks : (node : Node) → slice_get p.nodes id ≡ Some node → true ≡ is_bare node → annotation_breaks p id node ≡ a3_to_a5 p id node ++ a6_to_a8 p id node
-  unfolding is_bare annotation_breaks a1 a2 a9 thing_at field_of method_of
+  unfolding is_bare annotation_breaks a1 a2 a9 scoped_declaration_at field_of method_of
   bare_breaks (Field place name None t equals value) there h =
       let node : Node = Field place name None t equals value in
       let d : Declared = declared p.nodes id place name None t in
@@ -107,7 +107,7 @@ module _ (p : Declarations) (id : ℕ) where
   bare_breaks _ there h = absurd (true≢false h)
 
   pub breaks_nothing : (node : Node) → slice_get p.nodes id ≡ Some node → may_break node ≡ false → annotation_breaks p id node ≡ []
-  unfolding may_break annotation_breaks a1 a2 a3_to_a5 a6_to_a8 a9 thing_at variable_of
+  unfolding may_break annotation_breaks a1 a2 a3_to_a5 a6_to_a8 a9 scoped_declaration_at variable_of
   breaks_nothing (Class place name flags header members) there h = absurd (true≢false h)
   breaks_nothing (Field place name flags declared_type equals value) there h = absurd (true≢false h)
   breaks_nothing (Method place name flags result_type parameters body) there h = absurd (true≢false h)
@@ -120,7 +120,7 @@ module _ (p : Declarations) (id : ℕ) where
   breaks_nothing _ there h = refl
 
   kind_breaks_nothing : (node : Node) → false ≡ may_break_kind (kind_of node) → annotation_breaks p id node ≡ []
-  unfolding may_break_kind kind_of annotation_breaks a1 a2 a3_to_a5 a6_to_a8 a9 thing_at
+  unfolding may_break_kind kind_of annotation_breaks a1 a2 a3_to_a5 a6_to_a8 a9 scoped_declaration_at
   kind_breaks_nothing (Class place name flags header members) h = absurd (true≢false (sym h))
   kind_breaks_nothing (Field place name flags declared_type equals value) h = absurd (true≢false (sym h))
   kind_breaks_nothing (Method place name flags result_type parameters body) h = absurd (true≢false (sym h))
@@ -148,4 +148,4 @@ plain_field forest class id h = go (field_at forest.nodes id) h
     go None h = refl
     go (Some f) h =
         ap (λ (s : Option Scope). broken (holds s (λ (t : Scope). not (suits_field (declarations_of forest) (class_scope (declarations_of forest) class) f.modifiers.is_static t))) (field_rule (class_scope (declarations_of forest) class) f.modifiers.is_static) f.place)
-        (no_scope (declarations_of forest) (field_thing (declarations_of forest) class f) h)
+        (no_scope (declarations_of forest) (scoped_field (declarations_of forest) class f) h)

@@ -13,7 +13,7 @@ use Rattle.scj_rules.specs.Contexts.{Declarations}
 use Rattle.scj_rules.specs.ScopeRules.{scope_written_in}
 use Rattle.scj_rules.specs.StaticScopes.{has_unknown_scope, differs_from_above, is_implied_immortal, is_unknown_scope, contradicts, class_scope, misfits_field}
 use Rattle.scj_rules.specs.AnnotationRules.{a6_of, a7_and_a8_of, broken_value, field_rule, scope_above, a2_place, annotation_breaks}
-use Rattle.scj_rules.specs.declared.scopes.Thing.{Thing}
+use Rattle.scj_rules.specs.declared.scopes.ScopedDeclaration.{ScopedDeclaration}
 use Rattle.scj_rules.specs.declared.views.Declared.{Declared}
 
 -- A6 to A8 at a method of a class
@@ -22,11 +22,11 @@ method_breaks p class None = []
 method_breaks p class (Some m) = a6_of p class m ++ a7_and_a8_of p class m
 
 -- A1 and A9 at a thing
-abbrev pub unknown_at : Declarations → Option Thing → List Found
+abbrev pub unknown_at : Declarations → Option ScopedDeclaration → List Found
 unknown_at p None = []
 unknown_at p (Some t) = broken_value t.scope (is_unknown_scope p t) A1
 
-abbrev pub contradiction_at : Declarations → Option Thing → List Found
+abbrev pub contradiction_at : Declarations → Option ScopedDeclaration → List Found
 contradiction_at p None = []
 contradiction_at p (Some t) = broken_value t.scope (contradicts p t) A9
 

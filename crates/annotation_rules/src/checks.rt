@@ -6,7 +6,7 @@ ghost use Rattle.scj_rules.specs.Words.{holds};
 ghost use Rattle.class_rows.specs.Tables.{IsTableOf};
 ghost use Rattle.scope_tree.specs.Trees.{IsTreeOf};
 ghost use Rattle.scj_rules.specs.Contexts.{declarations_of};
-ghost use Rattle.scj_rules.specs.AnnotationRules.{thing_at, a1, a2, a9, annotation_breaks};
+ghost use Rattle.scj_rules.specs.AnnotationRules.{scoped_declaration_at, a1, a2, a9, annotation_breaks};
 ghost use Rattle.scj_rules.specs.Phases.{over_nodes, IsFound};
 ghost use Rattle.scj_rules.specs.Report.{IsReport};
 ghost use Rattle.annotation_rules.specs.Parts.{may_break, may_break_kind, is_bare, unknown_at, contradiction_at, unknown_of_class, other_of_class, found_at};
@@ -14,11 +14,11 @@ ghost use Rattle.annotation_rules.specs.Parts.{may_break, may_break_kind, is_bar
 use crate::classes;
 use crate::fields::note_misfit;
 use crate::methods::note_runs_in;
-use crate::things::{self, thing_at};
+use crate::things::{self, scoped_declaration_at};
 use class_rows::ClassTable;
 use node_contexts::Contexts;
 use scj_base::{ClassId, Found, Memory, NodeId, Pos};
-use scj_rules::{Thing, put_in_order};
+use scj_rules::{ScopedDeclaration, put_in_order};
 use scj_tree::{Node, NodeKind, Program};
 use scope_tree::{ScopeTree, Scopes};
 use static_scopes::{Runs, Scoped};
@@ -42,7 +42,7 @@ fn note_unknown_of_class(
 fn note_unknown_at(
     found: &mut Vec<Found>,
     scoped: &Scoped,
-    thing: &Option<Thing>,
+    thing: &Option<ScopedDeclaration>,
 ) -> Result<(), Memory>
     ensures { OnOk result (found.new.items ≡ found.old.items ++ unknown_at (declarations_of scoped.now) thing.now) }
 {
@@ -59,9 +59,9 @@ fn note_unknown(
     scoped: &Scoped,
     id: NodeId,
     node: &Node,
-    thing: &Option<Thing>,
+    thing: &Option<ScopedDeclaration>,
 ) -> Result<(), Memory>
-    requires { thing.now ≡ thing_at (declarations_of scoped.now) id node.now }
+    requires { thing.now ≡ scoped_declaration_at (declarations_of scoped.now) id node.now }
     ensures { OnOk result (found.new.items ≡ found.old.items ++ a1 (declarations_of scoped.now) id node.now) }
 {
     match node {
@@ -115,9 +115,9 @@ fn note_contradiction(
     scoped: &Scoped,
     id: NodeId,
     node: &Node,
-    thing: &Option<Thing>,
+    thing: &Option<ScopedDeclaration>,
 ) -> Result<(), Memory>
-    requires { thing.now ≡ thing_at (declarations_of scoped.now) id node.now }
+    requires { thing.now ≡ scoped_declaration_at (declarations_of scoped.now) id node.now }
     ensures { OnOk result (found.new.items ≡ found.old.items ++ a9 (declarations_of scoped.now) id node.now) }
 {
     let _ = id;
@@ -138,7 +138,7 @@ fn note_declaration(
 ) -> Result<(), Memory>
     ensures { OnOk result (found.new.items ≡ found.old.items ++ annotation_breaks (declarations_of scoped.now) id node.now) }
 {
-    let thing = thing_at(scoped, id, node);
+    let thing = scoped_declaration_at(scoped, id, node);
     note_unknown(found, scoped, id, node, &thing)?;
     note_other(found, scoped, id, node)?;
     note_misfit(found, scoped, id, node)?;

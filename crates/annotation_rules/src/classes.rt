@@ -9,7 +9,7 @@ ghost use Rattle.scj_rules.specs.StaticScopes.{has_unknown_scope, differs_from_a
 ghost use Rattle.scj_rules.specs.AnnotationRules.{broken_value, scope_above, a2_place};
 
 use scj_base::{ClassId, Found, Memory, Pos, Rule};
-use scj_rules::{ClassScope, Written, note};
+use scj_rules::{ClassScope, Written, report_if};
 use static_scopes::Scoped;
 
 /// Notes A1 at the value that is written at a class.
@@ -20,7 +20,7 @@ pub fn note_unknown(found: &mut Vec<Found>, scoped: &Scoped, class: ClassId) -> 
     let written = scopes.scope_written_in(class);
     let test = scopes.has_unknown_scope(&written);
     match &written {
-        Some(written) => note(found, test, Rule::A1, written.place),
+        Some(written) => report_if(found, test, Rule::A1, written.place),
         None => Ok(()),
     }
 }
@@ -61,5 +61,5 @@ pub fn note_other_scope(
     let above = scope_above(scoped, class);
     let implied = scopes.is_implied_immortal(class);
     let test = scopes.differs_from_above(&written, &above, implied);
-    note(found, test, Rule::A2, a2_place(place, &written))
+    report_if(found, test, Rule::A2, a2_place(place, &written))
 }

@@ -11,7 +11,7 @@ ghost use Rattle.annotation_rules.specs.Parts.{field_breaks};
 
 use node_views::field_at;
 use scj_base::{ClassId, Found, Memory, NodeId, Rule};
-use scj_rules::{ClassScope, Declared, note};
+use scj_rules::{ClassScope, Declared, report_if};
 use scj_tree::Node;
 use static_scopes::{Scoped, has_plain_field, misfits_field};
 
@@ -42,7 +42,7 @@ fn note_field(
     let modifiers = field.modifiers;
     let test = misfits_field(scopes, class, field);
     let rule = field_rule(&scopes.class_scope(class), modifiers.is_static);
-    note(found, test, rule, field.place)
+    report_if(found, test, rule, field.place)
 }
 
 /// Notes A3 to A5 at the field that a node of a class declares. A field of type `int` or `boolean` breaks none.

@@ -16,7 +16,7 @@ use crate::overrides::overrides_scopes;
 use method_rows::{MethodRef, MethodSource, declared};
 use node_views::is_method;
 use scj_base::{ClassId, Found, Memory, NodeId, Rule};
-use scj_rules::{Written, note};
+use scj_rules::{Written, report_if};
 use scj_tree::{Node, Program};
 use static_scopes::{Scoped, has_other_runs_in, has_unknown_runs_in};
 
@@ -39,7 +39,7 @@ fn note_override(found: &mut Vec<Found>, scoped: &Scoped, method: &MethodRef) ->
         return Ok(());
     }
     let declared = declared(scoped.program(), method);
-    note(found, test, Rule::A6, declared.place)
+    report_if(found, test, Rule::A6, declared.place)
 }
 
 /// Whether nothing is written before a method.
@@ -75,7 +75,7 @@ fn note_unknown(found: &mut Vec<Found>, scoped: &Scoped, method: &MethodRef) -> 
     match &runs_in_written(scoped, method) {
         Some(written) => {
             let test = has_unknown_runs_in(scoped.scopes(), method, written);
-            note(found, test, Rule::A7, written.place)
+            report_if(found, test, Rule::A7, written.place)
         }
         None => Ok(()),
     }
@@ -89,7 +89,7 @@ fn note_other(found: &mut Vec<Found>, scoped: &Scoped, method: &MethodRef) -> Re
     match &runs_in_written(scoped, method) {
         Some(written) => {
             let test = has_other_runs_in(scoped.scopes(), method.on, method, written);
-            note(found, test, Rule::A8, written.place)
+            report_if(found, test, Rule::A8, written.place)
         }
         None => Ok(()),
     }

@@ -11,6 +11,7 @@ ghost use Rattle.annotation_rules.specs.Overrides.{parameter_differs, differs_at
 
 use method_rows::{MethodRef, parameter, parameter_count};
 use scj_base::{ClassId, Name};
+use scj_builtins::FRAMEWORK_CLASS_COUNT;
 use scj_rules::{Declared, Scope};
 use static_scopes::{Scoped, are_same_scope};
 
@@ -134,7 +135,8 @@ fn method_above(scoped: &Scoped, method: &MethodRef, name: &Name) -> Option<Meth
 fn misfits_above(scoped: &Scoped, method: &MethodRef, above: &MethodRef) -> bool
     ensures { let p = declarations_of scoped.now in let f = found_method scoped.now.nodes method.now in let g = found_method scoped.now.nodes above.now in result ≡ (is_user_class g.on && scopes_differ p f.on f.method g.on g.method) }
 {
-    class_of(scoped, above).number() >= 16 && scopes_differ(scoped, method, above)
+    class_of(scoped, above).number() >= FRAMEWORK_CLASS_COUNT
+        && scopes_differ(scoped, method, above)
 }
 
 /// Whether a method has other scopes than the one of a user class that it overrides.

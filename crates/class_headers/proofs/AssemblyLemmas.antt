@@ -3,16 +3,17 @@ use Rattle.std.proofs.Common.{◌≡◌, ℕ, List, [], ◌∷◌, ◌++◌, map
 use Rattle.std.specs.List.{filter_map, cons_option, position}
 use Rattle.std.proofs.lemmas.List.{map-append}
 use Rattle.indexmap.specs.IndexMap.{get}
-use Rattle.scj_builtins.specs.Framework.{FrameworkClass, framework_classes}
+use Rattle.scj_builtins.specs.declared.classes.FrameworkClass.{FrameworkClass}
+use Rattle.scj_builtins.specs.Framework.{framework_class_count, framework_classes}
 use Rattle.scj_tree.specs.declared.nodes.Node.{Node}
 use Rattle.scj_tree.specs.Forest.{Forest}
 use Rattle.scj_rules.specs.declared.scopes.Written.{Written}
-use Rattle.scj_rules.specs.Words.{is_same}
+use Rattle.scj_base.specs.Bytes.{is_same}
 use Rattle.scj_rules.specs.Views.{WrittenClass, class_at}
 use Rattle.scj_rules.specs.Classes.{ClassRow, class_number, class_names, class_nodes, user_classes, superclass_written, user_row, framework_row, framework_rows_from, written_rows}
 use Rattle.scj_rules.specs.Contexts.{declarations_of}
 use Rattle.class_headers.specs.declared.headers.Headers.{Headers}
-use Rattle.class_headers.specs.Columns.{header_of, header_by, superclass_by, interfaces_by, framework_headers, IsHeadersOf}
+use Rattle.class_headers.specs.Columns.{header_of, header_by, superclass_by, interfaces_by, framework_header, framework_headers, IsHeadersOf}
 
 module _ (nodes : List Node) (names : List (List ℕ)) (find : List ℕ → Option ℕ) (finds : (name : List ℕ) → find name ≡ class_number names name) where
   superclass_is : (extends : Option Written) → superclass_by find extends ≡ superclass_written names extends
@@ -40,6 +41,10 @@ module _ (nodes : List Node) (names : List (List ℕ)) (find : List ℕ → Opti
       ap (λ xs. xs ∷ map (λ (d : WrittenClass). interfaces_by find d.implements) users) (interfaces_are c.implements)
       ∙ ap (λ xss. filter_map (λ (w : Written). class_number names w.name) c.implements ∷ xss) (user_lists users)
 
+pub framework_headers_are : map framework_header framework_classes ≡ framework_headers
+unfolding framework_headers framework_rows_from framework_classes
+framework_headers_are = refl
+
 all_headers : (nodes : List Node) (users : List WrittenClass) (find : List ℕ → Option ℕ) → ((name : List ℕ) → find name ≡ class_number (class_names users) name)
     → framework_headers ++ map (header_by nodes find) users ≡ map header_of (written_rows nodes users)
 unfolding written_rows framework_headers
@@ -48,17 +53,17 @@ all_headers nodes users find finds =
     ∙ sym (map-append header_of (framework_rows_from 0 framework_classes) (map (user_row nodes (class_names users)) users))
 
 all_lists : (nodes : List Node) (users : List WrittenClass) (find : List ℕ → Option ℕ) → ((name : List ℕ) → find name ≡ class_number (class_names users) name)
-    → replicate 16 [] ++ map (λ (c : WrittenClass). interfaces_by find c.implements) users ≡ map (λ (row : ClassRow). row.interfaces) (written_rows nodes users)
+    → replicate framework_class_count [] ++ map (λ (c : WrittenClass). interfaces_by find c.implements) users ≡ map (λ (row : ClassRow). row.interfaces) (written_rows nodes users)
 unfolding written_rows framework_rows_from framework_row framework_classes
 all_lists nodes users find finds =
-    ap (λ (xss : List (List ℕ)). replicate 16 [] ++ xss) (user_lists nodes (class_names users) find finds users)
+    ap (λ (xss : List (List ℕ)). replicate framework_class_count [] ++ xss) (user_lists nodes (class_names users) find finds users)
     ∙ sym (map-append (λ (row : ClassRow). row.interfaces) (framework_rows_from 0 framework_classes) (map (user_row nodes (class_names users)) users))
 
 pub headers_are : (forest : Forest) (headers : Headers) (ids : List ℕ) (all : List (List ℕ)) → ids ≡ class_nodes forest
     → all ≡ map (λ (c : FrameworkClass). c.name) framework_classes ++ map (λ (c : WrittenClass). c.name) (filter_map (class_at forest.nodes) ids)
     → ((name : List ℕ) → get is_same headers.names name ≡ position (is_same name) all)
     → headers.rows.items ≡ framework_headers ++ map (header_by forest.nodes (get is_same headers.names)) (filter_map (class_at forest.nodes) ids)
-    → map (λ v. v.items) headers.interfaces.items ≡ replicate 16 [] ++ map (λ (c : WrittenClass). interfaces_by (get is_same headers.names) c.implements) (filter_map (class_at forest.nodes) ids)
+    → map (λ v. v.items) headers.interfaces.items ≡ replicate framework_class_count [] ++ map (λ (c : WrittenClass). interfaces_by (get is_same headers.names) c.implements) (filter_map (class_at forest.nodes) ids)
     → IsHeadersOf forest headers
 unfolding declarations_of class_number class_names user_classes
 headers_are forest headers ids all same names finds rows lists =
@@ -70,5 +75,5 @@ headers_are forest headers ids all same names finds rows lists =
     record {
       names = found;
       rows = rows ∙ ap (λ (us : List WrittenClass). framework_headers ++ map (header_by forest.nodes find) us) as_users ∙ all_headers forest.nodes users find found;
-      interfaces = lists ∙ ap (λ (us : List WrittenClass). replicate 16 [] ++ map (λ (c : WrittenClass). interfaces_by find c.implements) us) as_users ∙ all_lists forest.nodes users find found;
+      interfaces = lists ∙ ap (λ (us : List WrittenClass). replicate framework_class_count [] ++ map (λ (c : WrittenClass). interfaces_by find c.implements) us) as_users ∙ all_lists forest.nodes users find found;
     }

@@ -2,13 +2,14 @@
 use Rattle.std.specs.Prelude.{◌≡◌, ℕ, List, [], ◌∷◌, map, filter_map, Option, Some, None, option_map, if◌then◌else◌}
 use Rattle.indexmap.specs.IndexMap.{get}
 use Rattle.scj_builtins.specs.declared.kinds.ClassKind.TheVariants.{Abstract as abstract_class, Concrete as concrete_class}
+use Rattle.scj_builtins.specs.declared.classes.FrameworkClass.{FrameworkClass}
 use Rattle.scj_builtins.specs.Framework.{object, framework_classes}
 use Rattle.scj_tree.specs.declared.nodes.Node.{Node}
 use Rattle.scj_tree.specs.Forest.{Forest}
 use Rattle.scj_rules.specs.declared.scopes.Written.{Written}
-use Rattle.scj_rules.specs.Words.{is_same}
+use Rattle.scj_base.specs.Bytes.{is_same}
 use Rattle.scj_rules.specs.Views.{DeclaredConstructor, WrittenClass, constructor_at}
-use Rattle.scj_rules.specs.Classes.{ClassRow, class_number, framework_rows_from}
+use Rattle.scj_rules.specs.Classes.{ClassRow, class_number, framework_row, framework_rows_from}
 use Rattle.scj_rules.specs.Contexts.{declarations_of}
 use Rattle.class_headers.specs.declared.headers.Header.{Header}
 use Rattle.class_headers.specs.declared.headers.Headers.{Headers}
@@ -37,6 +38,10 @@ header_by nodes find c =
       superclass = superclass_by find c.extends;
       constructor = first_node (filter_map (constructor_at nodes) c.members);
     }
+
+-- the header of a framework class
+abbrev pub framework_header : FrameworkClass → Header
+framework_header c = header_of (framework_row c.number c)
 
 -- the headers of the framework's classes
 unfoldable pub framework_headers : List Header

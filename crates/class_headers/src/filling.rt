@@ -1,12 +1,12 @@
 //! The columns of the table.
 
-ghost use Rattle.std.specs.Prelude.{◌≡◌, ◌++◌, [], map, filter_map, replicate, IfOk, OnOk, None, Some};
-ghost use Rattle.scj_builtins.specs.declared.kinds.ClassKind.TheVariants.{Concrete as concrete_class};
+ghost use Rattle.std.specs.Prelude.{◌≡◌, ◌++◌, [], map, filter_map, replicate, ◌==◌, if◌then◌else◌, IfOk, OnOk, None, Some};
+ghost use Rattle.scj_builtins.specs.Framework.{object, framework_class_count};
 ghost use Rattle.std.specs.List.{cons_option};
 ghost use Rattle.indexmap.specs.IndexMap.{get};
-ghost use Rattle.scj_rules.specs.Words.{is_same};
+ghost use Rattle.scj_base.specs.Bytes.{is_same};
 ghost use Rattle.scj_rules.specs.Views.{WrittenClass, class_at};
-ghost use Rattle.class_headers.specs.Columns.{framework_headers, header_by, interfaces_by, IsHeadersOf};
+ghost use Rattle.class_headers.specs.Columns.{framework_header, framework_headers, header_by, interfaces_by, IsHeadersOf};
 
 use crate::headers::{Header, Headers};
 use crate::ids::class_ids;
@@ -17,57 +17,39 @@ use indexmap::IndexMap;
 use node_views::class_name;
 use scj_base::ids::OBJECT;
 use scj_base::{ClassId, Memory, NodeId};
-use scj_builtins::ClassKind;
+use scj_builtins::{FRAMEWORK_CLASS_COUNT, FrameworkClass, framework_classes};
 use scj_tree::Program;
 use std::alloc::Global;
 
-/// The header of a framework class under `Object`.
-fn under_object(kind: ClassKind) -> Header
-    ensures { result ≡ record { node = None; kind = kind; superclass = Some 0; constructor = None } }
+/// The superclass of a framework class.
+fn framework_superclass(class: &FrameworkClass) -> Option<ClassId>
+    ensures { result ≡ (if class.now.number == object then None else Some object) }
 {
-    Header {
-        node: None,
-        kind,
-        superclass: Some(OBJECT),
-        constructor: None,
+    if class.number == OBJECT {
+        return None;
     }
+    Some(OBJECT)
 }
 
-/// The header of `Object`.
-fn of_object() -> Header
-    ensures { result ≡ record { node = None; kind = concrete_class; superclass = None; constructor = None } }
+/// Puts the headers of these framework classes last.
+#[tactic(auto, unfolding(crate::specs::Columns::header_of, scj_rules::specs::Classes::framework_row))]
+fn add_framework_headers(
+    classes: &[FrameworkClass],
+    headers: &mut Vec<Header>,
+) -> Result<(), Memory>
+    ensures { OnOk result (headers.new.items ≡ headers.old.items ++ map framework_header classes.now) }
 {
-    Header {
-        node: None,
-        kind: ClassKind::Concrete,
-        superclass: None,
-        constructor: None,
+    let mut others = classes;
+    while let [class, rest @ ..] = others {
+        headers.push(Header {
+            node: None,
+            kind: class.kind,
+            superclass: framework_superclass(class),
+            constructor: None,
+        })?;
+        others = rest;
     }
-}
-
-/// The headers of the framework's classes.
-#[tactic(auto, unfolding(crate::specs::Columns::framework_headers, crate::specs::Columns::header_of, scj_rules::specs::Classes::framework_rows_from, scj_rules::specs::Classes::framework_row, scj_builtins::specs::Framework::framework_classes))]
-fn of_framework() -> [Header; 16]
-    ensures { result ≡ framework_headers }
-{
-    [
-        of_object(),
-        under_object(ClassKind::Interface),
-        under_object(ClassKind::Interface),
-        under_object(ClassKind::Abstract),
-        under_object(ClassKind::Abstract),
-        under_object(ClassKind::Abstract),
-        under_object(ClassKind::Abstract),
-        under_object(ClassKind::Static),
-        under_object(ClassKind::Static),
-        under_object(ClassKind::Static),
-        under_object(ClassKind::Static),
-        under_object(ClassKind::Form),
-        under_object(ClassKind::Form),
-        under_object(ClassKind::Form),
-        under_object(ClassKind::Form),
-        under_object(ClassKind::Form),
-    ]
+    Ok(())
 }
 
 /// Puts the headers of the classes at these nodes last.
@@ -91,6 +73,7 @@ fn add_headers(
 }
 
 /// The headers of the framework's classes and of those at these nodes.
+#[tactic(auto, using(crate::proofs::AssemblyLemmas::framework_headers_are))]
 fn headers_of(
     alloc: Global,
     program: &Program,
@@ -99,9 +82,8 @@ fn headers_of(
 ) -> Result<Vec<Header>, Memory>
     ensures { IfOk result (λ headers. headers.items ≡ framework_headers ++ map (header_by program.now.nodes (get is_same names.now)) (filter_map (class_at program.now.nodes) ids.now)) }
 {
-    let framework = of_framework();
     let mut headers = Vec::new(alloc);
-    headers.extend_from_slice(&framework)?;
+    add_framework_headers(&framework_classes(), &mut headers)?;
     add_headers(program, names, ids, &mut headers)?;
     Ok(headers)
 }
@@ -164,10 +146,10 @@ fn interfaces_of(
     names: &IndexMap<NameKey, ClassId>,
     ids: &[NodeId],
 ) -> Result<Vec<Vec<ClassId>>, Memory>
-    ensures { IfOk result (λ lists. map (λ v. v.items) lists.items ≡ replicate 16 [] ++ map (λ (c : WrittenClass). interfaces_by (get is_same names.now) c.implements) (filter_map (class_at program.now.nodes) ids.now)) }
+    ensures { IfOk result (λ lists. map (λ v. v.items) lists.items ≡ replicate framework_class_count [] ++ map (λ (c : WrittenClass). interfaces_by (get is_same names.now) c.implements) (filter_map (class_at program.now.nodes) ids.now)) }
 {
     let mut lists = Vec::new(alloc);
-    add_empty(alloc, &mut lists, 16)?;
+    add_empty(alloc, &mut lists, FRAMEWORK_CLASS_COUNT as usize)?;
     add_interfaces(alloc, program, names, ids, &mut lists)?;
     Ok(lists)
 }

@@ -3,40 +3,29 @@
 ghost use Rattle.std.specs.Prelude.{◌≡◌, ◌++◌, List, ℕ, map, filter_map, position, IfOk, OnOk, if◌then◌else◌, Some, None};
 ghost use Rattle.std.specs.Option.{option_or};
 ghost use Rattle.indexmap.specs.IndexMap.{get};
-ghost use Rattle.scj_builtins.specs.Framework.{FrameworkClass, framework_classes};
-ghost use Rattle.scj_rules.specs.Words.{is_same};
+ghost use Rattle.scj_builtins.specs.declared.classes.FrameworkClass.{FrameworkClass};
+ghost use Rattle.scj_builtins.specs.Framework.{framework_classes};
+ghost use Rattle.scj_base.specs.Bytes.{is_same};
 ghost use Rattle.scj_rules.specs.Views.{WrittenClass, class_at};
 
 use crate::keys::NameKey;
 use indexmap::IndexMap;
 use node_views::class_name;
 use scj_base::{ClassId, Memory, Name, NodeId};
+use scj_builtins::{FrameworkClass, framework_classes};
 use scj_tree::Program;
 use std::alloc::Global;
 
-/// The names of the framework's classes.
-#[tactic(auto, unfolding(scj_builtins::specs::Framework::framework_classes))]
-fn framework_names() -> [Name; 16]
-    ensures { result ≡ map (λ (c : FrameworkClass). c.name) framework_classes }
+/// Puts the names of these framework classes last.
+fn add_framework_names(classes: &[FrameworkClass], names: &mut Vec<Name>) -> Result<(), Memory>
+    ensures { OnOk result (names.new.items ≡ names.old.items ++ map (λ (c : FrameworkClass). c.name) classes.now) }
 {
-    [
-        Name::new(b"Object"),
-        Name::new(b"Runnable"),
-        Name::new(b"Safelet"),
-        Name::new(b"Mission"),
-        Name::new(b"MissionSequencer"),
-        Name::new(b"PeriodicEventHandler"),
-        Name::new(b"AperiodicEventHandler"),
-        Name::new(b"ManagedMemory"),
-        Name::new(b"Services"),
-        Name::new(b"Trace"),
-        Name::new(b"Device"),
-        Name::new(b"PriorityParameters"),
-        Name::new(b"PeriodicParameters"),
-        Name::new(b"AperiodicParameters"),
-        Name::new(b"StorageParameters"),
-        Name::new(b"RelativeTime"),
-    ]
+    let mut others = classes;
+    while let [class, rest @ ..] = others {
+        names.push(class.name)?;
+        others = rest;
+    }
+    Ok(())
 }
 
 /// Puts the names of the classes at these nodes last.
@@ -58,9 +47,8 @@ fn add_names(program: &Program, ids: &[NodeId], names: &mut Vec<Name>) -> Result
 pub fn names_of(alloc: Global, program: &Program, ids: &[NodeId]) -> Result<Vec<Name>, Memory>
     ensures { IfOk result (λ names. names.items ≡ map (λ (c : FrameworkClass). c.name) framework_classes ++ map (λ (c : WrittenClass). c.name) (filter_map (class_at program.now.nodes) ids.now)) }
 {
-    let framework = framework_names();
     let mut names = Vec::new(alloc);
-    names.extend_from_slice(&framework)?;
+    add_framework_names(&framework_classes(), &mut names)?;
     add_names(program, ids, &mut names)?;
     Ok(names)
 }

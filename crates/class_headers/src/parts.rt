@@ -2,7 +2,7 @@
 
 ghost use Rattle.std.specs.Prelude.{◌≡◌, [], filter_map, IfOk, option_map, option_and_then, unwrap_or, if◌then◌else◌};
 ghost use Rattle.indexmap.specs.IndexMap.{get};
-ghost use Rattle.scj_rules.specs.Words.{is_same};
+ghost use Rattle.scj_base.specs.Bytes.{is_same};
 ghost use Rattle.scj_rules.specs.Views.{WrittenClass, class_at, constructor_at, named_super};
 ghost use Rattle.class_headers.specs.Columns.{superclass_by, interfaces_by, header_by, first_node};
 ghost use Rattle.scj_builtins.specs.declared.kinds.ClassKind.TheVariants.{Abstract as abstract_class, Concrete as concrete_class};

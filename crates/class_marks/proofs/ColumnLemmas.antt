@@ -1,11 +1,11 @@
 -- The columns of the table at a class.
-use Rattle.std.proofs.Common.{◌≡◌, ℕ, ◌<◌, List, [], ◌∷◌, length, map, get_or, refl, sym, ap, ◌∙◌, Option, Some, None, slice_get, option_map, option_and_then, unwrap_or}
+use Rattle.std.proofs.Common.{◌≡◌, ℕ, ◌<◌, List, [], ◌∷◌, length, get_or, refl, sym, ap, ◌∙◌, Option, Some, None, slice_get, option_map, option_and_then, unwrap_or}
 use Rattle.std.proofs.lemmas.List.{length-map}
 use Rattle.std.proofs.lemmas.Option.{slice_get-map, slice_get_read}
 use Rattle.scj_tree.specs.Forest.{Forest}
 use Rattle.scj_rules.specs.Classes.{ClassRow, superclass_in, interfaces_in}
 use Rattle.scj_rules.specs.Types.{constructor_in}
-use Rattle.scj_rules.specs.Contexts.{Declarations, declarations_of}
+use Rattle.scj_rules.specs.Contexts.{declarations_of}
 use Rattle.class_headers.specs.declared.headers.Header.{Header}
 use Rattle.class_headers.specs.declared.headers.Headers.{Headers}
 use Rattle.scj_rules.specs.Views.{WrittenClass, DeclaredConstructor}

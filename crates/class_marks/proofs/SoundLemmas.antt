@@ -1,21 +1,22 @@
 -- The rows of the classes, and the nodes of which they tell.
-use Rattle.std.proofs.Common.{◌≡◌, ℕ, zero, suc, ◌+◌, ◌<◌, ◌≤◌, List, [], ◌∷◌, ◌++◌, length, map, refl, sym, ap, ◌∙◌, subst, arith, add-zero, Option, Some, None, Bool, true, false, slice_get, option_map, option_and_then, unwrap_or, nat_lt, if◌then◌else◌}
+use Rattle.std.proofs.Common.{◌≡◌, ℕ, zero, suc, ◌+◌, ◌<◌, ◌≤◌, List, [], ◌∷◌, ◌++◌, length, map, refl, sym, ap, ◌∙◌, subst, arith, add-zero, Option, Some, None, slice_get, option_map, option_and_then, unwrap_or, nat_lt, if◌then◌else◌}
 use Rattle.std.proofs.lemmas.Bool.Decides.{nat_tests}
 use Rattle.std.specs.List.{filter_map, cons_option}
-use Rattle.scj_builtins.specs.Framework.{FrameworkClass, framework_classes, framework_methods}
+use Rattle.scj_builtins.specs.declared.classes.FrameworkClass.{FrameworkClass}
+use Rattle.scj_builtins.specs.Framework.{framework_classes}
 use Rattle.scj_tree.specs.declared.nodes.Node.{Node}
 use Rattle.scj_tree.specs.declared.nodes.Node.TheVariants.{Class}
 use Rattle.scj_tree.specs.Forest.{Forest}
 use Rattle.scj_rules.specs.Views.{WrittenClass, DeclaredMethod, class_at, class_of, field_at, method_at, constructor_at}
 use Rattle.scj_rules.specs.Classes.{ClassRow, user_classes, class_names, class_nodes, written_rows, user_row, framework_row, framework_rows_from, framework_methods_on, first_user_class}
-use Rattle.scj_rules.specs.Contexts.{Declarations, declarations_of}
+use Rattle.scj_rules.specs.Contexts.{declarations_of}
 use Rattle.class_marks.specs.Members.{class_written}
 
 abbrev pub members_of : Option WrittenClass → List ℕ
 members_of o = unwrap_or (option_map (λ (c : WrittenClass). c.members) o) []
 
 abbrev pub methods_of : List Node → ℕ → Option WrittenClass → List DeclaredMethod
-methods_of nodes class written = if nat_lt class first_user_class then framework_methods_on class 0 framework_methods else filter_map (method_at nodes) (members_of written)
+methods_of nodes class written = if nat_lt class first_user_class then framework_methods_on class else filter_map (method_at nodes) (members_of written)
 
 -- the row tells what is at the nodes of its class
 pub record IsSound (nodes : List Node) (class : ℕ) (row : ClassRow) : Type 0 where
@@ -49,7 +50,7 @@ sound_append nodes class (x ∷ xs) ys s t =
     let same : class + suc (length xs) ≡ class + 1 + length xs = omega arith in
     (s.0, sound_append nodes (class + 1) xs ys s.1 (let P : ℕ → Type 0 = λ n. AreSound nodes n ys in subst P same t))
 
-pub first_methods : (nodes : List Node) (class : ℕ) (written : Option WrittenClass) → class < first_user_class → framework_methods_on class 0 framework_methods ≡ methods_of nodes class written
+pub first_methods : (nodes : List Node) (class : ℕ) (written : Option WrittenClass) → class < first_user_class → framework_methods_on class ≡ methods_of nodes class written
 first_methods nodes class written h = grind (arith, nat_tests)
 
 pub other_methods : (nodes : List Node) (class : ℕ) (written : Option WrittenClass) → first_user_class ≤ class → filter_map (method_at nodes) (members_of written) ≡ methods_of nodes class written

@@ -1,10 +1,8 @@
 -- What is forbidden in a header, part by part.
-use Rattle.std.proofs.Common.{◌≡◌, ℕ, List, [], ◌∷◌, ◌++◌, refl, sym, ap, ◌∙◌, append-nil, append_assoc, Bool, true, false, not, ◌&&◌, is_some, filter, Option, Some, None, option_map, option_and_then, unwrap_or, cond, slice_get, ◌||◌, if◌then◌else◌}
-use Rattle.scj_tree.specs.Forest.{Forest}
+use Rattle.std.proofs.Common.{◌≡◌, ℕ, List, [], ◌∷◌, ◌++◌, refl, sym, ap, ◌∙◌, append_assoc, Bool, true, false, not, ◌&&◌, filter, Option, Some, None, option_map, option_and_then, unwrap_or, cond, if◌then◌else◌}
 use Rattle.scj_rules.specs.declared.scopes.Written.{Written}
-use Rattle.scj_rules.specs.Words.{holds}
 use Rattle.scj_rules.specs.Views.{WrittenClass}
-use Rattle.scj_rules.specs.Classes.{ClassRow, class_number, unknown_supers, forbidden_interfaces, forbidden_supers, is_empty, is_kind, kinds_of, is_extended, is_implemented, brings_too_many}
+use Rattle.scj_rules.specs.Classes.{class_number, unknown_supers, forbidden_interfaces, forbidden_supers, is_empty, kinds_of, with_kinds, is_forbidden_interface, is_forbidden_superclass}
 use Rattle.scj_rules.specs.Contexts.{Declarations}
 use Rattle.class_marks.specs.Supers.{is_known, is_known_if_there, are_known, knows_supers, forbidden_in, bad_extends, kinds_above, bad_interface, kinds_brought}
 
@@ -36,33 +34,36 @@ pub none_forbidden : (p : Declarations) (there : List ℕ) → forbidden_interfa
 unfolding forbidden_interfaces
 none_forbidden p there = refl
 
-abbrev is_bad_interface : Declarations → List ℕ → ℕ → Bool
-is_bad_interface p there class = not (holds (slice_get p.written class) (λ (row : ClassRow). is_implemented row.kind)) || brings_too_many there (filter is_kind (class ∷ []))
-
 at_class : (p : Declarations) (there : List ℕ) (w : Written) (ws : List Written) (o : Option ℕ)
-    → elim o [ None ↦ forbidden_interfaces p.names p.written there ws | Some class ↦ (if is_bad_interface p there class then w ∷ [] else []) ++ forbidden_interfaces p.names p.written (there ++ filter is_kind (class ∷ [])) ws ]
-    ≡ elim o [ None ↦ [] | Some class ↦ if is_bad_interface p there class then w ∷ [] else [] ]
-    ++ forbidden_interfaces p.names p.written (there ++ elim o [ None ↦ [] | Some class ↦ filter is_kind (class ∷ []) ]) ws
-at_class p there w ws None = ap (λ (ks : List ℕ). forbidden_interfaces p.names p.written ks ws) (sym (append-nil there))
+    → elim o [
+      | None ↦ forbidden_interfaces p.names p.written there ws
+      | Some class ↦
+          (if is_forbidden_interface p.written there class then w ∷ [] else [])
+          ++ forbidden_interfaces p.names p.written (with_kinds there (kinds_of p.written class)) ws
+    ]
+    ≡ elim o [ None ↦ [] | Some class ↦ if is_forbidden_interface p.written there class then w ∷ [] else [] ]
+    ++ forbidden_interfaces p.names p.written (with_kinds there (elim o [ None ↦ [] | Some class ↦ kinds_of p.written class ])) ws
+unfolding with_kinds
+at_class p there w ws None = refl
 at_class p there w ws (Some class) = refl
 
 step : (p : Declarations) (there : List ℕ) (w : Written) (ws : List Written)
-    → forbidden_interfaces p.names p.written there (w ∷ ws) ≡ bad_interface p there w ++ forbidden_interfaces p.names p.written (there ++ kinds_brought p w) ws
+    → forbidden_interfaces p.names p.written there (w ∷ ws)
+    ≡ bad_interface p there w ++ forbidden_interfaces p.names p.written (with_kinds there (kinds_brought p w)) ws
 unfolding forbidden_interfaces bad_interface kinds_brought
 step p there w ws = at_class p there w ws (class_number p.names w.name)
 
 pub one_forbidden : (p : Declarations) (there : List ℕ) (w : Written) (ws found : List Written)
-    → (found ++ bad_interface p there w) ++ forbidden_interfaces p.names p.written (there ++ kinds_brought p w) ws ≡ found ++ forbidden_interfaces p.names p.written there (w ∷ ws)
+    → (found ++ bad_interface p there w) ++ forbidden_interfaces p.names p.written (with_kinds there (kinds_brought p w)) ws
+    ≡ found ++ forbidden_interfaces p.names p.written there (w ∷ ws)
 one_forbidden p there w ws found =
-    append_assoc found (bad_interface p there w) (forbidden_interfaces p.names p.written (there ++ kinds_brought p w) ws) ∙ ap (λ (xs : List Written). found ++ xs) (sym (step p there w ws))
+    append_assoc found (bad_interface p there w) (forbidden_interfaces p.names p.written (with_kinds there (kinds_brought p w)) ws)
+    ∙ ap (λ (xs : List Written). found ++ xs) (sym (step p there w ws))
 
 -- both parts of a header
-abbrev is_bad_class : Declarations → ℕ → Bool
-is_bad_class p class = not (holds (slice_get p.written class) (λ (row : ClassRow). is_extended row.kind)) || brings_too_many [] (kinds_of p.written class)
-
 above_class : (p : Declarations) (e : Written) (ws : List Written) (o : Option ℕ)
-    → elim o [ None ↦ [] | Some class ↦ if is_bad_class p class then e ∷ [] else [] ] ++ forbidden_interfaces p.names p.written (elim o [ None ↦ [] | Some class ↦ kinds_of p.written class ]) ws
-    ≡ elim o [ None ↦ forbidden_interfaces p.names p.written [] ws | Some class ↦ (if is_bad_class p class then e ∷ [] else []) ++ forbidden_interfaces p.names p.written (kinds_of p.written class) ws ]
+    → elim o [ None ↦ [] | Some class ↦ if is_forbidden_superclass p.written class then e ∷ [] else [] ] ++ forbidden_interfaces p.names p.written (elim o [ None ↦ [] | Some class ↦ kinds_of p.written class ]) ws
+    ≡ elim o [ None ↦ forbidden_interfaces p.names p.written [] ws | Some class ↦ (if is_forbidden_superclass p.written class then e ∷ [] else []) ++ forbidden_interfaces p.names p.written (kinds_of p.written class) ws ]
 above_class p e ws None = refl
 above_class p e ws (Some class) = refl
 
@@ -72,7 +73,7 @@ above_name : (p : Declarations) (ws : List Written) (o : Option Written)
       | None ↦ forbidden_interfaces p.names p.written [] ws
       | Some e ↦ elim (class_number p.names e.name) [
         | None ↦ forbidden_interfaces p.names p.written [] ws
-        | Some class ↦ (if is_bad_class p class then e ∷ [] else []) ++ forbidden_interfaces p.names p.written (kinds_of p.written class) ws
+        | Some class ↦ (if is_forbidden_superclass p.written class then e ∷ [] else []) ++ forbidden_interfaces p.names p.written (kinds_of p.written class) ws
       ]
     ]
 unfolding bad_extends kinds_above

@@ -1,9 +1,8 @@
 -- What is forbidden in the header of a class, where there is one.
-use Rattle.std.specs.Prelude.{ℕ, Bool, true, not, ◌&&◌, ◌||◌, is_some, List, [], ◌∷◌, filter, slice_get, Option, Some, None, if◌then◌else◌}
+use Rattle.std.specs.Prelude.{ℕ, Bool, true, not, ◌&&◌, is_some, List, [], ◌∷◌, filter, Option, Some, None, if◌then◌else◌}
 use Rattle.scj_rules.specs.declared.scopes.Written.{Written}
-use Rattle.scj_rules.specs.Words.{holds}
 use Rattle.scj_rules.specs.Views.{WrittenClass}
-use Rattle.scj_rules.specs.Classes.{ClassRow, class_number, is_kind, kinds_of, is_extended, is_implemented, brings_too_many, unknown_supers, forbidden_supers, is_cyclic, is_empty}
+use Rattle.scj_rules.specs.Classes.{class_number, kinds_of, is_forbidden_superclass, is_forbidden_interface, unknown_supers, forbidden_supers, is_cyclic, is_empty}
 use Rattle.scj_rules.specs.Contexts.{Declarations}
 
 abbrev pub is_known : List (List ℕ) → Written → Bool
@@ -37,20 +36,21 @@ bad_extends p None = []
 bad_extends p (Some e) =
     elim (class_number p.names e.name) [
       | None ↦ []
-      | Some class ↦ if not (holds (slice_get p.written class) (λ (row : ClassRow). is_extended row.kind)) || brings_too_many [] (kinds_of p.written class) then e ∷ [] else []
+      | Some class ↦ if is_forbidden_superclass p.written class then e ∷ [] else []
     ]
 
 unfoldable pub kinds_above : Declarations → Option Written → List ℕ
 kinds_above p None = []
 kinds_above p (Some e) = elim (class_number p.names e.name) [ None ↦ [] | Some class ↦ kinds_of p.written class ]
 
--- the same after `implements`, where these kinds are there
+-- the same after `implements`, where the names before it have these kinds
 unfoldable pub bad_interface : Declarations → List ℕ → Written → List Written
 bad_interface p there w =
     elim (class_number p.names w.name) [
       | None ↦ []
-      | Some class ↦ if not (holds (slice_get p.written class) (λ (row : ClassRow). is_implemented row.kind)) || brings_too_many there (filter is_kind (class ∷ [])) then w ∷ [] else []
+      | Some class ↦ if is_forbidden_interface p.written there class then w ∷ [] else []
     ]
 
+-- the kinds of the class of a name
 unfoldable pub kinds_brought : Declarations → Written → List ℕ
-kinds_brought p w = elim (class_number p.names w.name) [ None ↦ [] | Some class ↦ filter is_kind (class ∷ []) ]
+kinds_brought p w = elim (class_number p.names w.name) [ None ↦ [] | Some class ↦ kinds_of p.written class ]

@@ -1,9 +1,9 @@
 //! The kinds of class of which a class can be of one at most.
 
-ghost use Rattle.std.specs.Prelude.{◌≡◌, ◌==◌, ◌++◌, not, IfOk};
+ghost use Rattle.std.specs.Prelude.{◌≡◌, ◌==◌, ◌++◌, not, IfOk, OnOk};
 ghost use Rattle.std.specs.List.{list_any};
 ghost use Rattle.scj_rules.specs.Words.{is_among};
-ghost use Rattle.scj_rules.specs.Classes.{is_kind, is_cyclic, superclasses, all_interfaces, kinds_of, more_than_one, brings_too_many};
+ghost use Rattle.scj_rules.specs.Classes.{is_kind, is_cyclic, superclasses, all_interfaces, kinds_of, more_than_one, brings_too_many, with_kinds};
 ghost use Rattle.scj_rules.specs.Contexts.{declarations_of};
 
 use crate::classes::WrittenClasses;
@@ -72,6 +72,21 @@ pub fn brings_too_many(there: &[ClassId], brought: &[ClassId]) -> bool
     ensures { result ≡ brings_too_many there.now brought.now }
 {
     has_new(there, brought) && more_than_one(there, brought)
+}
+
+/// Adds kinds to those that are there, without repeating any.
+#[tactic(auto, unfolding(scj_rules::specs::Classes::with_kinds))]
+pub fn add_kinds(kinds: &[ClassId], there: &mut Vec<ClassId>) -> Result<(), Memory>
+    ensures { OnOk result (there.new.items ≡ with_kinds there.old.items kinds.now) }
+{
+    let mut others = kinds;
+    while let [kind, rest @ ..] = others {
+        if !is_listed(*kind, there) {
+            there.push(*kind)?;
+        }
+        others = rest;
+    }
+    Ok(())
 }
 
 impl<'a> WrittenClasses<'a> {

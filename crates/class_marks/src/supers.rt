@@ -1,15 +1,15 @@
 //! Names after `extends` and `implements` that aren't known, or are forbidden.
 
-ghost use Rattle.std.specs.Prelude.{◌≡◌, ◌++◌, ◌∷◌, [], not, ◌||◌, filter, filter_map, option_and_then, slice_get, IfOk, OnOk};
+ghost use Rattle.std.specs.Prelude.{◌≡◌, ◌++◌, filter_map, option_and_then, slice_get, IfOk, OnOk};
 ghost use Rattle.scj_rules.specs.Definitions.{read};
 ghost use Rattle.scj_rules.specs.Words.{holds};
 ghost use Rattle.scj_rules.specs.Views.{WrittenClass, class_at, named_super};
-ghost use Rattle.scj_rules.specs.Classes.{ClassRow, class_number, is_kind, is_extended, is_implemented, brings_too_many, forbidden_interfaces};
+ghost use Rattle.scj_rules.specs.Classes.{ClassRow, class_number, is_extended, is_implemented, forbidden_interfaces};
 ghost use Rattle.scj_rules.specs.Contexts.{declarations_of};
 ghost use Rattle.class_marks.specs.Supers.{is_known, is_known_if_there, are_known, knows_supers, forbidden_in, is_well_headed_in, bad_extends, kinds_above, bad_interface, kinds_brought};
 
 use crate::classes::WrittenClasses;
-use crate::kinds::{brings_too_many, is_kind};
+use crate::kinds::{add_kinds, brings_too_many};
 use node_views::{class_extends, interface_nodes, named_super};
 use scj_base::{ClassId, Memory, NodeId};
 use scj_builtins::ClassKind;
@@ -37,15 +37,6 @@ fn is_implemented(kind: ClassKind) -> bool
         ClassKind::Interface => true,
         _ => false,
     }
-}
-
-/// Whether a class brings too many kinds to those that are there.
-#[tactic(auto, unfolding(scj_rules::specs::Classes::is_kind))]
-fn brings_one(there: &[ClassId], class: ClassId) -> bool
-    ensures { result ≡ brings_too_many there.now (filter is_kind (class ∷ [])) }
-{
-    let one = [class];
-    is_kind(class) && brings_too_many(there, one.as_slice())
 }
 
 impl<'a> WrittenClasses<'a> {
@@ -111,41 +102,43 @@ impl<'a> WrittenClasses<'a> {
         }
     }
 
-    /// Puts a name after `implements` last, where it is forbidden.
-    #[tactic(auto, unfolding(crate::specs::Supers::bad_interface))]
+    /// The kinds of the class of a name.
+    #[tactic(auto, unfolding(crate::specs::Supers::kinds_brought))]
+    fn kinds_brought(&self, alloc: Global, written: &Written) -> Result<Vec<ClassId>, Memory>
+        ensures { IfOk result (λ kinds. kinds.items ≡ kinds_brought (declarations_of self.now) written.now) }
+    {
+        if let Some(class) = self.class_of(&written.name) {
+            let kinds = self.kinds_of(alloc, class)?;
+            return Ok(kinds);
+        }
+        Ok(Vec::new(alloc))
+    }
+
+    /// Puts a name after `implements` last, where it is forbidden. `kinds` are those of its class.
+    #[tactic(auto, unfolding(crate::specs::Supers::bad_interface, crate::specs::Supers::kinds_brought))]
     fn note_interface(
         &self,
         written: &Written,
         there: &[ClassId],
+        kinds: &[ClassId],
         found: &mut Vec<Written>,
     ) -> Result<(), Memory>
+        requires { kinds.now ≡ kinds_brought (declarations_of self.now) written.now }
         ensures { OnOk result (found.new.items ≡ found.old.items ++ bad_interface (declarations_of self.now) there.now written.now) }
     {
         if let Some(class) = self.class_of(&written.name) {
-            if !self.may_implement(class) || brings_one(there, class) {
+            if !self.may_implement(class) || brings_too_many(there, kinds) {
                 found.push(*written)?;
             }
         }
         Ok(())
     }
 
-    /// Puts the kind of a name after `implements` last, where it is one.
-    #[tactic(auto, unfolding(crate::specs::Supers::kinds_brought))]
-    fn add_kind(&self, written: &Written, there: &mut Vec<ClassId>) -> Result<(), Memory>
-        ensures { OnOk result (there.new.items ≡ there.old.items ++ kinds_brought (declarations_of self.now) written.now) }
-    {
-        if let Some(class) = self.class_of(&written.name) {
-            if is_kind(class) {
-                there.push(class)?;
-            }
-        }
-        Ok(())
-    }
-
-    /// Puts what is forbidden after `implements` last, where these kinds are there.
+    /// Puts what is forbidden after `implements` last, where the names before have these kinds.
     #[tactic(auto, using(crate::proofs::SuperLemmas::one_forbidden, crate::proofs::SuperLemmas::none_forbidden))]
     fn note_interfaces(
         &self,
+        alloc: Global,
         nodes: &[NodeId],
         there: &mut Vec<ClassId>,
         found: &mut Vec<Written>,
@@ -155,8 +148,9 @@ impl<'a> WrittenClasses<'a> {
         let mut others = nodes;
         while let [node, rest @ ..] = others {
             if let Some(written) = named_super(self.program(), *node) {
-                self.note_interface(&written, there, found)?;
-                self.add_kind(&written, there)?;
+                let kinds = self.kinds_brought(alloc, &written)?;
+                self.note_interface(&written, there, &kinds, found)?;
+                add_kinds(&kinds, there)?;
             }
             others = rest;
         }
@@ -207,7 +201,7 @@ impl<'a> WrittenClasses<'a> {
         let mut found = Vec::new(alloc);
         self.note_extends(node, &there, &mut found)?;
         let interfaces = interface_nodes(self.program(), node);
-        self.note_interfaces(interfaces, &mut there, &mut found)?;
+        self.note_interfaces(alloc, interfaces, &mut there, &mut found)?;
         Ok(found)
     }
 

@@ -10,7 +10,8 @@ use Rattle.std.proofs.lemmas.Option.{slice_get_past}
 use Rattle.scj_tree.specs.declared.nodes.Node.{Node}
 use Rattle.scj_tree.specs.Forest.{Forest}
 use Rattle.scj_rules.specs.declared.views.Declared.{Declared}
-use Rattle.scj_rules.specs.Words.{is_same, holds}
+use Rattle.scj_base.specs.Bytes.{is_same}
+use Rattle.scj_rules.specs.Words.{holds}
 use Rattle.scj_rules.specs.Views.{DeclaredMethod, WrittenClass, field_at, method_at}
 use Rattle.scj_rules.specs.Classes.{ClassRow}
 use Rattle.scj_rules.specs.Contexts.{Declarations, declarations_of}

@@ -7,7 +7,8 @@ use Rattle.scj_tree.specs.Forest.{Forest}
 use Rattle.scj_tree.specs.Recursion.{joined_below}
 use Rattle.scj_rules.specs.declared.views.Declared.{Declared}
 use Rattle.scj_rules.specs.Views.{WrittenClass, field_at, field_of, method_at, constructor_at}
-use Rattle.scj_builtins.specs.Framework.{FrameworkClass, framework_classes, object}
+use Rattle.scj_builtins.specs.declared.classes.FrameworkClass.{FrameworkClass}
+use Rattle.scj_builtins.specs.Framework.{framework_classes, object}
 use Rattle.scj_rules.specs.Classes.{ClassRow, field_nodes, method_nodes, counted_row, counted_from, is_well_headed, user_classes, class_names, written_rows, user_row, framework_row, framework_rows_from}
 use Rattle.class_marks.proofs.SoundLemmas.{members_of, row_sound}
 use Rattle.std.proofs.lemmas.List.{flat_map_more, take_more, take_all}

@@ -6,7 +6,8 @@ use Rattle.scj_tree.specs.Recursion.{joined_below}
 use Rattle.scj_rules.specs.Contexts.{declarations_of}
 use Rattle.class_marks.specs.Members.{members_in}
 use Rattle.scj_rules.specs.declared.views.Declared.{Declared}
-use Rattle.scj_rules.specs.Words.{is_same, holds}
+use Rattle.scj_base.specs.Bytes.{is_same}
+use Rattle.scj_rules.specs.Words.{holds}
 use Rattle.scj_rules.specs.Views.{DeclaredMethod, field_at, method_at, constructor_at}
 use Rattle.class_headers.specs.declared.keys.MemberKey.{MemberKey}
 

@@ -3,7 +3,7 @@ use Rattle.std.proofs.Common.{◌≡◌, ℕ, zero, suc, ◌+◌, ◌<◌, ◌�
 use Rattle.std.specs.List.{position}
 use Rattle.std.proofs.lemmas.Bool.{cases_lt}
 use Rattle.std.proofs.lemmas.Option.{slice_get_past}
-use Rattle.scj_builtins.specs.Framework.{framework_methods, mission, safelet}
+use Rattle.scj_builtins.specs.Framework.{framework_methods, mission, safelet, framework_method_count}
 use Rattle.scj_tree.specs.Forest.{Forest}
 use Rattle.scj_rules.specs.Words.{is_among}
 use Rattle.scj_rules.specs.Views.{WrittenClass, class_at}
@@ -81,6 +81,6 @@ unfolding field_number
 field_place rows id = no_shift (position (λ other. id == other) (field_nodes rows))
 
 pub method_place : (forest : Forest) (id : ℕ)
-    → option_map (λ place. 19 + place) (position (λ other. id == other) (method_nodes forest.nodes (declarations_of forest).users)) ≡ method_number forest.nodes (declarations_of forest).users id
+    → option_map (λ place. framework_method_count + place) (position (λ other. id == other) (method_nodes forest.nodes (declarations_of forest).users)) ≡ method_number forest.nodes (declarations_of forest).users id
 unfolding method_number framework_methods
 method_place forest id = refl

@@ -3,7 +3,8 @@ use Rattle.std.proofs.Common.{◌≡◌, ℕ, List, refl, Option, Some, None, Bo
 use Rattle.scj_tree.specs.declared.nodes.Node.{Node}
 use Rattle.scj_rules.specs.declared.views.Declared.{Declared}
 use Rattle.scj_rules.specs.declared.typing.FoundField.{FoundField}
-use Rattle.scj_rules.specs.Words.{is_same, holds}
+use Rattle.scj_base.specs.Bytes.{is_same}
+use Rattle.scj_rules.specs.Words.{holds}
 use Rattle.scj_rules.specs.Views.{field_at}
 use Rattle.scj_rules.specs.Contexts.{declarations_of}
 use Rattle.scj_rules.specs.Classes.{own_field}

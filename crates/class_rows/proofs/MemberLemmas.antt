@@ -3,7 +3,8 @@ use Rattle.std.proofs.Common.{◌≡◌, ℕ, ◌<◌, ◌≤◌, List, [], ◌�
 use Rattle.scj_tree.specs.Forest.{Forest}
 use Rattle.scj_rules.specs.declared.views.Declared.{Declared}
 use Rattle.scj_rules.specs.declared.typing.FoundField.{FoundField}
-use Rattle.scj_rules.specs.Words.{is_same, holds}
+use Rattle.scj_base.specs.Bytes.{is_same}
+use Rattle.scj_rules.specs.Words.{holds}
 use Rattle.scj_rules.specs.Views.{WrittenClass, DeclaredMethod, field_at, method_at}
 use Rattle.scj_rules.specs.Classes.{ClassRow, FoundMethod, own_field, own_method, first_user_class, framework_methods_on}
 use Rattle.scj_rules.specs.Contexts.{Declarations, declarations_of}

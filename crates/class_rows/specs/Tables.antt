@@ -9,7 +9,8 @@ use Rattle.scj_builtins.specs.Framework.{mission, safelet}
 use Rattle.scj_tree.specs.declared.nodes.Node.{Node}
 use Rattle.scj_tree.specs.Forest.{Forest}
 use Rattle.scj_rules.specs.declared.views.Declared.{Declared}
-use Rattle.scj_rules.specs.Words.{is_same, is_among, holds}
+use Rattle.scj_base.specs.Bytes.{is_same}
+use Rattle.scj_rules.specs.Words.{is_among, holds}
 use Rattle.scj_rules.specs.Views.{DeclaredMethod, DeclaredConstructor, WrittenClass, field_at, method_at}
 use Rattle.scj_rules.specs.Classes.{ClassRow, class_number, superclasses, all_interfaces, is_cyclic, is_well_headed, field_number, method_number}
 use Rattle.scj_rules.specs.Contexts.{Declarations, declarations_of}

@@ -13,6 +13,7 @@ use class_members::{field_nodes, fields_by_name, method_nodes, methods_by_name, 
 use indexmap::IndexMap;
 use scj_base::ids::{MISSION, SAFELET};
 use scj_base::{ClassId, Memory};
+use scj_builtins::FRAMEWORK_METHOD_COUNT;
 use scj_tree::Program;
 use std::alloc::Global;
 
@@ -74,7 +75,7 @@ fn method_numbers(alloc: Global, written: &WrittenClasses) -> Result<IndexMap<us
     ensures { IfOk result (λ map. (id : ℕ) → get ◌==◌ map id ≡ method_number written.now.nodes (declarations_of written.now).users id) }
 {
     let ids = method_nodes(alloc, written)?;
-    let places = places_of(alloc, &ids, 19)?;
+    let places = places_of(alloc, &ids, FRAMEWORK_METHOD_COUNT)?;
     Ok(places)
 }
 

@@ -2,7 +2,7 @@
 
 ghost use Rattle.std.specs.Prelude.{◌≡◌, ◌<◌, ◌≤◌, option_map};
 ghost use Rattle.scj_rules.specs.Words.{is_among};
-ghost use Rattle.scj_rules.specs.Classes.{superclasses, all_interfaces, is_sub, own_field, field_named, own_method, method_named, method_above, framework_row_named, field_number, method_number};
+ghost use Rattle.scj_rules.specs.Classes.{superclasses, all_interfaces, is_sub, own_field, field_named, own_method, method_named, method_above, framework_row_named, field_number, method_number, first_user_class};
 ghost use Rattle.scj_rules.specs.Contexts.{declarations_of};
 ghost use Rattle.method_rows.specs.Methods.{found_method};
 ghost use Rattle.class_rows.specs.Fields.{found_field};
@@ -13,6 +13,7 @@ use crate::fields::FieldRef;
 use class_headers::{MemberKey, NameKey};
 use method_rows::{MethodRef, MethodSource, framework_method};
 use scj_base::{ClassId, FieldId, MethodId, Name, NodeId};
+use scj_builtins::FRAMEWORK_CLASS_COUNT;
 
 impl<'a> Classes<'a> {
     /// Whether a class is the other one or stands under it by superclasses.
@@ -85,7 +86,7 @@ impl<'a> Classes<'a> {
     pub fn own_method(&self, class: ClassId, name: &Name) -> Option<MethodRef>
         ensures { option_map (found_method self.now.nodes) result ≡ own_method (declarations_of self.now).classes name.now class }
     {
-        if class.number() < 16 {
+        if class.number() < FRAMEWORK_CLASS_COUNT {
             self.framework_row(class, name)
         } else {
             self.declared_row(class, name)
@@ -94,7 +95,7 @@ impl<'a> Classes<'a> {
 
     /// The method of a name that a framework class declares itself.
     fn framework_row(&self, class: ClassId, name: &Name) -> Option<MethodRef>
-        requires { class < 16 }
+        requires { class < first_user_class }
         ensures { option_map (found_method self.now.nodes) result ≡ own_method (declarations_of self.now).classes name.now class }
     {
         match framework_method(class, name) {
@@ -108,7 +109,7 @@ impl<'a> Classes<'a> {
 
     /// The first method of a name that a user class declares itself.
     fn declared_row(&self, class: ClassId, name: &Name) -> Option<MethodRef>
-        requires { 16 ≤ class }
+        requires { first_user_class ≤ class }
         ensures { option_map (found_method self.now.nodes) result ≡ own_method (declarations_of self.now).classes name.now class }
     {
         match self.method_node(class, name) {
@@ -169,7 +170,7 @@ impl<'a> Classes<'a> {
     {
         let mut ancestors = self.ancestors(class);
         while let Some(at) = ancestors.next() {
-            if at.number() < 16 {
+            if at.number() < FRAMEWORK_CLASS_COUNT {
                 if let Some(method) = self.own_method(at, name) {
                     return Some(method);
                 }

@@ -1,8 +1,10 @@
 -- Abstract methods that are left open, one after the other.
-use Rattle.std.proofs.Common.{◌≡◌, ◌≢◌, ◌<◌, ◌≤◌, ◌||◌, ℕ, zero, suc, Bool, true, false, List, [], ◌∷◌, ◌++◌, filter, filter_map, Option, Some, None, refl, sym, ap, ◌∙◌, subst, arith, unwrap_or, slice_get, option_map, option_and_then, nat_lt, if◌then◌else◌}
+use Rattle.std.proofs.Common.{◌≡◌, ◌+◌, ◌&&◌, ◌==◌, map, drop, ◌<◌, ◌≤◌, ◌||◌, ℕ, zero, suc, Bool, true, false, List, [], ◌∷◌, ◌++◌, filter, filter_map, Option, Some, None, refl, sym, ap, ◌∙◌, subst, arith, unwrap_or, slice_get, option_map, option_and_then, nat_lt, if◌then◌else◌}
 use Rattle.std.specs.List.{list_any, cons_option}
 use Rattle.std.proofs.lemmas.Bool.{true≢false}
-use Rattle.scj_builtins.specs.Framework.{FrameworkMethod, framework_methods}
+use Rattle.scj_builtins.specs.declared.methods.FrameworkMethod.{FrameworkMethod}
+use Rattle.scj_builtins.specs.Framework.{framework_methods, framework_method_count}
+use Rattle.std.proofs.lemmas.List.{drop_all}
 use Rattle.scj_tree.specs.declared.nodes.Node.{Node}
 use Rattle.scj_tree.specs.Forest.{Forest}
 use Rattle.scj_rules.specs.Words.{holds}
@@ -14,7 +16,7 @@ use Rattle.method_rows.specs.Methods.{found_method, method_from, framework_numbe
 use Rattle.class_rows.specs.Tables.{members_in, class_written, has_good_header}
 use Rattle.class_rows.proofs.RowLemmas.{class_get, counted, under_object, counted_is, kept}
 use Rattle.class_rows.proofs.SoundLemmas.{members_of, row_sound, framework_there, first_methods, other_methods}
-use Rattle.class_rules.specs.Openings.{is_abstract, own_abstract}
+use Rattle.class_rules.specs.Openings.{is_abstract, own_abstract, is_abstract_on, is_row_left}
 
 pub any_append : {A : Type 0} (q : A → Bool) (xs ys : List A) → list_any q (xs ++ ys) ≡ (list_any q xs || list_any q ys)
 any_append q [] ys = refl
@@ -70,54 +72,67 @@ any_members q nodes id ids = go (method_at nodes id)
     go None = refl
     go (Some m) = first_filtered q is_abstract m (filter_map (method_at nodes) ids) (is_abstract m) refl
 
--- the abstract methods of each framework class
+-- ---- the methods of the framework, one after the other
+
 abbrev numbered : ℕ → DeclaredMethod
 numbered n = unwrap_or (framework_numbered n) no_method
 
-module _ (q : DeclaredMethod → Bool) where
-  pub runnable_left : (on : ℕ) → on ≡ 1 → q (numbered 0) ≡ list_any q (filter is_abstract (framework_methods_on on 0 framework_methods))
-  unfolding framework_methods_on framework_methods framework_numbered framework_method
-  runnable_left on e = rw e (or_nothing (q (numbered 0)))
+-- one method more
+first_left : (q : DeclaredMethod → Bool) (d : DeclaredMethod) (ds : List DeclaredMethod) (abstract : Bool) → is_abstract d ≡ abstract
+    → list_any q (filter is_abstract (d ∷ ds)) ≡ ((abstract && q d) || list_any q (filter is_abstract ds))
+first_left q d ds true e = rw e refl
+first_left q d ds false e = rw e refl
 
-  pub safelet_left : (on : ℕ) → on ≡ 2 → (q (numbered 1) || (q (numbered 2) || q (numbered 3))) ≡ list_any q (filter is_abstract (framework_methods_on on 0 framework_methods))
-  unfolding framework_methods_on framework_methods framework_numbered framework_method
-  safelet_left on e = rw e (ap (λ b. q (numbered 1) || (q (numbered 2) || b)) (or_nothing (q (numbered 3))))
+-- the abstract ones of a class are those of the table
+rows_left : (q : DeclaredMethod → Bool) (on : ℕ) (ms : List FrameworkMethod)
+    → list_any q (filter is_abstract (map framework_method (filter (λ (m : FrameworkMethod). m.on == on) ms))) ≡ list_any (is_row_left q on) ms
+unfolding framework_method
+rows_left q on [] = refl
+rows_left q on (m ∷ ms) = one (m.on == on) refl (rows_left q on ms)
+  where
+    one : (here : Bool) → (m.on == on) ≡ here
+        → list_any q (filter is_abstract (map framework_method (filter (λ (m : FrameworkMethod). m.on == on) ms))) ≡ list_any (is_row_left q on) ms
+        → list_any q (filter is_abstract (map framework_method (filter (λ (m : FrameworkMethod). m.on == on) (m ∷ ms)))) ≡ list_any (is_row_left q on) (m ∷ ms)
+    one true e h =
+        rw e (first_left q (framework_method m) (map framework_method (filter (λ (m : FrameworkMethod). m.on == on) ms)) m.is_abstract refl
+        ∙ ap (λ b. (m.is_abstract && q (framework_method m)) || b) h)
+    one false e h = rw e h
 
-  pub mission_left : (on : ℕ) → on ≡ 3 → (q (numbered 4) || q (numbered 5)) ≡ list_any q (filter is_abstract (framework_methods_on on 0 framework_methods))
-  unfolding framework_methods_on framework_methods framework_numbered framework_method
-  mission_left on e = rw e (ap (λ b. q (numbered 4) || b) (or_nothing (q (numbered 5))))
+pub all_left : (q : DeclaredMethod → Bool) (on : ℕ) → list_any q (filter is_abstract (framework_methods_on on)) ≡ list_any (is_row_left q on) framework_methods
+unfolding framework_methods_on
+all_left q on = rows_left q on framework_methods
 
-  pub sequencer_left : (on : ℕ) → on ≡ 4 → q (numbered 8) ≡ list_any q (filter is_abstract (framework_methods_on on 0 framework_methods))
-  unfolding framework_methods_on framework_methods framework_numbered framework_method
-  sequencer_left on e = rw e (or_nothing (q (numbered 8)))
+-- one row
+pub other_row : (q : DeclaredMethod → Bool) (on number : ℕ) (m : FrameworkMethod) → slice_get framework_methods number ≡ Some m → is_abstract_on on m ≡ false
+    → false ≡ holds (slice_get framework_methods number) (is_row_left q on)
+other_row q on number m e f = rw (e, f) refl
 
-  pub periodic_left : (on : ℕ) → on ≡ 5 → q (numbered 9) ≡ list_any q (filter is_abstract (framework_methods_on on 0 framework_methods))
-  unfolding framework_methods_on framework_methods framework_numbered framework_method
-  periodic_left on e = rw e (or_nothing (q (numbered 9)))
+pub abstract_row : (q : DeclaredMethod → Bool) (on number : ℕ) (m : FrameworkMethod) → slice_get framework_methods number ≡ Some m → is_abstract_on on m ≡ true
+    → q (numbered number) ≡ holds (slice_get framework_methods number) (is_row_left q on)
+unfolding framework_numbered
+abstract_row q on number m e f = rw (e, f) refl
 
-  pub aperiodic_left : (on : ℕ) → on ≡ 6 → q (numbered 11) ≡ list_any q (filter is_abstract (framework_methods_on on 0 framework_methods))
-  unfolding framework_methods_on framework_methods framework_numbered framework_method
-  aperiodic_left on e = rw e (or_nothing (q (numbered 11)))
+pub no_row : (q : DeclaredMethod → Bool) (on number : ℕ) → slice_get framework_methods number ≡ None → false ≡ holds (slice_get framework_methods number) (is_row_left q on)
+no_row q on number e = rw e refl
 
-  pub none_left : (on : ℕ) → on < 16 → on ≢ 1 → on ≢ 2 → on ≢ 3 → on ≢ 4 → on ≢ 5 → on ≢ 6 → false ≡ list_any q (filter is_abstract (framework_methods_on on 0 framework_methods))
-  unfolding framework_methods_on framework_methods framework_numbered framework_method
-  none_left zero l a b c d e f = refl
-  none_left (suc zero) l a b c d e f = absurd (a refl)
-  none_left (suc (suc zero)) l a b c d e f = absurd (b refl)
-  none_left (suc (suc (suc zero))) l a b c d e f = absurd (c refl)
-  none_left (suc (suc (suc (suc zero)))) l a b c d e f = absurd (d refl)
-  none_left (suc (suc (suc (suc (suc zero))))) l a b c d e f = absurd (e refl)
-  none_left (suc (suc (suc (suc (suc (suc zero)))))) l a b c d e f = absurd (f refl)
-  none_left (suc (suc (suc (suc (suc (suc (suc zero))))))) l a b c d e f = refl
-  none_left (suc (suc (suc (suc (suc (suc (suc (suc zero)))))))) l a b c d e f = refl
-  none_left (suc (suc (suc (suc (suc (suc (suc (suc (suc zero))))))))) l a b c d e f = refl
-  none_left (suc (suc (suc (suc (suc (suc (suc (suc (suc (suc zero)))))))))) l a b c d e f = refl
-  none_left (suc (suc (suc (suc (suc (suc (suc (suc (suc (suc (suc zero))))))))))) l a b c d e f = refl
-  none_left (suc (suc (suc (suc (suc (suc (suc (suc (suc (suc (suc (suc zero)))))))))))) l a b c d e f = refl
-  none_left (suc (suc (suc (suc (suc (suc (suc (suc (suc (suc (suc (suc (suc zero))))))))))))) l a b c d e f = refl
-  none_left (suc (suc (suc (suc (suc (suc (suc (suc (suc (suc (suc (suc (suc (suc zero)))))))))))))) l a b c d e f = refl
-  none_left (suc (suc (suc (suc (suc (suc (suc (suc (suc (suc (suc (suc (suc (suc (suc zero))))))))))))))) l a b c d e f = refl
-  none_left (suc (suc (suc (suc (suc (suc (suc (suc (suc (suc (suc (suc (suc (suc (suc (suc n)))))))))))))))) l a b c d e f = absurd (omega (arith, l))
+-- the rows from one on
+any_from : {A : Type 0} (f : A → Bool) (xs : List A) (k : ℕ) → list_any f (drop k xs) ≡ (holds (slice_get xs k) f || list_any f (drop (k + 1) xs))
+any_from f [] zero = refl
+any_from f [] (suc k) = let e : suc k + 1 ≡ suc (k + 1) = omega arith in rw e refl
+any_from f (x ∷ xs) zero = refl
+any_from f (x ∷ xs) (suc k) = let e : suc k + 1 ≡ suc (k + 1) = omega arith in rw e (any_from f xs k)
+
+pub row_found : (f : FrameworkMethod → Bool) (k : ℕ) (whole : Bool) → true ≡ holds (slice_get framework_methods k) f → list_any f (drop k framework_methods) ≡ whole → true ≡ whole
+row_found f k whole h e = sym (any_from f framework_methods k ∙ ap (λ b. b || list_any f (drop (k + 1) framework_methods)) (sym h)) ∙ e
+
+pub row_passed : (f : FrameworkMethod → Bool) (k : ℕ) (whole : Bool) → false ≡ holds (slice_get framework_methods k) f → list_any f (drop k framework_methods) ≡ whole → list_any f (drop (k + 1) framework_methods) ≡ whole
+row_passed f k whole h e = sym (any_from f framework_methods k ∙ ap (λ b. b || list_any f (drop (k + 1) framework_methods)) (sym h)) ∙ e
+
+pub rows_ended : (f : FrameworkMethod → Bool) (k : ℕ) (whole : Bool) → framework_method_count ≤ k → list_any f (drop k framework_methods) ≡ whole → false ≡ whole
+unfolding framework_methods
+rows_ended f k whole h e =
+    let none : drop k framework_methods ≡ [] = drop_all k framework_methods h in
+    sym (ap (list_any f) none) ∙ e
 
 -- what a class declares itself
 methods_here : (forest : Forest) (class : ℕ) (row : ClassRow) → slice_get (declarations_of forest).written class ≡ Some row → own_abstract (declarations_of forest).classes class ≡ filter is_abstract row.methods
@@ -126,12 +141,12 @@ methods_here forest class row e =
     let at : slice_get p.classes class ≡ Some (if has_good_header p class row then row else under_object row) = class_get forest class ∙ ap (option_map (counted p class)) e ∙ ap Some (counted_is p class row) in
     ap (λ (o : Option ClassRow). elim o [ None ↦ [] | Some row ↦ filter is_abstract row.methods ]) at ∙ ap (filter is_abstract) (kept (λ (r : ClassRow). r.methods) row (has_good_header p class row) refl)
 
-pub builtin_abstract : (forest : Forest) (class : ℕ) → class < 16 → own_abstract (declarations_of forest).classes class ≡ filter is_abstract (framework_methods_on class 0 framework_methods)
+pub builtin_abstract : (forest : Forest) (class : ℕ) → class < first_user_class → own_abstract (declarations_of forest).classes class ≡ filter is_abstract (framework_methods_on class)
 builtin_abstract forest class h =
     let there = framework_there forest class h in
     methods_here forest class there.0 there.1 ∙ ap (filter is_abstract) ((row_sound forest class there.0 there.1).methods ∙ sym (first_methods forest.nodes class there.0.written h))
 
-pub user_abstract : (forest : Forest) (class : ℕ) → 16 ≤ class → own_abstract (declarations_of forest).classes class ≡ filter is_abstract (filter_map (method_at forest.nodes) (members_in (declarations_of forest) class))
+pub user_abstract : (forest : Forest) (class : ℕ) → first_user_class ≤ class → own_abstract (declarations_of forest).classes class ≡ filter is_abstract (filter_map (method_at forest.nodes) (members_in (declarations_of forest) class))
 unfolding members_in class_written
 user_abstract forest class h = go (slice_get (declarations_of forest).written class) refl
   where

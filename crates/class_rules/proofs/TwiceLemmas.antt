@@ -10,7 +10,8 @@ use Rattle.scj_base.specs.declared.findings.Rule.TheVariants.{C4}
 use Rattle.scj_rules.specs.declared.views.Declared.{Declared}
 use Rattle.node_views.specs.Parts.{naming}
 use Rattle.scj_rules.specs.declared.scopes.Written.{Written}
-use Rattle.scj_rules.specs.Words.{is_same, is_named_among, named_twice, broken}
+use Rattle.scj_base.specs.Bytes.{is_same, is_one_of}
+use Rattle.scj_rules.specs.Words.{named_twice, broken}
 use Rattle.scj_rules.specs.ClassRules.{broken_at}
 use Rattle.class_rules.specs.Twice.{name_of, StillTwice, repeated}
 use Rattle.class_rules.proofs.NameLemmas.{same-sym, ordered_same}
@@ -34,7 +35,7 @@ pub twice_more : {A : Type 0} (find after : List ℕ → Option A) (x : A) (foun
     → StillTwice (λ n. is_some (after n)) (found ++ broken (is_some (find w.name)) rule w.place) whole rule ws
 unfolding named_twice
 twice_more find after x found whole rule w ws s updates =
-    let known : is_some (find w.name) ≡ is_named_among w.name s.earlier = s.exact w.name in
+    let known : is_some (find w.name) ≡ is_one_of w.name s.earlier = s.exact w.name in
     record {
       earlier = w.name ∷ s.earlier;
       exact = λ other. ap is_some (updates other) ∙ put (is_eq (slice_cmp nat_cmp w.name other)) (find other) x
@@ -63,7 +64,7 @@ named : (earlier : List (List ℕ)) (fields : List Declared) → named_twice nam
 unfolding named_twice
 named earlier [] = refl
 named earlier (f ∷ fs) =
-    ap (λ xs. (if is_named_among f.name earlier then naming f ∷ [] else []) ++ xs) (named (f.name ∷ earlier) fs) ∙ front (is_named_among f.name earlier) f (named_twice (λ (g : Declared). g.name) (f.name ∷ earlier) fs)
+    ap (λ xs. (if is_one_of f.name earlier then naming f ∷ [] else []) ++ xs) (named (f.name ∷ earlier) fs) ∙ front (is_one_of f.name earlier) f (named_twice (λ (g : Declared). g.name) (f.name ∷ earlier) fs)
   where
     front : (b : Bool) (f : Declared) (gs : List Declared) → (if b then naming f ∷ [] else []) ++ map naming gs ≡ map naming ((if b then f ∷ [] else []) ++ gs)
     front true f gs = refl

@@ -13,7 +13,7 @@ use crate::parts::ClassParts;
 use class_rows::Classes;
 use node_views::{is_field, is_static_field};
 use scj_base::{ClassId, Found, Memory, NodeId, Rule};
-use scj_rules::note;
+use scj_rules::report_if;
 use scj_tree::Program;
 
 /// Whether a node declares an instance field.
@@ -71,5 +71,5 @@ pub fn note_k4(
 ) -> Result<(), Memory>
     ensures { OnOk result (found.new.items ≡ found.old.items ++ k4 (declarations_of classes.now) class (written_class classes.now.nodes c.now)) }
 {
-    note(found, has_too_many(classes, class), Rule::K4, c.place)
+    report_if(found, has_too_many(classes, class), Rule::K4, c.place)
 }

@@ -16,7 +16,7 @@ use crate::parts::ClassParts;
 use class_rows::Classes;
 use node_views::named_super;
 use scj_base::{ClassId, Found, Memory, NodeId, Rule};
-use scj_rules::{Written, note};
+use scj_rules::{Written, report_if};
 
 /// Notes a class that has the name of an earlier one.
 #[tactic(auto, unfolding(scj_rules::specs::ClassRules::c1))]
@@ -32,7 +32,7 @@ pub fn note_c1(
         Some(first) => first.number() < class.number(),
         None => false,
     };
-    note(found, is_taken, Rule::C1, c.place)
+    report_if(found, is_taken, Rule::C1, c.place)
 }
 
 /// Notes a name after `extends` or `implements`, where no class has it.
@@ -43,7 +43,7 @@ fn note_unknown(
 ) -> Result<(), Memory>
     ensures { OnOk result (found.new.items ≡ found.old.items ++ broken (is_unknown (declarations_of classes.now).names written.now) C2 written.now.place) }
 {
-    note(
+    report_if(
         found,
         classes.class_of(&written.name).is_none(),
         Rule::C2,
@@ -97,5 +97,5 @@ pub fn note_c3(
     requires { class < length (declarations_of classes.now).classes }
     ensures { OnOk result (found.new.items ≡ found.old.items ++ c3 (declarations_of classes.now) class (written_class classes.now.nodes c.now)) }
 {
-    note(found, classes.is_cyclic(class), Rule::C3, c.place)
+    report_if(found, classes.is_cyclic(class), Rule::C3, c.place)
 }

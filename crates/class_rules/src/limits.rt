@@ -6,7 +6,8 @@ ghost use Rattle.class_rules.specs.Parts.{written_class};
 
 use crate::parts::ClassParts;
 use scj_base::{ClassId, Found, Memory, Rule};
-use scj_rules::note;
+use scj_builtins::FRAMEWORK_CLASS_COUNT;
+use scj_rules::report_if;
 use scj_tree::Program;
 
 /// Notes the 257th class and each later one.
@@ -19,5 +20,10 @@ pub fn note_k1(
 ) -> Result<(), Memory>
     ensures { OnOk result (found.new.items ≡ found.old.items ++ k1 class (written_class program.now.nodes c.now)) }
 {
-    note(found, class.number() >= 16 + 256, Rule::K1, c.place)
+    report_if(
+        found,
+        class.number() >= FRAMEWORK_CLASS_COUNT + 256,
+        Rule::K1,
+        c.place,
+    )
 }

@@ -11,7 +11,7 @@ use class_rows::Classes;
 use method_rows::{MethodRef, MethodSource, body, declared};
 use node_views::{field_at, is_method};
 use scj_base::{ClassId, Found, Memory, NodeId, Rule};
-use scj_rules::{Declared, note};
+use scj_rules::{Declared, report_if};
 use scj_tree::Program;
 
 /// Notes a method that may not stand in the place of the one above.
@@ -29,7 +29,7 @@ fn note_override(
         Some(above) => is_wrong_override(classes, class, m, above),
         None => false,
     };
-    note(found, is_wrong, Rule::C6, own.place)
+    report_if(found, is_wrong, Rule::C6, own.place)
 }
 
 /// Notes the methods of a class that may not stand in the place of those above.
@@ -63,7 +63,7 @@ fn note_body(found: &mut Vec<Found>, program: &Program, m: &MethodRef) -> Result
 {
     let own = declared(program, m);
     let has_body = body(program, m).is_some();
-    note(
+    report_if(
         found,
         own.modifiers.is_abstract == has_body,
         Rule::C7,
@@ -109,7 +109,7 @@ fn note_hiding(
         Some(above) => classes.field_named(above, &field.name).is_some(),
         None => false,
     };
-    note(found, is_above, Rule::C4, field.place)
+    report_if(found, is_above, Rule::C4, field.place)
 }
 
 /// Notes the fields of a class that a class above has, too.

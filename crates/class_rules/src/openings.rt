@@ -1,20 +1,24 @@
 //! Abstract methods that a class leaves open.
 
-ghost use Rattle.std.specs.Prelude.{◌≡◌, ◌<◌, [], ◌∷◌, filter, filter_map, unwrap_or};
+ghost use Rattle.std.specs.Prelude.{◌≡◌, [], ◌∷◌, filter, filter_map, slice_get, unwrap_or};
 ghost use Rattle.std.specs.List.{list_any};
 ghost use Rattle.scj_builtins.specs.Framework.{framework_methods};
 ghost use Rattle.scj_rules.specs.Views.{method_at};
+ghost use Rattle.scj_rules.specs.Words.{holds};
 ghost use Rattle.scj_rules.specs.Classes.{framework_methods_on};
 ghost use Rattle.scj_rules.specs.ClassRules.{is_left_open, abstract_methods};
 ghost use Rattle.scj_rules.specs.Contexts.{declarations_of};
 ghost use Rattle.method_rows.specs.Methods.{found_method, framework_numbered, no_method};
-ghost use Rattle.class_rules.specs.Openings.{is_abstract, own_abstract};
+ghost use Rattle.class_rules.specs.Openings.{is_abstract, own_abstract, is_abstract_on, is_row_left};
 
 use crate::overrides::stays_open;
 use class_rows::Classes;
 use method_rows::{MethodRef, MethodSource, declared};
 use node_views::is_abstract_method;
 use scj_base::{ClassId, MethodId, NodeId};
+use scj_builtins::{
+    FRAMEWORK_CLASS_COUNT, FRAMEWORK_METHOD_COUNT, FrameworkMethod, framework_method,
+};
 
 /// Whether a class leaves an abstract method open.
 #[tactic(auto, unfolding(scj_rules::specs::ClassRules::is_left_open))]
@@ -60,35 +64,49 @@ fn leaves_members(classes: &Classes<'_>, class: ClassId, on: ClassId, members: &
 
 /// Whether a class leaves a method of the framework open.
 #[tactic(auto, unfolding(method_rows::specs::Methods::found_method, method_rows::specs::Methods::method_from))]
-fn leaves_builtin(classes: &Classes<'_>, class: ClassId, on: ClassId, number: u32) -> bool
+fn leaves_numbered(classes: &Classes<'_>, class: ClassId, on: ClassId, number: MethodId) -> bool
     ensures { result ≡ is_left_open (declarations_of classes.now) class (unwrap_or (framework_numbered number) no_method) }
 {
     let m = MethodRef {
         on,
-        source: MethodSource::Framework(MethodId::at(number)),
+        source: MethodSource::Framework(number),
     };
     is_left_open(classes, class, &m)
 }
 
-/// Whether a class leaves an abstract method of a framework class open.
-#[tactic(auto, using(crate::proofs::OpeningLemmas::runnable_left, crate::proofs::OpeningLemmas::safelet_left, crate::proofs::OpeningLemmas::mission_left, crate::proofs::OpeningLemmas::sequencer_left, crate::proofs::OpeningLemmas::periodic_left, crate::proofs::OpeningLemmas::aperiodic_left, crate::proofs::OpeningLemmas::none_left))]
-fn leaves_builtins(classes: &Classes<'_>, class: ClassId, on: ClassId) -> bool
-    requires { on < 16 }
-    ensures { result ≡ list_any (is_left_open (declarations_of classes.now) class) (filter is_abstract (framework_methods_on on 0 framework_methods)) }
+/// Whether a method of the framework is an abstract one of a framework class.
+fn is_abstract_on(on: ClassId, row: &FrameworkMethod) -> bool
+    ensures { result ≡ is_abstract_on on row.now }
 {
-    match on.number() {
-        1 => leaves_builtin(classes, class, on, 0),
-        2 => {
-            leaves_builtin(classes, class, on, 1)
-                || leaves_builtin(classes, class, on, 2)
-                || leaves_builtin(classes, class, on, 3)
+    row.on == on && row.is_abstract
+}
+
+/// Whether a class leaves a method of the framework open, where it is an abstract one of a framework class.
+#[tactic(auto, using(crate::proofs::OpeningLemmas::other_row, crate::proofs::OpeningLemmas::abstract_row, crate::proofs::OpeningLemmas::no_row))]
+fn leaves_builtin(classes: &Classes<'_>, class: ClassId, on: ClassId, number: MethodId) -> bool
+    ensures { result ≡ holds (slice_get framework_methods number) (is_row_left (is_left_open (declarations_of classes.now) class) on) }
+{
+    match &framework_method(number) {
+        Some(row) => {
+            if !is_abstract_on(on, row) {
+                return false;
+            }
+            leaves_numbered(classes, class, on, number)
         }
-        3 => { leaves_builtin(classes, class, on, 4) || leaves_builtin(classes, class, on, 5) }
-        4 => leaves_builtin(classes, class, on, 8),
-        5 => leaves_builtin(classes, class, on, 9),
-        6 => leaves_builtin(classes, class, on, 11),
-        _ => false,
+        None => false,
     }
+}
+
+/// Whether a class leaves an abstract method of a framework class open.
+fn leaves_builtins(classes: &Classes<'_>, class: ClassId, on: ClassId) -> bool
+    ensures { result ≡ list_any (is_left_open (declarations_of classes.now) class) (filter is_abstract (framework_methods_on on)) }
+{
+    for number in 0..FRAMEWORK_METHOD_COUNT {
+        if leaves_builtin(classes, class, on, MethodId::at(number)) {
+            return true;
+        }
+    }
+    false
 }
 
 /// Whether a class leaves an abstract method of another class open.
@@ -96,7 +114,7 @@ fn leaves_builtins(classes: &Classes<'_>, class: ClassId, on: ClassId) -> bool
 fn leaves_open_on(classes: &Classes<'_>, class: ClassId, on: ClassId) -> bool
     ensures { result ≡ list_any (is_left_open (declarations_of classes.now) class) (own_abstract (declarations_of classes.now).classes on) }
 {
-    if on.number() < 16 {
+    if on.number() < FRAMEWORK_CLASS_COUNT {
         leaves_builtins(classes, class, on)
     } else {
         leaves_members(classes, class, on, classes.members(on))

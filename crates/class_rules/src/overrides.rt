@@ -12,6 +12,7 @@ use class_rows::Classes;
 use method_rows::{MethodRef, builtin, declared, is_overridable};
 use scj_base::ids::{MISSION, MISSION_SEQUENCER};
 use scj_base::{ClassId, Name};
+use scj_builtins::FRAMEWORK_CLASS_COUNT;
 use scj_rules::WrittenType;
 
 /// The kind that the result of a framework's method names, where that is one whose result may be narrower.
@@ -45,7 +46,9 @@ fn narrower_kind(classes: &Classes<'_>, class: ClassId, name: &Name) -> Option<C
 fn is_narrower(classes: &Classes<'_>, class: ClassId, kind: ClassId, above: ClassId) -> bool
     ensures { result ≡ is_narrower (declarations_of classes.now) class kind above }
 {
-    class.number() >= 16 && classes.is_sub(class, kind) && classes.is_sub(class, above)
+    class.number() >= FRAMEWORK_CLASS_COUNT
+        && classes.is_sub(class, kind)
+        && classes.is_sub(class, above)
 }
 
 /// Whether a result is that of the method above, or a narrower one that the framework allows.

@@ -15,7 +15,7 @@ use crate::parts::ClassParts;
 use crate::repeats::{note_c5, note_repeated_fields};
 use class_rows::Classes;
 use scj_base::{ClassId, Found, Memory, Rule};
-use scj_rules::note;
+use scj_rules::report_if;
 use std::alloc::Global;
 
 /// Notes the fields of a class that an earlier one or a class above has, too.
@@ -58,7 +58,7 @@ pub fn note_c7(
     ensures { OnOk result (found.new.items ≡ found.old.items ++ c7 (declarations_of classes.now) class (written_class classes.now.nodes c.now) (own_row classes.now c.now)) }
 {
     let is_open = !c.modifiers.is_abstract && leaves_open(classes, class);
-    note(found, is_open, Rule::C7, c.place)?;
+    report_if(found, is_open, Rule::C7, c.place)?;
     note_bodies(found, classes.program(), class, c.members)?;
     Ok(())
 }

@@ -9,7 +9,7 @@ ghost use Rattle.class_rules.specs.Safelets.{safelet_at, safelets_left, left_ove
 use class_rows::Classes;
 use node_views::{class_place, is_abstract_class};
 use scj_base::{ClassId, Found, Memory, Pos, Rule};
-use scj_rules::note;
+use scj_rules::report_if;
 
 /// How many classes there are, the framework's among them.
 pub fn class_count(classes: &Classes<'_>) -> Result<u32, Memory>
@@ -51,7 +51,7 @@ fn note_safelet(
 {
     match safelet_place(classes, class) {
         Some(place) => {
-            note(found, is_seen, Rule::C8, place)?;
+            report_if(found, is_seen, Rule::C8, place)?;
             Ok(true)
         }
         None => Ok(is_seen),
@@ -73,6 +73,6 @@ pub fn note_c8(found: &mut Vec<Found>, classes: &Classes<'_>) -> Result<(), Memo
         line: 1,
         col: 1,
     };
-    note(found, !is_seen, Rule::C8, first)?;
+    report_if(found, !is_seen, Rule::C8, first)?;
     Ok(())
 }

@@ -13,7 +13,7 @@ ghost use Rattle.node_views.specs.Parts.{naming};
 
 use node_views::{callable_name, field_written};
 use scj_base::{Found, Memory, Name, NodeId, Rule};
-use scj_rules::{Written, note};
+use scj_rules::{Written, report_if};
 use scj_tree::Program;
 use std::alloc::Global;
 use std::collections::BTreeMap;
@@ -30,7 +30,7 @@ pub fn note_twice(
     let mut earlier = BTreeMap::new(alloc);
     let mut others = names;
     while let [written, rest @ ..] = others {
-        note(
+        report_if(
             found,
             earlier.contains_key(&written.name),
             rule,

@@ -5,7 +5,7 @@ ghost use Rattle.parser_machine.specs.Files.{class_name_step, class_named_step, 
 ghost use Rattle.parser_machine.specs.declared.entries.Entry.TheVariants.{SupersOpen};
 ghost use Rattle.parser_nodes.specs.Told.{gives, seen};
 ghost use Rattle.scj_tree.specs.Lexemes.{a_word};
-ghost use Rattle.scj_tree.specs.Headers.{put};
+ghost use Rattle.scj_tree.specs.Nodes.{put};
 ghost use Rattle.scj_tree.specs.declared.nodes.Node.TheVariants.{SuperType};
 ghost use Rattle.std.specs.Prelude.{length, None, true, false};
 
@@ -17,7 +17,7 @@ use parser_nodes::views::View;
 use scj_base::vocabulary::{COMMA, EXTENDS, GREATER, IMPLEMENTS, LEFT_BRACE, LESS};
 use scj_base::{Memory, NodeId, Pos, SharedName};
 use scj_tree::{Node, NodeList};
-use type_steps::names::takes_argument;
+use type_steps::names::has_type_argument;
 
 /// Behind `class`.
 #[tactic(auto, unfolding(parser_machine::specs::Files::class_name_step))]
@@ -291,7 +291,7 @@ pub fn super_named_step(
 {
     if let View::Sign(sign, _) = view {
         if *sign == LESS {
-            if takes_argument(name) {
+            if has_type_argument(name) {
                 return Ok(Some(Mode::SuperArgumentName {
                     place,
                     name: name.share()?,

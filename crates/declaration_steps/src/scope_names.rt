@@ -2,26 +2,29 @@
 
 ghost use Rattle.std.specs.Prelude.{◌≡◌, ◌≤◌, length};
 ghost use Rattle.std.specs.Bool.{OnTrue};
+ghost use Rattle.std.specs.List.{list_all};
+ghost use Rattle.scj_base.specs.Bytes.{is_one_of};
+ghost use Rattle.scj_base.specs.Lexeme.{is_letter as letter, is_name_byte as name_byte, is_name as has_form_of_a_name};
 ghost use Rattle.scj_base.specs.Vocabulary.{words};
-ghost use Rattle.scj_tree.specs.Lexemes.{begins_a_name as can_begin, goes_on as is_row, is_name as has_form_of_a_name, is_one_of};
 
 use scj_base::vocabulary::{WORDS, word_text};
 
-/// Whether the byte is a letter, `_` or `$`.
-fn begins_a_name(byte: u8) -> bool
-    ensures { result ≡ can_begin byte }
+/// Whether the byte is a letter, `$` or `_`.
+#[tactic(auto, unfolding(scj_base::specs::Lexeme::is_letter))]
+fn is_letter(byte: u8) -> bool
+    ensures { result ≡ letter byte }
 {
-    matches!(byte, b'A'..=b'Z' | b'a'..=b'z' | b'_' | b'$')
+    matches!(byte, b'A'..=b'Z' | b'a'..=b'z' | b'$' | b'_')
 }
 
-/// Whether each byte is a letter, a digit, `_` or `$`.
-#[tactic(auto, unfolding(scj_tree::specs::Lexemes::goes_on))]
-fn goes_on(bytes: &[u8]) -> bool
-    ensures { result ≡ is_row bytes.now }
+/// Whether each byte is a letter, a digit, `$` or `_`.
+#[tactic(auto, unfolding(scj_base::specs::Lexeme::is_name_byte, scj_base::specs::Lexeme::is_digit))]
+fn are_name_bytes(bytes: &[u8]) -> bool
+    ensures { result ≡ list_all name_byte bytes.now }
 {
     let mut rest = bytes;
     while let [byte, others @ ..] = rest {
-        if !begins_a_name(*byte) && !byte.is_ascii_digit() {
+        if !is_letter(*byte) && !byte.is_ascii_digit() {
             return false;
         }
         rest = others;
@@ -42,7 +45,7 @@ fn is_reserved(bytes: &[u8]) -> bool
 }
 
 /// Whether the bytes are a name.
-#[tactic(auto, unfolding(scj_tree::specs::Lexemes::is_name))]
+#[tactic(auto, unfolding(scj_base::specs::Lexeme::is_name))]
 pub fn is_name(bytes: &[u8]) -> bool
     ensures value { result ≡ has_form_of_a_name bytes.now }
     ensures short { OnTrue result (length bytes.now ≤ 64) }
@@ -50,5 +53,5 @@ pub fn is_name(bytes: &[u8]) -> bool
     let [first, others @ ..] = bytes else {
         return false;
     };
-    begins_a_name(*first) && goes_on(others) && others.len() <= 63 && !is_reserved(bytes)
+    is_letter(*first) && are_name_bytes(others) && bytes.len() <= 64 && !is_reserved(bytes)
 }

@@ -17,7 +17,8 @@ use Rattle.parser_machine.specs.declared.modes.Mode.TheVariants.{FlagsRead, ForS
 use Rattle.scj_base.specs.Vocabulary.{sign_at, sign_greater, sign_left_brace, sign_left_bracket, sign_left_parenthesis, sign_right_brace, sign_right_bracket, sign_right_parenthesis, sign_semicolon, word_else, word_final, word_for, word_if, word_return, word_super, word_while}
 use Rattle.scj_base.specs.declared.places.Pos.{Pos}
 use Rattle.scj_tree.specs.Expressions.{PostRead}
-use Rattle.scj_tree.specs.Headers.{TypeRead, argument_array, argument_type, boolean_array, boolean_type, class_array, class_type, int_array, int_type, put}
+use Rattle.scj_tree.specs.Headers.{TypeRead, argument_array, argument_type, boolean_array, boolean_type, class_array, class_type, int_array, int_type}
+use Rattle.scj_tree.specs.Nodes.{put}
 use Rattle.scj_tree.specs.Lexemes.{Lexeme, a_name, a_number, a_sign, a_text, a_word, the_end}
 use Rattle.scj_tree.specs.Statements.{AssignmentRead, LocalTypeRead, StatementRead, StatementsRead, assign_statement, block, call_statement, empty, flagged_local, for_assignment, for_local, if_alone, if_else, local, local_with_value, no_statement, one_statement_more, plain_local, return_alone, return_value, while_statement}
 use Rattle.scj_tree.specs.Terminals.{begins_local_flags, begins_with_word, is_unary1_start, no_flags}

@@ -17,7 +17,8 @@ use Rattle.parser_machine.specs.declared.modes.Mode.TheVariants.{ClassNamed, Con
 use Rattle.scj_base.specs.Vocabulary.{sign_at, sign_greater, sign_left_parenthesis, sign_less, sign_right_brace, sign_right_parenthesis, word_import, word_package, word_super}
 use Rattle.scj_base.specs.declared.places.Pos.{Pos}
 use Rattle.scj_tree.specs.Grammar.{ClassRead, ClassesRead, LiteralRead, MemberRead, MembersRead, Tree, bare_method, class, constructor, constructor_with_super, false_literal, field, field_with_value, file, file_of_package, method, negative_literal, no_class, no_member, null_literal, number_literal, one_class_more, one_member_more, true_literal}
-use Rattle.scj_tree.specs.Headers.{FlagRow, HeaderRead, Imports, InterfacesBegun, ParameterRead, ParametersBegun, ParametersRead, ResultRead, SuperRead, TypeRead, argument_array, argument_type, boolean_array, boolean_type, class_array, class_type, define_scope_flag, define_scope_flag_parent_first, effectless, extends_header, extends_implements_header, implements_header, int_array, int_type, interface_and_comma, long_result, modifier, no_flag, no_header, no_imports, no_interface_yet, no_parameter_yet, no_parameters, parameter, parameter_and_comma, parameters, plain_import, put, runs_in_flag, scope_flag, static_import, super_type, super_type_with_argument, typed_result, void_result}
+use Rattle.scj_tree.specs.Headers.{FlagRow, HeaderRead, Imports, InterfacesBegun, ParameterRead, ParametersBegun, ParametersRead, ResultRead, SuperRead, TypeRead, argument_array, argument_type, boolean_array, boolean_type, class_array, class_type, define_scope_flag, define_scope_flag_parent_first, effectless, extends_header, extends_implements_header, implements_header, int_array, int_type, interface_and_comma, long_result, modifier, no_flag, no_header, no_imports, no_interface_yet, no_parameter_yet, no_parameters, parameter, parameter_and_comma, parameters, plain_import, runs_in_flag, scope_flag, static_import, super_type, super_type_with_argument, typed_result, void_result}
+use Rattle.scj_tree.specs.Nodes.{put}
 use Rattle.scj_tree.specs.Lexemes.{Lexeme, a_name, a_number, a_sign, a_text, a_word, the_end}
 use Rattle.scj_tree.specs.Statements.{StatementsRead, no_statement, one_statement_more}
 use Rattle.scj_tree.specs.Terminals.{add_modifier, begins_with_sign, begins_with_word, flags_number, no_flags, with_flags, with_modifier}

@@ -16,8 +16,9 @@ use Rattle.parser_machine.specs.declared.modes.Mode.{Mode}
 use Rattle.parser_machine.specs.declared.modes.Mode.TheVariants.{ArgumentFirst, ArgumentNext, Assigned, At, ClassName, ClassNamed, ClosedName, ConstructorStart, DefineAssign, DefineName, DefineOpen, DefineOther, DefineOtherAssign, Dot, DotName, FileStart, Finished, FlagsRead, ForFirst, ForOpen, ForStepStart, IfOpen, ImportDot, ImportEnd, ImportName, ImportStar, ImportStart, InClasses, InImports, InMembers, InStatements, LiteralDone, LiteralMinus, LiteralStart, LocalNamed, MemberNamed, MethodNamed, Minus, NameBracket, NameFirst, NameRead, NewElement, NewName, NewStart, Opened, OpenedName, Operand, PackageEnd, PackageName, ParameterDone, ParametersDone, ParametersFirst, PlainAssigned, PlainDot, PlainEnd, PlainFirst, PlainName, PlainNext, PlainOpen, PlainPath, PostDone, ResultDone, ReturnStart, StatementEnd, StatementStart, SuperArgumentEnd, SuperArgumentName, SuperDone, SuperEnd, SuperName, SuperNamed, SuperOpen, TextRead, TypeArgumentEnd, TypeArgumentName, TypeBracket, TypeDone, TypeEnd, TypeName, ValueDot, ValueOpen, ValueRead, ValueScope, ValueStart, WhileOpen}
 use Rattle.scj_base.specs.Vocabulary.{sign_assign, sign_at, sign_comma, sign_dot, sign_left_brace, sign_left_bracket, sign_left_parenthesis, sign_less, sign_minus, sign_not, sign_right_parenthesis, sign_semicolon, sign_tilde, word_boolean, word_extends, word_false, word_final, word_for, word_if, word_implements, word_int, word_long, word_new, word_null, word_return, word_this, word_true, word_void, word_while}
 use Rattle.scj_base.specs.declared.places.Pos.{Pos}
-use Rattle.scj_tree.specs.Lexemes.{Lexeme, a_name, a_number, a_sign, a_text, a_word, same, the_end}
-use Rattle.scj_tree.specs.Terminals.{compound, indexable, is_effectless, is_unary1_start, stepping, takes_argument}
+use Rattle.scj_tree.specs.Lexemes.{Lexeme, a_name, a_number, a_sign, a_text, a_word, the_end}
+use Rattle.scj_base.specs.Bytes.{is_same}
+use Rattle.scj_tree.specs.Terminals.{compound, indexable, is_effectless, is_unary1_start, stepping, has_type_argument}
 use Rattle.scj_tree.specs.declared.nodes.Node.{Node}
 use Rattle.scj_tree.specs.declared.readings.FlagSet.{FlagSet}
 use Rattle.scj_tree.specs.declared.readings.PostKind.{PostKind}
@@ -299,7 +300,7 @@ define_scope_named_kept a p l f N = chosen f.define_scope _ _ (λ id. refused) (
 
 annotation_named_kept : {s : List Entry} → Awaits flagged_thing s → (p : Pos) (w : List ℕ) (l : Bool) (f : FlagSet) (N : List Node) → Kept (annotation_named p w l f N s)
 unfolding annotation_named due
-annotation_named_kept a p w l f N = either (is_effectless w) (kept (annotation_open a)) (either (same w (codes "Scope")) (scope_named_kept a l f N) (either (same w (codes "RunsIn")) (runs_in_named_kept a l f N) (either (same w (codes "DefineScope")) (define_scope_named_kept a p l f N) refused)))
+annotation_named_kept a p w l f N = either (is_effectless w) (kept (annotation_open a)) (either (is_same w (codes "Scope")) (scope_named_kept a l f N) (either (is_same w (codes "RunsIn")) (runs_in_named_kept a l f N) (either (is_same w (codes "DefineScope")) (define_scope_named_kept a p l f N) refused)))
 
 at_kept : {s : List Entry} → Awaits an_annotation s → (p : Pos) (N : List Node) (t : Lexeme) → Kept (at_step p N s t)
 unfolding at_step
@@ -406,7 +407,7 @@ define_open_kept a p N t = refused
 
 define_name_kept : {s : List Entry} → Awaits an_annotation s → (p : Pos) (N : List Node) (t : Lexeme) → Kept (define_name_step p N s t)
 unfolding define_name_step due
-define_name_kept a p N (a_name w q) = either (same w (codes "name")) (kept a) (either (same w (codes "parent")) (kept a) refused)
+define_name_kept a p N (a_name w q) = either (is_same w (codes "name")) (kept a) (either (is_same w (codes "parent")) (kept a) refused)
 define_name_kept a p N t = refused
 
 define_assign_kept : {s : List Entry} → Awaits an_annotation s → (p : Pos) (b : Bool) (N : List Node) (t : Lexeme) → Kept (define_assign_step p b N s t)
@@ -444,7 +445,7 @@ first_start_kept a N t = target_start_kept (of_first a) N t
 name_first_kept : {s : List Entry} → Awaits a_first s → (p : Pos) (w : List ℕ) (N : List Node) (t : Lexeme) → Kept (name_first_step p w N s t)
 unfolding name_first_step due
 name_first_kept a p w N (a_name v q) = typed_kept (local_open a) _ _ _
-name_first_kept a p w N (a_sign n q) = either (n == sign_less) (either (takes_argument w) (kept (local_open a)) refused) (either (n == sign_left_bracket) (kept a) (name_kept (target_open (of_first a)) p w N (a_sign n q)))
+name_first_kept a p w N (a_sign n q) = either (n == sign_less) (either (has_type_argument w) (kept (local_open a)) refused) (either (n == sign_left_bracket) (kept a) (name_kept (target_open (of_first a)) p w N (a_sign n q)))
 name_first_kept a p w N t = refused
 
 name_bracket_kept : {s : List Entry} → Awaits a_first s → (p : Pos) (w : List ℕ) (b : Pos) (N : List Node) (t : Lexeme) → Kept (name_bracket_step p w b N s t)

@@ -13,9 +13,11 @@ use Rattle.parser_machine.specs.declared.modes.ElementType.TheVariants.{Referenc
 use Rattle.parser_machine.specs.declared.modes.Mode.TheVariants.{At, DefineAssign, DefineName, DefineOpen, DefineOther, DefineOtherAssign, PlainAssigned, PlainDot, PlainEnd, PlainFirst, PlainName, PlainOpen, PlainPath, TypeArgumentEnd, TypeArgumentName, TypeBracket, TypeEnd, TypeName, ValueDot, ValueOpen, ValueRead, ValueScope, ValueStart}
 use Rattle.scj_base.specs.Vocabulary.{sign_assign, sign_at, sign_comma, sign_dot, sign_greater, sign_left_bracket, sign_left_parenthesis, sign_less, sign_right_bracket, sign_right_parenthesis, word_boolean, word_class, word_false, word_int, word_long, word_true, word_void}
 use Rattle.scj_base.specs.declared.places.Pos.{Pos}
-use Rattle.scj_tree.specs.Headers.{FlagRow, PlainArguments, PlainPair, PlainPairs, PlainValue, ScopeValue, TypeRead, argument_array, argument_type, bare_scope, boolean_array, boolean_type, class_array, class_type, define_scope_flag, define_scope_flag_parent_first, dotted_longer, dotted_name, effectless, empty_parentheses, int_array, int_type, last_pair, long_result, modifier, more_pairs, named_value, no_parentheses, pairs_in_parentheses, parameter, plain_dotted, plain_false, plain_text, plain_true, put, qualified_scope, quoted_scope, runs_in_flag, scope_flag, value_alone, void_result}
-use Rattle.scj_tree.specs.Lexemes.{Lexeme, a_name, a_number, a_sign, a_text, a_word, is_name, the_end}
-use Rattle.scj_tree.specs.Terminals.{add_modifier, is_effectless, takes_argument}
+use Rattle.scj_tree.specs.Headers.{FlagRow, PlainArguments, PlainPair, PlainPairs, PlainValue, ScopeValue, TypeRead, argument_array, argument_type, bare_scope, boolean_array, boolean_type, class_array, class_type, define_scope_flag, define_scope_flag_parent_first, dotted_longer, dotted_name, effectless, empty_parentheses, int_array, int_type, last_pair, long_result, modifier, more_pairs, named_value, no_parentheses, pairs_in_parentheses, parameter, plain_dotted, plain_false, plain_text, plain_true, qualified_scope, quoted_scope, runs_in_flag, scope_flag, value_alone, void_result}
+use Rattle.scj_tree.specs.Nodes.{put}
+use Rattle.scj_tree.specs.Lexemes.{Lexeme, a_name, a_number, a_sign, a_text, a_word, the_end}
+use Rattle.scj_base.specs.Lexeme.{is_name}
+use Rattle.scj_tree.specs.Terminals.{add_modifier, is_effectless, has_type_argument}
 use Rattle.scj_tree.specs.declared.nodes.Node.{Node}
 use Rattle.scj_tree.specs.declared.readings.FlagSet.{FlagSet}
 
@@ -67,7 +69,7 @@ constructor_stands r p w q N s o (local_open l d) = tt
 pub type_name_stands : (r : Source) (p : Pos) (w : List ℕ) (N : List Node) (s : List Entry) (t : Lexeme) (o : List Lexeme) → Stands r (TypeName p w) s N (t ∷ o) → Leads r (type_name_step p w N s t) o
 unfolding machine Leads Stands
 type_name_stands r p w N s (a_sign n q) o d =
-    on_number r (λ m. Due r for_type s N (a_name w p ∷ a_sign m q ∷ o)) n sign_less d _ _ o (λ k. leads_if r (takes_argument w) _ _ o (λ e. (e, past k)) (λ e. tt))
+    on_number r (λ m. Due r for_type s N (a_name w p ∷ a_sign m q ∷ o)) n sign_less d _ _ o (λ k. leads_if r (has_type_argument w) _ _ o (λ e. (e, past k)) (λ e. tt))
     (on_number r (λ m. Due r for_type s N (a_name w p ∷ a_sign m q ∷ o)) n sign_left_bracket d _ _ o (λ k. behind (past plain_element) k)
     (on_number r (λ m. Due r for_type s N (a_name w p ∷ a_sign m q ∷ o)) n sign_left_parenthesis d _ _ o (λ k. constructor_stands r p w q N s o k) tt))
 type_name_stands r p w N s (a_name v q) o d = typed_stands r (length N) _ s _ o class_type d

@@ -15,7 +15,7 @@ use Rattle.parser_machine.specs.declared.modes.Mode.TheVariants.{ArgumentFirst, 
 use Rattle.scj_base.specs.Vocabulary.{sign_and, sign_and_and, sign_assign, sign_comma, sign_dot, sign_equal, sign_greater, sign_greater_equal, sign_left_bracket, sign_left_parenthesis, sign_less, sign_less_equal, sign_minus, sign_not, sign_not_equal, sign_or, sign_or_or, sign_percent, sign_plus, sign_right_bracket, sign_right_parenthesis, sign_semicolon, sign_shift_left, sign_shift_right, sign_shift_right_unsigned, sign_slash, sign_star, sign_tilde, sign_xor, word_boolean, word_false, word_for, word_int, word_new, word_null, word_super, word_this, word_true}
 use Rattle.scj_base.specs.declared.places.Pos.{Pos}
 use Rattle.scj_tree.specs.Expressions.{ArgumentRead, ArgumentsRead, Level, PostRead, Unary1Read, UnaryRead, argument_and_comma, arguments, binary, call_of, cast, complement, element_of, expression_argument, false_value, field_of, minimum_number, minimum_unary, minus, negation, new_booleans, new_ints, new_object, new_references, no_argument_yet, no_arguments, null_value, number, operand, parenthesized, parenthesized_name, plain_unary, post_unary, simple_call, simple_name, text_argument, this_value, tighter, true_value}
-use Rattle.scj_tree.specs.Headers.{put}
+use Rattle.scj_tree.specs.Nodes.{put}
 use Rattle.scj_tree.specs.Lexemes.{Lexeme, a_name, a_number, a_sign, a_text, a_word, the_end}
 use Rattle.scj_tree.specs.Statements.{AssignmentRead, StatementRead, assign_statement, assignment, call_statement, compound_assignment, flagged_local, local_with_value, plain_local, return_value, step_assignment}
 use Rattle.scj_tree.specs.Terminals.{begins_unary1, compound, indexable, is_minimum, is_unary1_start, level, stepping}

@@ -12,9 +12,10 @@ use Rattle.parser_machine.specs.declared.modes.Mode.TheVariants.{ClassName, Clas
 use Rattle.scj_base.specs.Vocabulary.{sign_comma, sign_dot, sign_greater, sign_left_brace, sign_less, sign_semicolon, sign_star, word_extends, word_implements, word_import, word_package, word_static}
 use Rattle.scj_base.specs.declared.places.Pos.{Pos}
 use Rattle.scj_tree.specs.Grammar.{ClassesRead, Tree, file, file_of_package, no_class, no_member}
-use Rattle.scj_tree.specs.Headers.{HeaderRead, Imported, SuperRead, dotted_longer, dotted_name, extends_header, extends_implements_header, implements_header, imported_all, imported_name, interface_and_comma, no_flag, no_header, no_imports, no_interface_yet, plain_import, put, static_import, super_type, super_type_with_argument}
+use Rattle.scj_tree.specs.Headers.{HeaderRead, Imported, SuperRead, dotted_longer, dotted_name, extends_header, extends_implements_header, implements_header, imported_all, imported_name, interface_and_comma, no_flag, no_header, no_imports, no_interface_yet, plain_import, static_import, super_type, super_type_with_argument}
+use Rattle.scj_tree.specs.Nodes.{put}
 use Rattle.scj_tree.specs.Lexemes.{Lexeme, a_name, a_number, a_sign, a_text, a_word, the_end}
-use Rattle.scj_tree.specs.Terminals.{no_flags, takes_argument}
+use Rattle.scj_tree.specs.Terminals.{no_flags, has_type_argument}
 use Rattle.scj_tree.specs.declared.nodes.Node.{Node}
 use Rattle.scj_tree.specs.declared.nodes.Node.TheVariants.{SuperType}
 
@@ -146,7 +147,7 @@ super_ended_stands r id N s _ o v (supers_open (both_begun u is) d) = tt
 
 pub super_named_stands : (r : Source) (p : Pos) (w : List ℕ) (N : List Node) (s : List Entry) (t : Lexeme) (o : List Lexeme) → Stands r (SuperNamed p w) s N (t ∷ o) → Leads r (super_named_step p w N s t) o
 unfolding machine Leads Stands
-super_named_stands r p w N s (a_sign n q) o d = on_number r (λ m. Due r for_super s N (a_name w p ∷ a_sign m q ∷ o)) n sign_less d _ _ o (λ k. leads_if r (takes_argument w) _ _ o (λ e. (e, past k)) (λ e. tt)) (super_ended_stands r _ _ s (a_sign n q) o super_type d)
+super_named_stands r p w N s (a_sign n q) o d = on_number r (λ m. Due r for_super s N (a_name w p ∷ a_sign m q ∷ o)) n sign_less d _ _ o (λ k. leads_if r (has_type_argument w) _ _ o (λ e. (e, past k)) (λ e. tt)) (super_ended_stands r _ _ s (a_sign n q) o super_type d)
 super_named_stands r p w N s (a_name n q) o d = super_ended_stands r _ _ s (a_name n q) o super_type d
 super_named_stands r p w N s (a_word n q) o d = super_ended_stands r _ _ s (a_word n q) o super_type d
 super_named_stands r p w N s (a_number n q) o d = super_ended_stands r _ _ s (a_number n q) o super_type d

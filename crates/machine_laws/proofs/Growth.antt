@@ -6,7 +6,7 @@ use Rattle.std.proofs.lemmas.Bool.Decides.{nat_tests}
 use Rattle.scj_tree.specs.declared.nodes.Node.{Node}
 use Rattle.scj_tree.specs.Shape.{children}
 use Rattle.scj_tree.specs.Counts.{times}
-use Rattle.scj_tree.specs.Headers.{put}
+use Rattle.scj_tree.specs.Nodes.{put}
 use Rattle.scj_tree.specs.Forest.{all_children, AllBelow, ChildrenFirst}
 use Rattle.scj_tree.proofs.ForestLemmas.{times-append, all_children-append, ChildrenFirst-push}
 

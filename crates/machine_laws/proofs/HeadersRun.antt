@@ -11,9 +11,11 @@ use Rattle.parser_machine.specs.declared.entries.Entry.TheVariants.{AnnotationOp
 use Rattle.parser_machine.specs.declared.modes.Mode.TheVariants.{FlagsRead, ImportDot, ImportEnd, ImportName, ImportStart, InImports, PackageEnd, PackageName, ParameterDone, PlainAssigned, PlainDot, PlainFirst, PlainNext, PlainOpen, PlainPath, ValueStart}
 use Rattle.scj_base.specs.Vocabulary.{sign_assign, sign_at, sign_comma, sign_dot, sign_greater, sign_left_bracket, sign_left_parenthesis, sign_right_bracket, sign_right_parenthesis, sign_semicolon}
 use Rattle.scj_base.specs.declared.places.Pos.{Pos}
-use Rattle.scj_tree.specs.Headers.{Dotted, FlagRow, Imported, Imports, ParameterRead, ParametersBegun, PlainArguments, PlainPair, PlainPairs, PlainValue, ScopeValue, TypeRead, argument_array, argument_type, bare_scope, boolean_array, boolean_type, class_array, class_type, define_scope_flag, define_scope_flag_parent_first, dotted_longer, dotted_name, effectless, empty_parentheses, imported_all, imported_name, int_array, int_type, last_pair, modifier, more_pairs, named_value, no_flag, no_imports, no_parameter_yet, no_parentheses, pairs_in_parentheses, parameter, parameter_and_comma, plain_dotted, plain_false, plain_import, plain_text, plain_true, put, qualified_scope, quoted_scope, runs_in_flag, scope_flag, static_import, value_alone}
-use Rattle.scj_tree.specs.Lexemes.{Lexeme, a_name, a_number, a_sign, a_text, a_word, same, the_end}
-use Rattle.scj_tree.specs.Terminals.{add_modifier, begins_with_sign, flags_number, is_effectless, no_flags, placed, takes_argument, with_define_scope, with_flags, with_runs_in, with_scope}
+use Rattle.scj_tree.specs.Headers.{Dotted, FlagRow, Imported, Imports, ParameterRead, ParametersBegun, PlainArguments, PlainPair, PlainPairs, PlainValue, ScopeValue, TypeRead, argument_array, argument_type, bare_scope, boolean_array, boolean_type, class_array, class_type, define_scope_flag, define_scope_flag_parent_first, dotted_longer, dotted_name, effectless, empty_parentheses, imported_all, imported_name, int_array, int_type, last_pair, modifier, more_pairs, named_value, no_flag, no_imports, no_parameter_yet, no_parentheses, pairs_in_parentheses, parameter, parameter_and_comma, plain_dotted, plain_false, plain_import, plain_text, plain_true, qualified_scope, quoted_scope, runs_in_flag, scope_flag, static_import, value_alone}
+use Rattle.scj_tree.specs.Nodes.{put}
+use Rattle.scj_tree.specs.Lexemes.{Lexeme, a_name, a_number, a_sign, a_text, a_word, the_end}
+use Rattle.scj_base.specs.Bytes.{is_same}
+use Rattle.scj_tree.specs.Terminals.{add_modifier, begins_with_sign, flags_number, is_effectless, no_flags, placed, has_type_argument, with_define_scope, with_flags, with_runs_in, with_scope}
 use Rattle.scj_tree.specs.declared.nodes.Node.{Node}
 use Rattle.scj_tree.specs.declared.nodes.Node.TheVariants.{DefineScope, Parameter, ScopeName}
 use Rattle.scj_tree.specs.declared.readings.FlagSet.{FlagSet}
@@ -127,14 +129,14 @@ plain_run (pairs_in_parentheses ps) b flags s N h = pairs_first ps (AnnotationOp
 -- ---- annotations and modifiers
 
 -- the name `Scope` where no dot stands behind it
-same_is : (w v : List ℕ) → same w v ≡ true → w ≡ v
+same_is : (w v : List ℕ) → is_same w v ≡ true → w ≡ v
 same_is w v e = (bytes_decides w v).0 e
 
 bare_scope_name : (N : List Node) (p : Pos) (o : List Lexeme) (n : ℕ) (q : Pos) (s : List Entry) → (n == sign_dot) ≡ false → answer (at ValueStart s N) (a_name (codes "Scope") p ∷ a_sign n q ∷ o) ≡ after (valued (length N) (put N (ScopeName p (codes "Scope"))) s n) o
 unfolding machine
 bare_scope_name N p o n q s h = fails _ _ _ _ h
 
-bare_run : (N : List Node) (w : List ℕ) (p : Pos) (o : List Lexeme) (n : ℕ) (q : Pos) (s : List Entry) → (n == sign_dot) ≡ false → (b : Bool) → same w (codes "Scope") ≡ b → answer (at ValueStart s N) (a_name w p ∷ a_sign n q ∷ o) ≡ after (valued (length N) (put N (ScopeName p w)) s n) o
+bare_run : (N : List Node) (w : List ℕ) (p : Pos) (o : List Lexeme) (n : ℕ) (q : Pos) (s : List Entry) → (n == sign_dot) ≡ false → (b : Bool) → is_same w (codes "Scope") ≡ b → answer (at ValueStart s N) (a_name w p ∷ a_sign n q ∷ o) ≡ after (valued (length N) (put N (ScopeName p w)) s n) o
 unfolding machine
 bare_run N w p o n q s h false e = fails _ _ _ (a_sign n q ∷ o) e
 bare_run N w p o n q s h true e = subst (λ v. answer (at ValueStart s N) (a_name v p ∷ a_sign n q ∷ o) ≡ after (valued (length N) (put N (ScopeName p v)) s n) o) (sym (same_is w (codes "Scope") e)) (bare_scope_name N p o n q s h)
@@ -202,8 +204,8 @@ flags_run (define_scope_flag_parent_first d e v x) s h = flags_run d s refl ∙ 
 
 -- ---- types
 
-argument_holds : (w : List ℕ) (x : Option State) (o : List Lexeme) → takes_argument w ≡ true → after (if takes_argument w then x else None) o ≡ after x o
-argument_holds w x o e = holds (takes_argument w) x None o e
+argument_holds : (w : List ℕ) (x : Option State) (o : List Lexeme) → has_type_argument w ≡ true → after (if has_type_argument w then x else None) o ≡ after x o
+argument_holds w x o e = holds (has_type_argument w) x None o e
 
 pub type_run : {N N1 : List Node} {i o : List Lexeme} {t : ℕ} {w : List ℕ} {p : Pos} → TypeRead N i N1 (a_name w p ∷ o) t → (s : List Entry) → next (type_start N s) i ≡ next (typed t N1 s) (a_name w p ∷ o)
 unfolding machine

@@ -1,3 +1,4 @@
+pub mod Computing
 pub mod Begins
 pub mod BehindEnds
 pub mod BlocksRun

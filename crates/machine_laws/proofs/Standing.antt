@@ -12,10 +12,11 @@ use Rattle.scj_base.specs.Vocabulary.{sign_assign, sign_at, sign_comma, sign_dot
 use Rattle.scj_base.specs.declared.places.Pos.{Pos}
 use Rattle.scj_tree.specs.Expressions.{ArgumentsBegun, ArgumentsRead, Level, PostRead}
 use Rattle.scj_tree.specs.Grammar.{ClassesRead, MembersRead, Tree}
-use Rattle.scj_tree.specs.Headers.{FlagRow, HeaderRead, InterfacesBegun, ParametersBegun, ParametersRead, ResultRead, ScopeValue, SuperRead, TypeRead, put}
+use Rattle.scj_tree.specs.Headers.{FlagRow, HeaderRead, InterfacesBegun, ParametersBegun, ParametersRead, ResultRead, ScopeValue, SuperRead, TypeRead}
+use Rattle.scj_tree.specs.Nodes.{put}
 use Rattle.scj_tree.specs.Lexemes.{Lexeme, a_name, a_sign, a_word, the_end}
 use Rattle.scj_tree.specs.Statements.{AssignmentRead, StatementRead, StatementsRead, name_twice}
-use Rattle.scj_tree.specs.Terminals.{begins_local_flags, begins_unary1, begins_with_minimum, closes_name, compound, flags_number, indexable, level, placed, takes_argument, with_flags}
+use Rattle.scj_tree.specs.Terminals.{begins_local_flags, begins_unary1, begins_with_minimum, closes_name, compound, flags_number, indexable, level, placed, has_type_argument, with_flags}
 use Rattle.scj_tree.specs.declared.nodes.Node.{Node}
 use Rattle.scj_tree.specs.declared.nodes.Node.TheVariants.{Block, BooleanType, ClassType, IntType, LocalWithValue, SimpleName, SuperCall, TypeArgument}
 use Rattle.scj_tree.specs.declared.readings.FlagSet.{FlagSet}
@@ -46,10 +47,10 @@ pub data ElementRead : Pos → ElementType → List Node → List Lexeme → Lis
   int_element : {N : _} {p : _} {o : _} → ElementRead p Int N (a_word word_int p ∷ o) N o
   boolean_element : {N : _} {p : _} {o : _} → ElementRead p Boolean N (a_word word_boolean p ∷ o) N o
   plain_element : {N : _} {w : _} {p : _} {o : _} → ElementRead p (Reference w None) N (a_name w p ∷ o) N o
-  argument_element : {N : _} {w v : _} {p q x y : _} {o : _} → takes_argument w ≡ true → ElementRead p (Reference w (Some (length N))) N (a_name w p ∷ a_sign sign_less q ∷ a_name v x ∷ a_sign sign_greater y ∷ o) (put N (TypeArgument x v)) o
+  argument_element : {N : _} {w v : _} {p q x y : _} {o : _} → has_type_argument w ≡ true → ElementRead p (Reference w (Some (length N))) N (a_name w p ∷ a_sign sign_less q ∷ a_name v x ∷ a_sign sign_greater y ∷ o) (put N (TypeArgument x v)) o
 
 pub data TypeArgumentBegun : Pos → List ℕ → ℕ → List Node → List Lexeme → List Node → List Lexeme → Type 0 where
-  argument_begun : {N : _} {w v : _} {p q x : _} {o : _} → takes_argument w ≡ true → TypeArgumentBegun p w (length N) N (a_name w p ∷ a_sign sign_less q ∷ a_name v x ∷ o) (put N (TypeArgument x v)) o
+  argument_begun : {N : _} {w v : _} {p q x : _} {o : _} → has_type_argument w ≡ true → TypeArgumentBegun p w (length N) N (a_name w p ∷ a_sign sign_less q ∷ a_name v x ∷ o) (put N (TypeArgument x v)) o
 
 -- `new` and the type of the elements
 pub data LengthBegun : Pos → ℕ → List Node → List Lexeme → List Node → List Lexeme → Type 0 where

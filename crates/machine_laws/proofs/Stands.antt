@@ -16,9 +16,10 @@ use Rattle.scj_base.specs.declared.places.Pos.{Pos}
 use Rattle.scj_tree.specs.Expressions.{ArgumentRead, PostRead}
 use Rattle.scj_tree.specs.Grammar.{LiteralRead, Tree}
 use Rattle.scj_tree.specs.Headers.{Dotted, FlagRow, Imported, Imports, ParameterRead, ParametersRead, PlainPairs, PlainValue, ResultRead, ScopeValue, SuperRead, TypeRead}
-use Rattle.scj_tree.specs.Lexemes.{Lexeme, a_name, a_sign, a_word, same, the_end}
+use Rattle.scj_tree.specs.Lexemes.{Lexeme, a_name, a_sign, a_word, the_end}
+use Rattle.scj_base.specs.Bytes.{is_same}
 use Rattle.scj_tree.specs.Statements.{StatementRead}
-use Rattle.scj_tree.specs.Terminals.{is_effectless, takes_argument}
+use Rattle.scj_tree.specs.Terminals.{is_effectless, has_type_argument}
 use Rattle.scj_tree.specs.declared.nodes.Node.{Node}
 use Rattle.scj_tree.specs.declared.readings.FlagSet.{FlagSet}
 use Rattle.scj_tree.specs.declared.readings.PostKind.{PostKind}
@@ -176,12 +177,12 @@ Stands r (ClassName flags) s N i = Behind (Due r for_class s) (λ M j. Past (λ 
 Stands r ClassNamed s N i = Due r for_header s N i
 Stands r SuperName s N i = Due r for_super s N i
 Stands r (SuperNamed p w) s N i = Due r for_super s N (a_name w p ∷ i)
-Stands r (SuperArgumentName p w) s N i = (takes_argument w ≡ true) × Past (λ q. Due r for_super s N (a_name w p ∷ a_sign sign_less q ∷ i))
+Stands r (SuperArgumentName p w) s N i = (has_type_argument w ≡ true) × Past (λ q. Due r for_super s N (a_name w p ∷ a_sign sign_less q ∷ i))
 Stands r (SuperArgumentEnd p w a) s N i = Behind (Due r for_super s) (λ M j. TypeArgumentBegun p w a M j N i)
 Stands r (SuperDone id) s N i = Behind (Due r for_super s) (λ M j. SuperRead M j N i id)
 Stands r InMembers s N i = Due r for_member s N i
 Stands r (TypeName p w) s N i = Due r for_type s N (a_name w p ∷ i)
-Stands r (TypeArgumentName p w) s N i = (takes_argument w ≡ true) × Past (λ q. Due r for_type s N (a_name w p ∷ a_sign sign_less q ∷ i))
+Stands r (TypeArgumentName p w) s N i = (has_type_argument w ≡ true) × Past (λ q. Due r for_type s N (a_name w p ∷ a_sign sign_less q ∷ i))
 Stands r (TypeArgumentEnd p w a) s N i = Behind (Due r for_type s) (λ M j. TypeArgumentBegun p w a M j N i)
 Stands r (TypeEnd p element) s N i = Behind (Due r for_type s) (λ M j. ElementRead p element M j N i)
 Stands r (TypeBracket p element) s N i = Behind (Due r for_type s) (λ M j. Past (λ q. ElementRead p element M j N (a_sign sign_left_bracket q ∷ i)))
@@ -240,8 +241,8 @@ leads_if r false x y o f g = g refl
 pub on_number : (r : Source) (P : ℕ → Type 0) (n k : ℕ) (h : P n) (x y : Option State) (o : List Lexeme) → (P k → Leads r x o) → Leads r y o → Leads r (if n == k then x else y) o
 on_number r P n k h x y o f g = leads_if r (n == k) x y o (λ e. f (subst P (eqb-true n k e) h)) (λ e. g)
 
-pub on_name : (r : Source) (P : List ℕ → Type 0) (w v : List ℕ) (h : P w) (x y : Option State) (o : List Lexeme) → (P v → Leads r x o) → Leads r y o → Leads r (if same w v then x else y) o
-on_name r P w v h x y o f g = leads_if r (same w v) x y o (λ e. f (subst P ((bytes_decides w v).0 e) h)) (λ e. g)
+pub on_name : (r : Source) (P : List ℕ → Type 0) (w v : List ℕ) (h : P w) (x y : Option State) (o : List Lexeme) → (P v → Leads r x o) → Leads r y o → Leads r (if is_same w v then x else y) o
+on_name r P w v h x y o f g = leads_if r (is_same w v) x y o (λ e. f (subst P ((bytes_decides w v).0 e) h)) (λ e. g)
 
 pub leads_option : (r : Source) {A : Type 0} (a : Option A) (f : A → Option State) (y : Option State) (o : List Lexeme) → ((x : A) → a ≡ Some x → Leads r (f x) o) → (a ≡ None → Leads r y o) → Leads r (elim a [ Some x ↦ f x | None ↦ y ]) o
 leads_option r (Some x) f y o g h = g x refl

@@ -16,10 +16,10 @@ use Rattle.parser_machine.specs.declared.modes.Mode.TheVariants.{Assigned, ForSt
 use Rattle.scj_base.specs.Vocabulary.{sign_at, sign_left_brace, sign_left_bracket, sign_left_parenthesis, sign_less, sign_right_bracket, sign_semicolon, word_boolean, word_final, word_for, word_if, word_int, word_return, word_while}
 use Rattle.scj_base.specs.declared.places.Pos.{Pos}
 use Rattle.scj_tree.specs.Expressions.{PostRead, call_of, element_of, false_value, field_of, new_booleans, new_ints, new_object, new_references, null_value, number, parenthesized, parenthesized_name, simple_call, simple_name, this_value, true_value}
-use Rattle.scj_tree.specs.Headers.{put}
+use Rattle.scj_tree.specs.Nodes.{put}
 use Rattle.scj_tree.specs.Lexemes.{Lexeme, a_name, a_number, a_sign, a_text, a_word, the_end}
 use Rattle.scj_tree.specs.Statements.{AssignmentRead, assignment, compound_assignment, name_twice, step_assignment}
-use Rattle.scj_tree.specs.Terminals.{begins_with_sign, compound, is_unary1_start, level, stepping, takes_argument}
+use Rattle.scj_tree.specs.Terminals.{begins_with_sign, compound, is_unary1_start, level, stepping, has_type_argument}
 use Rattle.scj_tree.specs.declared.nodes.Node.{Node}
 use Rattle.scj_tree.specs.declared.nodes.Node.TheVariants.{Assign, SimpleName}
 use Rattle.scj_tree.specs.declared.readings.PostKind.{PostKind}
@@ -116,7 +116,7 @@ at_bracket p w n q N s o h = subst (λ m. name_goes_on (a_sign m q ∷ o) ≡ tr
 other_sign_run : (p : Pos) (w : List ℕ) (n : ℕ) (q : Pos) (N : List Node) (s : List Entry) (o : List Lexeme) (b : Bool) → (n == sign_left_bracket) ≡ b → name_goes_on (a_sign n q ∷ o) ≡ true → answer (at (NameFirst p w) s N) (a_sign n q ∷ o) ≡ answer (at (NameRead p w) (Target ∷ s) N) (a_sign n q ∷ o)
 unfolding machine name_goes_on
 other_sign_run p w n q N s o false h e =
-    fails (n == sign_less) (if takes_argument w then Some (at (TypeArgumentName p w) (LocalOpen None ∷ s) N) else None) _ o (not_true (n == sign_less) (and_left (not (n == sign_less)) (not (n == sign_left_bracket && begins_with_sign sign_right_bracket o)) e))
+    fails (n == sign_less) (if has_type_argument w then Some (at (TypeArgumentName p w) (LocalOpen None ∷ s) N) else None) _ o (not_true (n == sign_less) (and_left (not (n == sign_less)) (not (n == sign_left_bracket && begins_with_sign sign_right_bracket o)) e))
     ∙ fails (n == sign_left_bracket) (Some (at (NameBracket p w q) s N)) _ o h
 other_sign_run p w n q N s o true h e = at_bracket p w n q N s o (eqb-true n sign_left_bracket h) e
 

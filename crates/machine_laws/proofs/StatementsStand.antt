@@ -17,10 +17,11 @@ use Rattle.scj_base.specs.Vocabulary.{sign_assign, sign_at, sign_comma, sign_lef
 use Rattle.scj_base.specs.declared.places.Pos.{Pos}
 use Rattle.scj_tree.specs.Expressions.{ArgumentsRead, Level, simple_name}
 use Rattle.scj_tree.specs.Grammar.{ClassRead, LiteralRead, MemberRead, MembersRead, bare_method, class, constructor, constructor_with_super, false_literal, field, field_with_value, method, negative_literal, null_literal, number_literal, one_class_more, one_member_more, true_literal}
-use Rattle.scj_tree.specs.Headers.{HeaderRead, ParameterRead, ParametersRead, ResultRead, TypeRead, class_array, class_type, no_flag, no_parameter_yet, no_parameters, parameter_and_comma, parameters, put, typed_result}
+use Rattle.scj_tree.specs.Headers.{HeaderRead, ParameterRead, ParametersRead, ResultRead, TypeRead, class_array, class_type, no_flag, no_parameter_yet, no_parameters, parameter_and_comma, parameters, typed_result}
+use Rattle.scj_tree.specs.Nodes.{put}
 use Rattle.scj_tree.specs.Lexemes.{Lexeme, a_name, a_number, a_sign, a_text, a_word, the_end}
 use Rattle.scj_tree.specs.Statements.{AssignmentRead, LocalTypeRead, StatementRead, block, empty, flagged_local, for_assignment, for_local, if_alone, if_else, local, no_statement, one_statement_more, plain_local, return_alone, while_statement}
-use Rattle.scj_tree.specs.Terminals.{begins_with_word, indexable, is_minimum, no_flags, takes_argument}
+use Rattle.scj_tree.specs.Terminals.{begins_with_word, indexable, is_minimum, no_flags, has_type_argument}
 use Rattle.scj_tree.specs.declared.nodes.Node.{Node}
 use Rattle.scj_tree.specs.declared.nodes.Node.TheVariants.{Class, Constructor, Field, For, Method, SimpleName, SuperCall}
 use mathlib.Core.Bool.{true≢false}
@@ -55,7 +56,7 @@ pub name_first_stands : (r : Source) (p : Pos) (w : List ℕ) (N : List Node) (s
 unfolding machine Leads Stands starts_target
 name_first_stands r p w N s (a_name v q) o (first_due h d) = typed_stands r _ _ (LocalOpen None ∷ s) (a_name v q) o class_type (local_open (bare h) d)
 name_first_stands r p w N s (a_sign n q) o (first_due {k = k} h d) =
-    on_number r (λ m. Due r (for_simple k) s N (a_name w p ∷ a_sign m q ∷ o)) n sign_less d _ _ o (λ l. leads_if r (takes_argument w) _ _ o (λ e. (e, past (local_open (bare h) l))) (λ e. tt))
+    on_number r (λ m. Due r (for_simple k) s N (a_name w p ∷ a_sign m q ∷ o)) n sign_less d _ _ o (λ l. leads_if r (has_type_argument w) _ _ o (λ e. (e, past (local_open (bare h) l))) (λ e. tt))
     (on_number r (λ m. Due r (for_simple k) s N (a_name w p ∷ a_sign m q ∷ o)) n sign_left_bracket d _ _ o (λ l. first_due h l)
     (name_stands r p w N (Target ∷ s) (a_sign n q) o (target refl d)))
 name_first_stands r p w N s _ o h = tt

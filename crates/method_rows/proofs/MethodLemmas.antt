@@ -1,5 +1,6 @@
 -- What is declared of a method that a row names.
-use Rattle.std.proofs.Common.{◌≡◌, ℕ, List, [], Option, Some, None, if◌then◌else◌, refl, is_some, unwrap_or, option_map, option_and_then, slice_get}
+use Rattle.std.proofs.Common.{◌≡◌, ℕ, zero, suc, Bool, true, false, ◌&&◌, ◌==◌, List, [], ◌∷◌, length, map, filter, find, Option, Some, None, if◌then◌else◌, refl, sym, ap, ◌∙◌, is_some, unwrap_or, option_map, option_and_then, slice_get}
+use Rattle.scj_base.specs.Bytes.{is_same}
 use Rattle.scj_tree.specs.declared.nodes.Node.{Node}
 use Rattle.scj_tree.specs.declared.nodes.Node.TheVariants.{Method}
 use Rattle.scj_rules.specs.declared.views.Declared.{Declared}
@@ -7,9 +8,12 @@ use Rattle.scj_rules.specs.declared.views.WrittenType.{WrittenType}
 use Rattle.scj_rules.specs.declared.views.WrittenType.TheVariants.{Void as void_type}
 use Rattle.scj_rules.specs.Words.{holds}
 use Rattle.scj_rules.specs.Views.{DeclaredMethod, method_at, method_of}
-use Rattle.scj_rules.specs.Classes.{framework_method}
-use Rattle.scj_builtins.specs.Framework.{FrameworkMethod, framework_methods}
-use Rattle.method_rows.specs.Methods.{no_method, framework_numbered}
+use Rattle.scj_rules.specs.Classes.{framework_method, framework_methods_on, of_framework, parameter_written}
+use Rattle.scj_builtins.specs.declared.methods.FrameworkMethod.{FrameworkMethod}
+use Rattle.scj_builtins.specs.declared.kinds.ParameterKind.{ParameterKind}
+use Rattle.scj_builtins.specs.Framework.{framework_methods, parameter_list, method_named, number_named}
+use Rattle.scj_builtins.proofs.Places.{named_there}
+use Rattle.method_rows.specs.Methods.{no_method, framework_numbered, framework_method_on}
 
 pub part_of_some : (o : Option DeclaredMethod) (d : Declared) → option_map (λ (m : DeclaredMethod). m.declared) o ≡ Some d → (unwrap_or o no_method).declared ≡ d
 part_of_some None d h = cc
@@ -83,20 +87,82 @@ node_of nodes id (Some _) = refl
 pub node_where_declared : (nodes : List Node) (id : ℕ) → (unwrap_or (method_at nodes id) no_method).declared.node ≡ (if is_some (method_at nodes id) then id else 0)
 node_where_declared nodes id = node_of nodes id (slice_get nodes id)
 
-no_node_of : (number : ℕ) (o : Option FrameworkMethod) → (unwrap_or (option_map (framework_method number) o) no_method).declared.node ≡ 0
+no_node_of : (o : Option FrameworkMethod) → (unwrap_or (option_map framework_method o) no_method).declared.node ≡ 0
 unfolding framework_method
-no_node_of number None = refl
-no_node_of number (Some m) = refl
+no_node_of None = refl
+no_node_of (Some m) = refl
 
 pub no_node : (number : ℕ) → (unwrap_or (framework_numbered number) no_method).declared.node ≡ 0
 unfolding framework_numbered
-no_node number = no_node_of number (slice_get framework_methods number)
+no_node number = no_node_of (slice_get framework_methods number)
 
-no_body_of : (number : ℕ) (o : Option FrameworkMethod) → (unwrap_or (option_map (framework_method number) o) no_method).body ≡ None
+no_body_of : (o : Option FrameworkMethod) → (unwrap_or (option_map framework_method o) no_method).body ≡ None
 unfolding framework_method
-no_body_of number None = refl
-no_body_of number (Some m) = refl
+no_body_of None = refl
+no_body_of (Some m) = refl
 
 pub no_body : (number : ℕ) → (unwrap_or (framework_numbered number) no_method).body ≡ None
 unfolding framework_numbered
-no_body number = no_body_of number (slice_get framework_methods number)
+no_body number = no_body_of (slice_get framework_methods number)
+
+-- the parameters of a framework's method
+length_map : {A B : Type 0} (f : A → B) (xs : List A) → length (map f xs) ≡ length xs
+length_map f [] = refl
+length_map f (x ∷ xs) = ap suc (length_map f xs)
+
+get_map : {A B : Type 0} (f : A → B) (xs : List A) (i : ℕ) → slice_get (map f xs) i ≡ option_map f (slice_get xs i)
+get_map f [] i = refl
+get_map f (x ∷ xs) zero = refl
+get_map f (x ∷ xs) (suc i) = get_map f xs i
+
+abbrev as_declared : ParameterKind → Declared
+as_declared kind = of_framework [] false false (parameter_written kind)
+
+row_numbered : (number : ℕ) (o : Option FrameworkMethod) → slice_get framework_methods number ≡ o
+    → (unwrap_or (framework_numbered number) no_method).parameters ≡ elim o [ None ↦ [] | Some m ↦ map as_declared (parameter_list m.parameters) ]
+unfolding framework_numbered framework_method
+row_numbered number o h = rw h (go o)
+  where
+    go : (o : Option FrameworkMethod) → (unwrap_or (option_map framework_method o) no_method).parameters ≡ elim o [ None ↦ [] | Some m ↦ map as_declared (parameter_list m.parameters) ]
+    go None = refl
+    go (Some m) = refl
+
+pub count_of_row : (number : ℕ) (m : FrameworkMethod) → slice_get framework_methods number ≡ Some m → length (unwrap_or (framework_numbered number) no_method).parameters ≡ length (parameter_list m.parameters)
+count_of_row number m h = ap length (row_numbered number (Some m) h) ∙ length_map as_declared (parameter_list m.parameters)
+
+pub count_of_none : (number : ℕ) → slice_get framework_methods number ≡ None → length (unwrap_or (framework_numbered number) no_method).parameters ≡ 0
+count_of_none number h = ap length (row_numbered number None h)
+
+pub parameter_of_row : (number i : ℕ) (m : FrameworkMethod) → slice_get framework_methods number ≡ Some m
+    → slice_get (unwrap_or (framework_numbered number) no_method).parameters i ≡ option_map as_declared (slice_get (parameter_list m.parameters) i)
+parameter_of_row number i m h = ap (λ (ds : List Declared). slice_get ds i) (row_numbered number (Some m) h) ∙ get_map as_declared (parameter_list m.parameters) i
+
+pub parameter_of_none : (number i : ℕ) → slice_get framework_methods number ≡ None → slice_get (unwrap_or (framework_numbered number) no_method).parameters i ≡ None
+parameter_of_none number i h = ap (λ (ds : List Declared). slice_get ds i) (row_numbered number None h)
+
+-- the method that is found by its class and its name
+abbrev is_named : List ℕ → DeclaredMethod → Bool
+is_named name m = is_same name m.declared.name
+
+either : (name : List ℕ) (class : ℕ) (m : FrameworkMethod) (rest : List FrameworkMethod) (on named : Bool) → (m.on == class) ≡ on → is_same name m.name ≡ named
+    → find (is_named name) (map framework_method (filter (λ (r : FrameworkMethod). r.on == class) rest)) ≡ option_map framework_method (find (λ (r : FrameworkMethod). (r.on == class) && is_same name r.name) rest)
+    → find (is_named name) (map framework_method (filter (λ (r : FrameworkMethod). r.on == class) (m ∷ rest))) ≡ option_map framework_method (find (λ (r : FrameworkMethod). (r.on == class) && is_same name r.name) (m ∷ rest))
+unfolding framework_method
+either name class m rest true true e f h = rw (e, f) refl
+either name class m rest true false e f h = rw (e, f) h
+either name class m rest false named e f h = rw e h
+
+found_among : (name : List ℕ) (class : ℕ) (rows : List FrameworkMethod)
+    → find (is_named name) (map framework_method (filter (λ (m : FrameworkMethod). m.on == class) rows)) ≡ option_map framework_method (find (λ (m : FrameworkMethod). (m.on == class) && is_same name m.name) rows)
+found_among name class [] = refl
+found_among name class (m ∷ rows) = either name class m rows (m.on == class) (is_same name m.name) refl refl (found_among name class rows)
+
+at_number : (class : ℕ) (name : List ℕ) (o : Option FrameworkMethod) → method_named class name ≡ o
+    → option_map (λ number. unwrap_or (framework_numbered number) no_method) (option_map (λ (m : FrameworkMethod). m.number) o) ≡ option_map framework_method o
+unfolding framework_numbered
+at_number class name None h = refl
+at_number class name (Some m) h = rw (named_there class name m h) refl
+
+pub named_row : (class : ℕ) (name : List ℕ) → option_map (λ number. unwrap_or (framework_numbered number) no_method) (number_named class name) ≡ framework_method_on class name
+unfolding number_named method_named framework_method_on framework_methods_on
+named_row class name = at_number class name (method_named class name) refl ∙ sym (found_among name class framework_methods)

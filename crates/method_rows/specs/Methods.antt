@@ -4,7 +4,7 @@ use Rattle.scj_builtins.specs.Framework.{framework_methods}
 use Rattle.scj_tree.specs.declared.nodes.Node.{Node}
 use Rattle.scj_rules.specs.declared.views.WrittenType.TheVariants.{Void as void_type}
 use Rattle.scj_rules.specs.Views.{nowhere, no_modifiers, DeclaredMethod, method_at}
-use Rattle.scj_rules.specs.Words.{is_same}
+use Rattle.scj_base.specs.Bytes.{is_same}
 use Rattle.scj_rules.specs.Classes.{FoundMethod, framework_method, framework_methods_on}
 use Rattle.method_rows.specs.declared.refs.MethodRef.{MethodRef}
 use Rattle.method_rows.specs.declared.refs.MethodSource.{MethodSource}
@@ -24,7 +24,7 @@ no_method =
 
 -- the framework's method of a number
 unfoldable pub framework_numbered : ℕ → Option DeclaredMethod
-framework_numbered number = option_map (framework_method number) (slice_get framework_methods number)
+framework_numbered number = option_map framework_method (slice_get framework_methods number)
 
 unfoldable pub method_from : List Node → MethodSource → DeclaredMethod
 method_from nodes (framework_source number) = unwrap_or (framework_numbered number) no_method
@@ -36,4 +36,4 @@ found_method nodes m = record { on = m.on; method = method_from nodes m.source }
 
 -- the method of a name that a framework class declares itself
 unfoldable pub framework_method_on : ℕ → List ℕ → Option DeclaredMethod
-framework_method_on class name = find (λ (m : DeclaredMethod). is_same name m.declared.name) (framework_methods_on class 0 framework_methods)
+framework_method_on class name = find (λ (m : DeclaredMethod). is_same name m.declared.name) (framework_methods_on class)

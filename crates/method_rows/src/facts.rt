@@ -18,7 +18,7 @@ pub fn declared(program: &Program, method: &MethodRef) -> Declared
     ensures { result ≡ (found_method program.now.nodes method.now).method.declared }
 {
     match &method.source {
-        MethodSource::Framework(id) => framework::declared_of(id.number()),
+        MethodSource::Framework(id) => framework::declared_of(*id),
         MethodSource::Declared(node) => match views::method_declared(program, *node) {
             Some(declared) => declared,
             None => framework::made(Name::new(b""), false, false, WrittenType::Void),
@@ -32,7 +32,7 @@ pub fn name(program: &Program, method: &MethodRef) -> Name
     ensures { result ≡ (found_method program.now.nodes method.now).method.declared.name }
 {
     match &method.source {
-        MethodSource::Framework(id) => framework::name_of(id.number()),
+        MethodSource::Framework(id) => framework::name_of(*id),
         MethodSource::Declared(node) => match views::method_name(program, *node) {
             Some(name) => name,
             None => Name::new(b""),
@@ -46,7 +46,7 @@ pub fn result_type(program: &Program, method: &MethodRef) -> WrittenType
     ensures { result ≡ (found_method program.now.nodes method.now).method.declared.declared_type }
 {
     match &method.source {
-        MethodSource::Framework(id) => framework::result_type_of(id.number()),
+        MethodSource::Framework(id) => framework::result_type_of(*id),
         MethodSource::Declared(node) => match views::result_type(program, *node) {
             Some(written) => written,
             None => WrittenType::Void,
@@ -60,7 +60,7 @@ pub fn is_static(program: &Program, method: &MethodRef) -> bool
     ensures { result ≡ (found_method program.now.nodes method.now).method.declared.modifiers.is_static }
 {
     match &method.source {
-        MethodSource::Framework(id) => framework::is_static(id.number()),
+        MethodSource::Framework(id) => framework::is_static(*id),
         MethodSource::Declared(node) => views::is_static_method(program, *node),
     }
 }
@@ -100,7 +100,7 @@ pub fn is_callable_row(program: &Program, method: &MethodRef) -> bool
     ensures { result ≡ (found_method program.now.nodes method.now).method.callable }
 {
     match &method.source {
-        MethodSource::Framework(id) => framework::is_callable(id.number()),
+        MethodSource::Framework(id) => framework::is_callable(*id),
         MethodSource::Declared(node) => views::is_method(program, *node),
     }
 }
@@ -111,7 +111,7 @@ pub fn is_overridable(program: &Program, method: &MethodRef) -> bool
     ensures { result ≡ (found_method program.now.nodes method.now).method.overridable }
 {
     match &method.source {
-        MethodSource::Framework(id) => framework::is_open(id.number()),
+        MethodSource::Framework(id) => framework::is_open(*id),
         MethodSource::Declared(node) => views::is_method(program, *node),
     }
 }
@@ -141,7 +141,7 @@ pub fn parameter_count(program: &Program, method: &MethodRef) -> usize
     ensures { result ≡ length (found_method program.now.nodes method.now).method.parameters }
 {
     match &method.source {
-        MethodSource::Framework(id) => framework::count_of(id.number()),
+        MethodSource::Framework(id) => framework::count_of(*id),
         MethodSource::Declared(node) => {
             views::parameter_count(program, parameters_of(program, *node))
         }
@@ -154,7 +154,7 @@ pub fn parameter(program: &Program, method: &MethodRef, i: usize) -> Option<Decl
     ensures { result ≡ slice_get (found_method program.now.nodes method.now).method.parameters i }
 {
     match &method.source {
-        MethodSource::Framework(id) => framework::parameter_of(id.number(), i),
+        MethodSource::Framework(id) => framework::parameter_of(*id, i),
         MethodSource::Declared(node) => {
             views::parameter(program, parameters_of(program, *node), i)
         }
@@ -167,7 +167,7 @@ pub fn parameter_type(program: &Program, method: &MethodRef, i: usize) -> Option
     ensures { result ≡ option_map (λ (d : Declaration). d.declared_type) (slice_get (found_method program.now.nodes method.now).method.parameters i) }
 {
     match &method.source {
-        MethodSource::Framework(id) => match framework::parameter_of(id.number(), i) {
+        MethodSource::Framework(id) => match framework::parameter_of(*id, i) {
             Some(declared) => Some(declared.declared_type),
             None => None,
         },

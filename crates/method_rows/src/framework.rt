@@ -1,11 +1,12 @@
-//! The framework's methods, by their numbers.
+//! What is declared of the framework's methods, from the rows of its table.
 
-ghost use Rattle.std.specs.Prelude.{◌≡◌, ◌≤◌, false, [], unwrap_or, length, slice_get};
-ghost use Rattle.scj_rules.specs.Classes.{of_framework, parameter_written};
+ghost use Rattle.std.specs.Prelude.{◌≡◌, ◌≤◌, false, [], unwrap_or, length, option_map, slice_get};
+ghost use Rattle.scj_builtins.specs.Framework.{parameter_list};
+ghost use Rattle.scj_rules.specs.Classes.{of_framework, parameter_written, result_written};
 ghost use Rattle.method_rows.specs.Methods.{framework_numbered, no_method};
 
 use scj_base::{MethodId, Name, NodeId, Pos};
-use scj_builtins::ParameterKind;
+use scj_builtins::{GivesKind, ParameterKind, Parameters, framework_method};
 use scj_rules::{Declared, Modifiers, WrittenType};
 
 /// What the framework declares.
@@ -33,131 +34,86 @@ pub fn made(name: Name, is_static: bool, is_abstract: bool, declared_type: Writt
 }
 
 /// The name of a framework's method.
-#[tactic(auto, unfolding(crate::specs::Methods::framework_numbered, scj_rules::specs::Classes::framework_method, scj_builtins::specs::Framework::framework_methods))]
-pub fn name_of(number: u32) -> Name
+#[tactic(auto, unfolding(crate::specs::Methods::framework_numbered, scj_rules::specs::Classes::framework_method))]
+pub fn name_of(number: MethodId) -> Name
     ensures { result ≡ (unwrap_or (framework_numbered number) no_method).declared.name }
 {
-    match number {
-        0 => Name::new(b"run"),
-        1 => Name::new(b"getSequencer"),
-        2 => Name::new(b"immortalMemorySize"),
-        3 => Name::new(b"initializeApplication"),
-        4 => Name::new(b"initialize"),
-        5 => Name::new(b"missionMemorySize"),
-        6 => Name::new(b"cleanUp"),
-        7 => Name::new(b"requestTermination"),
-        8 => Name::new(b"getNextMission"),
-        9 => Name::new(b"handleAsyncEvent"),
-        10 => Name::new(b"register"),
-        11 => Name::new(b"handleAsyncEvent"),
-        12 => Name::new(b"register"),
-        13 => Name::new(b"release"),
-        14 => Name::new(b"enterPrivateMemory"),
-        15 => Name::new(b"executeInAreaOf"),
-        16 => Name::new(b"setCeiling"),
-        17 => Name::new(b"print"),
-        18 => Name::new(b"read"),
-        _ => Name::new(b""),
+    match &framework_method(number) {
+        Some(row) => row.name,
+        None => Name::new(b""),
     }
 }
 
 /// The result's type of a framework's method, as a user class writes it.
-#[tactic(auto, unfolding(crate::specs::Methods::framework_numbered, scj_rules::specs::Classes::framework_method, scj_rules::specs::Classes::result_written, scj_builtins::specs::Framework::framework_methods))]
-pub fn result_type_of(number: u32) -> WrittenType
+#[tactic(auto, unfolding(scj_rules::specs::Classes::result_written))]
+fn result_written(gives: GivesKind) -> WrittenType
+    ensures { result ≡ result_written gives }
+{
+    match gives {
+        GivesKind::Nothing => WrittenType::Void,
+        GivesKind::Number => WrittenType::Int,
+        GivesKind::Long => WrittenType::Long,
+        GivesKind::Sequencer => WrittenType::Class(Name::new(b"MissionSequencer")),
+        GivesKind::Mission => WrittenType::Class(Name::new(b"Mission")),
+    }
+}
+
+/// The result's type of a framework's method.
+#[tactic(auto, unfolding(crate::specs::Methods::framework_numbered, scj_rules::specs::Classes::framework_method))]
+pub fn result_type_of(number: MethodId) -> WrittenType
     ensures { result ≡ (unwrap_or (framework_numbered number) no_method).declared.declared_type }
 {
-    match number {
-        1 => WrittenType::Class(Name::new(b"MissionSequencer")),
-        2 => WrittenType::Long,
-        5 => WrittenType::Long,
-        8 => WrittenType::Class(Name::new(b"Mission")),
-        18 => WrittenType::Int,
-        _ => WrittenType::Void,
+    match &framework_method(number) {
+        Some(row) => result_written(row.gives),
+        None => WrittenType::Void,
     }
 }
 
 /// Whether a framework's method is called on the class.
-#[tactic(auto, unfolding(crate::specs::Methods::framework_numbered, scj_rules::specs::Classes::framework_method, scj_builtins::specs::Framework::framework_methods))]
-pub fn is_static(number: u32) -> bool
+#[tactic(auto, unfolding(crate::specs::Methods::framework_numbered, scj_rules::specs::Classes::framework_method))]
+pub fn is_static(number: MethodId) -> bool
     ensures { result ≡ (unwrap_or (framework_numbered number) no_method).declared.modifiers.is_static }
 {
-    match number {
-        14 => true,
-        15 => true,
-        16 => true,
-        17 => true,
-        18 => true,
-        _ => false,
-    }
-}
-
-/// Whether a concrete class has to declare a framework's method.
-#[tactic(auto, unfolding(crate::specs::Methods::framework_numbered, scj_rules::specs::Classes::framework_method, scj_builtins::specs::Framework::framework_methods))]
-fn is_abstract(number: u32) -> bool
-    ensures { result ≡ (unwrap_or (framework_numbered number) no_method).declared.modifiers.is_abstract }
-{
-    match number {
-        0 => true,
-        1 => true,
-        2 => true,
-        3 => true,
-        4 => true,
-        5 => true,
-        8 => true,
-        9 => true,
-        11 => true,
-        _ => false,
+    match &framework_method(number) {
+        Some(row) => row.is_static,
+        None => false,
     }
 }
 
 /// Whether a program may call the framework's own method.
-#[tactic(auto, unfolding(crate::specs::Methods::framework_numbered, scj_rules::specs::Classes::framework_method, scj_builtins::specs::Framework::framework_methods))]
-pub fn is_callable(number: u32) -> bool
+#[tactic(auto, unfolding(crate::specs::Methods::framework_numbered, scj_rules::specs::Classes::framework_method))]
+pub fn is_callable(number: MethodId) -> bool
     ensures { result ≡ (unwrap_or (framework_numbered number) no_method).callable }
 {
-    match number {
-        7 => true,
-        10 => true,
-        12 => true,
-        13 => true,
-        14 => true,
-        15 => true,
-        16 => true,
-        17 => true,
-        18 => true,
-        _ => false,
+    match &framework_method(number) {
+        Some(row) => row.callable,
+        None => false,
     }
 }
 
 /// Whether a user class may declare a framework's method.
-#[tactic(auto, unfolding(crate::specs::Methods::framework_numbered, scj_rules::specs::Classes::framework_method, scj_builtins::specs::Framework::framework_methods))]
-pub fn is_open(number: u32) -> bool
+#[tactic(auto, unfolding(crate::specs::Methods::framework_numbered, scj_rules::specs::Classes::framework_method))]
+pub fn is_open(number: MethodId) -> bool
     ensures { result ≡ (unwrap_or (framework_numbered number) no_method).overridable }
 {
-    match number {
-        0 => true,
-        1 => true,
-        2 => true,
-        3 => true,
-        4 => true,
-        5 => true,
-        6 => true,
-        8 => true,
-        9 => true,
-        11 => true,
-        _ => false,
+    match &framework_method(number) {
+        Some(row) => row.overridable,
+        None => false,
     }
 }
 
 /// The number of a framework's method, where there is one.
-#[tactic(auto, unfolding(crate::specs::Methods::framework_numbered, scj_rules::specs::Classes::framework_method, scj_builtins::specs::Framework::framework_methods))]
-pub fn number_in_table(id: MethodId) -> Option<MethodId>
-    ensures { result ≡ (unwrap_or (framework_numbered id) no_method).builtin }
+#[tactic(auto, unfolding(crate::specs::Methods::framework_numbered, scj_rules::specs::Classes::framework_method))]
+pub fn number_in_table(number: MethodId) -> Option<MethodId>
+    ensures { result ≡ (unwrap_or (framework_numbered number) no_method).builtin }
 {
-    if id.number() < 19 { Some(id) } else { None }
+    match &framework_method(number) {
+        Some(row) => Some(row.number),
+        None => None,
+    }
 }
 
-/// A parameter of a framework's method.
+/// What is declared of a parameter of a framework's method.
 #[tactic(auto, unfolding(scj_rules::specs::Classes::parameter_written))]
 fn unnamed(kind: ParameterKind) -> Declared
     ensures { result ≡ of_framework [] false false (parameter_written kind) }
@@ -171,74 +127,85 @@ fn unnamed(kind: ParameterKind) -> Declared
     made(Name::new(b""), false, false, declared_type)
 }
 
-/// The first parameter of a framework's method.
-#[tactic(auto, unfolding(crate::specs::Methods::framework_numbered, scj_rules::specs::Classes::framework_method, scj_builtins::specs::Framework::framework_methods))]
-fn first_parameter(number: u32) -> Option<Declared>
-    ensures { result ≡ slice_get (unwrap_or (framework_numbered number) no_method).parameters 0 }
+/// How many parameters these are.
+#[tactic(auto, unfolding(scj_builtins::specs::Framework::parameter_list))]
+fn count(parameters: Parameters) -> usize
+    ensures value { result ≡ length (parameter_list parameters) }
+    ensures few { result ≤ 2 }
 {
-    match number {
-        14 => Some(unnamed(ParameterKind::Int)),
-        15 => Some(unnamed(ParameterKind::Object)),
-        16 => Some(unnamed(ParameterKind::Object)),
-        17 => Some(unnamed(ParameterKind::Text)),
-        18 => Some(unnamed(ParameterKind::Int)),
-        _ => None,
+    match parameters {
+        Parameters::Empty => 0,
+        Parameters::One(_) => 1,
+        Parameters::Two(_, _) => 2,
     }
 }
 
-/// The second parameter of a framework's method.
-#[tactic(auto, unfolding(crate::specs::Methods::framework_numbered, scj_rules::specs::Classes::framework_method, scj_builtins::specs::Framework::framework_methods))]
-fn second_parameter(number: u32) -> Option<Declared>
-    ensures { result ≡ slice_get (unwrap_or (framework_numbered number) no_method).parameters 1 }
+/// One of these parameters, if there are as many.
+#[tactic(auto, unfolding(scj_builtins::specs::Framework::parameter_list))]
+fn parameter_at(parameters: Parameters, i: usize) -> Option<ParameterKind>
+    ensures { result ≡ slice_get (parameter_list parameters) i }
 {
-    match number {
-        14 => Some(unnamed(ParameterKind::Runnable)),
-        15 => Some(unnamed(ParameterKind::Runnable)),
-        16 => Some(unnamed(ParameterKind::Int)),
-        17 => Some(unnamed(ParameterKind::Int)),
-        _ => None,
+    match parameters {
+        Parameters::Empty => None,
+        Parameters::One(first) => {
+            if i == 0 {
+                return Some(first);
+            }
+            None
+        }
+        Parameters::Two(first, second) => match i {
+            0 => Some(first),
+            1 => Some(second),
+            _ => None,
+        },
+    }
+}
+
+/// What is declared of one of these parameters, if there are as many.
+fn declared_at(parameters: Parameters, i: usize) -> Option<Declared>
+    ensures { result ≡ option_map (λ kind. of_framework [] false false (parameter_written kind)) (slice_get (parameter_list parameters) i) }
+{
+    match parameter_at(parameters, i) {
+        Some(kind) => Some(unnamed(kind)),
+        None => None,
     }
 }
 
 /// How many parameters a framework's method has.
-#[tactic(auto, unfolding(crate::specs::Methods::framework_numbered, scj_rules::specs::Classes::framework_method, scj_builtins::specs::Framework::framework_methods))]
-pub fn count_of(number: u32) -> usize
+#[tactic(auto, using(crate::proofs::MethodLemmas::count_of_row, crate::proofs::MethodLemmas::count_of_none))]
+pub fn count_of(number: MethodId) -> usize
     ensures value { result ≡ length (unwrap_or (framework_numbered number) no_method).parameters }
     ensures few { result ≤ 2 }
 {
-    match number {
-        14 => 2,
-        15 => 2,
-        16 => 2,
-        17 => 2,
-        18 => 1,
-        _ => 0,
+    match &framework_method(number) {
+        Some(row) => count(row.parameters),
+        None => 0,
     }
 }
 
 /// A parameter of a framework's method, if there are as many.
-pub fn parameter_of(number: u32, i: usize) -> Option<Declared>
+#[tactic(auto, using(crate::proofs::MethodLemmas::parameter_of_row, crate::proofs::MethodLemmas::parameter_of_none))]
+pub fn parameter_of(number: MethodId, i: usize) -> Option<Declared>
     ensures { result ≡ slice_get (unwrap_or (framework_numbered number) no_method).parameters i }
 {
-    if i >= count_of(number) {
-        return None;
-    }
-    match i {
-        0 => first_parameter(number),
-        1 => second_parameter(number),
-        _ => None,
+    match &framework_method(number) {
+        Some(row) => declared_at(row.parameters, i),
+        None => None,
     }
 }
 
 /// What is declared of a framework's method.
 #[tactic(auto, unfolding(crate::specs::Methods::framework_numbered, scj_rules::specs::Classes::framework_method))]
-pub fn declared_of(number: u32) -> Declared
+pub fn declared_of(number: MethodId) -> Declared
     ensures { result ≡ (unwrap_or (framework_numbered number) no_method).declared }
 {
-    made(
-        name_of(number),
-        is_static(number),
-        is_abstract(number),
-        result_type_of(number),
-    )
+    match &framework_method(number) {
+        Some(row) => made(
+            row.name,
+            row.is_static,
+            row.is_abstract,
+            result_written(row.gives),
+        ),
+        None => made(Name::new(b""), false, false, WrittenType::Void),
+    }
 }

@@ -1,7 +1,8 @@
 -- Each class has a name.
 use Rattle.std.proofs.Common.{◌≡◌, ℕ, suc, ◌+◌, List, [], ◌∷◌, ◌++◌, length, map, refl, sym, ap, ◌∙◌, length-append, Some}
 use Rattle.std.proofs.lemmas.List.{length-map}
-use Rattle.scj_builtins.specs.Framework.{FrameworkClass, framework_classes}
+use Rattle.scj_builtins.specs.declared.classes.FrameworkClass.{FrameworkClass}
+use Rattle.scj_builtins.specs.Framework.{framework_classes}
 use Rattle.scj_tree.specs.Forest.{Forest}
 use Rattle.scj_rules.specs.declared.typing.Ty.{Ty}
 use Rattle.scj_rules.specs.declared.typing.Ty.TheVariants.{Int, Bool as Boolean, Void, NullTy, Label, Class as ClassTy, IntArray, BoolArray, ClassArray}

@@ -6,8 +6,8 @@ use Rattle.std.proofs.lemmas.Option.{slice_get_within}
 use Rattle.std.proofs.lemmas.List.{get_or-set_same, get_or-set_other}
 use Rattle.scj_tree.specs.declared.nodes.Node.{Node}
 use Rattle.scj_tree.specs.Forest.{Forest, joined}
-use Rattle.scj_tree.specs.Recursion.{told, above, listed, falling}
-use Rattle.scj_tree.proofs.RecursionLemmas.{listed-at, told-behind}
+use Rattle.scj_tree.specs.Recursion.{lookup, above, listed, top_down}
+use Rattle.scj_tree.proofs.RecursionLemmas.{listed-at, lookup-behind}
 use Rattle.scj_rules.specs.declared.contexts.Context.{Context}
 use Rattle.scj_rules.specs.Words.{holds}
 use Rattle.scj_rules.specs.Views.{variable_at, variable_of}
@@ -19,17 +19,17 @@ use Rattle.node_bindings.specs.Numbers.{is_variable_of, count_below, number_befo
 
 -- ---- the member in which a node stands is a node
 
-falling-all : {A : Type 0} (P : A → Type 0) (default : A) (step : ℕ → (ℕ → A) → A) → P default → ((n : ℕ) (larger : ℕ → A) → ((k : ℕ) → P (larger k)) → P (step n larger))
-    → (first count k : ℕ) → P (told default (falling default step first count) k)
-unfolding falling
-falling-all P default step d s first zero k = subst P (sym (told-behind default [] k (omega arith))) d
-falling-all {A} P default step d s first (suc count) zero =
-    s first (above default first (λ m. told default (falling default step (first + 1) count) (m - (first + 1)))) (λ k. either (nat_lt first k) (falling-all P default step d s (first + 1) count (k - (first + 1))))
+top_down-all : {A : Type 0} (P : A → Type 0) (default : A) (step : ℕ → (ℕ → A) → A) → P default → ((n : ℕ) (larger : ℕ → A) → ((k : ℕ) → P (larger k)) → P (step n larger))
+    → (first count k : ℕ) → P (lookup default (top_down default step first count) k)
+unfolding top_down
+top_down-all P default step d s first zero k = subst P (sym (lookup-behind default [] k (omega arith))) d
+top_down-all {A} P default step d s first (suc count) zero =
+    s first (above default first (λ m. lookup default (top_down default step (first + 1) count) (m - (first + 1)))) (λ k. either (nat_lt first k) (top_down-all P default step d s (first + 1) count (k - (first + 1))))
   where
     either : {x : A} (b : Bool) → P x → P (if b then x else default)
     either true h = h
     either false h = d
-falling-all P default step d s first (suc count) (suc k) = falling-all P default step d s (first + 1) count k
+top_down-all P default step d s first (suc count) (suc k) = top_down-all P default step d s (first + 1) count k
 
 abbrev MemberBelow : ℕ → Context → Type 0
 MemberBelow n c = (m : ℕ) → c.member ≡ Some m → m < n
@@ -64,7 +64,7 @@ context-member nodes classes id larger h = go (parent_in nodes id)
 pub member_below : (forest : Forest) (id m : ℕ) → (context (declarations_of forest) id).member ≡ Some m → m < length forest.nodes
 unfolding declarations_of contexts_in
 member_below forest id m e =
-    falling-all (MemberBelow (length forest.nodes)) outermost (context_of forest.nodes (joined forest.files)) (λ k f. cc) (context-member forest.nodes (joined forest.files)) 0 (length forest.nodes) id m e
+    top_down-all (MemberBelow (length forest.nodes)) outermost (context_of forest.nodes (joined forest.files)) (λ k f. cc) (context-member forest.nodes (joined forest.files)) 0 (length forest.nodes) id m e
 
 -- ---- the place of a variable among those of its member
 
@@ -142,23 +142,23 @@ both false b h = cc
 
 -- the place of a variable among those of a member
 pub variable_place : (p : Declarations) (member variable : ℕ) (numbers : List ℕ) → numbers ≡ numbers_before p
-    → position (λ v. v == variable) (variables_of p member) ≡ (if is_variable_of p member variable then Some (told 0 numbers variable) else None)
+    → position (λ v. v == variable) (variables_of p member) ≡ (if is_variable_of p member variable then Some (lookup 0 numbers variable) else None)
 unfolding variables_of is_variable_of numbers_before
 variable_place p member variable numbers e = go (is_variable_of p member variable) refl
   where
-    go : (b : Bool) → is_variable_of p member variable ≡ b → position (λ v. v == variable) (filter (is_variable_of p member) (numbers_from 0 p.nodes)) ≡ (if b then Some (told 0 numbers variable) else None)
+    go : (b : Bool) → is_variable_of p member variable ≡ b → position (λ v. v == variable) (filter (is_variable_of p member) (numbers_from 0 p.nodes)) ≡ (if b then Some (lookup 0 numbers variable) else None)
     go false h = absent (is_variable_of p member) p.nodes 0 variable h
     go true h =
         let parts = both (is_some (variable_at p.nodes variable)) (holds (context p variable).member (λ m. m == member)) h in
         let l = variable_within p variable parts.0 in
-        let is_told : told 0 numbers variable ≡ number_before p variable =
-        ap (λ ns. told 0 ns variable) e ∙ listed-at 0 (number_before p) (length p.nodes) variable ∙ (rw (lt-ltb variable (length p.nodes) l) refl) in
+        let is_told : lookup 0 numbers variable ≡ number_before p variable =
+        ap (λ ns. lookup 0 ns variable) e ∙ listed-at 0 (number_before p) (length p.nodes) variable ∙ (rw (lt-ltb variable (length p.nodes) l) refl) in
         present (is_variable_of p member) p.nodes 0 variable variable l (omega arith) h
         ∙ ap (λ n. Some n) (count_is (is_variable_of p member) variable ∙ sym (is_told ∙ own_number p member variable parts.0 parts.1))
 
 -- ---- counting on
 
-pub number_at_member : (p : Declarations) (id member : ℕ) (counts : List ℕ) → is_some (variable_at p.nodes id) ≡ true → (context p id).member ≡ Some member → AreCounted p id counts → number_before p id ≡ told 0 counts member
+pub number_at_member : (p : Declarations) (id member : ℕ) (counts : List ℕ) → is_some (variable_at p.nodes id) ≡ true → (context p id).member ≡ Some member → AreCounted p id counts → number_before p id ≡ lookup 0 counts member
 unfolding number_before
 number_at_member p id member counts v e h =
     ap (λ b. if b then elim (context p id).member as (λ _. ℕ) [ None ↦ 0 | Some m ↦ count_below (is_variable_of p m) id ] else 0) v
@@ -182,7 +182,7 @@ count_next test n = let e : n + 1 ≡ suc n = omega arith in ap (count_below tes
 pub none_more : (p : Declarations) (id : ℕ) (counts : List ℕ) → ((member : ℕ) → is_variable_of p member id ≡ false) → AreCounted p id counts → AreCounted p (id + 1) counts
 none_more p id counts none h = record { at = λ m. at m (none m) }
   where
-    at : (m : ℕ) → is_variable_of p m id ≡ false → told 0 counts m ≡ count_below (is_variable_of p m) (id + 1)
+    at : (m : ℕ) → is_variable_of p m id ≡ false → lookup 0 counts m ≡ count_below (is_variable_of p m) (id + 1)
     at m e =
         let same : count_below (is_variable_of p m) (id + 1) ≡ count_below (is_variable_of p m) id + 0 = count_next (is_variable_of p m) id ∙ ap (λ b. count_below (is_variable_of p m) id + (if b then 1 else 0)) e in
         let before = h.at m in
@@ -190,27 +190,27 @@ none_more p id counts none h = record { at = λ m. at m (none m) }
 
 -- a variable of this member stands here
 pub one_more : (p : Declarations) (id member : ℕ) (counts : List ℕ) → member < length counts → is_some (variable_at p.nodes id) ≡ true → (context p id).member ≡ Some member → AreCounted p id counts
-    → AreCounted p (id + 1) (set counts member (told 0 counts member + 1))
+    → AreCounted p (id + 1) (set counts member (lookup 0 counts member + 1))
 unfolding is_variable_of
 one_more p id member counts l v e h = record { at = λ m. ⊎_elim (same m) (other m) (cases_eq member m) ∙ sym (count_next (is_variable_of p m) id) }
   where
     after : List ℕ
-    after = set counts member (told 0 counts member + 1)
+    after = set counts member (lookup 0 counts member + 1)
 
     here : (m : ℕ) → (b : Bool) → (member == m) ≡ b
         → count_below (is_variable_of p m) id + (if is_some (variable_at p.nodes id) && holds (context p id).member (λ o. o == m) then 1 else 0) ≡ count_below (is_variable_of p m) id + (if b then 1 else 0)
     here m b f = rw (v, e, f) refl
 
     same : (m : ℕ) → member ≡ m
-        → told 0 after m ≡ count_below (is_variable_of p m) id + (if is_some (variable_at p.nodes id) && holds (context p id).member (λ o. o == m) then 1 else 0)
-    same m f = ap (told 0 after) (sym f) ∙ get_or-set_same counts member (told 0 counts member + 1) 0 l ∙ ap (λ n. n + 1) (h.at member ∙ ap (λ x. count_below (is_variable_of p x) id) f) ∙ sym (here m true (eq-eqb member m f))
+        → lookup 0 after m ≡ count_below (is_variable_of p m) id + (if is_some (variable_at p.nodes id) && holds (context p id).member (λ o. o == m) then 1 else 0)
+    same m f = ap (lookup 0 after) (sym f) ∙ get_or-set_same counts member (lookup 0 counts member + 1) 0 l ∙ ap (λ n. n + 1) (h.at member ∙ ap (λ x. count_below (is_variable_of p x) id) f) ∙ sym (here m true (eq-eqb member m f))
 
     other : (m : ℕ) → (member ≡ m → ⊥)
-        → told 0 after m ≡ count_below (is_variable_of p m) id + (if is_some (variable_at p.nodes id) && holds (context p id).member (λ o. o == m) then 1 else 0)
+        → lookup 0 after m ≡ count_below (is_variable_of p m) id + (if is_some (variable_at p.nodes id) && holds (context p id).member (λ o. o == m) then 1 else 0)
     other m f =
         let apart : m ≡ member → ⊥ = λ same. f (sym same) in
         let none : count_below (is_variable_of p m) id ≡ count_below (is_variable_of p m) id + 0 = omega arith in
-        get_or-set_other counts member m (told 0 counts member + 1) 0 apart ∙ h.at m ∙ none ∙ sym (here m false (ne_eqb member m f))
+        get_or-set_other counts member m (lookup 0 counts member + 1) 0 apart ∙ h.at m ∙ none ∙ sym (here m false (ne_eqb member m f))
 
 -- the counts are small
 counts_few : (test : ℕ → Bool) (n : ℕ) → count_below test n ≤ n
@@ -222,18 +222,18 @@ counts_few test (suc n) = go (test n) (counts_few test n)
     go true h = omega (arith, h)
     go false h = omega (arith, h)
 
-pub count_within : (p : Declarations) (id member : ℕ) (counts : List ℕ) → AreCounted p id counts → told 0 counts member ≤ id
+pub count_within : (p : Declarations) (id member : ℕ) (counts : List ℕ) → AreCounted p id counts → lookup 0 counts member ≤ id
 count_within p id member counts h = let l = counts_few (is_variable_of p member) id in let e = h.at member in omega (arith, l, e)
 
 -- ---- lemmas of the code
 
 pub own_place : (p : Declarations) (member variable : ℕ) (numbers : List ℕ) → numbers ≡ numbers_before p → is_variable_of p member variable ≡ true
-    → Some (told 0 numbers variable) ≡ position (λ v. v == variable) (variables_of p member)
-own_place p member variable numbers e h = sym (variable_place p member variable numbers e ∙ ap (λ b. if b then Some (told 0 numbers variable) else None) h)
+    → Some (lookup 0 numbers variable) ≡ position (λ v. v == variable) (variables_of p member)
+own_place p member variable numbers e h = sym (variable_place p member variable numbers e ∙ ap (λ b. if b then Some (lookup 0 numbers variable) else None) h)
 
 pub no_place : (p : Declarations) (member variable : ℕ) (numbers : List ℕ) → numbers ≡ numbers_before p → is_variable_of p member variable ≡ false
     → None ≡ position (λ v. v == variable) (variables_of p member)
-no_place p member variable numbers e h = sym (variable_place p member variable numbers e ∙ ap (λ b. if b then Some (told 0 numbers variable) else None) h)
+no_place p member variable numbers e h = sym (variable_place p member variable numbers e ∙ ap (λ b. if b then Some (lookup 0 numbers variable) else None) h)
 
 and_false : (b : Bool) → (b && false) ≡ false
 and_false true = refl
@@ -248,14 +248,14 @@ pub no_variable : (p : Declarations) (id : ℕ) (counts : List ℕ) → is_some 
 unfolding is_variable_of
 no_variable p id counts e h = none_more p id counts (λ m. ap (λ b. b && holds (context p id).member (λ x. x == m)) e) h
 
-told_zero : (n m : ℕ) → ◌≡◌ {A = ℕ} (told {A = ℕ} 0 (replicate n 0) m) 0
-told_zero zero m = told-behind {A = ℕ} 0 [] m (omega arith)
+told_zero : (n m : ℕ) → ◌≡◌ {A = ℕ} (lookup {A = ℕ} 0 (replicate n 0) m) 0
+told_zero zero m = lookup-behind {A = ℕ} 0 [] m (omega arith)
 told_zero (suc n) zero = refl
 told_zero (suc n) (suc m) = told_zero n m
 
 pub none_counted : (p : Declarations) (n : ℕ) (counts : List ℕ) → counts ≡ replicate n 0 → AreCounted p 0 counts
 unfolding count_below
-none_counted p n counts e = record { at = λ m. ap (λ cs. told 0 cs m) e ∙ told_zero n m }
+none_counted p n counts e = record { at = λ m. ap (λ cs. lookup 0 cs m) e ∙ told_zero n m }
 
 pub listed_more : {A : Type 0} (f : ℕ → A) (n : ℕ) (said : List A) (v : A) → said ≡ listed f n → v ≡ f n → said ++ v ∷ [] ≡ listed f (n + 1)
 unfolding listed

@@ -1,6 +1,6 @@
 -- The numbers of variables within their members, counted node by node.
 use Rattle.std.specs.Prelude.{◌≡◌, ℕ, zero, suc, ◌+◌, Bool, ◌&&◌, ◌==◌, List, length, Some, None, if◌then◌else◌, is_some}
-use Rattle.scj_tree.specs.Recursion.{told, listed}
+use Rattle.scj_tree.specs.Recursion.{lookup, listed}
 use Rattle.scj_rules.specs.Words.{holds}
 use Rattle.scj_rules.specs.Views.{variable_at}
 use Rattle.scj_rules.specs.Contexts.{Declarations, context}
@@ -24,4 +24,4 @@ numbers_before p = listed (number_before p) (length p.nodes)
 
 -- of each node that is a member, how many of its variables stand before a node
 pub record AreCounted (p : Declarations) (n : ℕ) (counts : List ℕ) : Type 0 where
-  pub at : (member : ℕ) → told 0 counts member ≡ count_below (is_variable_of p member) n
+  pub at : (member : ℕ) → lookup 0 counts member ≡ count_below (is_variable_of p member) n

@@ -1,7 +1,7 @@
 //! What calls stand for.
 
 ghost use Rattle.std.specs.Prelude.{◌≡◌, IfOk, None, unwrap_or};
-ghost use Rattle.scj_tree.specs.Recursion.{told};
+ghost use Rattle.scj_tree.specs.Recursion.{lookup};
 ghost use Rattle.scj_rules.specs.Contexts.{declarations_of};
 ghost use Rattle.scj_rules.specs.Types.{called_method};
 ghost use Rattle.scj_rules.specs.Bindings.{plain_or, called_on, target, method_binding};
@@ -37,7 +37,7 @@ fn called_on(
     method: &MethodRef,
     arguments: &[NodeId],
 ) -> ClassId
-    ensures { result ≡ called_on (told None types.now) receiver.now (found_method program.now.nodes method.now) arguments.now }
+    ensures { result ≡ called_on (lookup None types.now) receiver.now (found_method program.now.nodes method.now) arguments.now }
 {
     if method.on == MANAGED_MEMORY {
         return or_class(second_class(types, arguments), method.on);
@@ -58,7 +58,7 @@ fn target(
     arguments: &[NodeId],
     id: MethodId,
 ) -> Target
-    ensures { result ≡ target (told None types.now) receiver.now (found_method program.now.nodes method.now) arguments.now id }
+    ensures { result ≡ target (lookup None types.now) receiver.now (found_method program.now.nodes method.now) arguments.now id }
 {
     let on = called_on(program, types, receiver, method, arguments);
     let gives = !is_void(&result_type(program, method));
@@ -74,7 +74,7 @@ fn declared_binding(
     arguments: &[NodeId],
     method: &MethodRef,
 ) -> Result<Binding, Memory>
-    ensures { IfOk result (λ b. b ≡ declared_binding (declarations_of known.now) (told None types.now) receiver.now arguments.now (found_method known.now.nodes method.now)) }
+    ensures { IfOk result (λ b. b ≡ declared_binding (declarations_of known.now) (lookup None types.now) receiver.now arguments.now (found_method known.now.nodes method.now)) }
 {
     let program = known.program();
     let Some(number) = known.classes().method_number(node(program, method)) else {
@@ -97,7 +97,7 @@ fn method_binding(
     arguments: &[NodeId],
     method: &MethodRef,
 ) -> Result<Binding, Memory>
-    ensures { IfOk result (λ b. b ≡ method_binding (declarations_of known.now) (told None types.now) receiver.now arguments.now (found_method known.now.nodes method.now)) }
+    ensures { IfOk result (λ b. b ≡ method_binding (declarations_of known.now) (lookup None types.now) receiver.now arguments.now (found_method known.now.nodes method.now)) }
 {
     let program = known.program();
     match builtin(program, method) {
@@ -116,7 +116,7 @@ fn call_on(
     name: &Name,
     arguments: &[NodeId],
 ) -> Result<Binding, Memory>
-    ensures { IfOk result (λ b. b ≡ plain_or (method_binding (declarations_of known.now) (told None types.now) receiver.now arguments.now) (called_method (declarations_of known.now) receiver.now name.now)) }
+    ensures { IfOk result (λ b. b ≡ plain_or (method_binding (declarations_of known.now) (lookup None types.now) receiver.now arguments.now) (called_method (declarations_of known.now) receiver.now name.now)) }
 {
     match called_method(known, receiver, name) {
         Some(method) => method_binding(known, types, receiver, arguments, &method),
@@ -133,7 +133,7 @@ pub fn call_binding(
     object: &Option<NodeId>,
     arguments: &[NodeId],
 ) -> Result<Binding, Memory>
-    ensures { IfOk result (λ b. b ≡ call_binding (declarations_of known.now) (told None types.now) id name.now object.now arguments.now) }
+    ensures { IfOk result (λ b. b ≡ call_binding (declarations_of known.now) (lookup None types.now) id name.now object.now arguments.now) }
 {
     match call_receiver(known, types, id, object) {
         Some(receiver) => call_on(known, types, &receiver, name, arguments),

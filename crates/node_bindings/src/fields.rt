@@ -1,7 +1,7 @@
 //! What fields, arrays and classes stand for.
 
 ghost use Rattle.std.specs.Prelude.{◌≡◌, ◌+◌, IfOk, None};
-ghost use Rattle.scj_tree.specs.Recursion.{told};
+ghost use Rattle.scj_tree.specs.Recursion.{lookup};
 ghost use Rattle.scj_rules.specs.Contexts.{declarations_of};
 ghost use Rattle.class_rows.specs.Fields.{found_field};
 ghost use Rattle.node_bindings.specs.Arrays.{array_class_at};
@@ -69,7 +69,7 @@ pub fn access_binding(known: &Known<'_>, receiver: &Receiver, name: &Name) -> Bi
 /// The type of the second argument, where it is a class.
 #[tactic(auto, unfolding(scj_rules::specs::Bindings::second_class))]
 pub fn second_class(types: &[Option<Ty>], arguments: &[NodeId]) -> Option<ClassId>
-    ensures { result ≡ second_class (told None types.now) arguments.now }
+    ensures { result ≡ second_class (lookup None types.now) arguments.now }
 {
     match arguments {
         [_, second] => {

@@ -1,7 +1,7 @@
 //! What a node stands for, by its kind.
 
 ghost use Rattle.std.specs.Prelude.{◌≡◌, IfOk, None, Option, Some, option_and_then, slice_get};
-ghost use Rattle.scj_tree.specs.Recursion.{told};
+ghost use Rattle.scj_tree.specs.Recursion.{lookup};
 ghost use Rattle.scj_tree.specs.declared.nodes.Node.TheVariants.{SimpleName};
 ghost use Rattle.scj_rules.specs.Classes.{superclass_in};
 ghost use Rattle.scj_rules.specs.Contexts.{declarations_of, contexts_in, context};
@@ -90,7 +90,7 @@ fn field_here(known: &Known<'_>, id: NodeId, name: &Name) -> Binding
 
 /// An access.
 fn access_at(known: &Known<'_>, types: &[Option<Ty>], object: NodeId, name: &Name) -> Binding
-    ensures { result ≡ access_at (declarations_of known.now) (told None types.now) object name.now }
+    ensures { result ≡ access_at (declarations_of known.now) (lookup None types.now) object name.now }
 {
     match receiver(known, types, object) {
         Some(receiver) => access_binding(known, &receiver, name),
@@ -143,7 +143,7 @@ fn binding_of(
     requires contexts { contexts.now ≡ contexts_in known.now }
     requires numbers { numbers.now ≡ numbers_before (declarations_of known.now) }
     requires there { slice_get known.now.nodes id ≡ Some node.now }
-    ensures { IfOk result (λ b. b ≡ binding_of (declarations_of known.now) (told None types.now) id node.now) }
+    ensures { IfOk result (λ b. b ≡ binding_of (declarations_of known.now) (lookup None types.now) id node.now) }
 {
     match node {
         Node::Parameter { .. } | Node::Local { .. } | Node::LocalWithValue { .. } => {
@@ -206,7 +206,7 @@ pub fn binding_at(
 ) -> Result<Binding, Memory>
     requires contexts { contexts.now ≡ contexts_in known.now }
     requires numbers { numbers.now ≡ numbers_before (declarations_of known.now) }
-    ensures { IfOk result (λ b. b ≡ binding_at (declarations_of known.now) (told None types.now) id) }
+    ensures { IfOk result (λ b. b ≡ binding_at (declarations_of known.now) (lookup None types.now) id) }
 {
     if !can_stand(&known.program().kind(id)) {
         return Ok(Binding::Plain);

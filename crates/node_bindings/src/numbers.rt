@@ -4,7 +4,7 @@ ghost use Rattle.std.specs.Prelude.{◌≡◌, ◌+◌, ◌-◌, ◌<◌, ◌≤
 ghost use Rattle.scj_rules.specs.Views.{variable_at};
 ghost use Rattle.scj_rules.specs.Bindings.{variable_binding};
 ghost use Rattle.scj_rules.specs.declared.typing.Binding.TheVariants.{Local as LocalVariable};
-ghost use Rattle.scj_tree.specs.Recursion.{told};
+ghost use Rattle.scj_tree.specs.Recursion.{lookup};
 ghost use Rattle.scj_rules.specs.Contexts.{declarations_of, contexts_in, context};
 ghost use Rattle.scj_rules.specs.LimitRules.{variables_of};
 ghost use Rattle.node_bindings.specs.Numbers.{is_variable_of, number_before, numbers_before, AreCounted};
@@ -33,7 +33,7 @@ fn is_variable_of(program: &Program, contexts: &Contexts, member: NodeId, id: No
 
 /// The number that is told of a node.
 fn told(numbers: &[u32], id: NodeId) -> u32
-    ensures { result ≡ told 0 numbers.now id }
+    ensures { result ≡ lookup 0 numbers.now id }
 {
     match numbers.get(id.place()) {
         Some(number) => *number,
@@ -51,7 +51,7 @@ fn counted(
     member: NodeId,
 ) -> u32
     requires { AreCounted (declarations_of program.now) id counts.now }
-    ensures value { result ≡ told 0 counts.now member }
+    ensures value { result ≡ lookup 0 counts.now member }
     ensures within { result ≤ id }
 {
     let _ = program;

@@ -1,7 +1,7 @@
 //! What each node of a program stands for.
 
 ghost use Rattle.std.specs.Prelude.{◌≡◌, [], None, IfOk, OnOk};
-ghost use Rattle.scj_tree.specs.Recursion.{told};
+ghost use Rattle.scj_tree.specs.Recursion.{lookup};
 ghost use Rattle.scj_rules.specs.Contexts.{declarations_of, contexts_in};
 ghost use Rattle.scj_rules.specs.TypeRules.{types_in};
 ghost use Rattle.scj_rules.specs.Bindings.{bindings_in};
@@ -27,7 +27,7 @@ fn bind_all(
     requires contexts { contexts.now ≡ contexts_in known.now }
     requires numbers { numbers.now ≡ numbers_before (declarations_of known.now) }
     requires none { bindings.old ≡ [] }
-    ensures { OnOk result (bindings.new ≡ bound_by (declarations_of known.now) (told None types.now)) }
+    ensures { OnOk result (bindings.new ≡ bound_by (declarations_of known.now) (lookup None types.now)) }
 {
     let program = known.program();
     for place in 0..program.len() {

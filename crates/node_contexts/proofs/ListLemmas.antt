@@ -8,10 +8,11 @@ use Rattle.scj_tree.specs.declared.nodes.Node.{Node}
 use Rattle.scj_tree.specs.Counts.{times}
 use Rattle.std.proofs.lemmas.Option.{slice_get_within, get_or_from_slice_get}
 use Rattle.scj_tree.specs.Forest.{Forest, IsForest, AllBelow, AllClasses, joined}
-use Rattle.scj_tree.specs.Recursion.{told}
+use Rattle.scj_tree.specs.Recursion.{lookup}
 use Rattle.scj_rules.specs.Words.{is_among}
 use Rattle.scj_rules.specs.Views.{variable_at}
 use Rattle.scj_rules.specs.Contexts.{those_before, last_variable}
+use Rattle.scj_rules.specs.Classes.{first_user_class}
 
 pub at_below : (n : ℕ) (ids : List ℕ) (i d : ℕ) → AllBelow n ids → i < length ids → get_or ids i d < n
 unfolding AllBelow
@@ -35,8 +36,8 @@ is_among-push (y ∷ ids) x j = go (j == y) (j == x) (is_among j (ids ++ x ∷ [
 
 -- one more row is written
 pub row_more : {A : Type 0} (default : A) (f : ℕ → A) (ids : List ℕ) (i c : ℕ) (rows start : List A) (v : A) → i < length ids → c ≡ get_or ids i c → c < length rows → v ≡ f c
-    → ((j : ℕ) → told default rows j ≡ (if is_among j (take i ids) then f j else told default start j))
-    → (j : ℕ) → told default (set rows c v) j ≡ (if is_among j (take (i + 1) ids) then f j else told default start j)
+    → ((j : ℕ) → lookup default rows j ≡ (if is_among j (take i ids) then f j else lookup default start j))
+    → (j : ℕ) → lookup default (set rows c v) j ≡ (if is_among j (take (i + 1) ids) then f j else lookup default start j)
 row_more default f ids i c rows start v l e inside value before j =
     let grown : is_among j (take (i + 1) ids) ≡ (if j == c then true else is_among j (take i ids)) =
     ap (is_among j) (take_more ids i c l ∙ ap (λ x. take i ids ++ x ∷ []) (sym e)) ∙ is_among-push (take i ids) c j in
@@ -88,20 +89,20 @@ position-cons p x xs = go (p x)
     go false = tail (position_or_len p xs) (length xs)
 
 -- the place of a number in what is left of a list, one step back
-pub numbered : (all : List ℕ) (n node v : ℕ) (numbers : List (Option ℕ)) (j : ℕ) → n < length all → node ≡ get_or all n node → node < length numbers → v ≡ 16 + n
-    → told None numbers j ≡ option_map (λ k. (16 + suc n) + k) (position (λ other. j == other) (drop (suc n) all))
-    → told None (set numbers node (Some v)) j ≡ option_map (λ k. (16 + n) + k) (position (λ other. j == other) (drop n all))
+pub numbered : (all : List ℕ) (n node v : ℕ) (numbers : List (Option ℕ)) (j : ℕ) → n < length all → node ≡ get_or all n node → node < length numbers → v ≡ first_user_class + n
+    → lookup None numbers j ≡ option_map (λ k. (first_user_class + suc n) + k) (position (λ other. j == other) (drop (suc n) all))
+    → lookup None (set numbers node (Some v)) j ≡ option_map (λ k. (first_user_class + n) + k) (position (λ other. j == other) (drop n all))
 numbered all n node v numbers j l e inside value before =
-    let P : List ℕ → Type 0 = λ xs. told None (set numbers node (Some v)) j ≡ option_map (λ k. (16 + n) + k) (position (λ other. j == other) xs) in
+    let P : List ℕ → Type 0 = λ xs. lookup None (set numbers node (Some v)) j ≡ option_map (λ k. (first_user_class + n) + k) (position (λ other. j == other) xs) in
     let here : drop n all ≡ node ∷ drop (suc n) all = drop_more all n node l ∙ ap (λ x. x ∷ drop (n + 1) all) (sym e) ∙ ap (λ k. node ∷ drop k all) (add-one n) in
     subst P (sym here) (rw (position-cons (λ other. j == other) node (drop (suc n) all))
-    (⊎_elim (λ (same : j ≡ node). rw (eq-eqb j node same, same) (get_or-set_same numbers node (Some v) None inside ∙ ap (λ k. Some k) (let e : v ≡ (16 + n) + 0 = omega (arith, value) in e)))
+    (⊎_elim (λ (same : j ≡ node). rw (eq-eqb j node same, same) (get_or-set_same numbers node (Some v) None inside ∙ ap (λ k. Some k) (let e : v ≡ (first_user_class + n) + 0 = omega (arith, value) in e)))
     (λ (other : j ≡ node → ⊥). rw (ne_eqb j node other) (get_or-set_other numbers node j (Some v) None other ∙ before ∙ later (position (λ other. j == other) (drop (suc n) all))))
     (cases_eq j node)))
   where
-    later : (o : Option ℕ) → option_map (λ k. (16 + suc n) + k) o ≡ option_map (λ k. (16 + n) + k) (option_map (λ k. 1 + k) o)
+    later : (o : Option ℕ) → option_map (λ k. (first_user_class + suc n) + k) o ≡ option_map (λ k. (first_user_class + n) + k) (option_map (λ k. 1 + k) o)
     later None = refl
-    later (Some k) = ap (λ m. Some m) (let e : (16 + suc n) + k ≡ (16 + n) + (1 + k) = omega arith in e)
+    later (Some k) = ap (λ m. Some m) (let e : (first_user_class + suc n) + k ≡ (first_user_class + n) + (1 + k) = omega arith in e)
 
 pub unnumbered : (all : List ℕ) (n j : ℕ) → length all ≤ n → position (λ other. j == other) (drop n all) ≡ None
 unnumbered all n j l = rw (drop_all n all l) refl

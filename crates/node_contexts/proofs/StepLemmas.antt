@@ -11,9 +11,9 @@ use Rattle.scj_tree.specs.declared.nodes.Node.{Node}
 use Rattle.scj_tree.specs.Counts.{times}
 use Rattle.scj_tree.specs.Forest.{Forest, IsForest, AllBelow, ChildrenFirst, joined, all_children}
 use Rattle.scj_tree.specs.Shape.{children}
-use Rattle.scj_tree.specs.Recursion.{told, above}
+use Rattle.scj_tree.specs.Recursion.{lookup, above}
 use Rattle.scj_tree.proofs.ForestLemmas.{times-append}
-use Rattle.scj_tree.proofs.RecursionLemmas.{by_larger-is, length-falling}
+use Rattle.scj_tree.proofs.RecursionLemmas.{by_larger-is, length-top_down}
 use Rattle.scj_rules.specs.Words.{is_among}
 use Rattle.scj_rules.specs.Contexts.{outermost, parent_in, child_context, context_of, contexts_in, object_of, last_variable, declared_before}
 use Rattle.scj_rules.specs.declared.contexts.Context.{Context}
@@ -139,53 +139,53 @@ module _ (forest : Forest) (whole : IsForest forest) where
       let found = position-Some (λ n. is_among x (children n)) nodes q d h in
       record { node = get_or nodes q d; there = slice_get-get_or nodes q d found.0; among = found.1 }
 
-  context-is : (x : ℕ) → x < length nodes → told outermost all x ≡ context_of nodes (joined forest.files) x (above outermost x (told outermost all))
+  context-is : (x : ℕ) → x < length nodes → lookup outermost all x ≡ context_of nodes (joined forest.files) x (above outermost x (lookup outermost all))
   unfolding contexts_in
   context-is x l = by_larger-is outermost (context_of nodes (joined forest.files)) (length nodes) x l
 
-  no-parent : (x : ℕ) → x < length nodes → parent_in nodes x ≡ None → told outermost all x ≡ outermost
-  no-parent x l e = context-is x l ∙ by-parent nodes (joined forest.files) x (above outermost x (told outermost all)) None e
+  no-parent : (x : ℕ) → x < length nodes → parent_in nodes x ≡ None → lookup outermost all x ≡ outermost
+  no-parent x l e = context-is x l ∙ by-parent nodes (joined forest.files) x (above outermost x (lookup outermost all)) None e
 
-  own : (k : ℕ) (node : Node) → slice_get nodes k ≡ Some node → told_from forest (suc k) k ≡ told outermost all k
+  own : (k : ℕ) (node : Node) → slice_get nodes k ≡ Some node → told_from forest (suc k) k ≡ lookup outermost all k
   unfolding told_from
   own k node here = go (parent_in nodes k) refl
     where
-      go : (o : Option ℕ) → parent_in nodes k ≡ o → elim o as (λ _. Context) [ None ↦ outermost | Some parent ↦ if nat_lt parent (suc k) then outermost else told outermost all k ] ≡ told outermost all k
+      go : (o : Option ℕ) → parent_in nodes k ≡ o → elim o as (λ _. Context) [ None ↦ outermost | Some parent ↦ if nat_lt parent (suc k) then outermost else lookup outermost all k ] ≡ lookup outermost all k
       go None e = sym (no-parent k (slice_get_within nodes k node here) e)
       go (Some q) e =
           let is = parent-is k q e node in
           rw (le-ltb q (suc k) (omega (arith, child-less q k is.node is.there is.among))) refl
 
-  child-is : (k x : ℕ) (node : Node) → slice_get nodes k ≡ Some node → is_among x (children node) ≡ true → told outermost all x ≡ child_context nodes (joined forest.files) k node (told outermost all k) x
+  child-is : (k x : ℕ) (node : Node) → slice_get nodes k ≡ Some node → is_among x (children node) ≡ true → lookup outermost all x ≡ child_context nodes (joined forest.files) k node (lookup outermost all k) x
   child-is k x node e h =
       let less : x < k = child-less k x node e h in
       context-is x (omega (arith, less, slice_get_within nodes k node e))
-      ∙ by-parent-node nodes (joined forest.files) x (above outermost x (told outermost all)) k node (parent-of k x node e h) e
-      ∙ ap (λ t. child_context nodes (joined forest.files) k node (if t then told outermost all k else outermost) x) (lt-ltb x k less)
+      ∙ by-parent-node nodes (joined forest.files) x (above outermost x (lookup outermost all)) k node (parent-of k x node e h) e
+      ∙ ap (λ t. child_context nodes (joined forest.files) k node (if t then lookup outermost all k else outermost) x) (lt-ltb x k less)
 
-  from-parent : (k x q : ℕ) → parent_in nodes x ≡ Some q → told_from forest k x ≡ (if nat_lt q k then outermost else told outermost all x)
+  from-parent : (k x q : ℕ) → parent_in nodes x ≡ Some q → told_from forest k x ≡ (if nat_lt q k then outermost else lookup outermost all x)
   unfolding told_from
-  from-parent k x q e = ap (λ (o : Option ℕ). elim o as (λ _. Context) [ None ↦ outermost | Some parent ↦ if nat_lt parent k then outermost else told outermost all x ]) e
+  from-parent k x q e = ap (λ (o : Option ℕ). elim o as (λ _. Context) [ None ↦ outermost | Some parent ↦ if nat_lt parent k then outermost else lookup outermost all x ]) e
 
   -- the parents from k on, where those from k + 1 on are done
-  pub step : (k : ℕ) (node : Node) (rows new : List Context) → slice_get nodes k ≡ Some node → ((j : ℕ) → j < length nodes → told outermost rows j ≡ told_from forest (suc k) j)
-      → ((j : ℕ) → told outermost new j ≡ (if is_among j (children node) then child_context nodes (joined forest.files) k node (told outermost rows k) j else told outermost rows j))
-      → (j : ℕ) → j < length nodes → told outermost new j ≡ told_from forest k j
+  pub step : (k : ℕ) (node : Node) (rows new : List Context) → slice_get nodes k ≡ Some node → ((j : ℕ) → j < length nodes → lookup outermost rows j ≡ told_from forest (suc k) j)
+      → ((j : ℕ) → lookup outermost new j ≡ (if is_among j (children node) then child_context nodes (joined forest.files) k node (lookup outermost rows k) j else lookup outermost rows j))
+      → (j : ℕ) → j < length nodes → lookup outermost new j ≡ told_from forest k j
   unfolding told_from
   step k node rows new e before after j l =
       ⊎_elim (λ (h : is_among j (children node) ≡ true).
-      let row : told outermost rows k ≡ told outermost all k = before k (slice_get_within nodes k node e) ∙ own k node e in
-      let value : told outermost new j ≡ child_context nodes (joined forest.files) k node (told outermost rows k) j = rw h at (after j) in
+      let row : lookup outermost rows k ≡ lookup outermost all k = before k (slice_get_within nodes k node e) ∙ own k node e in
+      let value : lookup outermost new j ≡ child_context nodes (joined forest.files) k node (lookup outermost rows k) j = rw h at (after j) in
       value ∙ ap (λ a. child_context nodes (joined forest.files) k node a j) row ∙ sym (child-is k j node e h)
-      ∙ sym (from-parent k j k (parent-of k j node e h) ∙ ap (λ t. if t then outermost else told outermost all j) (le-ltb k k (omega arith))))
+      ∙ sym (from-parent k j k (parent-of k j node e h) ∙ ap (λ t. if t then outermost else lookup outermost all j) (le-ltb k k (omega arith))))
       (λ (h : is_among j (children node) ≡ false).
-      let value : told outermost new j ≡ told outermost rows j = rw h at (after j) in
+      let value : lookup outermost new j ≡ lookup outermost rows j = rw h at (after j) in
       value ∙ before j l ∙ same h (parent_in nodes j) refl)
       (cases_Bool (is_among j (children node)))
     where
       same : is_among j (children node) ≡ false → (o : Option ℕ) → parent_in nodes j ≡ o
-          → elim o as (λ _. Context) [ None ↦ outermost | Some parent ↦ if nat_lt parent (suc k) then outermost else told outermost all j ]
-          ≡ elim o as (λ _. Context) [ None ↦ outermost | Some parent ↦ if nat_lt parent k then outermost else told outermost all j ]
+          → elim o as (λ _. Context) [ None ↦ outermost | Some parent ↦ if nat_lt parent (suc k) then outermost else lookup outermost all j ]
+          ≡ elim o as (λ _. Context) [ None ↦ outermost | Some parent ↦ if nat_lt parent k then outermost else lookup outermost all j ]
       same h None f = refl
       same h (Some q) f =
           let is = parent-is j q f node in
@@ -195,21 +195,21 @@ module _ (forest : Forest) (whole : IsForest forest) where
           let t : nat_lt q (suc k) ≡ nat_lt q k = grind (arith, nat_tests) in
           rw t refl
 
-  pub init : (rows : List Context) → rows ≡ replicate (length nodes) outermost → (j : ℕ) → j < length nodes → told outermost rows j ≡ told_from forest (length nodes) j
+  pub init : (rows : List Context) → rows ≡ replicate (length nodes) outermost → (j : ℕ) → j < length nodes → lookup outermost rows j ≡ told_from forest (length nodes) j
   unfolding told_from
   init rows e j l = rw e (get_or-replicate (length nodes) j outermost outermost l) ∙ go (parent_in nodes j) refl
     where
-      go : (o : Option ℕ) → parent_in nodes j ≡ o → outermost ≡ elim o as (λ _. Context) [ None ↦ outermost | Some parent ↦ if nat_lt parent (length nodes) then outermost else told outermost all j ]
+      go : (o : Option ℕ) → parent_in nodes j ≡ o → outermost ≡ elim o as (λ _. Context) [ None ↦ outermost | Some parent ↦ if nat_lt parent (length nodes) then outermost else lookup outermost all j ]
       go None f = refl
       go (Some q) f =
           let is = parent-is j q f (first-node nodes j l) in
           rw (lt-ltb q (length nodes) (slice_get_within nodes q is.node is.there)) refl
 
-  pub done : (rows : List Context) → length rows ≡ length nodes → ((j : ℕ) → j < length nodes → told outermost rows j ≡ told_from forest 0 j) → rows ≡ contexts_in forest
+  pub done : (rows : List Context) → length rows ≡ length nodes → ((j : ℕ) → j < length nodes → lookup outermost rows j ≡ told_from forest 0 j) → rows ≡ contexts_in forest
   unfolding told_from contexts_in
-  done rows same h = ext_get_or outermost rows all (same ∙ sym (length-falling outermost (context_of nodes (joined forest.files)) 0 (length nodes))) (λ j l. h j (omega (arith, l, same)) ∙ last j (omega (arith, l, same)) (parent_in nodes j) refl)
+  done rows same h = ext_get_or outermost rows all (same ∙ sym (length-top_down outermost (context_of nodes (joined forest.files)) 0 (length nodes))) (λ j l. h j (omega (arith, l, same)) ∙ last j (omega (arith, l, same)) (parent_in nodes j) refl)
     where
-      last : (j : ℕ) → j < length nodes → (o : Option ℕ) → parent_in nodes j ≡ o → elim o as (λ _. Context) [ None ↦ outermost | Some parent ↦ if nat_lt parent 0 then outermost else told outermost all j ] ≡ told outermost all j
+      last : (j : ℕ) → j < length nodes → (o : Option ℕ) → parent_in nodes j ≡ o → elim o as (λ _. Context) [ None ↦ outermost | Some parent ↦ if nat_lt parent 0 then outermost else lookup outermost all j ] ≡ lookup outermost all j
       last j l None f = sym (no-parent j l f)
       last j l (Some q) f = rw (le-ltb q 0 (omega arith)) refl
 

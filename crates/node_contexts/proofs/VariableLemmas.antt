@@ -1,7 +1,7 @@
 -- The variables that are known at a node, from the last one on.
 use Rattle.std.proofs.Common.{◌≡◌, ℕ, ◌+◌, ◌-◌, ◌<◌, ◌≤◌, suc, List, [], ◌∷◌, length, find, refl, ap, ◌∙◌, arith, Option, Some, None, true, false, cond}
 use Rattle.scj_tree.specs.Forest.{Forest}
-use Rattle.scj_tree.specs.Recursion.{told}
+use Rattle.scj_tree.specs.Recursion.{lookup}
 use Rattle.scj_rules.specs.Words.{chain}
 use Rattle.scj_rules.specs.Contexts.{Declarations, declarations_of, outermost, contexts_in, variable_named, known_variables, context}
 use Rattle.node_contexts.specs.Steps.{declares, on_from}
@@ -13,9 +13,9 @@ module _ (forest : Forest) (name : List ℕ) where
   abbrev seek : ℕ → Option ℕ → Option ℕ
   seek bound from = find (declares forest.nodes name) (on_from p bound from)
 
-  pub context-told : (id : ℕ) → context p id ≡ told outermost (contexts_in forest) id
+  pub context-lookup : (id : ℕ) → context p id ≡ lookup outermost (contexts_in forest) id
   unfolding declarations_of
-  context-told id = refl
+  context-lookup id = refl
 
   pub first : (id : ℕ) → variable_named p id name ≡ find (declares forest.nodes name) (on_from p (length forest.nodes) (context p id).last)
   unfolding variable_named known_variables declarations_of

@@ -4,8 +4,9 @@ use Rattle.scj_tree.specs.declared.nodes.Node.{Node}
 use Rattle.scj_tree.specs.declared.kinds.NodeKind.{NodeKind}
 use Rattle.scj_tree.specs.declared.kinds.NodeKind.TheVariants.{ScopeName, TypeArgument, IntType, BooleanType, VoidType, LongType, Empty, SimpleName, Text, Number, True, False, Null, This}
 use Rattle.scj_tree.specs.Forest.{Forest}
-use Rattle.scj_tree.specs.Recursion.{told}
-use Rattle.scj_rules.specs.Words.{is_same, holds, or_else, chain}
+use Rattle.scj_tree.specs.Recursion.{lookup}
+use Rattle.scj_base.specs.Bytes.{is_same}
+use Rattle.scj_rules.specs.Words.{holds, or_else, chain}
 use Rattle.scj_rules.specs.Views.{variable_at, modifiers_at}
 use Rattle.scj_rules.specs.declared.views.Declared.{Declared}
 use Rattle.scj_rules.specs.declared.contexts.Context.{Context}
@@ -38,7 +39,7 @@ unfoldable pub told_from : Forest → ℕ → ℕ → Context
 told_from forest first id =
     elim (parent_in forest.nodes id) [
       | None ↦ outermost
-      | Some parent ↦ if nat_lt parent first then outermost else told outermost (contexts_in forest) id
+      | Some parent ↦ if nat_lt parent first then outermost else lookup outermost (contexts_in forest) id
     ]
 
 -- the node declares a variable of the name

@@ -2,10 +2,11 @@
 
 ghost use Rattle.std.specs.Prelude.{◌≡◌, ◌++◌, ℕ, None, IfOk, length};
 ghost use Rattle.scj_tree.specs.Forest.{joined};
-ghost use Rattle.scj_tree.specs.Recursion.{told};
+ghost use Rattle.scj_tree.specs.Recursion.{lookup};
 ghost use Rattle.scj_rules.specs.Contexts.{number_of_class};
 
 use scj_base::{ClassId, Memory, NodeId};
+use scj_builtins::FRAMEWORK_CLASS_COUNT;
 use scj_tree::Program;
 use std::alloc::Global;
 
@@ -23,10 +24,10 @@ fn class_nodes(alloc: Global, program: &Program) -> Result<Vec<NodeId>, Memory>
 /// The number of the class of each node, if it is one.
 pub fn class_numbers(alloc: Global, program: &Program) -> Result<Vec<Option<ClassId>>, Memory>
     ensures whole { IfOk result (λ numbers. length numbers.items ≡ length program.now.nodes) }
-    ensures exact { IfOk result (λ numbers. (id : ℕ) → told None numbers.items id ≡ number_of_class (joined program.now.files) id) }
+    ensures exact { IfOk result (λ numbers. (id : ℕ) → lookup None numbers.items id ≡ number_of_class (joined program.now.files) id) }
 {
     let all = class_nodes(alloc, program)?;
-    if all.len() > (u32::MAX - 16) as usize {
+    if all.len() > (u32::MAX - FRAMEWORK_CLASS_COUNT) as usize {
         return Err(Memory);
     }
     let mut numbers = vec![in alloc; None; program.len()]?;
@@ -34,7 +35,7 @@ pub fn class_numbers(alloc: Global, program: &Program) -> Result<Vec<Option<Clas
     while place > 0 {
         place -= 1;
         let node = all[place];
-        numbers[node.place()] = Some(ClassId::at(16 + place as u32));
+        numbers[node.place()] = Some(ClassId::at(FRAMEWORK_CLASS_COUNT + place as u32));
     }
     Ok(numbers)
 }

@@ -1,7 +1,7 @@
 //! The contexts of the nodes of a program.
 
 ghost use Rattle.std.specs.Prelude.{◌≡◌, IfOk, replicate};
-ghost use Rattle.scj_tree.specs.Recursion.{told};
+ghost use Rattle.scj_tree.specs.Recursion.{lookup};
 ghost use Rattle.scj_rules.specs.Contexts.{outermost, contexts_in};
 
 use crate::class_numbers::class_numbers;
@@ -63,7 +63,7 @@ impl Contexts {
 
     /// The context of a node.
     pub fn get(&self, id: NodeId) -> Context
-        ensures { result ≡ told outermost self.now id }
+        ensures { result ≡ lookup outermost self.now id }
     {
         match self.rows.get(id.place()) {
             Some(row) => *row,

@@ -3,7 +3,7 @@
 ghost use Rattle.std.specs.Prelude.{◌≡◌, ◌<◌, ◌≤◌, ◌++◌, ℕ, List, [], OnOk, Option, Some, None, length, slice_get, if◌then◌else◌};
 ghost use Rattle.scj_tree.specs.Counts.{times};
 ghost use Rattle.scj_tree.specs.Forest.{AllBelow, joined};
-ghost use Rattle.scj_tree.specs.Recursion.{told};
+ghost use Rattle.scj_tree.specs.Recursion.{lookup};
 ghost use Rattle.scj_tree.specs.Shape.{children, optional};
 ghost use Rattle.scj_rules.specs.Definitions.{read};
 ghost use Rattle.scj_rules.specs.Words.{is_among};
@@ -106,7 +106,7 @@ fn spread_in_turn(
     requires within { AllBelow (length rows.old.items) ids.now }
     requires apart { (x : ℕ) → times x ids.now ≤ 1 }
     ensures whole { length rows.new.items ≡ length rows.old.items }
-    ensures exact { (id : ℕ) → told outermost rows.new.items id ≡ (if is_among id ids.now then of_child base.now object.now (last_variable program.now.nodes base.now.last (those_before id ids.now)) id else told outermost rows.old.items id) }
+    ensures exact { (id : ℕ) → lookup outermost rows.new.items id ≡ (if is_among id ids.now then of_child base.now object.now (last_variable program.now.nodes base.now.last (those_before id ids.now)) id else lookup outermost rows.old.items id) }
 {
     let mut known = base.last;
     for i in 0..ids.len() {
@@ -129,7 +129,7 @@ fn spread_apart(
 )
     requires { AllBelow (length rows.old.items) ids.now }
     ensures whole { length rows.new.items ≡ length rows.old.items }
-    ensures exact { (id : ℕ) → told outermost rows.new.items id ≡ (if is_among id ids.now then of_child base.now object.now (last_variable program.now.nodes base.now.last (parameters_before program.now.nodes parameters.now id)) id else told outermost rows.old.items id) }
+    ensures exact { (id : ℕ) → lookup outermost rows.new.items id ≡ (if is_among id ids.now then of_child base.now object.now (last_variable program.now.nodes base.now.last (parameters_before program.now.nodes parameters.now id)) id else lookup outermost rows.old.items id) }
 {
     for i in 0..ids.len() {
         let child = ids[i];
@@ -171,7 +171,7 @@ fn spread(
     requires within { AllBelow (length rows.old.items) ids.now }
     requires apart { (x : ℕ) → times x ids.now ≤ 1 }
     ensures whole { length rows.new.items ≡ length rows.old.items }
-    ensures exact { (id : ℕ) → told outermost rows.new.items id ≡ (if is_among id (children node.now) then child_context program.now.nodes (joined program.now.files) parent node.now (told outermost rows.old.items parent) id else told outermost rows.old.items id) }
+    ensures exact { (id : ℕ) → lookup outermost rows.new.items id ≡ (if is_among id (children node.now) then child_context program.now.nodes (joined program.now.files) parent node.now (lookup outermost rows.old.items parent) id else lookup outermost rows.old.items id) }
 {
     let above = rows[parent.place()];
     let base = shared(class, parent, node, &above);
@@ -200,7 +200,7 @@ pub fn spread_children(
     requires within { AllBelow (length rows.old.items) (children node.now) }
     requires apart { (x : ℕ) → times x (children node.now) ≤ 1 }
     ensures whole { OnOk result (length rows.new.items ≡ length rows.old.items) }
-    ensures exact { OnOk result ((id : ℕ) → told outermost rows.new.items id ≡ (if is_among id (children node.now) then child_context program.now.nodes (joined program.now.files) parent node.now (told outermost rows.old.items parent) id else told outermost rows.old.items id)) }
+    ensures exact { OnOk result ((id : ℕ) → lookup outermost rows.new.items id ≡ (if is_among id (children node.now) then child_context program.now.nodes (joined program.now.files) parent node.now (lookup outermost rows.old.items parent) id else lookup outermost rows.old.items id)) }
 {
     if is_leaf(program, parent, node) {
         return Ok(());

@@ -8,7 +8,7 @@ use Rattle.scj_base.specs.declared.findings.Found.{Found}
 use Rattle.scj_base.specs.declared.findings.Rule.TheVariants.{K2}
 use Rattle.scj_rules.specs.declared.views.Declared.{Declared}
 use Rattle.scj_rules.specs.declared.scopes.Written.{Written}
-use Rattle.scj_tree.specs.Recursion.{told, joined_below}
+use Rattle.scj_tree.specs.Recursion.{lookup, joined_below}
 use Rattle.scj_tree.specs.Forest.{Forest}
 use Rattle.node_views.specs.Parts.{naming}
 use Rattle.scj_rules.specs.Words.{broken, holds}
@@ -177,24 +177,24 @@ memberless p id counts h a =
     never true member = ap (λ (o : Option ℕ). holds o (λ m. m == member)) h
     never false member = refl
 
-raised_same : (counts : List ℕ) (m : ℕ) → m < length counts → told 0 (raised counts m) m ≡ min most_locals (told 0 counts m + 1)
+raised_same : (counts : List ℕ) (m : ℕ) → m < length counts → lookup 0 (raised counts m) m ≡ min most_locals (lookup 0 counts m + 1)
 unfolding raised
-raised_same counts m l = let yes : nat_lt m (length counts) ≡ true = grind (arith, nat_tests) in rw yes (get_or-set_same counts m (min most_locals (told 0 counts m + 1)) 0 l)
+raised_same counts m l = let yes : nat_lt m (length counts) ≡ true = grind (arith, nat_tests) in rw yes (get_or-set_same counts m (min most_locals (lookup 0 counts m + 1)) 0 l)
 
-raised_other : (counts : List ℕ) (m other : ℕ) → other ≢ m → told 0 (raised counts m) other ≡ told 0 counts other
+raised_other : (counts : List ℕ) (m other : ℕ) → other ≢ m → lookup 0 (raised counts m) other ≡ lookup 0 counts other
 unfolding raised
 raised_other counts m other n = go (nat_lt m (length counts))
   where
-    go : (b : Bool) → told 0 (if b then set counts m (min most_locals (told 0 counts m + 1)) else counts) other ≡ told 0 counts other
-    go true = get_or-set_other counts m other (min most_locals (told 0 counts m + 1)) 0 n
+    go : (b : Bool) → lookup 0 (if b then set counts m (min most_locals (lookup 0 counts m + 1)) else counts) other ≡ lookup 0 counts other
+    go true = get_or-set_other counts m other (min most_locals (lookup 0 counts m + 1)) 0 n
     go false = refl
 
 raised_length : (counts : List ℕ) (m : ℕ) → length (raised counts m) ≡ length counts
 unfolding raised
 raised_length counts m = go (nat_lt m (length counts))
   where
-    go : (b : Bool) → length (if b then set counts m (min most_locals (told 0 counts m + 1)) else counts) ≡ length counts
-    go true = length-set counts m (min most_locals (told 0 counts m + 1))
+    go : (b : Bool) → length (if b then set counts m (min most_locals (lookup 0 counts m + 1)) else counts) ≡ length counts
+    go true = length-set counts m (min most_locals (lookup 0 counts m + 1))
     go false = refl
 
 capped : (x y z : ℕ) → x ≡ min 32 y → z ≡ y + 1 → min 32 (x + 1) ≡ min 32 z
@@ -212,7 +212,7 @@ none_there (x ∷ xs) zero l = absurd (omega (arith, l))
 none_there (x ∷ xs) (suc i) l = none_there xs i (omega (arith, l))
 
 pub counted_here : (p : Declarations) (id member : ℕ) (counts : List ℕ) (w : Written) → Some w ≡ option_map naming (variable_at p.nodes id) → (context p id).member ≡ Some member → AreCounts p id counts
-    → (late_variable p id ≡ broken (holds (slice_get p.nodes member) is_callable && nat_le 32 (told 0 counts member)) K2 w.place) × AreCounts p (id + 1) (raised counts member)
+    → (late_variable p id ≡ broken (holds (slice_get p.nodes member) is_callable && nat_le 32 (lookup 0 counts member)) K2 w.place) × AreCounts p (id + 1) (raised counts member)
 unfolding late_variable
 counted_here p id member counts w h c a =
     let d = some_name (variable_at p.nodes id) w h in
@@ -222,8 +222,8 @@ counted_here p id member counts w h c a =
     (found ∙ ap (λ b. broken b K2 w.place) (is_late (cases_lt member (length p.nodes))), more d.0 d.1)
   where
     is_late : (member < length p.nodes) ⊎ (length p.nodes ≤ member)
-        → (holds (slice_get p.nodes member) is_callable && nat_le most_locals (passing (is_variable_of p member) 0 id)) ≡ (holds (slice_get p.nodes member) is_callable && nat_le 32 (told 0 counts member))
-    is_late (inl l) = ap (λ b. holds (slice_get p.nodes member) is_callable && b) (sym (late_capped (told 0 counts member) (passing (is_variable_of p member) 0 id) (a.exact member l)))
+        → (holds (slice_get p.nodes member) is_callable && nat_le most_locals (passing (is_variable_of p member) 0 id)) ≡ (holds (slice_get p.nodes member) is_callable && nat_le 32 (lookup 0 counts member))
+    is_late (inl l) = ap (λ b. holds (slice_get p.nodes member) is_callable && b) (sym (late_capped (lookup 0 counts member) (passing (is_variable_of p member) 0 id) (a.exact member l)))
     is_late (inr l) = let none = none_there p.nodes member l in rw none refl
 
     tested : (d : Declared) → variable_at p.nodes id ≡ Some d → (m : ℕ) → is_variable_of p m id ≡ (member == m)
@@ -240,12 +240,12 @@ counted_here p id member counts w h c a =
         next m = passing_next (is_variable_of p m) 0 id ∙ (let at : 0 + id ≡ id = omega arith in ap (λ k. passing (is_variable_of p m) 0 id + (if is_variable_of p m k then 1 else 0)) at)
             ∙ ap (λ b. passing (is_variable_of p m) 0 id + (if b then 1 else 0)) (tested d e m)
 
-        counted : (m : ℕ) → m < length p.nodes → (b : Bool) → (member == m) ≡ b → told 0 (raised counts member) m ≡ min most_locals (passing (is_variable_of p m) 0 (id + 1))
+        counted : (m : ℕ) → m < length p.nodes → (b : Bool) → (member == m) ≡ b → lookup 0 (raised counts member) m ≡ min most_locals (passing (is_variable_of p m) 0 (id + 1))
         counted m l true same =
             let e2 : member ≡ m = same_number member m same in
             let l2 : m < length counts = omega (arith, l, a.whole) in
-            ap (λ k. told 0 (raised counts k) m) e2 ∙ raised_same counts m l2
-            ∙ capped (told 0 counts m) (passing (is_variable_of p m) 0 id) (passing (is_variable_of p m) 0 (id + 1)) (a.exact m l) (next m ∙ ap (λ b. passing (is_variable_of p m) 0 id + (if b then 1 else 0)) same)
+            ap (λ k. lookup 0 (raised counts k) m) e2 ∙ raised_same counts m l2
+            ∙ capped (lookup 0 counts m) (passing (is_variable_of p m) 0 id) (passing (is_variable_of p m) 0 (id + 1)) (a.exact m l) (next m ∙ ap (λ b. passing (is_variable_of p m) 0 id + (if b then 1 else 0)) same)
         counted m l false other =
             raised_other counts member m (λ e3. absurd (true≢false (sym (is_same_number member m (sym e3)) ∙ other)))
             ∙ a.exact m l ∙ ap (min most_locals) (sym (next m ∙ ap (λ b. passing (is_variable_of p m) 0 id + (if b then 1 else 0)) other ∙ (let z : passing (is_variable_of p m) 0 id + 0 ≡ passing (is_variable_of p m) 0 id = omega arith in z)))
@@ -253,7 +253,7 @@ counted_here p id member counts w h c a =
 pub nothing_added : {A : Type 0} (found xs : List A) → xs ≡ [] → found ≡ found ++ xs
 nothing_added found xs e = sym (ap (λ ys. found ++ ys) e ∙ append-nil found)
 
-zero_told : (n m : ℕ) → ◌≡◌ {A = ℕ} (told 0 (replicate n 0) m) 0
+zero_told : (n m : ℕ) → ◌≡◌ {A = ℕ} (lookup 0 (replicate n 0) m) 0
 zero_told zero zero = refl
 zero_told zero (suc m) = refl
 zero_told (suc n) zero = refl
@@ -261,7 +261,7 @@ zero_told (suc n) (suc m) = zero_told n m
 
 pub first_counts : (forest : Forest) (n : ℕ) (counts : List ℕ) → counts ≡ replicate n 0 → n ≡ length forest.nodes → AreCounts (declarations_of forest) 0 counts
 unfolding passing declarations_of
-first_counts forest n counts e l = record { whole = ap length e ∙ length-replicate n 0 ∙ l; exact = λ m w. ap (λ cs. told 0 cs m) e ∙ zero_told n m }
+first_counts forest n counts e l = record { whole = ap length e ∙ length-replicate n 0 ∙ l; exact = λ m w. ap (λ cs. lookup 0 cs m) e ∙ zero_told n m }
 
 pub joined_next : {A : Type 0} (f : ℕ → List A) (n at : ℕ) (found after first : List A) → at ≡ n → found ≡ first ++ joined_below f n → after ≡ found ++ f at → after ≡ first ++ joined_below f (n + 1)
 unfolding joined_below

@@ -2,6 +2,7 @@ pub mod AskedLemmas
 pub mod CountingLemmas
 pub mod FindingLemmas
 pub mod InheritingLemmas
+pub mod KindLemmas
 pub mod LateLemmas
 pub mod NameLemmas
 pub mod NodeLemmas

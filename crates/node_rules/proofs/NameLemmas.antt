@@ -2,14 +2,16 @@
 use Rattle.std.proofs.Common.{◌≡◌, ℕ, ◌+◌, ◌<◌, zero, suc, Bool, true, false, cond, List, [], ◌∷◌, ◌++◌, length, map, slice_get, Option, Some, None, refl, sym, ap, ◌∙◌, subst, arith, nat_lt, position, option_map, option_and_then, ◌≤◌, ◌-◌}
 use Rattle.std.proofs.lemmas.Bool.Decides.{nat_tests}
 use Rattle.std.specs.List.{position_or_len}
-use Rattle.scj_builtins.specs.Framework.{FrameworkClass, framework_classes}
+use Rattle.scj_builtins.specs.declared.classes.FrameworkClass.{FrameworkClass}
+use Rattle.scj_builtins.specs.Framework.{framework_classes}
 use Rattle.scj_tree.specs.declared.nodes.Node.{Node}
 use Rattle.scj_tree.specs.Forest.{Forest}
-use Rattle.scj_rules.specs.Words.{is_same, holds}
+use Rattle.scj_base.specs.Bytes.{is_same}
+use Rattle.scj_rules.specs.Words.{holds}
 use Rattle.class_rows.specs.Tables.{class_written, has_good_header}
 use Rattle.class_rows.proofs.RowLemmas.{class_get, counted, counted_is, kept}
 use Rattle.scj_rules.specs.Views.{WrittenClass}
-use Rattle.scj_rules.specs.Classes.{ClassRow, class_names, class_number, framework_row, framework_rows_from, user_row, written_rows, user_classes, counted_from}
+use Rattle.scj_rules.specs.Classes.{ClassRow, class_names, class_number, framework_row, framework_rows_from, user_row, written_rows, user_classes, counted_from, first_user_class}
 use Rattle.scj_rules.specs.Contexts.{declarations_of}
 
 abbrev pub row_name : ClassRow → List ℕ
@@ -104,7 +106,7 @@ get_mapped f [] k = refl
 get_mapped f (x ∷ xs) zero = refl
 get_mapped f (x ∷ xs) (suc k) = get_mapped f xs k
 
-pub framework_name_is : (forest : Forest) (class : ℕ) → class < 16 → option_map (λ (c : FrameworkClass). c.name) (slice_get framework_classes class) ≡ option_map row_name (slice_get (declarations_of forest).classes class)
+pub framework_name_is : (forest : Forest) (class : ℕ) → class < first_user_class → option_map (λ (c : FrameworkClass). c.name) (slice_get framework_classes class) ≡ option_map row_name (slice_get (declarations_of forest).classes class)
 unfolding declarations_of class_names framework_classes
 framework_name_is forest class l =
     sym (counted_name forest class ∙ get_front (map (λ (c : FrameworkClass). c.name) framework_classes) (map (λ (c : WrittenClass). c.name) (user_classes forest)) class l
@@ -114,7 +116,7 @@ abbrev user_name : WrittenClass → List ℕ
 user_name c = c.name
 
 -- a user class by its number, from the list of its classes
-user_written : (forest : Forest) (class i : ℕ) → class ≡ 16 + i → class_written (declarations_of forest) class ≡ slice_get (user_classes forest) i
+user_written : (forest : Forest) (class i : ℕ) → class ≡ first_user_class + i → class_written (declarations_of forest) class ≡ slice_get (user_classes forest) i
 unfolding declarations_of class_written written_rows framework_classes framework_rows_from framework_row user_row
 user_written forest class i e =
     let users = user_classes forest in
@@ -126,11 +128,11 @@ user_written forest class i e =
     again None = refl
     again (Some c) = refl
 
-pub user_name_is : (forest : Forest) (class : ℕ) → 16 ≤ class → option_map user_name (class_written (declarations_of forest) class) ≡ option_map row_name (slice_get (declarations_of forest).classes class)
+pub user_name_is : (forest : Forest) (class : ℕ) → first_user_class ≤ class → option_map user_name (class_written (declarations_of forest) class) ≡ option_map row_name (slice_get (declarations_of forest).classes class)
 unfolding declarations_of class_names framework_classes
 user_name_is forest class l =
-    let i : ℕ = class - 16 in
-    let e : class ≡ 16 + i = omega (arith, l) in
+    let i : ℕ = class - first_user_class in
+    let e : class ≡ first_user_class + i = omega (arith, l) in
     ap (option_map user_name) (user_written forest class i e)
     ∙ sym (counted_name forest class ∙ get_behind (map (λ (c : FrameworkClass). c.name) framework_classes) (map user_name (user_classes forest)) class i e ∙ get_mapped user_name (user_classes forest) i)
 

@@ -4,7 +4,7 @@ use Rattle.scj_base.specs.declared.findings.Found.{Found}
 use Rattle.scj_base.specs.declared.findings.Rule.TheVariants.{K2}
 use Rattle.scj_tree.specs.declared.nodes.Node.{Node}
 use Rattle.scj_tree.specs.declared.nodes.Node.TheVariants.{Method, Constructor}
-use Rattle.scj_tree.specs.Recursion.{told, joined_below}
+use Rattle.scj_tree.specs.Recursion.{lookup, joined_below}
 use Rattle.scj_rules.specs.Words.{broken, holds}
 use Rattle.scj_rules.specs.Views.{variable_at}
 use Rattle.scj_rules.specs.Contexts.{Declarations, context}
@@ -42,8 +42,8 @@ late_variables p = joined_below (late_variable p) (length p.nodes)
 -- how many variables of each member there are among the first nodes, up to 32
 pub record AreCounts (p : Declarations) (seen : ℕ) (counts : List ℕ) : Type 0 where
   pub whole : length counts ≡ length p.nodes
-  pub exact : (member : ℕ) → member < length p.nodes → told 0 counts member ≡ min most_locals (passing (is_variable_of p member) 0 seen)
+  pub exact : (member : ℕ) → member < length p.nodes → lookup 0 counts member ≡ min most_locals (passing (is_variable_of p member) 0 seen)
 
 -- the counts with one variable more of a member
 unfoldable pub raised : List ℕ → ℕ → List ℕ
-raised counts member = if nat_lt member (length counts) then set counts member (min most_locals (told 0 counts member + 1)) else counts
+raised counts member = if nat_lt member (length counts) then set counts member (min most_locals (lookup 0 counts member + 1)) else counts

@@ -1,7 +1,8 @@
 -- Words that stand where they can't, for each kind of declaration.
 use Rattle.std.specs.Prelude.{ℕ, Bool, not, ◌&&◌, ◌||◌, List, slice_get, is_some}
 use Rattle.scj_rules.specs.declared.views.Modifiers.{Modifiers}
-use Rattle.scj_rules.specs.Words.{holds, is_same}
+use Rattle.scj_base.specs.Bytes.{is_same}
+use Rattle.scj_rules.specs.Words.{holds}
 use Rattle.scj_rules.specs.Classes.{ClassRow}
 use Rattle.scj_rules.specs.ClassRules.{has_class_words, has_method_words, is_framework_method}
 use Rattle.scj_rules.specs.Contexts.{Declarations, context}

@@ -1,39 +1,26 @@
 //! The names of classes by their numbers.
 
 ghost use Rattle.std.specs.Prelude.{◌≡◌, ◌<◌, Some, slice_get, option_map};
-ghost use Rattle.scj_builtins.specs.Framework.{FrameworkClass, framework_classes};
-ghost use Rattle.scj_rules.specs.Words.{holds, is_same};
+ghost use Rattle.scj_builtins.specs.declared.classes.FrameworkClass.{FrameworkClass};
+ghost use Rattle.scj_builtins.specs.Framework.{framework_classes};
+ghost use Rattle.scj_base.specs.Bytes.{is_same};
+ghost use Rattle.scj_rules.specs.Words.{holds};
 ghost use Rattle.scj_rules.specs.Classes.{ClassRow};
 ghost use Rattle.scj_rules.specs.Contexts.{declarations_of};
 
 use class_rows::Classes;
 use node_views::class_name;
 use scj_base::{ClassId, Name};
+use scj_builtins::{FRAMEWORK_CLASS_COUNT, framework_classes};
 
 /// The name of a framework class.
-#[tactic(auto, unfolding(scj_builtins::specs::Framework::framework_classes))]
 fn framework_name(number: u32) -> Option<Name>
-    requires { number < 16 }
     ensures { result ≡ option_map (λ (c : FrameworkClass). c.name) (slice_get framework_classes number) }
 {
-    match number {
-        0 => Some(Name::new(b"Object")),
-        1 => Some(Name::new(b"Runnable")),
-        2 => Some(Name::new(b"Safelet")),
-        3 => Some(Name::new(b"Mission")),
-        4 => Some(Name::new(b"MissionSequencer")),
-        5 => Some(Name::new(b"PeriodicEventHandler")),
-        6 => Some(Name::new(b"AperiodicEventHandler")),
-        7 => Some(Name::new(b"ManagedMemory")),
-        8 => Some(Name::new(b"Services")),
-        9 => Some(Name::new(b"Trace")),
-        10 => Some(Name::new(b"Device")),
-        11 => Some(Name::new(b"PriorityParameters")),
-        12 => Some(Name::new(b"PeriodicParameters")),
-        13 => Some(Name::new(b"AperiodicParameters")),
-        14 => Some(Name::new(b"StorageParameters")),
-        15 => Some(Name::new(b"RelativeTime")),
-        _ => None,
+    let classes = framework_classes();
+    match classes.get(number as usize) {
+        Some(class) => Some(class.name),
+        None => None,
     }
 }
 
@@ -42,7 +29,7 @@ fn framework_name(number: u32) -> Option<Name>
 fn name_of(classes: &Classes<'_>, class: ClassId) -> Option<Name>
     ensures { result ≡ option_map (λ (row : ClassRow). row.name) (slice_get (declarations_of classes.now).classes class) }
 {
-    if class.number() < 16 {
+    if class.number() < FRAMEWORK_CLASS_COUNT {
         return framework_name(class.number());
     }
     let node = classes.class_node(class)?;

@@ -2,7 +2,7 @@
 
 ghost use Rattle.std.specs.Prelude.{◌≡◌, ◌++◌, ◌+◌, ◌<◌, ◌&&◌, nat_le, length, slice_get, OnOk};
 ghost use Rattle.scj_base.specs.declared.findings.Rule.TheVariants.{K2 as too_many_locals};
-ghost use Rattle.scj_tree.specs.Recursion.{told};
+ghost use Rattle.scj_tree.specs.Recursion.{lookup};
 ghost use Rattle.scj_rules.specs.Words.{broken, holds};
 ghost use Rattle.scj_rules.specs.Contexts.{contexts_in, declarations_of};
 ghost use Rattle.node_rules.specs.Counting.{AreCounts, is_callable, late_variable, late_variables, raised};
@@ -10,7 +10,7 @@ ghost use Rattle.node_rules.specs.Counting.{AreCounts, is_callable, late_variabl
 use node_contexts::Contexts;
 use node_views::{is_variable, variable_written};
 use scj_base::{Found, Memory, NodeId, Pos, Rule};
-use scj_rules::note;
+use scj_rules::report_if;
 use scj_tree::{Node, Program};
 use std::alloc::Global;
 
@@ -35,7 +35,7 @@ fn count_variable(
     place: Pos,
 ) -> Result<(), Memory>
     requires { length counts.old.items ≡ length program.now.nodes }
-    ensures found { OnOk result (found.new.items ≡ found.old.items ++ broken (holds (slice_get program.now.nodes member) is_callable && nat_le 32 (told 0 counts.old.items member)) too_many_locals place) }
+    ensures found { OnOk result (found.new.items ≡ found.old.items ++ broken (holds (slice_get program.now.nodes member) is_callable && nat_le 32 (lookup 0 counts.old.items member)) too_many_locals place) }
     ensures counts { OnOk result (counts.new.items ≡ raised counts.old.items member) }
 {
     let at = member.place();
@@ -45,7 +45,7 @@ fn count_variable(
     let count = counts[at];
     let is_late = is_callable(program, member) && count >= 32;
     counts[at] = if count < 32 { count + 1 } else { 32 };
-    note(found, is_late, Rule::K2, place)
+    report_if(found, is_late, Rule::K2, place)
 }
 
 /// Counts the variable that a node declares, and notes it where its member has 32 already.

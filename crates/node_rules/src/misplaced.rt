@@ -12,7 +12,7 @@ use class_rows::Classes;
 use node_contexts::Contexts;
 use node_views::modifiers_at;
 use scj_base::{Found, Memory, Name, NodeId, Rule};
-use scj_rules::{Modifiers, note};
+use scj_rules::{Modifiers, report_if};
 use scj_tree::{Node, Program};
 
 /// Whether words stand there that a method alone can have.
@@ -169,11 +169,11 @@ pub fn note_c11(
     match node {
         Node::Class { place, flags, .. } => {
             let is_wrong = is_off_class(program, *flags);
-            note(found, is_wrong, Rule::C11, *place)
+            report_if(found, is_wrong, Rule::C11, *place)
         }
         Node::Field { place, flags, .. } => {
             let is_wrong = is_off_field(program, *flags);
-            note(found, is_wrong, Rule::C11, *place)
+            report_if(found, is_wrong, Rule::C11, *place)
         }
         Node::Method {
             place,
@@ -182,7 +182,7 @@ pub fn note_c11(
             ..
         } => {
             let is_wrong = is_off_method(classes, contexts, id, name.get(), *flags)?;
-            note(found, is_wrong, Rule::C11, *place)
+            report_if(found, is_wrong, Rule::C11, *place)
         }
         Node::Constructor {
             place,
@@ -191,15 +191,15 @@ pub fn note_c11(
             ..
         } => {
             let is_wrong = is_off_constructor(classes, contexts, id, name.get(), *flags);
-            note(found, is_wrong, Rule::C11, *place)
+            report_if(found, is_wrong, Rule::C11, *place)
         }
         Node::Parameter { place, flags, .. } => {
             let is_wrong = is_off_variable(program, *flags);
-            note(found, is_wrong, Rule::C11, *place)
+            report_if(found, is_wrong, Rule::C11, *place)
         }
         Node::Local { place, flags, .. } => {
             let is_wrong = is_off_variable(program, *flags);
-            note(found, is_wrong, Rule::C11, *place)
+            report_if(found, is_wrong, Rule::C11, *place)
         }
         Node::LocalWithValue {
             name_place,
@@ -207,7 +207,7 @@ pub fn note_c11(
             ..
         } => {
             let is_wrong = is_off_variable(program, *flags);
-            note(found, is_wrong, Rule::C11, *name_place)
+            report_if(found, is_wrong, Rule::C11, *name_place)
         }
         _ => Ok(()),
     }

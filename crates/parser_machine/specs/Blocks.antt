@@ -10,9 +10,9 @@ use Rattle.parser_machine.specs.declared.modes.Mode.{Mode}
 use Rattle.parser_machine.specs.declared.modes.Mode.TheVariants.{ForOpen, IfOpen, InStatements, NameBracket, NameFirst, Opened, Operand, ReturnStart, StatementEnd, TypeArgumentName, TypeDone, TypeEnd, WhileOpen}
 use Rattle.scj_base.specs.Vocabulary.{sign_assign, sign_at, sign_left_brace, sign_left_bracket, sign_left_parenthesis, sign_less, sign_right_brace, sign_right_bracket, sign_semicolon, word_boolean, word_final, word_for, word_if, word_int, word_return, word_while}
 use Rattle.scj_base.specs.declared.places.Pos.{Pos}
-use Rattle.scj_tree.specs.Headers.{put}
+use Rattle.scj_tree.specs.Nodes.{put}
 use Rattle.scj_tree.specs.Lexemes.{Lexeme, a_name, a_sign, a_word}
-use Rattle.scj_tree.specs.Terminals.{no_flags, takes_argument}
+use Rattle.scj_tree.specs.Terminals.{no_flags, has_type_argument}
 use Rattle.scj_tree.specs.declared.nodes.Node.{Node}
 use Rattle.scj_tree.specs.declared.nodes.Node.TheVariants.{Block, ClassType, Empty, Local, Return, SimpleName}
 
@@ -35,7 +35,7 @@ first_start N s t = target_start N s t
 unfoldable pub name_first_step : Pos → List ℕ → List Node → List Entry → Lexeme → Option State
 name_first_step p w N s (a_name v q) = typed (length N) (put N (ClassType p w None false)) (LocalOpen None ∷ s) (a_name v q)
 name_first_step p w N s (a_sign n q) =
-    if n == sign_less then (if takes_argument w then Some (at (TypeArgumentName p w) (LocalOpen None ∷ s) N) else None) else
+    if n == sign_less then (if has_type_argument w then Some (at (TypeArgumentName p w) (LocalOpen None ∷ s) N) else None) else
     if n == sign_left_bracket then Some (at (NameBracket p w q) s N) else
     name_step p w N (Target ∷ s) (a_sign n q)
 name_first_step p w N s t = None

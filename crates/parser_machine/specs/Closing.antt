@@ -6,7 +6,7 @@ use Rattle.parser_machine.specs.declared.entries.Entry.TheVariants.{ArgumentsOpe
 use Rattle.parser_machine.specs.declared.modes.Mode.TheVariants.{ArgumentNext, ForStepStart, Operand, PostDone, StatementEnd, StatementStart, SuperEnd}
 use Rattle.scj_base.specs.Vocabulary.{sign_assign, sign_comma, sign_right_bracket, sign_right_parenthesis, sign_semicolon}
 use Rattle.scj_base.specs.declared.places.Pos.{Pos}
-use Rattle.scj_tree.specs.Headers.{put}
+use Rattle.scj_tree.specs.Nodes.{put}
 use Rattle.scj_tree.specs.Lexemes.{Lexeme, a_sign}
 use Rattle.scj_tree.specs.Statements.{operated}
 use Rattle.scj_tree.specs.Terminals.{level}

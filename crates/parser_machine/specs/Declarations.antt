@@ -8,9 +8,11 @@ use Rattle.parser_machine.specs.declared.modes.ElementType.TheVariants.{Boolean,
 use Rattle.parser_machine.specs.declared.modes.Mode.TheVariants.{At, ClassName, DefineAssign, DefineName, DefineOpen, DefineOther, DefineOtherAssign, FlagsRead, LocalNamed, MemberNamed, ParameterDone, ParametersFirst, PlainAssigned, PlainDot, PlainEnd, PlainFirst, PlainName, PlainNext, PlainOpen, PlainPath, ResultDone, TypeArgumentEnd, TypeArgumentName, TypeBracket, TypeDone, TypeEnd, TypeName, ValueDot, ValueOpen, ValueRead, ValueScope, ValueStart}
 use Rattle.scj_base.specs.Vocabulary.{sign_assign, sign_at, sign_comma, sign_dot, sign_greater, sign_left_bracket, sign_left_parenthesis, sign_less, sign_right_bracket, sign_right_parenthesis, word_boolean, word_class, word_false, word_int, word_long, word_true, word_void}
 use Rattle.scj_base.specs.declared.places.Pos.{Pos}
-use Rattle.scj_tree.specs.Headers.{put}
-use Rattle.scj_tree.specs.Lexemes.{Lexeme, a_name, a_sign, a_text, a_word, is_name, same}
-use Rattle.scj_tree.specs.Terminals.{add_modifier, flags_number, is_effectless, placed, takes_argument, with_define_scope, with_flags, with_runs_in, with_scope}
+use Rattle.scj_tree.specs.Nodes.{put}
+use Rattle.scj_tree.specs.Lexemes.{Lexeme, a_name, a_sign, a_text, a_word}
+use Rattle.scj_base.specs.Lexeme.{is_name}
+use Rattle.scj_base.specs.Bytes.{is_same}
+use Rattle.scj_tree.specs.Terminals.{add_modifier, flags_number, is_effectless, placed, has_type_argument, with_define_scope, with_flags, with_runs_in, with_scope}
 use Rattle.scj_tree.specs.declared.nodes.Node.{Node}
 use Rattle.scj_tree.specs.declared.nodes.Node.TheVariants.{BooleanType, ClassType, DefineScope, IntType, LongType, Parameter, ScopeName, TypeArgument, VoidType}
 use Rattle.scj_tree.specs.declared.readings.FlagSet.{FlagSet}
@@ -44,7 +46,7 @@ constructor_step p w q N _ = None
 
 unfoldable pub type_name_step : Pos → List ℕ → List Node → List Entry → Lexeme → Option State
 type_name_step p w N s (a_sign n q) =
-    if n == sign_less then (if takes_argument w then Some (at (TypeArgumentName p w) s N) else None) else
+    if n == sign_less then (if has_type_argument w then Some (at (TypeArgumentName p w) s N) else None) else
     if n == sign_left_bracket then Some (at (TypeBracket p (Reference w None)) s N) else
     if n == sign_left_parenthesis then constructor_step p w q N s else
     None
@@ -117,9 +119,9 @@ define_scope_named p is_local flags N s = elim flags.define_scope [ None ↦ Som
 unfoldable pub annotation_named : Pos → List ℕ → Bool → FlagSet → List Node → List Entry → Option State
 annotation_named p w is_local flags N s =
     if is_effectless w then Some (at PlainOpen (AnnotationOpen is_local flags ∷ s) N) else
-    if same w (codes "Scope") then scope_named is_local flags N s else
-    if same w (codes "RunsIn") then runs_in_named is_local flags N s else
-    if same w (codes "DefineScope") then define_scope_named p is_local flags N s else
+    if is_same w (codes "Scope") then scope_named is_local flags N s else
+    if is_same w (codes "RunsIn") then runs_in_named is_local flags N s else
+    if is_same w (codes "DefineScope") then define_scope_named p is_local flags N s else
     None
 
 unfoldable pub at_step : Pos → List Node → List Entry → Lexeme → Option State
@@ -200,7 +202,7 @@ value_open_step N s _ = None
 
 unfoldable pub value_start_step : List Node → List Entry → Lexeme → Option State
 value_start_step N s (a_text w p) = if is_name w then Some (at (ValueRead (length N)) s (put N (ScopeName p w))) else None
-value_start_step N s (a_name w p) = if same w (codes "Scope") then Some (at (ValueScope p) s N) else Some (at (ValueRead (length N)) s (put N (ScopeName p w)))
+value_start_step N s (a_name w p) = if is_same w (codes "Scope") then Some (at (ValueScope p) s N) else Some (at (ValueRead (length N)) s (put N (ScopeName p w)))
 value_start_step N s _ = None
 
 unfoldable pub value_scope_step : Pos → List Node → List Entry → Lexeme → Option State
@@ -219,8 +221,8 @@ define_open_step p N s _ = None
 
 unfoldable pub define_name_step : Pos → List Node → List Entry → Lexeme → Option State
 define_name_step p N s (a_name w q) =
-    if same w (codes "name") then Some (at (DefineAssign p false) s N) else
-    if same w (codes "parent") then Some (at (DefineAssign p true) s N) else
+    if is_same w (codes "name") then Some (at (DefineAssign p false) s N) else
+    if is_same w (codes "parent") then Some (at (DefineAssign p true) s N) else
     None
 define_name_step p N s _ = None
 
@@ -234,7 +236,7 @@ other_word true = codes "name"
 other_word false = codes "parent"
 
 unfoldable pub define_other_step : Pos → Bool → ℕ → List Node → List Entry → Lexeme → Option State
-define_other_step p parent_first first N s (a_name w q) = if same w (other_word parent_first) then Some (at (DefineOtherAssign p parent_first first) s N) else None
+define_other_step p parent_first first N s (a_name w q) = if is_same w (other_word parent_first) then Some (at (DefineOtherAssign p parent_first first) s N) else None
 define_other_step p parent_first first N s _ = None
 
 unfoldable pub define_other_assign_step : Pos → Bool → ℕ → List Node → List Entry → Lexeme → Option State

@@ -7,9 +7,9 @@ use Rattle.parser_machine.specs.declared.entries.Entry.TheVariants.{ClassBody, C
 use Rattle.parser_machine.specs.declared.modes.Mode.TheVariants.{ClassNamed, Finished, ImportDot, ImportEnd, ImportName, ImportStar, ImportStart, InImports, InMembers, PackageEnd, PackageName, SuperArgumentEnd, SuperArgumentName, SuperDone, SuperName, SuperNamed}
 use Rattle.scj_base.specs.Vocabulary.{sign_comma, sign_dot, sign_greater, sign_left_brace, sign_less, sign_semicolon, sign_star, word_extends, word_implements, word_import, word_package, word_static}
 use Rattle.scj_base.specs.declared.places.Pos.{Pos}
-use Rattle.scj_tree.specs.Headers.{put}
+use Rattle.scj_tree.specs.Nodes.{put}
 use Rattle.scj_tree.specs.Lexemes.{Lexeme, a_name, a_sign, a_word, the_end}
-use Rattle.scj_tree.specs.Terminals.{no_flags, takes_argument}
+use Rattle.scj_tree.specs.Terminals.{no_flags, has_type_argument}
 use Rattle.scj_tree.specs.declared.nodes.Node.{Node}
 use Rattle.scj_tree.specs.declared.nodes.Node.TheVariants.{SuperType, Supers, TypeArgument}
 
@@ -100,7 +100,7 @@ super_ended id N _ _ = None
 
 unfoldable pub super_named_step : Pos → List ℕ → List Node → List Entry → Lexeme → Option State
 super_named_step p w N s (a_sign n q) =
-    if n == sign_less then (if takes_argument w then Some (at (SuperArgumentName p w) s N) else None) else
+    if n == sign_less then (if has_type_argument w then Some (at (SuperArgumentName p w) s N) else None) else
     super_ended (length N) (put N (SuperType p w None)) s (a_sign n q)
 super_named_step p w N s t = super_ended (length N) (put N (SuperType p w None)) s t
 

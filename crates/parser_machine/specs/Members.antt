@@ -8,7 +8,7 @@ use Rattle.parser_machine.specs.declared.entries.Entry.TheVariants.{ArgumentsOpe
 use Rattle.parser_machine.specs.declared.modes.Mode.TheVariants.{ArgumentFirst, ConstructorStart, FlagsRead, InClasses, InMembers, InStatements, LiteralDone, LiteralMinus, LiteralStart, MethodNamed, ParametersDone, ParametersFirst, StatementStart, SuperOpen}
 use Rattle.scj_base.specs.Vocabulary.{sign_assign, sign_comma, sign_left_brace, sign_left_parenthesis, sign_minus, sign_right_brace, sign_right_parenthesis, sign_semicolon, word_else, word_false, word_null, word_super, word_true}
 use Rattle.scj_base.specs.declared.places.Pos.{Pos}
-use Rattle.scj_tree.specs.Headers.{put}
+use Rattle.scj_tree.specs.Nodes.{put}
 use Rattle.scj_tree.specs.Lexemes.{Lexeme, a_name, a_number, a_sign, a_word}
 use Rattle.scj_tree.specs.Terminals.{is_minimum, no_flags}
 use Rattle.scj_tree.specs.declared.nodes.Node.{Node}

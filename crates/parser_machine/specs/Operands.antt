@@ -7,7 +7,7 @@ use Rattle.parser_machine.specs.declared.entries.Entry.TheVariants.{ArgumentsOpe
 use Rattle.parser_machine.specs.declared.modes.Mode.TheVariants.{ArgumentFirst, Assigned, ClosedName, Dot, DotName, Minus, NameRead, NewElement, NewName, NewStart, Opened, OpenedName, Operand, PostDone, TextRead}
 use Rattle.scj_base.specs.Vocabulary.{sign_dot, sign_left_bracket, sign_left_parenthesis, sign_minus, sign_not, sign_right_parenthesis, sign_tilde, word_boolean, word_false, word_int, word_new, word_null, word_this, word_true}
 use Rattle.scj_base.specs.declared.places.Pos.{Pos}
-use Rattle.scj_tree.specs.Headers.{put}
+use Rattle.scj_tree.specs.Nodes.{put}
 use Rattle.scj_tree.specs.Lexemes.{Lexeme, a_name, a_number, a_sign, a_text, a_word, the_end}
 use Rattle.scj_tree.specs.Statements.{name_twice, operated}
 use Rattle.scj_tree.specs.Terminals.{compound, indexable, is_minimum, is_unary1_start, stepping}

@@ -1,7 +1,7 @@
 //! The nodes of a program while a file is read.
 
 ghost use Rattle.std.specs.Prelude.{◌≡◌, ◌≤◌, ◌<◌, ◌^◌, IfOk, OnOk, length, []};
-ghost use Rattle.scj_tree.specs.Headers.{put};
+ghost use Rattle.scj_tree.specs.Nodes.{put};
 
 use scj_base::{Memory, NameTable, NodeId, SharedName};
 use scj_tree::{Arena, Node, NodeList, TextBytes};

@@ -14,8 +14,8 @@ use Rattle.scj_rules.specs.Words.{broken, holds}
 use Rattle.scj_rules.specs.Classes.{FoundMethod}
 use Rattle.scj_rules.specs.Contexts.{Declarations, declarations_of}
 use Rattle.scj_rules.specs.TypeRules.{Types, written_type}
-use Rattle.scj_rules.specs.StaticScopes.{thing_scope}
-use Rattle.scj_rules.specs.AnnotationRules.{variable_thing_at}
+use Rattle.scj_rules.specs.StaticScopes.{declaration_scope}
+use Rattle.scj_rules.specs.AnnotationRules.{scoped_variable_at}
 use Rattle.scj_rules.specs.UseRules.{Scopes, current_at, receiver_scope, misfit_scope, e3_of_call, e3_of_constructor, target_rule, result_scope_at, misfits_element, e1, e2, e3, e4_and_e5, e6, e7, e8, e9, e10, use_breaks}
 use Rattle.scj_tree.specs.Kinds.{kind_of}
 use Rattle.runs_in_check.specs.Phase.{may_break}
@@ -53,9 +53,9 @@ module _ (p : Declarations) (types : Types) (scopes : Scopes) (id : ℕ) where
   at_assign place target value = append-nil (assign_breaks p scopes place target value)
 
   pub at_local : (place name_place : Pos) (name : List ℕ) (flags : Option ℕ) (declared_type value : ℕ)
-      → use_breaks p types scopes id (LocalWithValue place name_place name flags declared_type value) ≡ broken (misfit_scope (scopes value) (option_and_then (thing_scope p) (variable_thing_at p id))) E4 place
+      → use_breaks p types scopes id (LocalWithValue place name_place name flags declared_type value) ≡ broken (misfit_scope (scopes value) (option_and_then (declaration_scope p) (scoped_variable_at p id))) E4 place
   unfolding use_breaks e1 e2 e3 e4_and_e5 e6 e7 e8 e9 e10
-  at_local place name_place name flags declared_type value = append-nil (broken (misfit_scope (scopes value) (option_and_then (thing_scope p) (variable_thing_at p id))) E4 place)
+  at_local place name_place name flags declared_type value = append-nil (broken (misfit_scope (scopes value) (option_and_then (declaration_scope p) (scoped_variable_at p id))) E4 place)
 
   pub at_return : (place : Pos) (value : Option ℕ) → use_breaks p types scopes id (Return place value) ≡ return_breaks p scopes id place value
   unfolding use_breaks e1 e2 e3 e4_and_e5 e6 e7 e8 e9 e10 return_breaks

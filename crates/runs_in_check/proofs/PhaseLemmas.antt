@@ -6,7 +6,7 @@ use Rattle.std.specs.List.Sorted.{IsStrictlySortedBy}
 use Rattle.scj_base.specs.declared.findings.Found.{Found}
 use Rattle.scj_tree.specs.declared.nodes.Node.{Node}
 use Rattle.scj_tree.specs.Forest.{Forest}
-use Rattle.scj_tree.specs.Recursion.{told, joined_below}
+use Rattle.scj_tree.specs.Recursion.{lookup, joined_below}
 use Rattle.scj_rules.specs.Contexts.{Declarations, declarations_of}
 use Rattle.scj_rules.specs.Report.{IsReport, report_order}
 use Rattle.scj_rules.specs.Words.{holds}
@@ -79,13 +79,13 @@ over_nodes_together : (p : Declarations) (f g : ℕ → Node → List Found) (z 
 unfolding over_nodes
 over_nodes_together p f g z = below_together (at_node p f) (at_node p g) (at_node p (λ id node. f id node ++ g id node)) z (at_node_together p f g z) _
 
-phase_together : (p : Declarations) (z : Found) → Together (use_phase p) (broken_annotations p) (broken_uses p (told None (types_in p))) z
+phase_together : (p : Declarations) (z : Found) → Together (use_phase p) (broken_annotations p) (broken_uses p (lookup None (types_in p))) z
 unfolding use_phase broken_annotations broken_uses
-phase_together p z = over_nodes_together p (annotation_breaks p) (use_breaks p (told None (types_in p)) (told None (scopes_in p (told None (types_in p))))) z
+phase_together p z = over_nodes_together p (annotation_breaks p) (use_breaks p (lookup None (types_in p)) (lookup None (scopes_in p (lookup None (types_in p))))) z
 
 pub report_is : (forest : Forest) (annotations uses all found : List Found)
     → ((z : Found) → Contains annotations z ↔ Contains (broken_annotations (declarations_of forest)) z)
-    → ((z : Found) → Contains uses z ↔ Contains (broken_uses (declarations_of forest) (told None (types_in (declarations_of forest)))) z)
+    → ((z : Found) → Contains uses z ↔ Contains (broken_uses (declarations_of forest) (lookup None (types_in (declarations_of forest)))) z)
     → all ≡ annotations ++ uses → IsStrictlySortedBy report_order found → ((z : Found) → Contains found z ↔ Contains all z)
     → IsReport (BreaksUseRules forest) found
 report_is forest annotations uses all found first second whole sorted same = record { in_order = sorted; exact = exact }
@@ -97,6 +97,6 @@ report_is forest annotations uses all found first second whole sorted same = rec
           (Contains-append_cases annotations uses z (subst (λ (fs : List Found). Contains fs z) whole ((same z).0 h)))),
       λ h. (same z).1 (subst (λ (fs : List Found). Contains fs z) (sym whole)
           (⊎_elim (λ (a : Contains (broken_annotations (declarations_of forest)) z). Contains-append_left annotations uses z ((first z).1 a))
-          (λ (b : Contains (broken_uses (declarations_of forest) (told None (types_in (declarations_of forest)))) z). Contains-append_right annotations uses z ((second z).1 b))
+          (λ (b : Contains (broken_uses (declarations_of forest) (lookup None (types_in (declarations_of forest)))) z). Contains-append_right annotations uses z ((second z).1 b))
           ((phase_together (declarations_of forest) z).0 h))),
     )

@@ -6,8 +6,8 @@ use Rattle.scj_tree.specs.declared.nodes.Node.{Node}
 use Rattle.scj_tree.specs.declared.nodes.Node.TheVariants.{Cast, Parenthesized, SimpleName, FieldAccess, Call, Element, New, NewArray, Null, This}
 use Rattle.scj_tree.specs.Kinds.{kind_of}
 use Rattle.scj_tree.specs.Forest.{Forest}
-use Rattle.scj_tree.specs.Recursion.{told, below}
-use Rattle.scj_tree.proofs.RecursionLemmas.{rising-is}
+use Rattle.scj_tree.specs.Recursion.{lookup, below}
+use Rattle.scj_tree.proofs.RecursionLemmas.{bottom_up-is}
 use Rattle.scj_rules.specs.declared.typing.Ty.{Ty}
 use Rattle.scj_rules.specs.declared.typing.Ty.TheVariants.{Class as ClassTy, ClassArray}
 use Rattle.scj_rules.specs.declared.typing.Scope.{Scope}
@@ -24,7 +24,7 @@ use Rattle.scj_rules.specs.Words.{holds}
 use Rattle.scj_rules.specs.Views.{variable_at}
 use Rattle.scj_rules.specs.Classes.{FoundMethod, class_number, field_named, is_empty}
 use Rattle.scj_rules.specs.Contexts.{Declarations, declarations_of}
-use Rattle.scj_rules.specs.StaticScopes.{has_no_scope, result_thing, substitute}
+use Rattle.scj_rules.specs.StaticScopes.{has_no_scope, scoped_result, substitute}
 use Rattle.scj_rules.specs.Types.{type_written, is_reference, meaning, class_at_name, receiver, call_receiver, class_of_receiver, type_of_receiver, accessed_field, called_method, all_types, is_array}
 use Rattle.scj_rules.specs.TypeRules.{Types, type_breaks, type_of, type_of_meaning, type_of_right, type_of_next, types_in, access_type, call_type}
 use Rattle.scj_rules.specs.UseRules.{Scopes, current_at, receiver_scope, this_at, scope_of, scope_of_next, scope_of_field, scope_of_meaning, scope_of_call}
@@ -64,7 +64,7 @@ plain_method : (p : Declarations) (object current : Option Scope) (o : Option Fo
 unfolding scope_of_call
 plain_method p object current None h = refl
 plain_method p object current (Some f) h =
-    ap (λ (s : Option Scope). option_and_then (substitute object current) s) (no_scope p (result_thing p f.on f.method) (plain_written p.names f.method.declared.declared_type h))
+    ap (λ (s : Option Scope). option_and_then (substitute object current) s) (no_scope p (scoped_result p f.on f.method) (plain_written p.names f.method.declared.declared_type h))
 
 plain_meaning : (forest : Forest) (id : ℕ) (m : Meaning) → true ≡ is_plain (type_of_meaning (declarations_of forest) m) → scope_of_meaning (declarations_of forest) id m ≡ None
 unfolding type_of_meaning scope_of_meaning declarations_of
@@ -159,16 +159,16 @@ both false b h = absurd (true≢false h)
 
 -- a name, an access or a call of such a type has no scope
 plain_scope : (forest : Forest) (types : List (Option Ty)) (scopes : Scopes) (id : ℕ) (node : Node) → types ≡ types_in (declarations_of forest) → slice_get forest.nodes id ≡ Some node
-    → true ≡ is_plain_value node (told None types id) → scope_of_next (declarations_of forest) (told None types) id scopes ≡ None
+    → true ≡ is_plain_value node (lookup None types id) → scope_of_next (declarations_of forest) (lookup None types) id scopes ≡ None
 unfolding scope_of_next declarations_of type_of_next types_in
 plain_scope forest types scopes id node right there h =
     let p : Declarations = declarations_of forest in
     let inside : id < length forest.nodes = slice_get_within forest.nodes id node there in
-    let all : Types = told None types in
+    let all : Types = lookup None types in
     let parts = both (is_asked node) (is_plain (all id)) h in
-    let told_here : told None (types_in p) id ≡ type_of_next p id (below None id (told None (types_in p))) = rising-is None (type_of_next p) (length p.nodes) id inside in
-    let typed : told None types id ≡ type_of_right p (below None id all) id node =
-    subst (λ (ts : List (Option Ty)). told None ts id ≡ type_of_next p id (below None id (told None ts))) (sym right) told_here
+    let told_here : lookup None (types_in p) id ≡ type_of_next p id (below None id (lookup None (types_in p))) = bottom_up-is None (type_of_next p) (length p.nodes) id inside in
+    let typed : lookup None types id ≡ type_of_right p (below None id all) id node =
+    subst (λ (ts : List (Option Ty)). lookup None ts id ≡ type_of_next p id (below None id (lookup None ts))) (sym right) told_here
     ∙ ap (λ (o : Option Node). option_and_then (type_of_right p (below None id all) id) o) there in
     ap (λ (o : Option Node). option_and_then (scope_of p all scopes id) o) there
     ∙ plain_node forest all scopes id node parts.0 (parts.1 ∙ ap (λ (o : Option Ty). is_plain o) typed)
@@ -176,7 +176,7 @@ plain_scope forest types scopes id node right there h =
 -- ---- a node whose kind or type tells it
 
 scopeless_node : (forest : Forest) (types : List (Option Ty)) (scopes : Scopes) (id : ℕ) (node : Node) → types ≡ types_in (declarations_of forest) → slice_get forest.nodes id ≡ Some node
-    → true ≡ is_scopeless (told None types id) (kind_of node) → scope_of_next (declarations_of forest) (told None types) id scopes ≡ None
+    → true ≡ is_scopeless (lookup None types id) (kind_of node) → scope_of_next (declarations_of forest) (lookup None types) id scopes ≡ None
 unfolding scope_of_next declarations_of is_scopeless kind_of scope_of is_asked
 scopeless_node forest types scopes id (SimpleName place name) right there h = plain_scope forest types scopes id (SimpleName place name) right there h
 scopeless_node forest types scopes id (FieldAccess place name object) right there h = plain_scope forest types scopes id (FieldAccess place name object) right there h
@@ -188,12 +188,12 @@ scopeless_node forest types scopes id (New place name_place name arguments) righ
 scopeless_node forest types scopes id (NewArray place element size) right there h = absurd (true≢false h)
 scopeless_node forest types scopes id (Element place array index) right there h = absurd (true≢false h)
 scopeless_node forest types scopes id (Cast place name_place name operand) right there h = absurd (true≢false h)
-scopeless_node forest types scopes id _ right there h = ap (λ (o : Option Node). option_and_then (scope_of (declarations_of forest) (told None types) scopes id) o) there
+scopeless_node forest types scopes id _ right there h = ap (λ (o : Option Node). option_and_then (scope_of (declarations_of forest) (lookup None types) scopes id) o) there
 
 pub scopeless : (forest : Forest) (types : List (Option Ty)) (scopes : Scopes) (id : ℕ) → types ≡ types_in (declarations_of forest)
-    → true ≡ holds (option_map kind_of (slice_get forest.nodes id)) (is_scopeless (told None types id)) → scope_of_next (declarations_of forest) (told None types) id scopes ≡ None
+    → true ≡ holds (option_map kind_of (slice_get forest.nodes id)) (is_scopeless (lookup None types id)) → scope_of_next (declarations_of forest) (lookup None types) id scopes ≡ None
 scopeless forest types scopes id right h = go (slice_get forest.nodes id) refl h
   where
-    go : (o : Option Node) → slice_get forest.nodes id ≡ o → true ≡ holds (option_map kind_of o) (is_scopeless (told None types id)) → scope_of_next (declarations_of forest) (told None types) id scopes ≡ None
+    go : (o : Option Node) → slice_get forest.nodes id ≡ o → true ≡ holds (option_map kind_of o) (is_scopeless (lookup None types id)) → scope_of_next (declarations_of forest) (lookup None types) id scopes ≡ None
     go None e h = absurd (true≢false h)
     go (Some node) e h = scopeless_node forest types scopes id node right e h

@@ -6,7 +6,7 @@ use Rattle.scj_base.specs.declared.findings.Found.{Found}
 use Rattle.scj_tree.specs.declared.nodes.Node.{Node}
 use Rattle.scj_tree.specs.declared.kinds.NodeKind.{NodeKind}
 use Rattle.scj_tree.specs.declared.kinds.NodeKind.TheVariants.{SuperCall as super_call_kind, LocalWithValue as local_with_value_kind, Assign as assign_kind, Return as return_kind, Cast as cast_kind, Call as call_kind, New as new_kind, NewArray as new_array_kind}
-use Rattle.scj_tree.specs.Recursion.{told}
+use Rattle.scj_tree.specs.Recursion.{lookup}
 use Rattle.scj_rules.specs.Contexts.{Declarations}
 use Rattle.scj_rules.specs.Report.{report_order}
 use Rattle.scj_rules.specs.TypeRules.{Types}
@@ -32,7 +32,7 @@ may_break _ = false
 
 -- E1 to E10, where these are the types of the nodes
 unfoldable pub broken_uses : Declarations → Types → List Found
-broken_uses p types = over_nodes p (use_breaks p types (told None (scopes_in p types)))
+broken_uses p types = over_nodes p (use_breaks p types (lookup None (scopes_in p types)))
 
 -- A1 to A9
 unfoldable pub broken_annotations : Declarations → List Found

@@ -1,7 +1,7 @@
 //! Arguments, and the parameters for which they stand.
 
 ghost use Rattle.std.specs.Prelude.{◌≡◌, ◌++◌, None, OnOk, slice_get};
-ghost use Rattle.scj_tree.specs.Recursion.{told};
+ghost use Rattle.scj_tree.specs.Recursion.{lookup};
 ghost use Rattle.runs_in_check.specs.Callees.{parameters_of, declared_scope, seen_scope, misfits_parameter, argument_breaks, arguments_breaks};
 
 use crate::uses::Uses;
@@ -9,7 +9,7 @@ use crate::words::{misfit_scope, told};
 use method_rows::MethodRef;
 use node_views::place_at;
 use scj_base::{ClassId, Found, Memory, NodeId, Rule};
-use scj_rules::{Declared, Scope, note};
+use scj_rules::{Declared, Scope, report_if};
 use static_scopes::substitute;
 
 /// What is called.
@@ -101,11 +101,11 @@ fn note_argument(
     i: usize,
     argument: NodeId,
 ) -> Result<(), Memory>
-    ensures { OnOk result (found.new.items ≡ found.old.items ++ argument_breaks uses.now (told None scopes.now) (seen_scope uses.now callee.now) (slice_get (parameters_of uses.now callee.now.called) i) argument) }
+    ensures { OnOk result (found.new.items ≡ found.old.items ++ argument_breaks uses.now (lookup None scopes.now) (seen_scope uses.now callee.now) (slice_get (parameters_of uses.now callee.now.called) i) argument) }
 {
     let is_wrong = misfits_numbered(uses, callee, i, &told(scopes, argument));
     let place = place_at(uses.program(), argument);
-    note(found, is_wrong, Rule::E3, place)?;
+    report_if(found, is_wrong, Rule::E3, place)?;
     Ok(())
 }
 
@@ -117,7 +117,7 @@ pub fn note_arguments(
     callee: &Callee,
     arguments: &[NodeId],
 ) -> Result<(), Memory>
-    ensures { OnOk result (found.new.items ≡ found.old.items ++ arguments_breaks uses.now (told None scopes.now) callee.now arguments.now) }
+    ensures { OnOk result (found.new.items ≡ found.old.items ++ arguments_breaks uses.now (lookup None scopes.now) callee.now arguments.now) }
 {
     for i in 0..arguments.len() {
         note_argument(found, uses, scopes, callee, i, arguments[i])?;

@@ -2,13 +2,13 @@
 
 ghost use Rattle.std.specs.Prelude.{◌≡◌, ◌++◌, not, None, OnOk, option_and_then};
 ghost use Rattle.scj_base.specs.declared.findings.Rule.TheVariants.{E4, E9, E10};
-ghost use Rattle.scj_tree.specs.Recursion.{told};
+ghost use Rattle.scj_tree.specs.Recursion.{lookup};
 ghost use Rattle.scj_rules.specs.Definitions.{read};
 ghost use Rattle.scj_rules.specs.Words.{broken, holds};
 ghost use Rattle.scj_rules.specs.Contexts.{declarations_of};
 ghost use Rattle.scj_rules.specs.TypeRules.{written_type};
-ghost use Rattle.scj_rules.specs.StaticScopes.{thing_scope};
-ghost use Rattle.scj_rules.specs.AnnotationRules.{variable_thing_at};
+ghost use Rattle.scj_rules.specs.StaticScopes.{declaration_scope};
+ghost use Rattle.scj_rules.specs.AnnotationRules.{scoped_variable_at};
 ghost use Rattle.scj_rules.specs.UseRules.{current_at, e3_of_constructor, target_rule, misfit_scope, result_scope_at, is_outer_of_current, misfits_element, use_breaks};
 ghost use Rattle.runs_in_check.specs.Parts.{lies_elsewhere, misfits_new, made_breaks, new_breaks, super_breaks, assign_breaks, return_breaks, lies_off, misfits_cast};
 
@@ -18,7 +18,7 @@ use crate::scopes::scope_of_new;
 use crate::uses::Uses;
 use crate::words::{misfit_scope, target_of_meaning, told};
 use scj_base::{ClassId, Found, Memory, Name, NodeId, Pos, Rule, ScopeId};
-use scj_rules::{ClassScope, Scope, Ty, note};
+use scj_rules::{ClassScope, Scope, Ty, report_if};
 use scj_tree::Node;
 
 /// Whether the objects of a class lie elsewhere than in the current scope.
@@ -53,7 +53,7 @@ fn note_constructor(
     arguments: &[NodeId],
     class: ClassId,
 ) -> Result<(), Memory>
-    ensures { OnOk result (found.new.items ≡ found.old.items ++ e3_of_constructor (declarations_of uses.now) (told None scopes.now) object arguments.now class) }
+    ensures { OnOk result (found.new.items ≡ found.old.items ++ e3_of_constructor (declarations_of uses.now) (lookup None scopes.now) object arguments.now class) }
 {
     let current = object;
     let callee = Callee {
@@ -75,7 +75,7 @@ fn note_made(
     name: &Name,
     arguments: &[NodeId],
 ) -> Result<(), Memory>
-    ensures { OnOk result (found.new.items ≡ found.old.items ++ made_breaks (declarations_of uses.now) (told None scopes.now) id name.now arguments.now) }
+    ensures { OnOk result (found.new.items ≡ found.old.items ++ made_breaks (declarations_of uses.now) (lookup None scopes.now) id name.now arguments.now) }
 {
     match uses.class_of(name) {
         Some(class) => {
@@ -97,9 +97,9 @@ fn note_new(
     name: &Name,
     arguments: &[NodeId],
 ) -> Result<(), Memory>
-    ensures { OnOk result (found.new.items ≡ found.old.items ++ new_breaks (declarations_of uses.now) (told None scopes.now) id place name.now arguments.now) }
+    ensures { OnOk result (found.new.items ≡ found.old.items ++ new_breaks (declarations_of uses.now) (lookup None scopes.now) id place name.now arguments.now) }
 {
-    note(found, misfits_new(uses, id, name), Rule::E1, place)?;
+    report_if(found, misfits_new(uses, id, name), Rule::E1, place)?;
     note_made(found, uses, scopes, id, name, arguments)?;
     Ok(())
 }
@@ -113,7 +113,7 @@ fn note_super(
     id: NodeId,
     arguments: &[NodeId],
 ) -> Result<(), Memory>
-    ensures { OnOk result (found.new.items ≡ found.old.items ++ super_breaks (declarations_of uses.now) (told None scopes.now) id arguments.now) }
+    ensures { OnOk result (found.new.items ≡ found.old.items ++ super_breaks (declarations_of uses.now) (lookup None scopes.now) id arguments.now) }
 {
     match uses.superclass_at(id) {
         Some(superclass) => {
@@ -146,7 +146,7 @@ fn note_assign(
     target: NodeId,
     value: NodeId,
 ) -> Result<(), Memory>
-    ensures { OnOk result (found.new.items ≡ found.old.items ++ assign_breaks (declarations_of uses.now) (told None scopes.now) place target value) }
+    ensures { OnOk result (found.new.items ≡ found.old.items ++ assign_breaks (declarations_of uses.now) (lookup None scopes.now) place target value) }
 {
     let is_wrong = misfit_scope(&told(scopes, value), &told(scopes, target));
     if !is_wrong {
@@ -154,7 +154,7 @@ fn note_assign(
     }
     match target_rule(uses, target) {
         Some(rule) => {
-            note(found, is_wrong, rule, place)?;
+            report_if(found, is_wrong, rule, place)?;
             Ok(())
         }
         None => Ok(()),
@@ -163,7 +163,7 @@ fn note_assign(
 
 /// Whether a value doesn't fit the variable that a node declares.
 fn misfits_variable(uses: &Uses<'_>, scopes: &[Option<Scope>], id: NodeId, value: NodeId) -> bool
-    ensures { let p = declarations_of uses.now in result ≡ misfit_scope (told None scopes.now value) (option_and_then (thing_scope p) (variable_thing_at p id)) }
+    ensures { let p = declarations_of uses.now in result ≡ misfit_scope (lookup None scopes.now value) (option_and_then (declaration_scope p) (scoped_variable_at p id)) }
 {
     let scope = told(scopes, value);
     match &scope {
@@ -181,16 +181,16 @@ fn note_local(
     place: Pos,
     value: NodeId,
 ) -> Result<(), Memory>
-    ensures { let p = declarations_of uses.now in OnOk result (found.new.items ≡ found.old.items ++ broken (misfit_scope (told None scopes.now value) (option_and_then (thing_scope p) (variable_thing_at p id))) E4 place) }
+    ensures { let p = declarations_of uses.now in OnOk result (found.new.items ≡ found.old.items ++ broken (misfit_scope (lookup None scopes.now value) (option_and_then (declaration_scope p) (scoped_variable_at p id))) E4 place) }
 {
     let is_wrong = misfits_variable(uses, scopes, id, value);
-    note(found, is_wrong, Rule::E4, place)?;
+    report_if(found, is_wrong, Rule::E4, place)?;
     Ok(())
 }
 
 /// Whether a value doesn't fit the result of the method in which a node stands.
 fn misfits_result(uses: &Uses<'_>, scopes: &[Option<Scope>], id: NodeId, value: NodeId) -> bool
-    ensures { result ≡ misfit_scope (told None scopes.now value) (result_scope_at (declarations_of uses.now) id) }
+    ensures { result ≡ misfit_scope (lookup None scopes.now value) (result_scope_at (declarations_of uses.now) id) }
 {
     let scope = told(scopes, value);
     match &scope {
@@ -209,12 +209,12 @@ fn note_return(
     place: Pos,
     value: &Option<NodeId>,
 ) -> Result<(), Memory>
-    ensures { OnOk result (found.new.items ≡ found.old.items ++ return_breaks (declarations_of uses.now) (told None scopes.now) id place value.now) }
+    ensures { OnOk result (found.new.items ≡ found.old.items ++ return_breaks (declarations_of uses.now) (lookup None scopes.now) id place value.now) }
 {
     match value {
         Some(value) => {
             let is_wrong = misfits_result(uses, scopes, id, *value);
-            note(found, is_wrong, Rule::E6, place)?;
+            report_if(found, is_wrong, Rule::E6, place)?;
             Ok(())
         }
         None => Ok(()),
@@ -252,10 +252,10 @@ fn note_cast(
     name: &Name,
     operand: NodeId,
 ) -> Result<(), Memory>
-    ensures { OnOk result (found.new.items ≡ found.old.items ++ broken (misfits_cast (declarations_of uses.now) (told None scopes.now operand) name.now) E9 place) }
+    ensures { OnOk result (found.new.items ≡ found.old.items ++ broken (misfits_cast (declarations_of uses.now) (lookup None scopes.now operand) name.now) E9 place) }
 {
     let is_wrong = misfits_cast(uses, &told(scopes, operand), name);
-    note(found, is_wrong, Rule::E9, place)?;
+    report_if(found, is_wrong, Rule::E9, place)?;
     Ok(())
 }
 
@@ -315,7 +315,7 @@ fn note_new_array(
 ) -> Result<(), Memory>
     ensures { let p = declarations_of uses.now in OnOk result (found.new.items ≡ found.old.items ++ broken (holds (written_type p element) (misfits_element p id)) E10 place) }
 {
-    note(found, misfits_array(uses, id, element), Rule::E10, place)?;
+    report_if(found, misfits_array(uses, id, element), Rule::E10, place)?;
     Ok(())
 }
 
@@ -329,7 +329,7 @@ pub fn note_uses(
     id: NodeId,
     node: &Node,
 ) -> Result<(), Memory>
-    ensures { OnOk result (found.new.items ≡ found.old.items ++ use_breaks (declarations_of uses.now) (told None types.now) (told None scopes.now) id node.now) }
+    ensures { OnOk result (found.new.items ≡ found.old.items ++ use_breaks (declarations_of uses.now) (lookup None types.now) (lookup None scopes.now) id node.now) }
 {
     match node {
         Node::New {

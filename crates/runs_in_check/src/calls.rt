@@ -1,7 +1,7 @@
 //! What is broken at calls: E2, E7 and E8.
 
 ghost use Rattle.std.specs.Prelude.{◌≡◌, ◌++◌, ◌||◌, not, None, OnOk, option_map};
-ghost use Rattle.scj_tree.specs.Recursion.{told};
+ghost use Rattle.scj_tree.specs.Recursion.{lookup};
 ghost use Rattle.scj_rules.specs.Words.{holds};
 ghost use Rattle.scj_rules.specs.Contexts.{declarations_of};
 ghost use Rattle.scj_rules.specs.declared.typing.Scope.TheVariants.{This};
@@ -17,7 +17,8 @@ use crate::words::{is_named_scope, told};
 use method_rows::MethodRef;
 use scj_base::ids::{MANAGED_MEMORY_ENTER_PRIVATE_MEMORY, MANAGED_MEMORY_EXECUTE_IN_AREA_OF};
 use scj_base::{ClassId, Found, Memory, MethodId, Name, NodeId, Pos, Rule, ScopeId};
-use scj_rules::{Scope, Ty, note};
+use scj_builtins::FRAMEWORK_CLASS_COUNT;
+use scj_rules::{Scope, Ty, report_if};
 use static_scopes::{are_same_scope, fits};
 
 /// Whether another scope than this one is current.
@@ -62,7 +63,7 @@ fn misfits_call(
     object: &Option<NodeId>,
     method: &MethodRef,
 ) -> bool
-    ensures { result ≡ misfits_call (declarations_of uses.now) (told None scopes.now) id object.now (found_method uses.now.nodes method.now) }
+    ensures { result ≡ misfits_call (declarations_of uses.now) (lookup None scopes.now) id object.now (found_method uses.now.nodes method.now) }
 {
     match uses.runs_in(method) {
         Some(scope) => {
@@ -80,7 +81,7 @@ fn callee_of(
     object: &Option<NodeId>,
     method: &MethodRef,
 ) -> Callee
-    ensures { let p = declarations_of uses.now in result ≡ record { called = Method method.now; object = receiver_scope p (told None scopes.now) id object.now; current = current_at p id } }
+    ensures { let p = declarations_of uses.now in result ≡ record { called = Method method.now; object = receiver_scope p (lookup None scopes.now) id object.now; current = current_at p id } }
 {
     Callee {
         called: Called::Method(*method),
@@ -100,10 +101,10 @@ fn note_user_call(
     arguments: &[NodeId],
     method: &MethodRef,
 ) -> Result<(), Memory>
-    ensures { OnOk result (found.new.items ≡ found.old.items ++ user_call_breaks (declarations_of uses.now) (told None scopes.now) id place object.now arguments.now (found_method uses.now.nodes method.now)) }
+    ensures { OnOk result (found.new.items ≡ found.old.items ++ user_call_breaks (declarations_of uses.now) (lookup None scopes.now) id place object.now arguments.now (found_method uses.now.nodes method.now)) }
 {
     let is_wrong = misfits_call(uses, scopes, id, object, method);
-    note(found, is_wrong, Rule::E2, place)?;
+    report_if(found, is_wrong, Rule::E2, place)?;
     let callee = callee_of(uses, scopes, id, object, method);
     note_arguments(found, uses, scopes, &callee, arguments)?;
     Ok(())
@@ -182,7 +183,7 @@ fn misfits_enter(uses: &Uses<'_>, id: NodeId, t: &Ty) -> bool
 {
     match t {
         Ty::Class(class) => {
-            if class.number() < 16 {
+            if class.number() < FRAMEWORK_CLASS_COUNT {
                 return true;
             }
             match uses.defined_by_chain(*class) {
@@ -238,7 +239,7 @@ fn enters_wrong(
     number: MethodId,
     second: NodeId,
 ) -> bool
-    ensures { result ≡ enters_wrong (declarations_of uses.now) (told None types.now) id number second }
+    ensures { result ≡ enters_wrong (declarations_of uses.now) (lookup None types.now) id number second }
 {
     if number != MANAGED_MEMORY_ENTER_PRIVATE_MEMORY {
         return false;
@@ -258,7 +259,7 @@ fn executes_wrong(
     first: NodeId,
     second: NodeId,
 ) -> bool
-    ensures { result ≡ executes_wrong (declarations_of uses.now) (told None types.now) (told None scopes.now) number first second }
+    ensures { result ≡ executes_wrong (declarations_of uses.now) (lookup None types.now) (lookup None scopes.now) number first second }
 {
     if number != MANAGED_MEMORY_EXECUTE_IN_AREA_OF {
         return false;
@@ -281,14 +282,14 @@ fn note_built_in(
     number: MethodId,
     arguments: &[NodeId],
 ) -> Result<(), Memory>
-    ensures { OnOk result (found.new.items ≡ found.old.items ++ built_in_breaks (declarations_of uses.now) (told None types.now) (told None scopes.now) id place number arguments.now) }
+    ensures { OnOk result (found.new.items ≡ found.old.items ++ built_in_breaks (declarations_of uses.now) (lookup None types.now) (lookup None scopes.now) id place number arguments.now) }
 {
     match arguments {
         [first, second] => {
             let enters_wrong = enters_wrong(uses, types, id, number, *second);
-            note(found, enters_wrong, Rule::E7, place)?;
+            report_if(found, enters_wrong, Rule::E7, place)?;
             let executes_wrong = executes_wrong(uses, types, scopes, number, *first, *second);
-            note(found, executes_wrong, Rule::E8, place)?;
+            report_if(found, executes_wrong, Rule::E8, place)?;
             Ok(())
         }
         _ => Ok(()),
@@ -308,7 +309,7 @@ fn note_called(
     arguments: &[NodeId],
     method: &MethodRef,
 ) -> Result<(), Memory>
-    ensures { OnOk result (found.new.items ≡ found.old.items ++ call_breaks (declarations_of uses.now) (told None types.now) (told None scopes.now) id place object.now arguments.now (found_method uses.now.nodes method.now)) }
+    ensures { OnOk result (found.new.items ≡ found.old.items ++ call_breaks (declarations_of uses.now) (lookup None types.now) (lookup None scopes.now) id place object.now arguments.now (found_method uses.now.nodes method.now)) }
 {
     match method_rows::builtin(uses.program(), method) {
         Some(number) => {
@@ -335,7 +336,7 @@ fn note_method(
     arguments: &[NodeId],
     method: &Option<MethodRef>,
 ) -> Result<(), Memory>
-    ensures { OnOk result (found.new.items ≡ found.old.items ++ called_breaks (declarations_of uses.now) (told None types.now) (told None scopes.now) id place object.now arguments.now (option_map (found_method uses.now.nodes) method.now)) }
+    ensures { OnOk result (found.new.items ≡ found.old.items ++ called_breaks (declarations_of uses.now) (lookup None types.now) (lookup None scopes.now) id place object.now arguments.now (option_map (found_method uses.now.nodes) method.now)) }
 {
     match method {
         Some(method) => {
@@ -360,7 +361,7 @@ pub fn note_call(
     object: &Option<NodeId>,
     arguments: &[NodeId],
 ) -> Result<(), Memory>
-    ensures { let p = declarations_of uses.now in OnOk result (found.new.items ≡ found.old.items ++ called_breaks p (told None types.now) (told None scopes.now) id place object.now arguments.now (method_called p (told None types.now) id object.now name.now)) }
+    ensures { let p = declarations_of uses.now in OnOk result (found.new.items ≡ found.old.items ++ called_breaks p (lookup None types.now) (lookup None scopes.now) id place object.now arguments.now (method_called p (lookup None types.now) id object.now name.now)) }
 {
     let method = called(uses, types, id, name, object);
     note_method(

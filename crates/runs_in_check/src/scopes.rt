@@ -2,7 +2,7 @@
 
 ghost use Rattle.std.specs.Prelude.{◌≡◌, None, IfOk, option_map, option_and_then, slice_get};
 ghost use Rattle.scj_tree.specs.Kinds.{kind_of};
-ghost use Rattle.scj_tree.specs.Recursion.{told};
+ghost use Rattle.scj_tree.specs.Recursion.{lookup};
 ghost use Rattle.scj_rules.specs.Words.{holds};
 ghost use Rattle.scj_rules.specs.Classes.{class_number};
 ghost use Rattle.scj_rules.specs.Contexts.{declarations_of};
@@ -34,7 +34,7 @@ pub fn receiver_scope(
     id: NodeId,
     object: &Option<NodeId>,
 ) -> Option<Scope>
-    ensures { result ≡ receiver_scope (declarations_of uses.now) (told None scopes.now) id object.now }
+    ensures { result ≡ receiver_scope (declarations_of uses.now) (lookup None scopes.now) id object.now }
 {
     match object {
         Some(object) => told(scopes, *object),
@@ -144,7 +144,7 @@ fn scope_of_element(uses: &Uses<'_>, array: &Option<Scope>, t: &Ty) -> Option<Sc
 
 /// The type of a node, among those that are told.
 pub fn type_told(types: &[Option<Ty>], id: NodeId) -> Option<Ty>
-    ensures { result ≡ told None types.now id }
+    ensures { result ≡ lookup None types.now id }
 {
     match types.get(id.place()) {
         Some(t) => *t,
@@ -160,7 +160,7 @@ fn scope_of_access(
     name: &Name,
     object: NodeId,
 ) -> Option<Scope>
-    ensures { let p = declarations_of uses.now in result ≡ option_and_then (λ r. option_and_then (scope_of_field p (told None scopes.now object)) (accessed_field p r name.now)) (receiver p (told None types.now) object) }
+    ensures { let p = declarations_of uses.now in result ≡ option_and_then (λ r. option_and_then (scope_of_field p (lookup None scopes.now object)) (accessed_field p r name.now)) (receiver p (lookup None types.now) object) }
 {
     let receiver = uses.receiver(types, object)?;
     let field = uses.accessed_field(&receiver, name);
@@ -175,7 +175,7 @@ pub fn called(
     name: &Name,
     object: &Option<NodeId>,
 ) -> Option<MethodRef>
-    ensures { let p = declarations_of uses.now in option_map (found_method uses.now.nodes) result ≡ option_and_then (λ r. called_method p r name.now) (call_receiver p (told None types.now) id object.now) }
+    ensures { let p = declarations_of uses.now in option_map (found_method uses.now.nodes) result ≡ option_and_then (λ r. called_method p r name.now) (call_receiver p (lookup None types.now) id object.now) }
 {
     let receiver = uses.call_receiver(types, id, object)?;
     uses.called_method(&receiver, name)
@@ -191,7 +191,7 @@ fn scope_of_value(
     name: &Name,
     object: &Option<NodeId>,
 ) -> Option<Scope>
-    ensures { let p = declarations_of uses.now in result ≡ option_and_then (λ r. option_and_then (scope_of_call p (receiver_scope p (told None scopes.now) id object.now) (current_at p id)) (called_method p r name.now)) (call_receiver p (told None types.now) id object.now) }
+    ensures { let p = declarations_of uses.now in result ≡ option_and_then (λ r. option_and_then (scope_of_call p (receiver_scope p (lookup None scopes.now) id object.now) (current_at p id)) (called_method p r name.now)) (call_receiver p (lookup None types.now) id object.now) }
 {
     let receiver = uses.call_receiver(types, id, object)?;
     let method = uses.called_method(&receiver, name);
@@ -214,7 +214,7 @@ fn scope_of_indexed(
     scopes: &[Option<Scope>],
     array: NodeId,
 ) -> Option<Scope>
-    ensures { result ≡ option_and_then (scope_of_element (declarations_of uses.now) (told None scopes.now array)) (told None types.now array) }
+    ensures { result ≡ option_and_then (scope_of_element (declarations_of uses.now) (lookup None scopes.now array)) (lookup None types.now array) }
 {
     let t = type_told(types, array)?;
     scope_of_element(uses, &told(scopes, array), &t)
@@ -227,7 +227,7 @@ fn scope_of_cast(
     name: &Name,
     operand: NodeId,
 ) -> Option<Scope>
-    ensures { let p = declarations_of uses.now in result ≡ option_and_then (λ class. scope_in_class p class (told None scopes.now operand)) (class_number p.names name.now) }
+    ensures { let p = declarations_of uses.now in result ≡ option_and_then (λ class. scope_in_class p class (lookup None scopes.now operand)) (class_number p.names name.now) }
 {
     let class = uses.class_of(name)?;
     scope_in_class(uses, class, &told(scopes, operand))
@@ -242,7 +242,7 @@ fn scope_of(
     id: NodeId,
     node: &Node,
 ) -> Option<Scope>
-    ensures { result ≡ scope_of (declarations_of uses.now) (told None types.now) (told None scopes.now) id node.now }
+    ensures { result ≡ scope_of (declarations_of uses.now) (lookup None types.now) (lookup None scopes.now) id node.now }
 {
     match node {
         Node::This { .. } => uses.this_at(id),
@@ -270,7 +270,7 @@ fn scope_of(
 
 /// Whether the values of a node are no references, as its type tells.
 fn is_plain(types: &[Option<Ty>], id: NodeId) -> bool
-    ensures { result ≡ is_plain (told None types.now id) }
+    ensures { result ≡ is_plain (lookup None types.now id) }
 {
     match &type_told(types, id) {
         Some(t) => !is_reference(t),
@@ -281,7 +281,7 @@ fn is_plain(types: &[Option<Ty>], id: NodeId) -> bool
 /// Whether the node of a number, which is of this kind, has no scope, as its kind or its type tells.
 #[tactic(auto, unfolding(crate::specs::Plain::is_scopeless))]
 fn is_scopeless(types: &[Option<Ty>], id: NodeId, kind: NodeKind) -> bool
-    ensures { result ≡ is_scopeless (told None types.now id) kind }
+    ensures { result ≡ is_scopeless (lookup None types.now id) kind }
 {
     match kind {
         NodeKind::SimpleName => is_plain(types, id),
@@ -300,7 +300,7 @@ fn is_scopeless(types: &[Option<Ty>], id: NodeId, kind: NodeKind) -> bool
 
 /// Whether there is a node of this number that has no scope, as its kind or its type tells.
 fn is_scopeless_at(uses: &Uses<'_>, types: &[Option<Ty>], id: NodeId) -> bool
-    ensures { result ≡ holds (option_map kind_of (slice_get uses.now.nodes id)) (is_scopeless (told None types.now id)) }
+    ensures { result ≡ holds (option_map kind_of (slice_get uses.now.nodes id)) (is_scopeless (lookup None types.now id)) }
 {
     match uses.program().kind(id) {
         Some(kind) => is_scopeless(types, id, kind),
@@ -318,7 +318,7 @@ fn scope_at(
     id: NodeId,
 ) -> Option<Scope>
     requires { types.now ≡ types_in (declarations_of uses.now) }
-    ensures { result ≡ scope_of_next (declarations_of uses.now) (told None types.now) id (told None scopes.now) }
+    ensures { result ≡ scope_of_next (declarations_of uses.now) (lookup None types.now) id (lookup None scopes.now) }
 {
     if is_scopeless_at(uses, types, id) {
         return None;
@@ -334,7 +334,7 @@ pub fn scopes_of(
     types: &[Option<Ty>],
 ) -> Result<Vec<Option<Scope>>, Memory>
     requires { types.now ≡ types_in (declarations_of uses.now) }
-    ensures { IfOk result (λ scopes. scopes.items ≡ scopes_in (declarations_of uses.now) (told None types.now)) }
+    ensures { IfOk result (λ scopes. scopes.items ≡ scopes_in (declarations_of uses.now) (lookup None types.now)) }
 {
     let program = uses.program();
     let mut scopes = Vec::with_capacity(alloc, program.len())?;

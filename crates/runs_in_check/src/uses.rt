@@ -1,15 +1,15 @@
 //! What is told of a program before the scopes of its expressions are.
 
 ghost use Rattle.std.specs.Prelude.{◌≡◌, None, slice_get, option_copied, option_map, option_and_then};
-ghost use Rattle.scj_tree.specs.Recursion.{told};
+ghost use Rattle.scj_tree.specs.Recursion.{lookup};
 ghost use Rattle.scj_rules.specs.Classes.{class_number, method_named};
 ghost use Rattle.scj_rules.specs.Views.{DeclaredMethod, method_at};
 ghost use Rattle.scj_rules.specs.Contexts.{declarations_of, context};
 ghost use Rattle.scj_rules.specs.Types.{meaning, receiver, call_receiver, accessed_field, called_method, constructor_parameters};
 ghost use Rattle.scj_rules.specs.TypeRules.{written_type, superclass_at};
 ghost use Rattle.scj_rules.specs.ScopeRules.{defined_by_chain, parent_scope, is_outer};
-ghost use Rattle.scj_rules.specs.StaticScopes.{class_scope, runs_in, thing_scope, field_scope, parameter_scope, constructor_parameter_scope};
-ghost use Rattle.scj_rules.specs.AnnotationRules.{variable_thing_at, result_scope};
+ghost use Rattle.scj_rules.specs.StaticScopes.{class_scope, runs_in, declaration_scope, field_scope, parameter_scope, constructor_parameter_scope};
+ghost use Rattle.scj_rules.specs.AnnotationRules.{scoped_variable_at, result_scope};
 ghost use Rattle.scj_rules.specs.UseRules.{this_at, current_at, result_scope_at};
 ghost use Rattle.class_rows.specs.Fields.{found_field};
 ghost use Rattle.method_rows.specs.Methods.{found_method};
@@ -149,7 +149,7 @@ impl<'a> Uses<'a> {
 
     /// The scope of the variable that a node declares.
     pub fn variable_scope(&self, node: NodeId) -> Option<Scope>
-        ensures { result ≡ option_and_then (thing_scope (declarations_of self.now)) (variable_thing_at (declarations_of self.now) node) }
+        ensures { result ≡ option_and_then (declaration_scope (declarations_of self.now)) (scoped_variable_at (declarations_of self.now) node) }
     {
         self.scoped.variable_scope(node)
     }
@@ -209,7 +209,7 @@ impl<'a> Uses<'a> {
 
     /// What stands before a dot.
     pub fn receiver(&self, types: &[Option<Ty>], object: NodeId) -> Option<Receiver>
-        ensures { result ≡ receiver (declarations_of self.now) (told None types.now) object }
+        ensures { result ≡ receiver (declarations_of self.now) (lookup None types.now) object }
     {
         names::receiver(&self.known, types, object)
     }
@@ -221,7 +221,7 @@ impl<'a> Uses<'a> {
         id: NodeId,
         object: &Option<NodeId>,
     ) -> Option<Receiver>
-        ensures { result ≡ call_receiver (declarations_of self.now) (told None types.now) id object.now }
+        ensures { result ≡ call_receiver (declarations_of self.now) (lookup None types.now) id object.now }
     {
         names::call_receiver(&self.known, types, id, object)
     }

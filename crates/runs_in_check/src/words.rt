@@ -2,7 +2,7 @@
 
 ghost use Rattle.std.specs.Prelude.{◌≡◌, None, List};
 ghost use Rattle.scj_tree.specs.declared.nodes.Node.{Node as Row};
-ghost use Rattle.scj_tree.specs.Recursion.{told};
+ghost use Rattle.scj_tree.specs.Recursion.{lookup};
 ghost use Rattle.scj_rules.specs.UseRules.{misfit_scope, is_named_scope, target_of_meaning};
 ghost use Rattle.type_rules.specs.Meanings.{meant};
 
@@ -13,7 +13,7 @@ use type_rules::NameMeaning;
 
 /// The scope of a node, among those that are told.
 pub fn told(scopes: &[Option<Scope>], id: NodeId) -> Option<Scope>
-    ensures { result ≡ told None scopes.now id }
+    ensures { result ≡ lookup None scopes.now id }
 {
     match scopes.get(id.place()) {
         Some(scope) => *scope,

@@ -29,8 +29,11 @@ token_at file before kind len = record { kind = kind; pos = place_behind file be
 -- among them with their places, and the end
 pub data Lexes : ℕ → List ℕ → List ℕ → List Token → Type 0 where
   ends : (file : ℕ) (before : List ℕ) → Lexes file before [] (token_at file before End 0 ∷ [])
-  skips : (file : ℕ) (before w rest : List ℕ) (tokens : List Token) → Piece w rest None → Lexes file (before ++ w) rest tokens → Lexes file before (w ++ rest) tokens
-  takes : (file : ℕ) (before w rest : List ℕ) (kind : TokenKind) (tokens : List Token) → Piece w rest (Some kind) → Lexes file (before ++ w) rest tokens → Lexes file before (w ++ rest) (token_at file before kind (length w) ∷ tokens)
+  skips : (file : ℕ) (before w rest : List ℕ) (tokens : List Token) →
+      Piece w rest None → Lexes file (before ++ w) rest tokens → Lexes file before (w ++ rest) tokens
+  takes : (file : ℕ) (before w rest : List ℕ) (kind : TokenKind) (tokens : List Token) →
+      Piece w rest (Some kind) → Lexes file (before ++ w) rest tokens →
+      Lexes file before (w ++ rest) (token_at file before kind (length w) ∷ tokens)
 
 -- the tokens of a file
 abbrev pub Lex : ℕ → List ℕ → List Token → Type 0
@@ -39,4 +42,5 @@ Lex file bytes tokens = Lexes file [] bytes tokens
 -- the bytes before the offset are a row of pieces, and the one at the offset breaks the rule
 pub data LexBreak : List ℕ → Rule → ℕ → Type 0 where
   here : (bytes : List ℕ) (rule : Rule) → BreakAt bytes rule → LexBreak bytes rule 0
-  later : (w rest : List ℕ) (kind : Option TokenKind) (rule : Rule) (offset : ℕ) → Piece w rest kind → LexBreak rest rule offset → LexBreak (w ++ rest) rule (length w + offset)
+  later : (w rest : List ℕ) (kind : Option TokenKind) (rule : Rule) (offset : ℕ) →
+      Piece w rest kind → LexBreak rest rule offset → LexBreak (w ++ rest) rule (length w + offset)

@@ -1,7 +1,8 @@
--- The lexemes of the language: which rows of bytes are one, and what may not stand behind them. Bytes are
--- told by their codes: 34 is `"`, 42 is `*`, 47 is `/`.
+-- The lexemes of the language: which rows of bytes are one, and what may not stand behind them. A byte is
+-- written as its code: 34 is `"`, 42 is `*`, 47 is `/`.
 use Rattle.std.specs.Prelude.{ℕ, ◌+◌, ◌-◌, ◌*◌, ◌<◌, ◌≤◌, ◌≡◌, ◌≢◌, Bool, true, false, not, ◌&&◌, ◌||◌, ◌==◌, nat_le, List, [], ◌∷◌, ◌++◌, length, slice_get, fold, Option, Some, None, ⊤}
 use Rattle.std.specs.List.{list_all}
+use Rattle.scj_base.specs.Bytes.{is_one_of}
 use Rattle.scj_base.specs.Vocabulary.{words, signs}
 use Rattle.scj_base.specs.declared.lexemes.TokenKind.{TokenKind}
 use Rattle.scj_base.specs.declared.lexemes.TokenKind.TheVariants.{Name, Word, Number, Text, Sign}
@@ -63,6 +64,13 @@ value_of digits = fold (λ n d. 10 * n + (d - 48)) 0 digits
 abbrev pub IsReserved : List ℕ → Type 0
 IsReserved w = (n : ℕ) × (slice_get words n ≡ Some w)
 
+-- a name as it may stand between quotes
+unfoldable pub is_name : List ℕ → Bool
+is_name [] = false
+is_name (b ∷ s) =
+    is_letter b && (list_all is_name_byte s &&
+    (nat_le (length (b ∷ s)) longest_name && not (is_one_of (b ∷ s) words)))
+
 -- `//` or `/*` comes first
 unfoldable pub opens_comment : List ℕ → Bool
 opens_comment [] = false
@@ -82,18 +90,23 @@ IsLongestSign w bytes = (n : ℕ) (v rest : List ℕ) → slice_get signs n ≡ 
 -- w is a lexeme of the kind where rest stands behind it, and cannot be made longer: no more of a name or of a
 -- number follows, and a sign is the longest that fits and begins no comment
 pub data Lexeme : List ℕ → List ℕ → TokenKind → Type 0 where
-  name : (w rest : List ℕ) → IsWordLike w → length w ≤ longest_name → (IsReserved w → ⊥) → EndsHere is_name_byte rest → Lexeme w rest Name
+  name : (w rest : List ℕ) → IsWordLike w → length w ≤ longest_name → (IsReserved w → ⊥) →
+      EndsHere is_name_byte rest → Lexeme w rest Name
   word : (w rest : List ℕ) (n : ℕ) → slice_get words n ≡ Some w → EndsHere is_name_byte rest → Lexeme w rest (Word n)
-  number : (w rest : List ℕ) → IsNumeral w → value_of w ≤ greatest_number → EndsHere is_name_byte rest → Lexeme w rest (Number (value_of w))
+  number : (w rest : List ℕ) → IsNumeral w → value_of w ≤ greatest_number → EndsHere is_name_byte rest →
+      Lexeme w rest (Number (value_of w))
   text : (inside rest : List ℕ) → AllOf is_text_byte inside → Lexeme (34 ∷ (inside ++ 34 ∷ [])) rest Text
-  sign : (w rest : List ℕ) (n : ℕ) → slice_get signs n ≡ Some w → IsLongestSign w (w ++ rest) → opens_comment (w ++ rest) ≡ false → Lexeme w rest (Sign n)
+  sign : (w rest : List ℕ) (n : ℕ) → slice_get signs n ≡ Some w → IsLongestSign w (w ++ rest) →
+      opens_comment (w ++ rest) ≡ false → Lexeme w rest (Sign n)
 
 -- w is a blank or a comment (None), or a lexeme of a kind, where rest stands behind it. A comment of `//` runs
 -- up to a line feed or the end, one of `/*` up to the first `*/`
 pub data Piece : List ℕ → List ℕ → Option TokenKind → Type 0 where
   blank : (b : ℕ) (rest : List ℕ) → is_blank b ≡ true → Piece (b ∷ []) rest None
-  line_comment : (inside rest : List ℕ) → AllOf is_line_byte inside → EndsHere is_line_byte rest → Piece (47 ∷ 47 ∷ inside) rest None
-  block_comment : (inside rest : List ℕ) → has_close inside ≡ false → Piece (47 ∷ 42 ∷ (inside ++ 42 ∷ 47 ∷ [])) rest None
+  line_comment : (inside rest : List ℕ) → AllOf is_line_byte inside → EndsHere is_line_byte rest →
+      Piece (47 ∷ 47 ∷ inside) rest None
+  block_comment : (inside rest : List ℕ) → has_close inside ≡ false →
+      Piece (47 ∷ 42 ∷ (inside ++ 42 ∷ 47 ∷ [])) rest None
   lexeme : (w rest : List ℕ) (kind : TokenKind) → Lexeme w rest kind → Piece w rest (Some kind)
 
 -- no lexeme begins the bytes
@@ -103,8 +116,10 @@ NoLexeme bytes = (w rest : List ℕ) (kind : TokenKind) → bytes ≡ w ++ rest 
 -- the first of these bytes breaks a rule: a digit begins no number, a `/*` or a quote is not closed, more than
 -- 64 bytes of a name follow each other, or nothing at all begins here
 pub data BreakAt : List ℕ → Rule → Type 0 where
-  bad_byte : (b : ℕ) (s : List ℕ) → is_blank b ≡ false → is_letter b ≡ false → is_digit b ≡ false → b ≢ 34 → opens_comment (b ∷ s) ≡ false → NoLexeme (b ∷ s) → BreakAt (b ∷ s) L1
+  bad_byte : (b : ℕ) (s : List ℕ) → is_blank b ≡ false → is_letter b ≡ false → is_digit b ≡ false → b ≢ 34 →
+      opens_comment (b ∷ s) ≡ false → NoLexeme (b ∷ s) → BreakAt (b ∷ s) L1
   bad_number : (b : ℕ) (s : List ℕ) → is_digit b ≡ true → NoLexeme (b ∷ s) → BreakAt (b ∷ s) L2
   open_comment : (s : List ℕ) → has_close s ≡ false → BreakAt (47 ∷ 42 ∷ s) L3
   open_text : (s : List ℕ) → NoLexeme (34 ∷ s) → BreakAt (34 ∷ s) L3
-  long_name : (w rest : List ℕ) → IsWordLike w → longest_name < length w → EndsHere is_name_byte rest → BreakAt (w ++ rest) L4
+  long_name : (w rest : List ℕ) → IsWordLike w → longest_name < length w → EndsHere is_name_byte rest →
+      BreakAt (w ++ rest) L4

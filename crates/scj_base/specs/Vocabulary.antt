@@ -1,5 +1,5 @@
--- The reserved words and the signs of the language, each told by its place in its list, and names for the
--- places that the grammar speaks of.
+-- The reserved words and the signs of the language, each with its place in its list as its number, and names
+-- for the numbers that the grammar speaks of.
 use Rattle.std.specs.Prelude.{ℕ, List, [], ◌∷◌, codes}
 
 -- the reserved words (JLS 3.9, 3.10.3, 3.10.7)

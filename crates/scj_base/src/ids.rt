@@ -1,4 +1,4 @@
-//! Numbers of classes, fields, methods and scopes.
+//! Numbers of classes, fields, methods, scopes, objects and areas.
 
 ghost use Rattle.std.specs.Prelude.{◌≡◌};
 
@@ -130,6 +130,70 @@ impl ScopeId {
     }
 
     /// The number of the class that defines the scope, 0 for the root.
+    pub fn number(self) -> u32
+        ensures { result ≡ self }
+    {
+        self.number
+    }
+}
+
+/// A reference to an object of a run.
+#[derive(Clone, Copy, Debug, PartialEq, Eq, PartialOrd, Ord)]
+pub struct Ref {
+    number: u32,
+}
+
+impl Model for Ref {
+    ghost use Rattle.std.specs.Prelude.{ℕ};
+
+    ghost Value = { ℕ };
+
+    ghost view = { λ a. a.number };
+
+    ghost inverse = { λ n. record { number = n } };
+}
+
+impl Ref {
+    /// The reference of a number.
+    pub fn at(number: u32) -> Ref
+        ensures { result ≡ number }
+    {
+        Ref { number }
+    }
+
+    /// The number of the reference.
+    pub fn number(self) -> u32
+        ensures { result ≡ self }
+    {
+        self.number
+    }
+}
+
+/// The number of a memory area of a run.
+#[derive(Clone, Copy, Debug, PartialEq, Eq, PartialOrd, Ord)]
+pub struct AreaId {
+    number: u32,
+}
+
+impl Model for AreaId {
+    ghost use Rattle.std.specs.Prelude.{ℕ};
+
+    ghost Value = { ℕ };
+
+    ghost view = { λ a. a.number };
+
+    ghost inverse = { λ n. record { number = n } };
+}
+
+impl AreaId {
+    /// The area of a number.
+    pub fn at(number: u32) -> AreaId
+        ensures { result ≡ number }
+    {
+        AreaId { number }
+    }
+
+    /// The number of the area.
     pub fn number(self) -> u32
         ensures { result ≡ self }
     {

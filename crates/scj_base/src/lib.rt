@@ -1,7 +1,8 @@
-//! Places, rules, statuses, names and tokens: the words that every other crate of the checker speaks.
+//! Places, rules, statuses, names and tokens, and the faults and values of a run: the words that every other crate speaks.
 #![tactic(auto)]
 
 pub mod errors;
+pub mod faults;
 pub mod file_names;
 pub mod findings;
 pub mod ids;
@@ -10,18 +11,21 @@ pub mod numbers;
 pub mod places;
 pub mod shared_names;
 pub mod statuses;
+pub mod values;
 pub mod vocabulary;
 pub mod words;
 
 pub use errors::{Failed, Memory};
+pub use faults::RunFault;
 pub use file_names::Files;
 pub use findings::{Found, Rule};
-pub use ids::{ClassId, FieldId, MethodId, ScopeId};
+pub use ids::{AreaId, ClassId, FieldId, MethodId, Ref, ScopeId};
 pub use lexemes::{Token, TokenKind, Tokens};
 pub use numbers::NodeId;
 pub use places::Pos;
 pub use shared_names::{NameTable, SharedName};
 pub use statuses::Status;
+pub use values::Value;
 pub use words::Name;
 
 #[cfg(test)]

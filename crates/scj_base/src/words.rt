@@ -17,7 +17,7 @@ impl Model for Name {
 
     ghost Value = { List ℕ };
 
-    ghost use Rattle.scj_base.specs.NameShape.{IsPadded, padded, padded-undoes};
+    ghost use Rattle.scj_base.specs.NameSupport.{IsPadded, padded, padded-undoes};
 
     ghost view = { λ a. take a.len a.bytes };
 
@@ -51,7 +51,7 @@ impl Name {
 }
 
 ghost use Rattle.std.specs.Prelude.{◌++◌, ◌-◌, replicate};
-ghost use Rattle.scj_base.specs.NameShape.{padded};
+ghost use Rattle.scj_base.specs.NameSupport.{padded};
 
 /// The bytes with zero bytes behind them.
 fn fill(bytes: &[u8]) -> [u8; 64]

@@ -1,4 +1,4 @@
-//! Kinds of classes and of parameters.
+//! Kinds of classes, of parameters, of results and of the scopes that methods run in.
 
 /// What a class may be used for.
 #[derive(Clone, Copy, Debug, PartialEq, Eq)]
@@ -26,4 +26,43 @@ pub enum ParameterKind {
     Object,
     /// `Runnable`.
     Runnable,
+}
+
+/// The parameters of a framework method: two at most.
+#[derive(Clone, Copy, Debug, PartialEq, Eq)]
+pub enum Parameters {
+    /// No parameter.
+    Empty,
+    /// One parameter.
+    One(ParameterKind),
+    /// Two parameters.
+    Two(ParameterKind, ParameterKind),
+}
+
+/// What a framework method leaves as its value.
+#[derive(Clone, Copy, Debug, PartialEq, Eq)]
+pub enum GivesKind {
+    /// No value.
+    Nothing,
+    /// An `int`.
+    Number,
+    /// A `long`.
+    Long,
+    /// A mission sequencer.
+    Sequencer,
+    /// A mission.
+    Mission,
+}
+
+/// The scope in which the framework lets every declaration of one of its methods run.
+#[derive(Clone, Copy, Debug, PartialEq, Eq)]
+pub enum RunsInKind {
+    /// `IMMORTAL`.
+    Immortal,
+    /// The scope that the class or one above it defines, `CALLER` where none does.
+    DefinedOrCaller,
+    /// The scope that the class or one above it defines. Where none does, the declaration decides.
+    DefinedOrDeclared,
+    /// `CALLER`.
+    Caller,
 }

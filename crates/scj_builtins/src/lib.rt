@@ -1,10 +1,12 @@
-//! The framework's classes and methods, as rows.
+//! The framework's classes and methods, as tables.
 #![tactic(auto)]
 
+pub mod classes;
 pub mod kinds;
-pub mod numbers;
-pub mod rows;
+pub mod methods;
+pub mod names;
 
-pub use kinds::{ClassKind, ParameterKind};
-pub use numbers::{builtin_classes, builtin_methods};
-pub use rows::{BuiltinId, GivesKind, MethodRow, builtin_class, builtin_method};
+pub use classes::{FRAMEWORK_CLASS_COUNT, FrameworkClass, framework_classes};
+pub use kinds::{ClassKind, GivesKind, ParameterKind, Parameters, RunsInKind};
+pub use methods::{FRAMEWORK_METHOD_COUNT, FrameworkMethod, framework_method};
+pub use names::method_named;

@@ -9,8 +9,8 @@ use Rattle.scj_tree.specs.Lexemes.{Lexeme, place_of_lexeme}
 use Rattle.scj_tree.specs.Grammar.{Tree, BeginsFile, RefusedAt}
 use Rattle.scj_tree.specs.Heights.{too_deep}
 use Rattle.machine_laws.proofs.Whole.{one_tree_nodes, one_tree_classes}
-use Rattle.scj_rules.specs.Syntax.{FileRead, BreaksGrammar}
-use Rattle.scj_rules.specs.Syntax.BreaksGrammar.{not_in_the_grammar, too_high}
+use Rattle.scj_tree.specs.Files.{FileRead, BreaksGrammar}
+use Rattle.scj_tree.specs.Files.BreaksGrammar.{not_in_the_grammar, too_high}
 
 -- ---- a row that is split at an element in two ways
 

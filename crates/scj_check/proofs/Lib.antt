@@ -1,5 +1,5 @@
+mod SampleLaws
 pub mod GrammarLaws
-pub mod ParserLaws
 pub mod SourceLaws
 pub mod StandLaws
 pub mod SyntaxLaws

@@ -6,7 +6,8 @@ use Rattle.scj_base.specs.declared.lexemes.Token.{Token}
 use Rattle.scj_base.specs.Lex.{Lex}
 use Rattle.scj_tree.specs.Forest.{Forest, forest_of}
 use Rattle.scj_tree.specs.Lexemes.{lexemes_of}
-use Rattle.scj_rules.specs.Syntax.{BreaksLexemes, FileRead, BreaksFrom, ReadsFrom, BreaksSyntax}
+use Rattle.scj_rules.specs.Syntax.{BreaksLexemes, BreaksFrom, ReadsFrom, BreaksSyntax}
+use Rattle.scj_tree.specs.Files.{FileRead}
 use Rattle.scj_rules.specs.Syntax.HaveLexemes.{no_text, next_text}
 use Rattle.scj_rules.specs.Syntax.FirstBreakOfLexemes.{in_this, in_another}
 use Rattle.scj_rules.specs.Syntax.FilesRead.{no_file, next_file}

@@ -1,3 +1,4 @@
 pub mod Readings
+pub mod Samples
 pub mod Texts
 pub mod Verdicts

@@ -5,7 +5,8 @@ use Rattle.scj_base.specs.declared.lexemes.Token.{Token}
 use Rattle.scj_base.specs.Lex.{Lex}
 use Rattle.scj_tree.specs.Forest.{Forest}
 use Rattle.scj_tree.specs.Lexemes.{Lexeme, lexemes_of}
-use Rattle.scj_rules.specs.Syntax.{Reads, ReadsFrom, BreaksSyntax, BreaksFrom, BreaksLexemes, BreaksGrammar, FirstBreakOfLexemes, HaveLexemes, FileRead}
+use Rattle.scj_rules.specs.Syntax.{Reads, ReadsFrom, BreaksSyntax, BreaksFrom, BreaksLexemes, FirstBreakOfLexemes, HaveLexemes}
+use Rattle.scj_tree.specs.Files.{BreaksGrammar, FileRead}
 use Rattle.scj_lexer.specs.declared.texts.LexAnswer.{LexAnswer}
 use Rattle.scj_lexer.specs.declared.texts.LexAnswer.TheVariants as lexer
 use Rattle.scj_check.specs.declared.readings.Reading.{Reading}

@@ -1,10 +1,12 @@
 //! What is true of the texts of every call. These functions do nothing: each stands for a law.
 
-ghost use Rattle.std.specs.Prelude.{◌≡◌, ℕ, List};
+ghost use Rattle.std.specs.Prelude.{◌≡◌, [], ◌∷◌, ℕ, List};
 ghost use Rattle.scj_base.specs.declared.findings.Found.{Found as Finding};
 ghost use Rattle.scj_tree.specs.Forest.{Forest};
 ghost use Rattle.scj_rules.specs.Syntax.{Reads, BreaksSyntax};
+ghost use Rattle.scj_rules.specs.Phases.{IsAccepted};
 ghost use Rattle.scj_rules.specs.Verdicts.{IsReportOf};
+ghost use Rattle.scj_check.specs.Samples.{arithmetic_text};
 
 /// Texts have one program at most.
 pub fn one_program_at_most()
@@ -24,4 +26,10 @@ pub fn no_break_of_a_program()
 /// Texts have one report at most.
 pub fn one_report_at_most()
     ensures { (texts : List (List ℕ)) (one other : List Finding) → IsReportOf texts one → IsReportOf texts other → one ≡ other }
+{}
+
+/// Some texts have an empty report: they are read as a program that breaks no rule, so that there is a `Checked`.
+pub fn a_text_is_accepted()
+    ensures report { IsReportOf (arithmetic_text ∷ []) [] }
+    ensures program { (program : Forest) × Reads (arithmetic_text ∷ []) program × IsAccepted program }
 {}

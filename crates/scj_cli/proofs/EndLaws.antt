@@ -4,13 +4,19 @@ use Rattle.scj_base.specs.declared.statuses.Status.{Status}
 use Rattle.scj_io.specs.Loads.{Held, ShelfRun, MayHold, MayExceed}
 use Rattle.scj_io.specs.Loads.Held.{Told}
 use Rattle.scj_cli.specs.Jobs.{file_limit}
-use Rattle.scj_cli.specs.Endings.{Call, IsAmong, MayStand, Ends, AreTold, IsExact, IsLongExactly, IsNeverAbsent}
+use Rattle.scj_cli.specs.Endings.{Call, IsAmong, IsReached, MayStand, Ends, AreTold, IsExact, IsLongExactly, IsNeverAbsent}
 use Rattle.scj_cli.specs.Endings.IsAmong.{here, later}
+use Rattle.scj_cli.specs.Endings.IsReached.{first as reached_first, behind}
 use Rattle.scj_cli.specs.Endings.MayStand.{none as no_file, next as next_file}
 use Rattle.scj_cli.specs.Endings.AreTold.{none as none_told, next as next_told}
 use Rattle.scj_cli.specs.Endings.Comes.{answered, unread, overlong, out_of_memory}
 use Rattle.scj_cli.specs.Endings.Ends.{whole, fault_of_out, fault_of_err}
 use Rattle.scj_cli.specs.Endings.EndsBy.{by_answer, by_memory}
+
+-- what is reached is one of the names
+among_of : {held : List ℕ → Held} {name : List ℕ} {names : List (List ℕ)} → IsReached held name names → IsAmong name names
+among_of reached_first = here
+among_of (behind content holds within rest) = later (among_of rest)
 
 -- contents that may stand under names whose contents are told are these
 stand_told : {shelf : ShelfRun} {names contents told : List (List ℕ)} → MayStand shelf names contents → AreTold shelf.held names told → contents ≡ told
@@ -40,15 +46,15 @@ not_short held content known is holds within long =
 
 pub exact : (call : Call) (status : Status) → Ends call status → IsExact call status
 exact call status (whole (answered stands answer) out err) contents told calm = by_answer (rw (← stand_told stands told) answer) out err
-exact call status (whole (unread among fault) out err) contents told calm = absurd (calm.files _ among fault)
-exact call status (whole (overlong among exceeds beyond) out err) contents told calm = let known = told_of among told in absurd (not_long _ known.0 known.1 known.2 exceeds)
+exact call status (whole (unread reached fault) out err) contents told calm = absurd (calm.files _ (among_of reached) fault)
+exact call status (whole (overlong reached exceeds beyond) out err) contents told calm = let known = told_of (among_of reached) told in absurd (not_long _ known.0 known.1 known.2 exceeds)
 exact call status (whole out_of_memory out err) contents told calm = by_memory out err
 exact call status (fault_of_out comes out err) contents told calm = absurd (calm.out out.rose)
 exact call status (fault_of_err comes out err) contents told calm = absurd (calm.err err.rose)
 
 pub long_exactly : (call : Call) (status : Status) → Ends call status → IsLongExactly call status
 long_exactly call status (whole (answered stands answer) out err) name content among is long calm = let stood = stands_of among stands in absurd (not_short _ stood.0 content is stood.1 stood.2 long)
-long_exactly call status (whole (unread other fault) out err) name content among is long calm = absurd (calm.files _ other fault)
+long_exactly call status (whole (unread other fault) out err) name content among is long calm = absurd (calm.files _ (among_of other) fault)
 long_exactly call status (whole (overlong other exceeds beyond) out err) name content among is long calm = inl refl
 long_exactly call status (whole out_of_memory out err) name content among is long calm = inr refl
 long_exactly call status (fault_of_out comes out err) name content among is long calm = absurd (calm.out out.rose)

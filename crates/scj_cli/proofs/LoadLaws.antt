@@ -5,8 +5,8 @@ use Rattle.scj_io.specs.Loads.{Held, ShelfRun, shelf_run, ShelfGoes, MayHold, Ma
 use Rattle.scj_io.proofs.CounterLaws.{Rose-earlier}
 use Rattle.scj_check.specs.Texts.{texts_of}
 use Rattle.scj_cli.specs.Jobs.{file_limit}
-use Rattle.scj_cli.specs.Endings.{IsAmong, MayStand}
-use Rattle.scj_cli.specs.Endings.IsAmong.{here, later}
+use Rattle.scj_cli.specs.Endings.{IsReached, MayStand}
+use Rattle.scj_cli.specs.Endings.IsReached.{first as reached_first, behind}
 use Rattle.scj_cli.specs.Endings.MayStand.{none, next}
 use Rattle.scj_cli.specs.Refusals.{RefusesLoad, RefusesLoads}
 use Rattle.scj_cli.specs.declared.refusals.Refusal.{Refusal}
@@ -26,18 +26,21 @@ goes_then a b c f g h k m n one two = record {
   most = λ name. let x = one.most name in let y = two.most name in omega arith;
 }
 
-pub among_at : {X : Type 0} (f : X → List ℕ) (xs : List X) (k : ℕ) (d : X) → k < length xs → IsAmong (f (get_or xs k d)) (map f xs)
-among_at f [] k d within = absurd (omega (arith, within))
-among_at f (x ∷ xs) zero d within = here
-among_at f (x ∷ xs) (suc k) d within = later (among_at f xs k d (omega (arith, within)))
+-- the loads get to the file of this number, where those before it were loaded
+pub reached_at : {X : Type 0} (shelf : ShelfRun) (f : X → List ℕ) (xs : List X) (k : ℕ) (d : X) (contents : List (List ℕ))
+    → k < length xs → MayStand shelf (map f (take k xs)) contents → IsReached shelf.held (f (get_or xs k d)) (map f xs)
+reached_at shelf f [] k d contents within stands = absurd (omega (arith, within))
+reached_at shelf f (x ∷ xs) zero d contents within stands = reached_first
+reached_at shelf f (x ∷ xs) (suc k) d _ within (next holds short rest) =
+    behind _ holds short (reached_at shelf f xs k d _ (omega (arith, within)) rest)
 
 -- a load that was refused after others that weren't
-pub refused_later : (held held_then : List ℕ → Held) (faults faults_then faults_after most most_then most_after : List ℕ → ℕ) (names : List (List ℕ)) (name : List ℕ) (refusal : Refusal) → ShelfGoes held held_then faults faults_then most most_then → IsAmong name names → RefusesLoad (shelf_run held_then faults_then faults_after most_after) name refusal → RefusesLoads (shelf_run held faults faults_after most_after) names refusal
-refused_later held held_then faults faults_then faults_after most most_then most_after names name Usage goes among refuses = absurd refuses
-refused_later held held_then faults faults_then faults_after most most_then most_after names name (Unread line) goes among refuses = (name, among, (Rose-earlier _ _ _ (goes.faults name) refuses.0, refuses.1))
-refused_later held held_then faults faults_then faults_after most most_then most_after names name (Overlong line) goes among refuses =
-    (name, among, (subst (λ (h : Held). MayExceed h file_limit) (goes.held name) refuses.0, refuses.1, refuses.2))
-refused_later held held_then faults faults_then faults_after most most_then most_after names name OutOfMemory goes among refuses = tt
+pub refused_later : (held held_then : List ℕ → Held) (faults faults_then faults_after most most_then most_after : List ℕ → ℕ) (names : List (List ℕ)) (name : List ℕ) (refusal : Refusal) → ShelfGoes held held_then faults faults_then most most_then → IsReached held name names → RefusesLoad (shelf_run held_then faults_then faults_after most_after) name refusal → RefusesLoads (shelf_run held faults faults_after most_after) names refusal
+refused_later held held_then faults faults_then faults_after most most_then most_after names name Usage goes reached refuses = absurd refuses
+refused_later held held_then faults faults_then faults_after most most_then most_after names name (Unread line) goes reached refuses = (name, reached, (Rose-earlier _ _ _ (goes.faults name) refuses.0, refuses.1))
+refused_later held held_then faults faults_then faults_after most most_then most_after names name (Overlong line) goes reached refuses =
+    (name, reached, (subst (λ (h : Held). MayExceed h file_limit) (goes.held name) refuses.0, refuses.1, refuses.2))
+refused_later held held_then faults faults_then faults_after most most_then most_after names name OutOfMemory goes reached refuses = tt
 
 -- one file more was loaded
 pub stands_more : {X : Type 0} (shelf : ShelfRun) (f : X → List ℕ) (names : List X) (k : ℕ) (d : X) (sources grown : List (List ℕ × List ℕ)) (name bytes : List ℕ) → k < length names → MayStand shelf (map f (take k names)) (texts_of sources) → grown ≡ sources ++ (name, bytes) ∷ [] → MayHold (shelf.held (f (get_or names k d))) bytes → length bytes ≤ file_limit → MayStand shelf (map f (take (k + 1) names)) (texts_of grown)

@@ -5,7 +5,8 @@ use Rattle.scj_base.specs.Lex.{Lex}
 use Rattle.scj_tree.specs.Forest.{Forest}
 use Rattle.scj_tree.specs.Lexemes.{Lexeme, lexemes_of}
 use Rattle.scj_tree.specs.Grammar.{Tree}
-use Rattle.scj_rules.specs.Syntax.{FileRead, FilesRead, no_file, next_file, HaveLexemes, no_text, next_text, Reads}
+use Rattle.scj_rules.specs.Syntax.{FilesRead, no_file, next_file, HaveLexemes, no_text, next_text, Reads}
+use Rattle.scj_tree.specs.Files.{FileRead}
 use Rattle.scj_show.specs.Reread.{classes_of, WasReadFrom}
 use Rattle.scj_show.proofs.Again.{Front, front-none, front-then}
 use Rattle.scj_show.proofs.FilesAgain.{tree_front}

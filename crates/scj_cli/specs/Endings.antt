@@ -32,6 +32,13 @@ pub data MayStand (shelf : ShelfRun) : List (List ℕ) → List (List ℕ) → T
       MayHold (shelf.held name) content → length content ≤ file_limit →
       MayStand shelf names contents → MayStand shelf (name ∷ names) (content ∷ contents)
 
+-- the loads get as far as the name: contents within the limit may be what is held under each name before it
+pub data IsReached (held : List ℕ → Held) (name : List ℕ) : List (List ℕ) → Type 0 where
+  first : {names : List (List ℕ)} → IsReached held name (name ∷ names)
+  behind : {other : List ℕ} {names : List (List ℕ)} (content : List ℕ) →
+      MayHold (held other) content → length content ≤ file_limit →
+      IsReached held name names → IsReached held name (other ∷ names)
+
 -- a load of the name failed
 abbrev pub IsUnread : ShelfRun → List ℕ → Type 0
 IsUnread shelf name = Rose (shelf.faults_before name) (shelf.faults_after name)
@@ -46,16 +53,16 @@ abbrev pub memory_line : List ℕ
 memory_line = codes "scj: memory\n"
 
 -- a status comes with its texts on `out` and on `err`: as the answer of the job on contents that the
--- files may have, or for one of the three other causes
+-- files may have, or for one of the three other causes; of files that can't be had the first of the job is told
 pub data Comes (job : Option Job) (shelf : ShelfRun) : Status → List ℕ → List ℕ → Type 0 where
   answered : {contents : List (List ℕ)} {status : Status} {out err : List ℕ} →
       MayStand shelf (files_of job) contents → Answer job contents status out err →
       Comes job shelf status out err
   unread : {name : List ℕ} →
-      IsAmong name (files_of job) → IsUnread shelf name →
+      IsReached shelf.held name (files_of job) → IsUnread shelf name →
       Comes job shelf ReadFault [] (read_line name)
   overlong : {name : List ℕ} →
-      IsAmong name (files_of job) → MayExceed (shelf.held name) file_limit → file_limit < shelf.most name →
+      IsReached shelf.held name (files_of job) → MayExceed (shelf.held name) file_limit → file_limit < shelf.most name →
       Comes job shelf TooLong [] (too_long_line name)
   out_of_memory :
       Comes job shelf NoMemory [] memory_line

@@ -7,7 +7,7 @@ use Rattle.scj_cli.specs.declared.refusals.Refusal.TheVariants.{Usage, Unread, O
 use Rattle.scj_cli.specs.Answers.{usage_line}
 use Rattle.scj_io.specs.Loads.{ShelfRun, MayExceed}
 use Rattle.scj_cli.specs.Jobs.{file_limit}
-use Rattle.scj_cli.specs.Endings.{memory_line, read_line, too_long_line, IsAmong, IsUnread}
+use Rattle.scj_cli.specs.Endings.{memory_line, read_line, too_long_line, IsReached, IsUnread}
 
 abbrev pub status_of : Refusal → Status
 status_of Usage = status.Usage
@@ -31,6 +31,6 @@ RefusesLoad shelf name OutOfMemory = Unit {0}
 -- the refusals of the loads of the names, one after the other
 abbrev pub RefusesLoads : ShelfRun → List (List ℕ) → Refusal → Type 0
 RefusesLoads shelf names Usage = ⊥
-RefusesLoads shelf names (Unread line) = (name : List ℕ) × IsAmong name names × RefusesLoad shelf name (Unread line)
-RefusesLoads shelf names (Overlong line) = (name : List ℕ) × IsAmong name names × RefusesLoad shelf name (Overlong line)
+RefusesLoads shelf names (Unread line) = (name : List ℕ) × IsReached shelf.held name names × RefusesLoad shelf name (Unread line)
+RefusesLoads shelf names (Overlong line) = (name : List ℕ) × IsReached shelf.held name names × RefusesLoad shelf name (Overlong line)
 RefusesLoads shelf names OutOfMemory = Unit {0}

@@ -1,3 +1,4 @@
+pub mod Computing
 pub mod Decided
 pub mod Exact
 mod Examples

@@ -6,7 +6,7 @@ use Rattle.scj_tree.specs.Shape.{children, optional, place_of}
 use Rattle.scj_tree.specs.declared.nodes.Node.{Node}
 use Rattle.scj_tree.specs.declared.nodes.Node.TheVariants.{Method, Constructor}
 use Rattle.scj_tree.proofs.RecursionLemmas.{by_smaller-is}
-use Rattle.scj_parser.specs.HeightRows.{row, AllWithin, ChildrenWithin, super_height_by, body_height_by}
+use Rattle.scj_parser.specs.HeightRowsSupport.{row, AllWithin, ChildrenWithin, super_height_by, body_height_by}
 use Rattle.std.proofs.lemmas.Bool.Decides.{nat_tests}
 
 pub highest_append : (g : ℕ → ℕ) (xs ys : List ℕ) → highest g (xs ++ ys) ≡ max (highest g xs) (highest g ys)

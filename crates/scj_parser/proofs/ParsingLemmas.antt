@@ -6,19 +6,20 @@ use Rattle.machine_laws.proofs.ClassesRun.{file_run}
 use Rattle.machine_laws.proofs.ClosingPlaces.{refused_at, run_begins}
 use Rattle.machine_laws.proofs.Soundness.{answer_is_tree}
 use Rattle.machine_laws.proofs.BehindEnds.{nothing_behind}
-use Rattle.scj_parser.proofs.WholeWays.{answer_behind, no_answer, way_run, way_stops}
+use Rattle.scj_parser.proofs.WholeWays.{answer_behind, way_run, way_stops}
 use Rattle.parser_steps.specs.Outcomes.{AllFit, Fits, to, up_to, way}
 use Rattle.scj_base.specs.Lex.{Lexes, ends, skips, takes, token_at}
 use Rattle.scj_base.specs.Lexeme.{Lexeme as Shape, Piece, lexeme, name, number, sign, text, word}
 use Rattle.scj_base.specs.declared.lexemes.Token.{Token}
 use Rattle.scj_base.specs.declared.lexemes.TokenKind.{TokenKind}
 use Rattle.scj_base.specs.declared.places.Pos.{Pos}
-use Rattle.scj_parser.specs.Parsing.{EndsThere, IsAdded, IsNoFile, IsRefused, found, no_file}
+use Rattle.scj_parser.specs.Parsing.{EndsThere}
 use Rattle.scj_base.specs.declared.findings.Found.{Found}
 use Rattle.scj_base.specs.declared.findings.Rule.TheVariants.{P1}
 use Rattle.scj_parser.specs.declared.parse_answers.ParseAnswer.{ParseAnswer}
 use Rattle.scj_parser.specs.declared.parse_answers.ParseAnswer.TheVariants.{Bad}
 use Rattle.machine_laws.proofs.GrowthOfFiles.{forest_kept}
+use Rattle.scj_tree.specs.Files.{BreaksGrammar, FileRead, not_in_the_grammar}
 use Rattle.scj_tree.specs.Forest.{IsForest, forest_of}
 use Rattle.scj_tree.specs.Grammar.{RefusedAt, Tree}
 use Rattle.scj_tree.specs.Heights.{too_deep}
@@ -63,16 +64,12 @@ lexed_ends bytes file before rest tokens (takes file1 before1 w rest1 kind token
 some_none : {A : Type 0} {x : A} → None ≡ Some x → Prim.⊥
 some_none e = cc
 
-pub no_file_stops : (N : List Node) (i : List Lexeme) (p : Pos) → way (start N) i ≡ up_to p → IsNoFile N i p
-no_file_stops N i p e =
+pub refused_stop : (N : List Node) (i : List Lexeme) (p : Pos) → way (start N) i ≡ up_to p → BreaksGrammar N i (record { pos = p; rule = P1 })
+refused_stop N i p e =
     let stop = way_stops (start N) i p e in
-    record {
-      none = λ nodes classes d. some_none (sym (no_answer (start N) i p e) ∙ file_run d);
-      first =
-          (let P : List Lexeme → Type 0 = λ l. RefusedAt N l p in
-          let Q : Pos → Type 0 = λ q. RefusedAt N (stop.before ++ stop.refused ∷ stop.behind) q in
-          subst P (sym stop.whole) (subst Q stop.place (refused_at N stop.before stop.behind stop.refused stop.state stop.reached stop.refuses)));
-    }
+    let P : List Lexeme → Type 0 = λ l. RefusedAt N l p in
+    let Q : Pos → Type 0 = λ q. RefusedAt N (stop.before ++ stop.refused ∷ stop.behind) q in
+    not_in_the_grammar refl (subst P (sym stop.whole) (subst Q stop.place (refused_at N stop.before stop.behind stop.refused stop.state stop.reached stop.refuses)))
 
 -- behind the end of a file the machine is done
 rest_is_none : (st : State) (rest : List Lexeme) {N : List Node} {ids : List ℕ} → ((r : Lexeme) → step st r ≡ None) → answer st rest ≡ Some (parsed N ids) → finished st ≡ Some (parsed N ids)
@@ -91,15 +88,12 @@ is_done N i st there e none =
 pub tree_of : (N N1 : List Node) (i : List Lexeme) (st : State) (ids : List ℕ) → way (start N) i ≡ to st → finished st ≡ Some (parsed N1 ids) → Tree N i N1 ids
 tree_of N N1 i st ids e f = answer_is_tree N i ((way_run (start N) st i e).1 ∙ f)
 
-pub refused_stop : (N : List Node) (i : List Lexeme) (p : Pos) → way (start N) i ≡ up_to p → IsRefused N i (found p P1)
-refused_stop N i p e = no_file (no_file_stops N i p e)
-
 -- ---- programs
 
-pub added : {N N1 : List Node} {i : List Lexeme} {ids : List ℕ} {files more : List (List ℕ)} → Tree N i N1 ids → more ≡ files ++ ids ∷ [] → too_deep (length N) N1 ≡ None → IsAdded (forest_of N files) i (forest_of N1 more)
-added {N} {N1} {i} {ids} d e f = record { classes = ids; tree = d; files = e; flat = f }
+pub added : {N N1 : List Node} {i : List Lexeme} {ids : List ℕ} {files more : List (List ℕ)} → Tree N i N1 ids → more ≡ files ++ ids ∷ [] → too_deep (length N) N1 ≡ None → FileRead (forest_of N files) i (forest_of N1 more)
+added {N} {N1} {i} {ids} d e f = record { classes = ids; tree = d; files = e; is_low = f }
 
-pub forest_after : (N N1 : List Node) (i : List Lexeme) (files more : List (List ℕ)) → IsAdded (forest_of N files) i (forest_of N1 more) → IsForest (forest_of N files) → length files < 16 → length N1 < 2 ^ 32 → IsForest (forest_of N1 more)
+pub forest_after : (N N1 : List Node) (i : List Lexeme) (files more : List (List ℕ)) → FileRead (forest_of N files) i (forest_of N1 more) → IsForest (forest_of N files) → length files < 16 → length N1 < 2 ^ 32 → IsForest (forest_of N1 more)
 forest_after N N1 i files more a h room fits =
     let P : List (List ℕ) → Type 0 = λ fs. IsForest (forest_of N1 fs) in
     subst P (sym a.files) (forest_kept files a.tree h room fits)

@@ -1,6 +1,6 @@
 -- What the way over the lexemes of a file tells.
 use Rattle.std.proofs.Common.{◌≡◌, List, [], ◌∷◌, ◌++◌, Option, Some, None, refl, ◌∙◌, ap}
-use Rattle.parser_machine.specs.Machine.{Parsed, answer, finished, run, step}
+use Rattle.parser_machine.specs.Machine.{answer, finished, run, step}
 use Rattle.parser_machine.specs.States.{State}
 use Rattle.scj_base.specs.declared.places.Pos.{Pos}
 use Rattle.scj_tree.specs.Lexemes.{Lexeme, place_of_lexeme}
@@ -56,20 +56,6 @@ answer_behind st last (u ∷ i) o e = go (λ next h. answer_behind next last i o
     go : ((next : State) → run next i ≡ Some last → answer next (i ++ o) ≡ answer last o) → (r : Option State) → elim r [ Some next ↦ run next i | None ↦ None ] ≡ Some last → elim r [ Some next ↦ answer next (i ++ o) | None ↦ None ] ≡ answer last o
     go f None e = cc
     go f (Some next) e = f next e
-
--- a run that stops gives no answer
-answered : Option State → List Lexeme → Option Parsed
-answered r o = elim r [ Some next ↦ answer next o | None ↦ None ]
-
-stopped_at : (r : Option State) (t : Lexeme) (o : List Lexeme) (p : Pos) → ((next : State) → way next o ≡ up_to p → answer next o ≡ None) → elim r [ Some next ↦ way next o | None ↦ up_to (place_of_lexeme t) ] ≡ up_to p → answered r o ≡ None
-unfolding answered
-stopped_at None t o p f e = refl
-stopped_at (Some next) t o p f e = f next e
-
-pub no_answer : (st : State) (i : List Lexeme) (p : Pos) → way st i ≡ up_to p → answer st i ≡ None
-unfolding way answer answered
-no_answer st [] p e = cc
-no_answer st (t ∷ o) p e = stopped_at (step st t) t o p (λ next h. no_answer next o p h) e
 
 pub way_answer : (st last : State) (i : List Lexeme) → way st i ≡ to last → answer st i ≡ finished last
 way_answer st last i e = (way_run st last i e).1

@@ -10,7 +10,7 @@ use Rattle.scj_tree.specs.Grammar.{Tree}
 use Rattle.scj_tree.specs.Lexemes.{Lexeme}
 use Rattle.scj_tree.specs.Shape.{children}
 use Rattle.scj_tree.specs.declared.nodes.Node.{Node}
-use Rattle.scj_parser.specs.HeightRows.{AllWithin, ChildrenWithin}
+use Rattle.scj_parser.specs.HeightRowsSupport.{AllWithin, ChildrenWithin}
 
 times-first : (x : ℕ) (xs : List ℕ) → 1 ≤ times x (x ∷ xs)
 unfolding times

@@ -1,2 +1,2 @@
-pub mod HeightRows
+pub mod HeightRowsSupport
 pub mod Parsing

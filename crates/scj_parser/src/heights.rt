@@ -3,7 +3,7 @@
 ghost use Rattle.std.specs.Prelude.{ℕ, ◌≡◌, ◌+◌, ◌<◌, ◌≤◌, ◌^◌, drop, length, IfOk};
 ghost use Rattle.scj_tree.specs.Heights.{highest, weight as weight_of, too_deep as place_too_deep};
 ghost use Rattle.scj_tree.specs.Shape.{children, optional};
-ghost use Rattle.scj_parser.specs.HeightRows.{row, body_height_by, super_height_by, ChildrenWithin};
+ghost use Rattle.scj_parser.specs.HeightRowsSupport.{row, body_height_by, super_height_by, ChildrenWithin};
 
 use scj_base::{Memory, NodeId, Pos};
 use scj_tree::Node;
@@ -245,7 +245,7 @@ fn highest_child(heights: &Heights, node: &Node) -> u32
 }
 
 /// The height of a body; 0 for a node that has none.
-#[tactic(auto, unfolding(crate::specs::HeightRows::body_height_by))]
+#[tactic(auto, unfolding(crate::specs::HeightRowsSupport::body_height_by))]
 fn body_height(heights: &Heights, node: &Node) -> u32
     requires { (c : ℕ) → row heights.now.first heights.now.rows.items c + 1 < 2 ^ 32 }
     ensures { result ≡ body_height_by (row heights.now.first heights.now.rows.items) node.now }
@@ -265,7 +265,7 @@ fn body_height(heights: &Heights, node: &Node) -> u32
 }
 
 /// The height of the call of a superclass's constructor directly under a block.
-#[tactic(auto, unfolding(crate::specs::HeightRows::super_height_by))]
+#[tactic(auto, unfolding(crate::specs::HeightRowsSupport::super_height_by))]
 fn super_height(heights: &Heights, super_call: Option<NodeId>) -> u32
     requires { (c : ℕ) → row heights.now.first heights.now.rows.items c + 1 < 2 ^ 32 }
     ensures { result ≡ super_height_by (row heights.now.first heights.now.rows.items) super_call }

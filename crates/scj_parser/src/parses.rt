@@ -3,9 +3,10 @@
 ghost use Rattle.std.specs.Prelude.{◌≡◌, ◌<◌, ◌^◌, List, ℕ, Ok, Err, length, map, OnOk, OnErr, IfOk};
 ghost use Rattle.parser_steps.specs.Outcomes.{AllFit};
 ghost use Rattle.scj_base.specs.Lex.{Lex};
-ghost use Rattle.scj_parser.specs.Parsing.{EndsThere, IsAdded, IsRefused};
+ghost use Rattle.scj_parser.specs.Parsing.{EndsThere};
 ghost use Rattle.scj_parser.specs.declared.parse_answers.ParseAnswer.TheVariants.{Bad};
 ghost use Rattle.scj_base.specs.declared.findings.Found.{Found as FoundRule};
+ghost use Rattle.scj_tree.specs.Files.{BreaksGrammar, FileRead as IsFileRead};
 ghost use Rattle.scj_tree.specs.Forest.{IsForest, forest_of};
 ghost use Rattle.scj_tree.specs.Grammar.{Tree};
 ghost use Rattle.scj_tree.specs.Lexemes.{lexemes_of};
@@ -29,7 +30,7 @@ fn read_classes(
     requires fit { AllFit bytes.now tokens.now }
     requires ends { EndsThere (lexemes_of bytes.now tokens.now) }
     ensures ok { (classes : List ℕ) → result ≡ Ok classes → Tree nodes.old.all (lexemes_of bytes.now tokens.now) nodes.new.all classes }
-    ensures bad { (found : FoundRule) → result ≡ Err (Bad found) → IsRefused nodes.old.all (lexemes_of bytes.now tokens.now) found }
+    ensures bad { (found : FoundRule) → result ≡ Err (Bad found) → BreaksGrammar nodes.old.all (lexemes_of bytes.now tokens.now) found }
     ensures kept { nodes.new.kept ≡ nodes.old.kept }
 {
     match read_file(alloc, nodes, bytes, tokens)? {
@@ -54,8 +55,8 @@ fn add_file(
     requires whole { IsForest (forest_of nodes.old.all (map (λ f. f.items) files.old.items)) }
     requires fit { AllFit bytes.now tokens.now }
     requires ends { EndsThere (lexemes_of bytes.now tokens.now) }
-    ensures ok { OnOk result (IsAdded (forest_of nodes.old.all (map (λ f. f.items) files.old.items)) (lexemes_of bytes.now tokens.now) (forest_of nodes.new.all (map (λ f. f.items) files.new.items))) }
-    ensures bad { (found : FoundRule) → result ≡ Err (Bad found) → IsRefused nodes.old.all (lexemes_of bytes.now tokens.now) found }
+    ensures ok { OnOk result (IsFileRead (forest_of nodes.old.all (map (λ f. f.items) files.old.items)) (lexemes_of bytes.now tokens.now) (forest_of nodes.new.all (map (λ f. f.items) files.new.items))) }
+    ensures bad { (found : FoundRule) → result ≡ Err (Bad found) → BreaksGrammar nodes.old.all (lexemes_of bytes.now tokens.now) found }
     ensures err { OnErr result (files.new.items ≡ files.old.items) }
     ensures few { OnOk result (length nodes.new.all < 2 ^ 32) }
     ensures kept { nodes.new.kept ≡ nodes.old.kept }
@@ -85,8 +86,8 @@ pub fn parse(
     requires next { file ≡ length program.old.files }
     requires few { file < 16 }
     requires lexed { Lex file bytes.now tokens.now }
-    ensures ok { OnOk result (IsAdded program.old (lexemes_of bytes.now tokens.now) program.new) }
-    ensures bad { (found : FoundRule) → result ≡ Err (Bad found) → IsRefused program.old.nodes (lexemes_of bytes.now tokens.now) found }
+    ensures ok { OnOk result (IsFileRead program.old (lexemes_of bytes.now tokens.now) program.new) }
+    ensures bad { (found : FoundRule) → result ≡ Err (Bad found) → BreaksGrammar program.old.nodes (lexemes_of bytes.now tokens.now) found }
     ensures err { OnErr result (program.new ≡ program.old) }
 {
     let before = replace(program, Program::new(alloc));

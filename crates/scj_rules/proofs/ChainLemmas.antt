@@ -1,5 +1,5 @@
 -- A chain of as many numbers as there are holds all that is reached, whether the steps come back or not.
-use Rattle.std.proofs.Common.{◌≡◌, ℕ, ◌<◌, ◌≤◌, zero, suc, List, [], ◌∷◌, length, refl, sym, ap, ◌∙◌, subst, arith, Option, Some, None, Bool, true, false, ◌||◌, true≢false, ◌⊎◌, inl, inr, ⊎_elim, ◌==◌, eqb, ◌↔◌}
+use Rattle.std.proofs.Common.{◌≡◌, ℕ, ◌<◌, ◌≤◌, zero, suc, List, [], ◌∷◌, ◌++◌, length, refl, sym, ap, ◌∙◌, subst, arith, Option, Some, None, Bool, true, false, ◌||◌, true≢false, ◌⊎◌, inl, inr, ⊎_elim, ◌==◌, eqb, ◌↔◌}
 use Rattle.std.proofs.lemmas.Bool.Decides.{nat_tests}
 use Rattle.std.specs.List.{list_any, IsDistinct, AllByRecursion}
 use Rattle.std.proofs.lemmas.Map.Steps.{length-le_from_distinct_below}
@@ -17,7 +17,7 @@ same_number x y e = grind (arith, nat_tests)
 pub is_same_number : (x y : ℕ) → x ≡ y → (x == y) ≡ true
 is_same_number x y e = grind (arith, nat_tests)
 
-or_first_false : (a b : Bool) → (a || b) ≡ false → a ≡ false
+pub or_first_false : (a b : Bool) → (a || b) ≡ false → a ≡ false
 or_first_false true b h = h
 or_first_false false b h = refl
 
@@ -36,6 +36,26 @@ or_right false b h = h
 pub or_left : (a b : Bool) → a ≡ true → (a || b) ≡ true
 or_left true b h = refl
 or_left false b h = absurd (true≢false (sym h))
+
+-- what is among two lists is among one of them
+pub among-behind : (x : ℕ) (xs ys : List ℕ) → is_among x ys ≡ true → is_among x (xs ++ ys) ≡ true
+among-behind x [] ys h = h
+among-behind x (y ∷ xs) ys h = or_right (x == y) (is_among x (xs ++ ys)) (among-behind x xs ys h)
+
+pub among-front : (x : ℕ) (xs ys : List ℕ) → is_among x xs ≡ true → is_among x (xs ++ ys) ≡ true
+among-front x [] ys h = absurd (true≢false (sym h))
+among-front x (y ∷ xs) ys h =
+    ⊎_elim (λ (e : (x == y) ≡ true). or_left (x == y) (is_among x (xs ++ ys)) e)
+    (λ (f : is_among x xs ≡ true). or_right (x == y) (is_among x (xs ++ ys)) (among-front x xs ys f))
+    (or_cases (x == y) (is_among x xs) h)
+
+pub among-cases : (x : ℕ) (xs ys : List ℕ) → is_among x (xs ++ ys) ≡ true → (is_among x xs ≡ true) ⊎ (is_among x ys ≡ true)
+among-cases x [] ys h = inr h
+among-cases x (y ∷ xs) ys h =
+    ⊎_elim (λ (e : (x == y) ≡ true). inl (or_left (x == y) (is_among x xs) e))
+    (λ (f : is_among x (xs ++ ys) ≡ true).
+    ⊎_elim (λ (g : is_among x xs ≡ true). inl (or_right (x == y) (is_among x xs) g)) (λ (g : is_among x ys ≡ true). inr g) (among-cases x xs ys f))
+    (or_cases (x == y) (is_among x (xs ++ ys)) h)
 
 -- the rest of a way from one of its numbers on
 way_from : (next : ℕ → Option ℕ) (b a c : ℕ) (xs : List ℕ) → Way next b c xs → is_among a xs ≡ true → (ys : List ℕ) × Way next b a ys
@@ -60,7 +80,7 @@ way_of_follows next a c (more {b = b} e f) =
     way_before next c a b w.0 e w.1 (is_among a w.0) refl
 
 -- the numbers of a way are distinct and below the bound, so they are no more than it says
-none_same : (x : ℕ) (xs : List ℕ) → is_among x xs ≡ false → AllByRecursion (λ y. eqb x y ≡ false) xs
+pub none_same : (x : ℕ) (xs : List ℕ) → is_among x xs ≡ false → AllByRecursion (λ y. eqb x y ≡ false) xs
 none_same x [] h = tt
 none_same x (y ∷ xs) h = (or_first_false (x == y) (is_among x xs) h, none_same x xs (or_second_false (x == y) (is_among x xs) h))
 
@@ -104,7 +124,7 @@ first_or_rest next b a bound (Some c) e h later =
     (or_cases (b == a) (is_among b (chain next bound c)) h)
 
 -- what stands on a chain is its first number or is reached from it
-on_chain_follows : (next : ℕ → Option ℕ) (b a bound : ℕ) → is_among b (chain next bound a) ≡ true → (a ≡ b) ⊎ Follows next a b
+pub on_chain_follows : (next : ℕ → Option ℕ) (b a bound : ℕ) → is_among b (chain next bound a) ≡ true → (a ≡ b) ⊎ Follows next a b
 unfolding chain
 on_chain_follows next b a zero h = absurd (true≢false (sym h))
 on_chain_follows next b a (suc bound) h = first_or_rest next b a bound (next a) refl h (λ c k. on_chain_follows next b c bound k)

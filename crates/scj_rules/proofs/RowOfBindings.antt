@@ -15,7 +15,7 @@ at file line col = record { file = file; line = line; col = col }
 abbrev on : ℕ → ℕ → Bool → Target
 on id class gives = record { id = id; on = class; gives = gives }
 
-abbrev small_program : Forest
+abbrev pub small_program : Forest
 small_program =
     record {
       nodes =

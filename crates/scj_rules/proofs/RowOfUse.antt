@@ -11,7 +11,7 @@ use Rattle.scj_rules.proofs.ForestTests.{children_first, all_below, are_distinct
 use Rattle.scj_rules.specs.Contexts.{declarations_of}
 use Rattle.scj_rules.specs.Phases.{class_phase, type_phase, scope_phase, use_phase, IsAccepted}
 use Rattle.scj_rules.proofs.Computing.{computing}
-use Rattle.scj_rules.proofs.AcceptedLemmas.{are_fresh, have_parents, accepted}
+use Rattle.scj_rules.proofs.AcceptedLemmas.{accepted}
 
 abbrev at : ℕ → ℕ → ℕ → Pos
 at file line col = record { file = file; line = line; col = col }
@@ -300,8 +300,8 @@ unfolding computing
 controller_use = refl
 
 pub controller_accepted : IsAccepted controller
-unfolding computing are_fresh have_parents
-controller_accepted = accepted controller controller_class controller_type controller_scope controller_use refl refl
+unfolding computing
+controller_accepted = accepted controller controller_class controller_type controller_scope controller_use
 
 pub controller_is_forest : IsForest controller
 unfolding computing times all_children children_first all_below are_distinct AllClasses

@@ -9,7 +9,7 @@ use Rattle.scj_tree.specs.Forest.{Forest}
 use Rattle.scj_rules.specs.Contexts.{declarations_of}
 use Rattle.scj_rules.specs.Phases.{class_phase, type_phase, scope_phase, use_phase, IsAccepted}
 use Rattle.scj_rules.proofs.Computing.{computing}
-use Rattle.scj_rules.proofs.AcceptedLemmas.{are_fresh, have_parents, accepted}
+use Rattle.scj_rules.proofs.AcceptedLemmas.{accepted}
 
 abbrev at : ℕ → ℕ → ℕ → Pos
 at file line col = record { file = file; line = line; col = col }
@@ -235,5 +235,5 @@ unfolding computing
 three_broken = refl
 
 pub safelet_accepted : IsAccepted one_safelet
-unfolding computing are_fresh have_parents
-safelet_accepted = accepted one_safelet safelet_class safelet_type safelet_scope safelet_use refl refl
+unfolding computing
+safelet_accepted = accepted one_safelet safelet_class safelet_type safelet_scope safelet_use

@@ -1,15 +1,16 @@
--- The definitions at small programs: a store into an own field, an override that runs elsewhere, a scope that is defined twice, a cycle of scopes.
+-- The definitions at small programs: a store into an own field, an override that runs elsewhere, a scope that is defined
+-- twice, a cycle of scopes, parents and classes that don't suit a scope.
 use Rattle.std.proofs.Common.{◌≡◌, ℕ, [], ◌∷◌, refl, Some, None, codes, true, false}
 use Rattle.scj_base.specs.declared.findings.Found.{Found}
 use Rattle.scj_base.specs.declared.findings.Rule.{Rule}
-use Rattle.scj_base.specs.declared.findings.Rule.TheVariants.{A6, E5}
+use Rattle.scj_base.specs.declared.findings.Rule.TheVariants.{A6, E5, S1, S2, S3, S4, S5, S6}
 use Rattle.scj_base.specs.declared.places.Pos.{Pos}
 use Rattle.scj_tree.specs.declared.nodes.Node.TheVariants.{Assign, Binary, Block, Call, Class, ClassType, Constructor, DefineScope, ExpressionStatement, Field, FieldAccess, Flags, IntType, LocalWithValue, LongType, Method, New, Null, Number, Return, ScopeName, SimpleName, SuperType, Supers, Text, This, Unary, VoidType}
 use Rattle.scj_tree.specs.Forest.{Forest}
 use Rattle.scj_rules.specs.Contexts.{declarations_of}
 use Rattle.scj_rules.specs.Phases.{class_phase, type_phase, scope_phase, use_phase, IsAccepted}
 use Rattle.scj_rules.proofs.Computing.{computing}
-use Rattle.scj_rules.proofs.AcceptedLemmas.{are_fresh, have_parents, accepted}
+use Rattle.scj_rules.proofs.AcceptedLemmas.{accepted}
 
 abbrev at : ℕ → ℕ → ℕ → Pos
 at file line col = record { file = file; line = line; col = col }
@@ -420,7 +421,7 @@ defined_twice_type : type_phase (declarations_of defined_twice) ≡ []
 unfolding computing
 defined_twice_type = refl
 
-defined_twice_scope : scope_phase (declarations_of defined_twice) ≡ []
+defined_twice_scope : scope_phase (declarations_of defined_twice) ≡ found S1 (at 1 3 19) ∷ []
 unfolding computing
 defined_twice_scope = refl
 
@@ -503,14 +504,43 @@ scope_cycle_type : type_phase (declarations_of scope_cycle) ≡ []
 unfolding computing
 scope_cycle_type = refl
 
-scope_cycle_scope : scope_phase (declarations_of scope_cycle) ≡ []
+scope_cycle_scope : scope_phase (declarations_of scope_cycle) ≡ found S3 (at 1 1 31) ∷ found S3 (at 1 2 31) ∷ found S3 (at 1 3 31) ∷ []
 unfolding computing
 scope_cycle_scope = refl
 
+-- `@DefineScope(name="A", parent="B") class X { }`, `@DefineScope(name="M", parent="A") class Y extends Mission { }` and
+-- `class Z extends Mission { }`, on a line each
+abbrev pub misfits : Forest
+misfits =
+    record {
+      nodes =
+          ScopeName (at 0 1 19) (codes "A")
+          ∷ ScopeName (at 0 1 31) (codes "B")
+          ∷ DefineScope (at 0 1 1) 0 1 false
+          ∷ Flags (at 0 1 1) (Some 2) None None false false false
+          ∷ Class (at 0 1 42) (codes "X") (Some 3) None []
+          ∷ ScopeName (at 0 2 19) (codes "M")
+          ∷ ScopeName (at 0 2 31) (codes "A")
+          ∷ DefineScope (at 0 2 1) 5 6 false
+          ∷ Flags (at 0 2 1) (Some 7) None None false false false
+          ∷ SuperType (at 0 2 52) (codes "Mission") None
+          ∷ Supers (at 0 2 44) (Some 9) []
+          ∷ Class (at 0 2 42) (codes "Y") (Some 8) (Some 10) []
+          ∷ SuperType (at 0 3 17) (codes "Mission") None
+          ∷ Supers (at 0 3 9) (Some 12) []
+          ∷ Class (at 0 3 7) (codes "Z") None (Some 13) []
+          ∷ [];
+      files = ((4 ∷ 11 ∷ 14 ∷ []) ∷ []);
+    }
+
+misfits_scope : scope_phase (declarations_of misfits) ≡ found S2 (at 0 1 31) ∷ found S4 (at 0 1 19) ∷ found S5 (at 0 2 31) ∷ found S6 (at 0 3 7) ∷ []
+unfolding computing
+misfits_scope = refl
+
 pub in_constructor_accepted : IsAccepted own_field_in_constructor
-unfolding computing are_fresh have_parents
-in_constructor_accepted = accepted own_field_in_constructor in_constructor_class in_constructor_type in_constructor_scope in_constructor_use refl refl
+unfolding computing
+in_constructor_accepted = accepted own_field_in_constructor in_constructor_class in_constructor_type in_constructor_scope in_constructor_use
 
 pub same_runs_in_accepted : IsAccepted same_runs_in
-unfolding computing are_fresh have_parents
-same_runs_in_accepted = accepted same_runs_in same_runs_in_class same_runs_in_type same_runs_in_scope same_runs_in_use refl refl
+unfolding computing
+same_runs_in_accepted = accepted same_runs_in same_runs_in_class same_runs_in_type same_runs_in_scope same_runs_in_use

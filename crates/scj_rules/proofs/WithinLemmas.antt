@@ -4,14 +4,16 @@ use Rattle.std.proofs.lemmas.Bool.Decides.{nat_tests}
 use Rattle.std.specs.List.{position_or_len}
 use Rattle.scj_tree.specs.declared.nodes.Node.{Node}
 use Rattle.scj_tree.specs.Forest.{Forest}
-use Rattle.scj_builtins.specs.Framework.{FrameworkClass, framework_classes, object}
+use Rattle.scj_builtins.specs.declared.classes.FrameworkClass.{FrameworkClass}
+use Rattle.scj_builtins.specs.Framework.{framework_classes, object}
 use Rattle.scj_rules.specs.declared.scopes.Written.{Written}
-use Rattle.scj_rules.specs.Words.{is_same, is_among, chain, StaysBelow}
+use Rattle.scj_base.specs.Bytes.{is_same}
+use Rattle.scj_rules.specs.Words.{is_among, chain, StaysBelow}
 use Rattle.scj_rules.specs.Views.{WrittenClass}
 use Rattle.scj_rules.specs.Classes.{ClassRow, class_names, class_number, framework_row, framework_rows_from, superclass_written, user_row, written_rows, superclass_in, counted_row, counted_from, is_well_headed, user_classes, first_user_class}
 use Rattle.scj_rules.specs.Contexts.{Declarations, declarations_of, number_of_class}
 use Rattle.scj_rules.specs.declared.scopes.Definition.{Definition}
-use Rattle.scj_rules.specs.Definitions.{immortal, scope_named}
+use Rattle.scj_rules.specs.Definitions.{immortal, first_definition}
 use Rattle.scj_rules.specs.ScopeRules.{immortal_scope, scope_number, scope_of_definition, parent_scope, definition_in, is_outer}
 use Rattle.scj_rules.specs.Chains.{Follows}
 use Rattle.scj_rules.proofs.ChainLemmas.{chain_reaches, or_left, or_right, or_cases, same_number, is_same_number}
@@ -123,7 +125,7 @@ unfolding AllWithin counted_from
 counted-within n names all class [] l h = tt
 counted-within n names all class (row ∷ rows) l h = (counted-row-within n names all class row l h.0, counted-within n names all (class + 1) rows l h.1)
 
-length-counted : (names : List (List ℕ)) (all : List ClassRow) (class : ℕ) (rows : List ClassRow) → length (counted_from names all class rows) ≡ length rows
+pub length-counted : (names : List (List ℕ)) (all : List ClassRow) (class : ℕ) (rows : List ClassRow) → length (counted_from names all class rows) ≡ length rows
 unfolding counted_from
 length-counted names all class [] = refl
 length-counted names all class (row ∷ rows) = ap suc (length-counted names all (class + 1) rows)
@@ -162,23 +164,19 @@ number-within nodes node k h = go (position (λ other. node == other) nodes) ref
 abbrev user_nodes : Declarations → List ℕ
 user_nodes p = map (λ (c : WrittenClass). c.node) p.users
 
-definition-within : (p : Declarations) (k s : ℕ) (o : Option Definition) → option_and_then (λ (d : Definition). number_of_class (user_nodes p) d.class) o ≡ Some s → s < first_user_class + length (user_nodes p)
-definition-within p k s None h = cc
-definition-within p k s (Some d) h = number-within (user_nodes p) d.class s h
-
-named-within : (p : Declarations) (s : ℕ) (o : Option ℕ) → option_and_then (scope_of_definition p) o ≡ Some s → s < first_user_class + length (user_nodes p)
+named-within : (p : Declarations) (s : ℕ) (o : Option Definition) → option_and_then (scope_of_definition p) o ≡ Some s → s < first_user_class + length (user_nodes p)
 named-within p s None h = cc
-named-within p s (Some k) h = definition-within p k s (slice_get p.scopes k) h
+named-within p s (Some d) h = number-within (user_nodes p) d.class s h
 
 scope-within : (p : Declarations) (name : List ℕ) (s : ℕ) → scope_number p name ≡ Some s → s < first_user_class + length (user_nodes p)
 unfolding scope_number
 scope-within p name s h = go (is_same name immortal) h
   where
-    go : (t : Bool) → (if t then Some immortal_scope else option_and_then (scope_of_definition p) (scope_named p.scopes name)) ≡ Some s → s < first_user_class + length (user_nodes p)
+    go : (t : Bool) → (if t then Some immortal_scope else option_and_then (scope_of_definition p) (first_definition p.scopes name)) ≡ Some s → s < first_user_class + length (user_nodes p)
     go true h =
         let same : 0 ≡ s = cc in
         (let P : ℕ → Type 0 = λ x. x < first_user_class + length (user_nodes p) in subst P same (omega arith))
-    go false h = named-within p s (scope_named p.scopes name) h
+    go false h = named-within p s (first_definition p.scopes name) h
 
 parent-within : (p : Declarations) (a b : ℕ) → parent_scope p a ≡ Some b → b < first_user_class + length (user_nodes p)
 unfolding parent_scope

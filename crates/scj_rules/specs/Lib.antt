@@ -1,12 +1,13 @@
 pub mod AnnotationRules
 pub mod Bindings
-pub mod Breaks
+pub mod Bodies
 pub mod Chains
 pub mod CheckedProgram
 pub mod ClassRules
 pub mod Classes
 pub mod Contexts
 pub mod Definitions
+pub mod Layout
 pub mod LimitRules
 pub mod Phases
 pub mod Report

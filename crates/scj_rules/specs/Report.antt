@@ -1,4 +1,4 @@
--- The report: what is broken, each once, by file, line, column and rule.
+-- The report: the breaks, each once, in the order of their files, lines, columns and rules.
 use Rattle.std.specs.Prelude.{List, ◌↔◌}
 use Rattle.std.specs.Ordering.{nat_cmp, ordering_then}
 use Rattle.std.specs.declared.cmp.Ordering.{Ordering}
@@ -17,7 +17,7 @@ place_order a b = ordering_then (nat_cmp a.file b.file) (ordering_then (nat_cmp 
 abbrev pub report_order : Found → Found → Ordering
 report_order a b = ordering_then (place_order a.pos b.pos) (nat_cmp (number_of a.rule) (number_of b.rule))
 
--- the list has exactly the breaks, in order and each once
+-- the list has exactly the breaks, sorted and without repetition
 pub record IsReport (breaks : Rule → Pos → Type 0) (found : List Found) : Type 0 where
   pub in_order : IsStrictlySortedBy report_order found
   pub exact : (finding : Found) → Contains found finding ↔ breaks finding.rule finding.pos

@@ -1,44 +1,21 @@
 -- What is broken in the texts of a call's files, and which program they are where nothing is. The lexemes of all
 -- files come first, L1 to L4, and then the grammar, P1 and P2; of each the first break of the earliest file that has
--- one is told.
-use Rattle.std.specs.Prelude.{◌≡◌, ℕ, ◌+◌, List, [], ◌∷◌, ◌++◌, length, Some, None}
+-- one is reported.
+use Rattle.std.specs.Prelude.{◌≡◌, ℕ, ◌+◌, List, [], ◌∷◌}
 use Rattle.scj_base.specs.declared.findings.Found.{Found}
-use Rattle.scj_base.specs.declared.findings.Rule.TheVariants.{P1, P2}
-use Rattle.scj_base.specs.declared.places.Pos.{Pos}
 use Rattle.scj_base.specs.declared.lexemes.Token.{Token}
 use Rattle.scj_base.specs.Lex.{Lex, LexBreak, place_of}
-use Rattle.scj_tree.specs.declared.nodes.Node.{Node}
 use Rattle.scj_tree.specs.Forest.{Forest, forest_of}
 use Rattle.scj_tree.specs.Lexemes.{Lexeme, lexemes_of}
-use Rattle.scj_tree.specs.Grammar.{Tree, RefusedAt}
-use Rattle.scj_tree.specs.Heights.{too_deep}
+use Rattle.scj_tree.specs.Files.{FileRead, BreaksGrammar}
 
--- ---- one file
+-- ---- one file: its lexemes, and of its grammar FileRead and BreaksGrammar
 
 -- L1 to L4: the first place at which no lexeme can be read
 pub record BreaksLexemes (file : ℕ) (text : List ℕ) (found : Found) : Type 0 where
   pub offset : ℕ
   pub broken : LexBreak text found.rule offset
   pub is_place : found.pos ≡ place_of file text offset
-
--- the lexemes are a file, and the place is the name of the first method or constructor whose body is too high
-pub record IsTooDeep (nodes : List Node) (lexemes : List Lexeme) (place : Pos) : Type 0 where
-  pub after : List Node
-  pub classes : List ℕ
-  pub tree : Tree nodes lexemes after classes
-  pub is_high : too_deep (length nodes) after ≡ Some place
-
--- P1 and P2, of the lexemes of a file that is read behind the nodes of the files before it
-pub data BreaksGrammar (nodes : List Node) (lexemes : List Lexeme) (found : Found) : Type 0 where
-  not_in_the_grammar : found.rule ≡ P1 → RefusedAt nodes lexemes found.pos → BreaksGrammar nodes lexemes found
-  too_high : found.rule ≡ P2 → IsTooDeep nodes lexemes found.pos → BreaksGrammar nodes lexemes found
-
--- the lexemes are a file without a body that is too high: the forest has its nodes and its classes last
-pub record FileRead (before : Forest) (lexemes : List Lexeme) (after : Forest) : Type 0 where
-  pub classes : List ℕ
-  pub tree : Tree before.nodes lexemes after.nodes classes
-  pub is_low : too_deep (length before.nodes) after.nodes ≡ None
-  pub files : after.files ≡ before.files ++ classes ∷ []
 
 -- ---- files one behind the other; `file` is the number of the first
 
@@ -66,12 +43,14 @@ pub data FirstBreakOfGrammar : Forest → List (List Lexeme) → Found → Type 
   in_this_file : {before : Forest} {lexemes : List Lexeme} {more : List (List Lexeme)} {found : Found} →
       BreaksGrammar before.nodes lexemes found → FirstBreakOfGrammar before (lexemes ∷ more) found
   in_another_file : {before between : Forest} {lexemes : List Lexeme} {more : List (List Lexeme)} {found : Found} →
-      FileRead before lexemes between → FirstBreakOfGrammar between more found → FirstBreakOfGrammar before (lexemes ∷ more) found
+      FileRead before lexemes between → FirstBreakOfGrammar between more found →
+      FirstBreakOfGrammar before (lexemes ∷ more) found
 
--- the break that is told of these texts, read behind a forest; of the grammar only where the lexemes have none
+-- the break that is reported of these texts, read behind a forest; of the grammar only where the lexemes have none
 pub data BreaksFrom (file : ℕ) (before : Forest) (texts : List (List ℕ)) (found : Found) : Type 0 where
   in_lexemes : FirstBreakOfLexemes file texts found → BreaksFrom file before texts found
-  in_grammar : {lexemes : List (List Lexeme)} → HaveLexemes file texts lexemes → FirstBreakOfGrammar before lexemes found → BreaksFrom file before texts found
+  in_grammar : {lexemes : List (List Lexeme)} →
+      HaveLexemes file texts lexemes → FirstBreakOfGrammar before lexemes found → BreaksFrom file before texts found
 
 -- these texts, read behind a forest, have no break, and give the forest with their files
 pub record ReadsFrom (file : ℕ) (before : Forest) (texts : List (List ℕ)) (after : Forest) : Type 0 where

@@ -1,5 +1,7 @@
--- The types of expressions (JLS, chapters 4 and 15), and what a name, an access, a call or a `new` stands for. Each node
--- is judged by itself, from the types of its children: a node with an ill-typed child has no type and breaks nothing.
+-- The types of expressions (JLS, chapters 4 and 15), and the declaration that a name, an access, a call or a `new`
+-- resolves to. Each node is judged by itself, from the types of its children: a node with an ill-typed child has no type
+-- and breaks nothing. One rule is asked whatever the children are: T14 of a `new` or a new array of a form class outside
+-- a form.
 use Rattle.std.specs.Prelude.{ℕ, Bool, true, false, not, ◌&&◌, ◌||◌, ◌==◌, List, [], ◌∷◌, length, slice_get, Option, Some, None, if◌then◌else◌, is_some, option_map, option_and_then, codes}
 use Rattle.std.specs.List.{list_any}
 use Rattle.scj_builtins.specs.Framework.{object, periodic_handler, aperiodic_handler, mission_sequencer, priority_parameters, periodic_parameters, aperiodic_parameters, storage_parameters, relative_time}
@@ -9,7 +11,8 @@ use Rattle.scj_tree.specs.declared.nodes.Node.TheVariants.{Block, If, While, Ret
 use Rattle.scj_rules.specs.declared.typing.Ty.{Ty}
 use Rattle.scj_rules.specs.declared.typing.Ty.TheVariants.{Int, Bool as Boolean, Void, NullTy, Label, Class as ClassTy, IntArray, BoolArray, ClassArray}
 use Rattle.scj_rules.specs.Definitions.{read}
-use Rattle.scj_rules.specs.Words.{is_same, is_among, holds}
+use Rattle.scj_base.specs.Bytes.{is_same}
+use Rattle.scj_rules.specs.Words.{◌>>=◌, is_among, holds}
 use Rattle.scj_rules.specs.Views.{DeclaredConstructor}
 use Rattle.scj_rules.specs.Classes.{ClassRow, FoundMethod, class_number, superclass_in, is_sub, field_named, method_named, framework_row_named}
 use Rattle.scj_rules.specs.ClassRules.{is_same_type}
@@ -93,28 +96,46 @@ array_of _ = None
 
 -- ---- operators (JLS 15.15 to 15.24)
 
+abbrev pub conditional_operators : List ℕ
+conditional_operators = sign_and_and ∷ sign_or_or ∷ []
+
+abbrev pub relational_operators : List ℕ
+relational_operators = sign_less ∷ sign_greater ∷ sign_less_equal ∷ sign_greater_equal ∷ []
+
+abbrev pub equality_operators : List ℕ
+equality_operators = sign_equal ∷ sign_not_equal ∷ []
+
+-- two ints, two booleans, or two references of which one may be assigned to the other's type (JLS 15.21)
+abbrev pub are_comparable : List ClassRow → Ty → Ty → Bool
+are_comparable rows a b =
+    (is_int a && is_int b) || ((is_boolean a && is_boolean b)
+    || (is_reference a && (is_reference b && (assigns rows a b || assigns rows b a))))
+
 -- the type of a binary operator's value at operands of these types, if they fit
 unfoldable pub binary_type : List ClassRow → ℕ → Ty → Ty → Option Ty
 binary_type rows operator a b =
-    if is_among operator (sign_and_and ∷ sign_or_or ∷ []) then (if is_boolean a && is_boolean b then Some Boolean else None)
-    else (if is_among operator (sign_less ∷ sign_greater ∷ sign_less_equal ∷ sign_greater_equal ∷ []) then (if is_int a && is_int b then Some Boolean else None)
-    else (if is_among operator (sign_equal ∷ sign_not_equal ∷ []) then
-    (if (is_int a && is_int b) || ((is_boolean a && is_boolean b) || (is_reference a && (is_reference b && (assigns rows a b || assigns rows b a)))) then Some Boolean else None)
+    if is_among operator conditional_operators then (if is_boolean a && is_boolean b then Some Boolean else None)
+    else (if is_among operator relational_operators then (if is_int a && is_int b then Some Boolean else None)
+    else (if is_among operator equality_operators then (if are_comparable rows a b then Some Boolean else None)
     else (if is_int a && is_int b then Some Int else None)))
 
 unfoldable pub unary_type : ℕ → Ty → Option Ty
-unary_type operator a = if operator == sign_not then (if is_boolean a then Some Boolean else None) else (if is_int a then Some Int else None)
+unary_type operator a =
+    if operator == sign_not then (if is_boolean a then Some Boolean else None)
+    else (if is_int a then Some Int else None)
 
 -- ---- names (JLS 6.5)
 
 unfoldable pub class_meaning : Declarations → ℕ → List ℕ → Meaning
-class_meaning p id name = if (context p id).before_dot then (elim (class_number p.names name) [ None ↦ nothing | Some class ↦ a_class class ]) else nothing
+class_meaning p id name =
+    if (context p id).before_dot then (elim (class_number p.names name) [ None ↦ nothing | Some class ↦ a_class class ])
+    else nothing
 
 unfoldable pub meaning : Declarations → ℕ → List ℕ → Meaning
 meaning p id name =
     elim (variable_named p id name) [
       | Some v ↦ a_variable v
-      | None ↦ elim (option_and_then (λ class. field_named p.classes class name) (context p id).class) [
+      | None ↦ elim ((context p id).class >>= λ class. field_named p.classes class name) [
         | Some f ↦ a_field f
         | None ↦ class_meaning p id name
       ]
@@ -168,38 +189,44 @@ abbrev pub is_array_value : Receiver → Bool
 is_array_value r = holds (type_of_receiver r) is_array
 
 abbrev pub accessed_field : Declarations → Receiver → List ℕ → Option FoundField
-accessed_field p r name = option_and_then (λ class. field_named p.classes class name) (class_of_receiver r)
+accessed_field p r name = class_of_receiver r >>= λ class. field_named p.classes class name
 
 abbrev pub called_method : Declarations → Receiver → List ℕ → Option FoundMethod
-called_method p r name = option_and_then (λ class. method_named p.classes class name) (class_of_receiver r)
+called_method p r name = class_of_receiver r >>= λ class. method_named p.classes class name
 
 abbrev pub is_length : List ℕ → Bool
 is_length name = is_same name (codes "length")
+
+abbrev pub is_length_of_array : Receiver → List ℕ → Bool
+is_length_of_array r name = is_array_value r && is_length name
 
 -- a method that nobody calls: one of the framework that isn't callable, and the size methods
 abbrev pub is_size_method : Declarations → FoundMethod → Bool
 is_size_method p f =
     is_same_type f.method.declared.declared_type long_type
-    && holds (framework_row_named p.classes f.on f.method.declared.name) (λ (row : FoundMethod). is_same_type row.method.declared.declared_type long_type)
+    && holds (framework_row_named p.classes f.on f.method.declared.name)
+    (λ (row : FoundMethod). is_same_type row.method.declared.declared_type long_type)
 
 abbrev pub is_callable : Declarations → FoundMethod → Bool
 is_callable p f = f.method.callable && not (is_size_method p f)
 
 -- a parameter list takes the arguments, each of a known type (JLS 15.12.2); a text fits a framework's parameter alone
-unfoldable pub take_arguments : Declarations → List Declared → List Ty → Bool
-take_arguments p [] [] = true
-take_arguments p [] (t ∷ ts) = false
-take_arguments p (d ∷ ds) [] = false
-take_arguments p (d ∷ ds) (t ∷ ts) = holds (type_written p.names d.declared_type) (assigns p.classes t) && take_arguments p ds ts
+unfoldable pub accepts_arguments : Declarations → List Declared → List Ty → Bool
+accepts_arguments p [] [] = true
+accepts_arguments p [] (t ∷ ts) = false
+accepts_arguments p (d ∷ ds) [] = false
+accepts_arguments p (d ∷ ds) (t ∷ ts) =
+    holds (type_written p.names d.declared_type) (assigns p.classes t) && accepts_arguments p ds ts
 
 -- the types of all these nodes, if each has one
 unfoldable pub all_types : (ℕ → Option Ty) → List ℕ → Option (List Ty)
 all_types types [] = Some []
-all_types types (id ∷ ids) = option_and_then (λ t. option_map (λ ts. t ∷ ts) (all_types types ids)) (types id)
+all_types types (id ∷ ids) = types id >>= λ t. option_map (λ ts. t ∷ ts) (all_types types ids)
 
 -- the parameters of a class's constructor: none where none is written (JLS 8.8.9)
 unfoldable pub constructor_in : List ClassRow → ℕ → Option DeclaredConstructor
-constructor_in rows class = option_and_then (λ (row : ClassRow). elim row.constructors [ [] ↦ None | c ∷ cs ↦ Some c ]) (slice_get rows class)
+constructor_in rows class =
+    slice_get rows class >>= λ (row : ClassRow). elim row.constructors [ [] ↦ None | c ∷ cs ↦ Some c ]
 
 unfoldable pub constructor_parameters : List ClassRow → ℕ → List Declared
 constructor_parameters rows class = elim (constructor_in rows class) [ None ↦ [] | Some c ↦ c.parameters ]
@@ -229,39 +256,50 @@ is_new p class count id = is_some (read p.nodes (new_of p class count) id)
 
 -- `new PeriodicParameters(new RelativeTime(e, e), new RelativeTime(e, e))`: its own node, the start's and the period's
 unfoldable pub periodic_part : Declarations → ℕ → List ℕ → Option (List ℕ)
-periodic_part p id (start ∷ period ∷ []) = if is_new p relative_time 2 start && is_new p relative_time 2 period then Some (id ∷ start ∷ period ∷ []) else None
+periodic_part p id (start ∷ period ∷ []) =
+    if is_new p relative_time 2 start && is_new p relative_time 2 period then Some (id ∷ start ∷ period ∷ []) else None
 periodic_part p id _ = None
 
--- the part in the middle of a handler's form
-unfoldable pub middle_part : Declarations → ℕ → ℕ → Option (List ℕ)
-middle_part p superclass id =
-    if superclass == periodic_handler then option_and_then (periodic_part p id) (read p.nodes (new_of p periodic_parameters 2) id)
+-- the release parameters of a handler's form, its second part
+unfoldable pub release_part : Declarations → ℕ → ℕ → Option (List ℕ)
+release_part p superclass id =
+    if superclass == periodic_handler then read p.nodes (new_of p periodic_parameters 2) id >>= periodic_part p id
     else (if is_new p aperiodic_parameters 0 id then Some (id ∷ []) else None)
+
+abbrev pub have_priority_and_storage : Declarations → ℕ → ℕ → Bool
+have_priority_and_storage p priority storage =
+    is_new p priority_parameters 1 priority && is_new p storage_parameters 1 storage
 
 -- the `new` parts of the arguments of a super call, where they are of the form of this framework superclass
 unfoldable pub form_parts : Declarations → ℕ → List ℕ → Option (List ℕ)
 form_parts p superclass (priority ∷ storage ∷ []) =
-    if (superclass == mission_sequencer) && (is_new p priority_parameters 1 priority && is_new p storage_parameters 1 storage) then Some (priority ∷ storage ∷ []) else None
-form_parts p superclass (priority ∷ middle ∷ storage ∷ []) =
-    if not (superclass == mission_sequencer) && (is_new p priority_parameters 1 priority && is_new p storage_parameters 1 storage)
-    then option_map (λ parts. priority ∷ storage ∷ parts) (middle_part p superclass middle) else None
+    if (superclass == mission_sequencer) && have_priority_and_storage p priority storage
+    then Some (priority ∷ storage ∷ []) else None
+form_parts p superclass (priority ∷ release ∷ storage ∷ []) =
+    if not (superclass == mission_sequencer) && have_priority_and_storage p priority storage
+    then option_map (λ parts. priority ∷ storage ∷ parts) (release_part p superclass release) else None
 form_parts p superclass _ = None
 
 -- the superclasses under which a constructor begins with the form
 abbrev pub has_form : ℕ → Bool
 has_form class = is_among class (periodic_handler ∷ aperiodic_handler ∷ mission_sequencer ∷ [])
 
--- the parts of the form in a class's constructor, where the class stands directly under such a class and its super call is
+-- the arguments of the super call that is written in a class's constructor
+abbrev pub super_call_in : Declarations → ℕ → Option (List ℕ)
+super_call_in p class = constructor_in p.classes class >>= λ (c : DeclaredConstructor). c.super_call
+
+-- the parts of the form in a class's constructor, where the class stands directly under such a class and its super call
+-- is
 -- of the form
 unfoldable pub form_in : Declarations → ℕ → Option (List ℕ)
 form_in p class =
-    option_and_then (λ superclass. if has_form superclass
-    then option_and_then (form_parts p superclass) (option_and_then (λ (c : DeclaredConstructor). c.super_call) (constructor_in p.classes class)) else None)
-    (superclass_in p.classes class)
+    superclass_in p.classes class >>= λ superclass.
+    if has_form superclass then super_call_in p class >>= form_parts p superclass else None
 
 -- the node is one of the parts of its class's form
 unfoldable pub is_form_part : Declarations → ℕ → Bool
-is_form_part p id = (context p id).in_super_call && holds (context p id).class (λ class. holds (form_in p class) (is_among id))
+is_form_part p id =
+    (context p id).in_super_call && holds (context p id).class (λ class. holds (form_in p class) (is_among id))
 
 -- ---- statements that always return (as JLS 14.21, but for unreachable statements)
 
@@ -272,6 +310,7 @@ is_true_literal _ = None
 unfoldable pub returns_of : List Node → (ℕ → Bool) → Node → Bool
 returns_of nodes returns (Return place value) = true
 returns_of nodes returns (Block place statements) = list_any returns statements
-returns_of nodes returns (If place condition then_part else_part) = holds else_part (λ other. returns then_part && returns other)
+returns_of nodes returns (If place condition then_part else_part) =
+    holds else_part (λ other. returns then_part && returns other)
 returns_of nodes returns (While place condition body) = is_some (read nodes is_true_literal condition)
 returns_of nodes returns _ = false

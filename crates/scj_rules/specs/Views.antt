@@ -1,18 +1,19 @@
--- What the nodes of a program declare: annotations and modifiers, types, fields, methods, constructors and classes as
--- they are written (JLS 8.1, 8.3, 8.4, 8.8).
-use Rattle.std.specs.Prelude.{ℕ, Bool, true, false, List, [], slice_get, filter_map, Option, Some, None, if◌then◌else◌, option_and_then, unwrap_or, is_some}
+-- The declarations at the nodes of a program: annotations and modifiers, types, fields, methods, constructors and
+-- classes as they are written (JLS 8.1, 8.3, 8.4, 8.8).
+use Rattle.std.specs.Prelude.{ℕ, Bool, true, false, List, [], slice_get, filter_map, Option, Some, None, if◌then◌else◌, unwrap_or, is_some}
 use Rattle.scj_base.specs.declared.places.Pos.{Pos}
 use Rattle.scj_tree.specs.declared.nodes.Node.{Node}
 use Rattle.scj_tree.specs.declared.nodes.Node.TheVariants.{Class, Flags, Supers, SuperType, IntType, BooleanType, ClassType, VoidType, LongType, Field, Method, Constructor, Parameters, Parameter, SuperCall, Local, LocalWithValue}
 use Rattle.scj_tree.specs.Shape.{place_of}
 use Rattle.scj_rules.specs.declared.scopes.Written.{Written}
 use Rattle.scj_rules.specs.Definitions.{read, written_of}
+use Rattle.scj_rules.specs.Words.{◌>>=◌}
 use Rattle.scj_rules.specs.declared.views.Modifiers.{Modifiers}
 use Rattle.scj_rules.specs.declared.views.WrittenType.{WrittenType}
-use Rattle.scj_rules.specs.declared.views.WrittenType.TheVariants.{Int as int_type, Boolean as boolean_type, Void as void_type, Long as long_type, Text as text_type, IntArray as int_array, BooleanArray as boolean_array, Class as class_type, ClassArray as class_array}
+use Rattle.scj_rules.specs.declared.views.WrittenType.TheVariants.{Int as int_type, Boolean as boolean_type, Void as void_type, Long as long_type, IntArray as int_array, BooleanArray as boolean_array, Class as class_type, ClassArray as class_array}
 use Rattle.scj_rules.specs.declared.views.Declared.{Declared}
 
--- a place that stands for none
+-- the place of what no source declares
 abbrev pub nowhere : Pos
 nowhere = record { file = 0; line = 0; col = 0 }
 
@@ -20,14 +21,22 @@ abbrev pub place_at : List Node → ℕ → Pos
 place_at nodes id = elim (slice_get nodes id) [ None ↦ nowhere | Some node ↦ place_of node ]
 
 abbrev pub no_modifiers : Modifiers
-no_modifiers = record { defines_scope = false; scope = None; runs_in = None; is_static = false; is_abstract = false; is_synchronized = false }
+no_modifiers =
+    record {
+      defines_scope = false;
+      scope = None;
+      runs_in = None;
+      is_static = false;
+      is_abstract = false;
+      is_synchronized = false;
+    }
 
 unfoldable pub modifiers_of : List Node → Node → Option Modifiers
 modifiers_of nodes (Flags place define_scope scope runs_in is_static is_abstract is_synchronized) =
     Some (record {
       defines_scope = is_some define_scope;
-      scope = option_and_then (read nodes written_of) scope;
-      runs_in = option_and_then (read nodes written_of) runs_in;
+      scope = scope >>= read nodes written_of;
+      runs_in = runs_in >>= read nodes written_of;
       is_static = is_static;
       is_abstract = is_abstract;
       is_synchronized = is_synchronized;
@@ -35,7 +44,7 @@ modifiers_of nodes (Flags place define_scope scope runs_in is_static is_abstract
 modifiers_of nodes _ = None
 
 abbrev pub modifiers_at : List Node → Option ℕ → Modifiers
-modifiers_at nodes flags = unwrap_or (option_and_then (read nodes (modifiers_of nodes)) flags) no_modifiers
+modifiers_at nodes flags = unwrap_or (flags >>= read nodes (modifiers_of nodes)) no_modifiers
 
 unfoldable pub type_of_node : Node → Option WrittenType
 type_of_node (IntType place is_array) = Some (if is_array then int_array else int_type)
@@ -55,24 +64,36 @@ named_super _ = None
 
 -- the names after `extends`, and those after `implements`
 unfoldable pub named_supers : List Node → Node → Option (Option Written × List Written)
-named_supers nodes (Supers place superclass interfaces) = Some (option_and_then (read nodes named_super) superclass, filter_map (read nodes named_super) interfaces)
+named_supers nodes (Supers place superclass interfaces) =
+    Some (superclass >>= read nodes named_super, filter_map (read nodes named_super) interfaces)
 named_supers nodes _ = None
 
+-- a declaration at a node, from the nodes of its modifiers and its type
 abbrev pub declared : List Node → ℕ → Pos → List ℕ → Option ℕ → ℕ → Declared
-declared nodes node place name flags declared_type = record { node = node; place = place; name = name; modifiers = modifiers_at nodes flags; declared_type = type_at nodes declared_type }
+declared nodes node place name flags declared_type =
+    record {
+      node = node;
+      place = place;
+      name = name;
+      modifiers = modifiers_at nodes flags;
+      declared_type = type_at nodes declared_type;
+    }
 
 -- a parameter or a local
 unfoldable pub variable_of : List Node → ℕ → Node → Option Declared
-variable_of nodes id (Parameter place name flags declared_type) = Some (declared nodes id place name flags declared_type)
+variable_of nodes id (Parameter place name flags declared_type) =
+    Some (declared nodes id place name flags declared_type)
 variable_of nodes id (Local place name flags declared_type) = Some (declared nodes id place name flags declared_type)
-variable_of nodes id (LocalWithValue place name_place name flags declared_type value) = Some (declared nodes id name_place name flags declared_type)
+variable_of nodes id (LocalWithValue place name_place name flags declared_type value) =
+    Some (declared nodes id name_place name flags declared_type)
 variable_of nodes id _ = None
 
 abbrev pub variable_at : List Node → ℕ → Option Declared
 variable_at nodes id = read nodes (variable_of nodes id) id
 
 unfoldable pub field_of : List Node → ℕ → Node → Option Declared
-field_of nodes id (Field place name flags declared_type equals value) = Some (declared nodes id place name flags declared_type)
+field_of nodes id (Field place name flags declared_type equals value) =
+    Some (declared nodes id place name flags declared_type)
 field_of nodes id _ = None
 
 abbrev pub field_at : List Node → ℕ → Option Declared
@@ -83,10 +104,10 @@ parameters_of nodes (Parameters place list) = Some (filter_map (variable_at node
 parameters_of nodes _ = None
 
 abbrev pub parameters_at : List Node → Option ℕ → List Declared
-parameters_at nodes parameters = unwrap_or (option_and_then (read nodes (parameters_of nodes)) parameters) []
+parameters_at nodes parameters = unwrap_or (parameters >>= read nodes (parameters_of nodes)) []
 
--- a method: what is declared of it, its type being the result's, its parameters, its body if there is one, and of a
--- framework's method its number
+-- a method: its declaration, whose type is the type of the result; its parameters; its body, if it has one; and the
+-- number of a framework's method
 pub record DeclaredMethod : Type 0 where
   pub declared : Declared
   pub parameters : List Declared
@@ -110,7 +131,7 @@ method_of nodes id _ = None
 abbrev pub method_at : List Node → ℕ → Option DeclaredMethod
 method_at nodes id = read nodes (method_of nodes id) id
 
--- a constructor; `super_call` is the list of the arguments of its super call, where one is written
+-- a constructor; `super_call` has the arguments of its super call, where it has one
 pub record DeclaredConstructor : Type 0 where
   pub node : ℕ
   pub place : Pos
@@ -132,7 +153,7 @@ constructor_of nodes id (Constructor place name flags parameters super_call body
       name = name;
       modifiers = modifiers_at nodes flags;
       parameters = parameters_at nodes parameters;
-      super_call = option_and_then (read nodes super_arguments) super_call;
+      super_call = super_call >>= read nodes super_arguments;
       body = body;
     })
 constructor_of nodes id _ = None
@@ -158,7 +179,7 @@ pub record WrittenClass : Type 0 where
 
 unfoldable pub class_of : List Node → ℕ → Node → Option WrittenClass
 class_of nodes id (Class place name flags header members) =
-    let supers : Option Written × List Written = unwrap_or (option_and_then (read nodes (named_supers nodes)) header) (None, []) in
+    let supers : Option Written × List Written = unwrap_or (header >>= read nodes (named_supers nodes)) (None, []) in
     Some (record {
       node = id;
       place = place;

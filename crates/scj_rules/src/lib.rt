@@ -4,7 +4,6 @@
 pub mod bindings;
 pub mod checked;
 pub mod contexts;
-pub mod laws;
 pub mod report_laws;
 pub mod reports;
 pub mod scopes;
@@ -14,7 +13,7 @@ pub mod views;
 pub use bindings::Bindings;
 pub use checked::Checked;
 pub use contexts::Context;
-pub use reports::{note, put_in_order};
-pub use scopes::{ClassScope, Definition, Thing, Written};
+pub use reports::{put_in_order, report_if};
+pub use scopes::{ClassScope, Definition, Resolution, ScopedDeclaration, Written};
 pub use typing::{Binding, FoundField, Meaning, Receiver, Scope, Target, Ty};
-pub use views::{Declared, Modifiers, WrittenType};
+pub use views::{Body, Declared, Modifiers, SlotKind, WrittenType};

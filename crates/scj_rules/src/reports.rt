@@ -18,8 +18,8 @@ pub fn put_in_order(found: &mut Vec<Found>)
     found.dedup();
 }
 
-/// Notes that a rule is broken at a place, where the test holds.
-pub fn note(found: &mut Vec<Found>, test: bool, rule: Rule, pos: Pos) -> Result<(), Memory>
+/// Reports that a rule is broken at a place, where the test holds.
+pub fn report_if(found: &mut Vec<Found>, test: bool, rule: Rule, pos: Pos) -> Result<(), Memory>
     ensures { OnOk result (found.new.items ≡ found.old.items ++ broken test rule pos) }
 {
     if test {

@@ -35,9 +35,20 @@ pub enum ClassScope {
     Unknown,
 }
 
+/// What the name in `@Scope` or `@RunsIn` denotes.
+#[derive(Clone, Copy, Debug)]
+pub enum Resolution {
+    /// This scope, in normal form.
+    Resolved(Scope),
+    /// A scope that is missing, since the declaration that gives it breaks a rule on annotations.
+    Missing,
+    /// Nothing.
+    Unresolved,
+}
+
 /// A local, a parameter, a field or a result, as far as its scope is asked for.
 #[derive(Clone, Copy, Debug)]
-pub struct Thing {
+pub struct ScopedDeclaration {
     /// The class where it stands.
     pub class: ClassId,
     /// The scope that is current there.

@@ -57,3 +57,23 @@ pub struct Declared {
     /// Its type, of a method the result's.
     pub declared_type: WrittenType,
 }
+
+/// What a variable, a field or an element of an array holds (JLS 4.2, 4.3).
+#[derive(Clone, Copy, Debug, PartialEq, Eq)]
+pub enum SlotKind {
+    /// An `int`.
+    Number,
+    /// A `boolean`.
+    Truth,
+    /// A reference, or `null`.
+    Reference,
+}
+
+/// What a call runs.
+#[derive(Clone, Copy, Debug, PartialEq, Eq)]
+pub enum Body {
+    /// The body of the method or constructor of this node, or the unwritten constructor of the class of this node.
+    Written(NodeId),
+    /// A body of the framework, which is empty.
+    Empty,
+}

@@ -11,7 +11,7 @@ use Rattle.scj_tree.specs.declared.readings.PostKind.{PostKind}
 use Rattle.scj_tree.specs.declared.readings.PostKind.TheVariants.{Value}
 use Rattle.scj_tree.specs.Lexemes.{Lexeme, a_name as name_at, a_number as number_at, a_sign as sign_at}
 use Rattle.scj_tree.specs.Terminals.{level, compound, stepping, closes_name, begins_unary1, is_unary1_start}
-use Rattle.scj_tree.specs.Headers.{put}
+use Rattle.scj_tree.specs.Nodes.{put}
 use Rattle.scj_tree.specs.Expressions.{Level, UnaryRead, Unary1Read, PostRead, operand, tighter, binary, minus, minimum_unary, plain_unary, negation, complement, cast, post_unary, simple_name, simple_call, field_of, call_of, element_of, number, minimum_number, true_value, false_value, null_value, this_value, parenthesized, parenthesized_name, new_object, new_ints, new_booleans, new_references}
 use Rattle.scj_tree.specs.Statements.{AssignmentRead, assignment, compound_assignment, step_assignment, name_twice}
 use Rattle.scj_tree.specs.Forest.{ChildrenFirst}

@@ -4,7 +4,8 @@ use Rattle.scj_tree.specs.declared.nodes.Node.TheVariants.{DefineScope}
 use Rattle.scj_base.specs.Vocabulary.{words, word_abstract, word_static, word_synchronized}
 use Rattle.scj_tree.specs.declared.nodes.Node.{Node}
 use Rattle.scj_tree.specs.declared.readings.FlagSet.{FlagSet}
-use Rattle.scj_tree.specs.Lexemes.{Lexeme, is_name, is_one_of, goes_on}
+use Rattle.scj_tree.specs.Lexemes.{Lexeme}
+use Rattle.scj_base.specs.Lexeme.{is_digit, is_letter, is_name, is_name_byte}
 use Rattle.scj_tree.specs.Terminals.{with_flags, flags_number, flags_node, flags_at}
 use Rattle.scj_tree.specs.Headers.{FlagRow, TypeRead, int_type, int_array, boolean_type, boolean_array, class_type, class_array, argument_type, argument_array, ResultRead, typed_result, void_result, long_result, ParameterRead, parameter, ParametersBegun, no_parameter_yet, parameter_and_comma, ParametersRead, no_parameters, parameters, SuperRead, super_type, super_type_with_argument, InterfacesBegun, no_interface_yet, interface_and_comma, HeaderRead, no_header, extends_header, implements_header, extends_implements_header}
 use Rattle.scj_tree.specs.Forest.{ChildrenFirst}
@@ -48,7 +49,7 @@ unfolding own_symbols parts_of
 scope_lexed first s = node_lexed first s.there refl (text_part (name_is_text s.name s.is) last)
 
 scopes_lexed : {W : List Node} {x y : ℕ} → IsLexed W x → IsLexed W y → PartsLexed W (scope_definition x y)
-unfolding scope_definition is_name goes_on is_one_of words
+unfolding scope_definition is_name is_letter is_digit is_name_byte words
 scopes_lexed h k = sign_part refl (name_part refl (sign_part refl (name_part refl (sign_part refl (whole_part h (sign_part refl (name_part refl (sign_part refl (whole_part k (sign_part refl last))))))))))
 
 definition_lexed : {W : List Node} {id : ℕ} → ChildrenFirst 0 W → IsDefinition W id → IsLexed W id
@@ -74,7 +75,7 @@ word_lexed false n h = last
 word_lexed true n h = word_part h last
 
 flag_parts_lexed : {W : List Node} {flags : FlagSet} → ChildrenFirst 0 W → Facts W flags → PartsLexed W (flag_parts flags.define_scope flags.scope flags.runs_in flags.is_static flags.is_abstract flags.is_synchronized)
-unfolding flag_parts is_name goes_on is_one_of words
+unfolding flag_parts is_name is_letter is_digit is_name_byte words
 flag_parts_lexed {W} {flags} first k = and_then (maybe_lexed (defined_lexed first k.define)) (and_then (annotation_lexed _ first refl k.scope) (and_then (annotation_lexed _ first refl k.runs_in) (and_then (word_lexed flags.is_static word_static refl) (and_then (word_lexed flags.is_abstract word_abstract refl) (word_lexed flags.is_synchronized word_synchronized refl)))))
 
 node_of_flags : {W : List Node} (N : List Node) (flags : FlagSet) (node : Option Node) → ChildrenFirst 0 W → (Front N W → Facts W flags) → flags_node flags ≡ node → Front (with_node N node) W → MaybeLexed W (number_of N node)

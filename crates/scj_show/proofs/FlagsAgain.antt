@@ -8,9 +8,11 @@ use Rattle.scj_base.specs.Lex.{place_behind}
 use Rattle.scj_tree.specs.declared.nodes.Node.{Node}
 use Rattle.scj_tree.specs.declared.nodes.Node.TheVariants.{Flags, DefineScope, ScopeName}
 use Rattle.scj_tree.specs.declared.readings.FlagSet.{FlagSet}
-use Rattle.scj_tree.specs.Lexemes.{Lexeme, a_name as name_at, a_sign as sign_at, is_name}
+use Rattle.scj_tree.specs.Lexemes.{Lexeme, a_name as name_at, a_sign as sign_at}
+use Rattle.scj_base.specs.Lexeme.{is_name}
 use Rattle.scj_tree.specs.Terminals.{no_flags, placed, with_define_scope, with_scope, with_runs_in, add_modifier, with_modifier, has_effect, flags_at, flags_node, with_flags, flags_number}
-use Rattle.scj_tree.specs.Headers.{put, FlagRow, no_flag, modifier, effectless, scope_flag, runs_in_flag, define_scope_flag, define_scope_flag_parent_first, ScopeValue, quoted_scope, bare_scope, qualified_scope}
+use Rattle.scj_tree.specs.Headers.{FlagRow, no_flag, modifier, effectless, scope_flag, runs_in_flag, define_scope_flag, define_scope_flag_parent_first, ScopeValue, quoted_scope, bare_scope, qualified_scope}
+use Rattle.scj_tree.specs.Nodes.{put}
 use Rattle.scj_tree.specs.Forest.{ChildrenFirst}
 use Rattle.scj_tree.specs.Shape.{children}
 use Rattle.scj_show.specs.Parts.{parts_of, maybe, annotation, scope_definition, word_if_set, flag_parts}

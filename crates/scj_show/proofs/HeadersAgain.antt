@@ -5,7 +5,8 @@ use Rattle.scj_base.specs.Lex.{place_behind}
 use Rattle.scj_tree.specs.declared.nodes.Node.{Node}
 use Rattle.scj_tree.specs.declared.nodes.Node.TheVariants.{SuperType, TypeArgument, IntType, BooleanType, ClassType, VoidType, LongType}
 use Rattle.scj_tree.specs.Lexemes.{Lexeme}
-use Rattle.scj_tree.specs.Headers.{put, TypeRead, int_type, int_array, boolean_type, boolean_array, class_type, class_array, argument_type, argument_array, ResultRead, typed_result, void_result, long_result, SuperRead, super_type, super_type_with_argument}
+use Rattle.scj_tree.specs.Headers.{TypeRead, int_type, int_array, boolean_type, boolean_array, class_type, class_array, argument_type, argument_array, ResultRead, typed_result, void_result, long_result, SuperRead, super_type, super_type_with_argument}
+use Rattle.scj_tree.specs.Nodes.{put}
 use Rattle.scj_tree.specs.Forest.{ChildrenFirst}
 use Rattle.scj_tree.specs.Shape.{children}
 use Rattle.scj_show.specs.Parts.{parts_of, argument_in_brackets, brackets, class_type_parts}

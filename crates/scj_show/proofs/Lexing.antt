@@ -11,12 +11,13 @@ use Rattle.std.proofs.lemmas.Nat.{div-add-mod'}
 use Rattle.std.proofs.lemmas.Option.{slice_get-get_or}
 use Rattle.scj_base.specs.Vocabulary.{words, signs}
 use Rattle.scj_base.specs.declared.lexemes.TokenKind.TheVariants.{Number}
-use Rattle.scj_base.specs.Lexeme.{is_blank, is_letter, is_digit, is_name_byte, AllOf, IsWordLike, IsNumeral, IsReserved, value_of, opens_comment, Lexeme}
+use Rattle.scj_base.specs.Lexeme.{is_blank, is_letter, is_digit, is_name_byte, IsWordLike, IsNumeral, IsReserved, value_of, opens_comment, Lexeme, is_name}
 use Rattle.scj_base.specs.Lexeme.Lexeme.{name, word, number, text, sign}
 use Rattle.scj_base.specs.Lexeme.Piece.{blank, lexeme}
 use Rattle.scj_base.specs.Lex.{Lexes, token_at, place_behind}
 use Rattle.scj_base.specs.Lex.Lexes.{ends, skips, takes}
-use Rattle.scj_tree.specs.Lexemes.{Lexeme as TreeLexeme, is_name, is_one_of, goes_on, begins_a_name, between, same, part_of, lexeme_of, lexemes_of}
+use Rattle.scj_tree.specs.Lexemes.{Lexeme as TreeLexeme, part_of, lexeme_of, lexemes_of}
+use Rattle.scj_base.specs.Bytes.{is_one_of, is_same}
 use Rattle.scj_show.specs.Symbols.{Symbol, a_name, a_text, a_word, a_sign, a_number, bytes_of, separator, canonical}
 use Rattle.scj_show.specs.Placed.{IsLexeme, AreLexemes, kind_of, lexeme_at, printed, tokens_behind, lexemes_behind}
 
@@ -103,29 +104,16 @@ or-swap true false = refl
 or-swap false true = refl
 or-swap false false = refl
 
-pub letter_is : (b : ℕ) → begins_a_name b ≡ is_letter b
-unfolding is_letter
-letter_is b = ap (λ (t : Bool). between 65 90 b || (between 97 122 b || t)) (or-swap (b == 95) (b == 36))
-
-name_bytes : (bs : List ℕ) → goes_on bs ≡ true → AllOf is_name_byte bs
-unfolding goes_on is_name_byte is_digit
-name_bytes [] h = refl
-name_bytes (b ∷ bs) h =
-    let parts = and_parts _ _ h in
-    let here : is_name_byte b ≡ true = ap (λ (t : Bool). t || between 48 57 b) (sym (letter_is b)) ∙ parts.0 in
-    rw here (name_bytes bs parts.1)
-
-same_itself : (w : List ℕ) → same w w ≡ true
+same_itself : (w : List ℕ) → is_same w w ≡ true
 same_itself [] = refl
 same_itself (x ∷ w) = rw (eq-eqb x x refl) (same_itself w)
 
 one_of : (w : List ℕ) (vs : List (List ℕ)) (n : ℕ) → slice_get vs n ≡ Some w → is_one_of w vs ≡ true
-unfolding is_one_of
 one_of w [] n e = absurd (cc)
 one_of w (v ∷ vs) zero e =
     let here : v ≡ w = cc in
     rw (here, same_itself w) refl
-one_of w (v ∷ vs) (suc n) e = ap (λ (t : Bool). same w v || t) (one_of w vs n e) ∙ or-swap (same w v) true
+one_of w (v ∷ vs) (suc n) e = ap (λ (t : Bool). is_same w v || t) (one_of w vs n e) ∙ or-swap (is_same w v) true
 
 pub record NameFacts (w : List ℕ) : Type 0 where
   pub like : IsWordLike w
@@ -140,7 +128,7 @@ name_facts (b ∷ bs) h =
     let second = and_parts _ _ first.1 in
     let third = and_parts _ _ second.1 in
     record {
-      like = (sym (letter_is b) ∙ first.0, name_bytes bs second.0);
+      like = (first.0, second.0);
       short = omega (arith, leb-true _ _ third.0);
       free = λ (n, e). false≢true (sym (not-true _ third.1) ∙ one_of (b ∷ bs) words n e);
     }

@@ -9,13 +9,14 @@ use Rattle.scj_base.specs.declared.lexemes.TokenKind.{TokenKind}
 use Rattle.scj_base.specs.declared.lexemes.TokenKind.TheVariants.{Name}
 use Rattle.std.specs.Prelude.{◌↔◌}
 use Rattle.scj_base.specs.declared.places.Pos.{Pos}
-use Rattle.scj_base.specs.Lexeme.{is_letter, is_digit, is_name_byte, is_text_byte, AllOf, IsWordLike, IsReserved, Lexeme as Shape, Piece}
+use Rattle.scj_base.specs.Lexeme.{is_letter, is_digit, is_name_byte, is_text_byte, AllOf, IsWordLike, IsReserved, Lexeme as Shape, Piece, is_name}
 use Rattle.scj_base.specs.Lexeme.Lexeme.{name, word, number, text, sign}
 use Rattle.scj_base.specs.Lexeme.Piece.{lexeme}
 use Rattle.scj_base.specs.Lex.{Lexes, Lex, token_at}
 use Rattle.scj_base.specs.Lex.Lexes.{ends, skips, takes}
-use Rattle.scj_tree.specs.Lexemes.{Lexeme, a_name as name_at, a_word as word_at, a_number as number_at, a_text as text_at, a_sign as sign_at, the_end, is_name, is_one_of, goes_on, between, begins_a_name, same, lexeme_of, lexemes_of}
-use Rattle.scj_show.proofs.Lexing.{letter_is, name_facts, part_behind, text_behind}
+use Rattle.scj_tree.specs.Lexemes.{Lexeme, a_name as name_at, a_word as word_at, a_number as number_at, a_text as text_at, a_sign as sign_at, the_end, lexeme_of, lexemes_of}
+use Rattle.scj_base.specs.Bytes.{is_one_of, is_same}
+use Rattle.scj_show.proofs.Lexing.{name_facts, part_behind, text_behind}
 
 -- a source may hold the lexeme
 unfoldable pub IsOfSource : Lexeme → Type 0
@@ -37,7 +38,7 @@ or-false true b e h = absurd (false≢true (sym e))
 or-false false b e h = h
 
 -- rows of bytes that are told to be the same are
-same_is : (w v : List ℕ) → same w v ≡ true → w ≡ v
+same_is : (w v : List ℕ) → is_same w v ≡ true → w ≡ v
 same_is [] [] h = refl
 same_is [] (y ∷ v) h = absurd (false≢true h)
 same_is (x ∷ w) [] h = absurd (false≢true h)
@@ -46,31 +47,21 @@ same_is (x ∷ w) (y ∷ v) h =
     rw (eqb-true x y parts.0, same_is w v parts.1) refl
 
 none_of : (w : List ℕ) (vs : List (List ℕ)) → ((n : ℕ) → slice_get vs n ≡ Some w → ⊥) → is_one_of w vs ≡ false
-unfolding is_one_of
 none_of w [] f = refl
-none_of w (v ∷ vs) f = or-false _ _ (unlike (same w v) refl) (none_of w vs (λ n e. f (suc n) e))
+none_of w (v ∷ vs) f = or-false _ _ (unlike (is_same w v) refl) (none_of w vs (λ n e. f (suc n) e))
   where
-    unlike : (b : Bool) → same w v ≡ b → b ≡ false
+    unlike : (b : Bool) → is_same w v ≡ b → b ≡ false
     unlike false e = refl
     unlike true e = absurd (f 0 (ap Some (sym (same_is w v e))))
-
-goes : (bs : List ℕ) → AllOf is_name_byte bs → goes_on bs ≡ true
-unfolding goes_on is_name_byte is_digit
-goes [] h = refl
-goes (b ∷ bs) h =
-    let parts = and_parts _ _ h in
-    let here : (begins_a_name b || between 48 57 b) ≡ true = ap (λ (t : Bool). t || between 48 57 b) (letter_is b) ∙ parts.0 in
-    rw here (goes bs parts.1)
 
 -- a row of bytes like a name that is no reserved word, and not too long, is a name: the converse of `name_facts`
 pub is_a_name : (w : List ℕ) → IsWordLike w → length w ≤ 64 → (IsReserved w → ⊥) → is_name w ≡ true
 unfolding is_name
 is_a_name [] h l r = absurd h
 is_a_name (b ∷ bs) h l r =
-    let short : nat_le (length bs) 63 ≡ true = grind (arith, nat_tests) in
+    let short : nat_le (length (b ∷ bs)) 64 ≡ true = grind (arith, nat_tests) in
     let free : is_one_of (b ∷ bs) words ≡ false = none_of (b ∷ bs) words (λ n e. r (n, e)) in
-    let begins : begins_a_name b ≡ true = letter_is b ∙ h.0 in
-    rw (begins, goes bs h.1, short, free) refl
+    rw (h.0, h.1, short, free) refl
 
 -- the grammar's names are the lexemes that are names
 name_lexeme : (w : List ℕ) → is_name w ≡ true → Shape w [] Name

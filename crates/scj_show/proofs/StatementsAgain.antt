@@ -11,7 +11,8 @@ use Rattle.scj_tree.specs.declared.readings.FlagSet.{FlagSet}
 use Rattle.scj_tree.specs.declared.readings.PostKind.{PostKind}
 use Rattle.scj_tree.specs.Lexemes.{Lexeme, a_name as name_at, a_word as word_at, a_number as number_at, a_text as text_at, a_sign as sign_at, the_end}
 use Rattle.scj_tree.specs.Terminals.{no_flags, with_flags, flags_number, flags_node, has_effect, add_modifier, begins_with_word, begins_local_flags, begins_unary1, is_unary1_start}
-use Rattle.scj_tree.specs.Headers.{put, FlagRow, no_flag, modifier, effectless, scope_flag, runs_in_flag, define_scope_flag, define_scope_flag_parent_first, TypeRead, int_type, int_array, boolean_type, boolean_array, class_type, class_array, argument_type, argument_array}
+use Rattle.scj_tree.specs.Headers.{FlagRow, no_flag, modifier, effectless, scope_flag, runs_in_flag, define_scope_flag, define_scope_flag_parent_first, TypeRead, int_type, int_array, boolean_type, boolean_array, class_type, class_array, argument_type, argument_array}
+use Rattle.scj_tree.specs.Nodes.{put}
 use Rattle.scj_tree.specs.Expressions.{PostRead, simple_name, simple_call, field_of, call_of, element_of, number, minimum_number, true_value, false_value, null_value, this_value, parenthesized, parenthesized_name, new_object, new_ints, new_booleans, new_references}
 use Rattle.scj_tree.specs.Statements.{AssignmentRead, assignment, compound_assignment, step_assignment, LocalTypeRead, plain_local, flagged_local, StatementRead, block, empty, local, local_with_value, assign_statement, call_statement, if_alone, if_else, while_statement, for_local, for_assignment, return_alone, return_value, StatementsRead, no_statement, one_statement_more}
 use Rattle.scj_tree.specs.Forest.{ChildrenFirst}

@@ -4,8 +4,8 @@ ghost use Rattle.std.specs.Prelude.{◌≡◌, ◌↔◌, ◌++◌, ℕ, List, [
 ghost use Rattle.scj_base.specs.Lex.{Lex};
 ghost use Rattle.scj_base.specs.declared.lexemes.Token.{Token};
 ghost use Rattle.scj_base.specs.declared.lexemes.TokenKind.TheVariants.{Name};
-ghost use Rattle.scj_base.specs.Lexeme.{Lexeme};
-ghost use Rattle.scj_tree.specs.Lexemes.{is_name, lexemes_of};
+ghost use Rattle.scj_base.specs.Lexeme.{Lexeme, is_name};
+ghost use Rattle.scj_tree.specs.Lexemes.{lexemes_of};
 ghost use Rattle.scj_tree.specs.declared.nodes.Node.{Node};
 ghost use Rattle.scj_tree.specs.Forest.{ChildrenFirst};
 ghost use Rattle.scj_tree.specs.Grammar.{Tree};

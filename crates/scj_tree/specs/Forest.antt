@@ -2,6 +2,7 @@
 use Rattle.std.specs.Prelude.{◌≡◌, ℕ, ◌+◌, ◌<◌, ◌≤◌, ◌^◌, List, [], ◌∷◌, ◌++◌, length, slice_get, Some}
 use Rattle.scj_tree.specs.declared.nodes.Node.{Node}
 use Rattle.scj_tree.specs.declared.nodes.Node.TheVariants.{Class}
+use Rattle.scj_tree.specs.Nodes.{put}
 use Rattle.scj_tree.specs.Shape.{children}
 use Rattle.scj_tree.specs.Counts.{times}
 
@@ -39,7 +40,7 @@ ChildrenFirst from (node ∷ nodes) = AllBelow from (children node) × ChildrenF
 
 -- the node is a class
 pub data IsClass : Node → Type 0 where
-  is_class : {place : _} {name : _} {flags : _} {header : _} {members : _} → IsClass (Class place name flags header members)
+  is_class : {place name flags header members : _} → IsClass (Class place name flags header members)
 
 -- each number is a class's
 unfoldable pub AllClasses : List Node → List ℕ → Type 0
@@ -66,7 +67,7 @@ pub record AreFreshClasses (forest : Forest) (ids : List ℕ) : Type 0 where
 
 -- a forest with a node behind its nodes, and with a file behind its files
 abbrev pub with_node : Forest → Node → Forest
-with_node forest node = record { nodes = forest.nodes ++ node ∷ []; files = forest.files }
+with_node forest node = record forest { nodes = put forest.nodes node }
 
 abbrev pub with_file : Forest → List ℕ → Forest
-with_file forest ids = record { nodes = forest.nodes; files = forest.files ++ ids ∷ [] }
+with_file forest ids = record forest { files = forest.files ++ ids ∷ [] }

@@ -58,13 +58,15 @@ super_height nodes (Some id) = 1 + height nodes id
 
 unfoldable pub body_height : List Node → Node → ℕ
 body_height nodes (Method place name flags result_type parameters (Some body)) = height nodes body
-body_height nodes (Constructor place name flags parameters super_call body) = max (height nodes body) (super_height nodes super_call)
+body_height nodes (Constructor place name flags parameters super_call body) =
+    max (height nodes body) (super_height nodes super_call)
 body_height nodes _ = 0
 
 -- the name of the first method or constructor among some of the nodes whose body is higher than 64
 unfoldable pub first_too_deep : List Node → List Node → Option Pos
 first_too_deep nodes [] = None
-first_too_deep nodes (node ∷ more) = if nat_lt 64 (body_height nodes node) then Some (place_of node) else first_too_deep nodes more
+first_too_deep nodes (node ∷ more) =
+    if nat_lt 64 (body_height nodes node) then Some (place_of node) else first_too_deep nodes more
 
 -- in a file that was read from the first n nodes on
 unfoldable pub too_deep : ℕ → List Node → Option Pos

@@ -1,11 +1,13 @@
 pub mod Counts
 pub mod Expressions
+pub mod Files
 pub mod Forest
 pub mod Grammar
 pub mod Headers
 pub mod Heights
 pub mod Kinds
 pub mod Lexemes
+pub mod Nodes
 pub mod Recursion
 pub mod Shape
 pub mod Statements

@@ -59,7 +59,8 @@ optional (Some child) = child ∷ []
 -- the children of a node, in the order of the source
 unfoldable pub children : Node → List ℕ
 children (Class place name flags header members) = optional flags ++ (optional header ++ members)
-children (Flags place define_scope scope runs_in is_static is_abstract is_synchronized) = optional define_scope ++ (optional scope ++ optional runs_in)
+children (Flags place define_scope scope runs_in is_static is_abstract is_synchronized) =
+    optional define_scope ++ (optional scope ++ optional runs_in)
 children (DefineScope place first second parent_first) = first ∷ second ∷ []
 children (ScopeName place name) = []
 children (Supers place superclass interfaces) = optional superclass ++ interfaces
@@ -71,15 +72,18 @@ children (ClassType place name argument is_array) = optional argument
 children (VoidType place) = []
 children (LongType place) = []
 children (Field place name flags declared_type equals value) = optional flags ++ (declared_type ∷ optional value)
-children (Method place name flags result_type parameters body) = optional flags ++ (result_type ∷ optional parameters ++ optional body)
-children (Constructor place name flags parameters super_call body) = optional flags ++ (optional parameters ++ (optional super_call ++ (body ∷ [])))
+children (Method place name flags result_type parameters body) =
+    optional flags ++ (result_type ∷ optional parameters ++ optional body)
+children (Constructor place name flags parameters super_call body) =
+    optional flags ++ (optional parameters ++ (optional super_call ++ (body ∷ [])))
 children (Parameters place list) = list
 children (Parameter place name flags declared_type) = optional flags ++ (declared_type ∷ [])
 children (SuperCall place arguments) = arguments
 children (Block place statements) = statements
 children (Empty place) = []
 children (Local place name flags declared_type) = optional flags ++ (declared_type ∷ [])
-children (LocalWithValue place name_place name flags declared_type value) = optional flags ++ (declared_type ∷ value ∷ [])
+children (LocalWithValue place name_place name flags declared_type value) =
+    optional flags ++ (declared_type ∷ value ∷ [])
 children (Assign place target value) = target ∷ value ∷ []
 children (ExpressionStatement place expression) = expression ∷ []
 children (If place condition then_part else_part) = condition ∷ then_part ∷ optional else_part

@@ -1,7 +1,7 @@
 //! Nodes in one list, with their kinds beside them.
 
 ghost use Rattle.std.specs.Prelude.{◌≡◌, ◌<◌, [], length, take, OnOk, OnErr, IfOk, slice_get, Some, option_copied, option_map, map};
-ghost use Rattle.scj_tree.specs.Headers.{put};
+ghost use Rattle.scj_tree.specs.Nodes.{put};
 ghost use Rattle.scj_tree.specs.Kinds.{kind_of};
 
 use crate::kinds::NodeKind;

@@ -3,6 +3,8 @@ pub mod DefinitionLemmas
 pub mod FindingLemmas
 pub mod JumpLemmas
 pub mod NameLemmas
+pub mod NumberLemmas
+pub mod OwnerLemmas
 pub mod ParentLemmas
 pub mod PhaseLemmas
 pub mod SampleLemmas

@@ -11,7 +11,9 @@ use Rattle.std.proofs.lemmas.Cmp.{same_from_slice_cmp, nat_list_eq_equiv}
 use Rattle.std.proofs.lemmas.Iterator.Adapters.{position_from-zero}
 use Rattle.std.proofs.lemmas.Slice.Eq.{bytes_eq-Decides}
 use Rattle.scj_rules.specs.declared.scopes.Definition.{Definition}
-use Rattle.scj_rules.specs.Definitions.{is_same, is_reserved, scope_named}
+use Rattle.scj_base.specs.Bytes.{is_same}
+use Rattle.scj_rules.specs.Definitions.{is_reserved}
+use Rattle.scope_tree.specs.DefinitionsSupport.{first_index}
 use Rattle.scope_tree.specs.Index.{IsIndex, entered}
 
 pub same-true : (xs ys : List ℕ) → is_same xs ys ≡ true → xs ≡ ys
@@ -80,15 +82,15 @@ push_cases false true true o n h = absurd (true≢false (sym (h refl)))
 push_cases false true false o n h = sym (or_none o)
 push_cases false false same o n h = refl
 
-pub scope_named-push : (xs : List Definition) (d : Definition) (other : List ℕ) → scope_named (xs ++ d ∷ []) other ≡ entered (scope_named xs) d.scope.name (length xs) other
-unfolding scope_named entered
-scope_named-push xs d other =
+pub first_index-push : (xs : List Definition) (d : Definition) (other : List ℕ) → first_index (xs ++ d ∷ []) other ≡ entered (first_index xs) d.scope.name (length xs) other
+unfolding first_index entered
+first_index-push xs d other =
     let p = position_push (λ (e : Definition). is_same other e.scope.name) xs d in
     rw (p, same-sym other d.scope.name) (push_cases (is_reserved other) (is_reserved d.scope.name) (is_same d.scope.name other) (position (λ e. is_same other e.scope.name) xs) (length xs)
     (λ e. ap is_reserved (sym (same-true d.scope.name other e))))
 
-none_named : (other : List ℕ) → None ≡ scope_named [] other
-unfolding scope_named
+none_named : (other : List ℕ) → None ≡ first_index [] other
+unfolding first_index
 none_named other = ⊎_elim (λ (e : is_reserved other ≡ true). rw e refl) (λ (e : is_reserved other ≡ false). rw e refl) (cases_Bool (is_reserved other))
 
 pub no_index : (find : List ℕ → Option ℕ) → ((other : List ℕ) → find other ≡ None) → IsIndex [] find
@@ -105,6 +107,6 @@ index_more ds k r find after h index entry =
     let size : length (take k ds) ≡ k = length-take-le k ds (omega (arith, h)) in
     let name : List ℕ = (get_or ds k r).scope.name in
     record {
-      finds = λ other. entry other ∙ entered-alike find (scope_named (take k ds)) name k other (index.finds other)
-          ∙ ap (λ n. entered (scope_named (take k ds)) name n other) (sym size) ∙ sym (scope_named-push (take k ds) (get_or ds k r) other) ∙ ap (λ t. scope_named t other) (sym (take_more ds k r h));
+      finds = λ other. entry other ∙ entered-alike find (first_index (take k ds)) name k other (index.finds other)
+          ∙ ap (λ n. entered (first_index (take k ds)) name n other) (sym size) ∙ sym (first_index-push (take k ds) (get_or ds k r) other) ∙ ap (λ t. first_index t other) (sym (take_more ds k r h));
     }

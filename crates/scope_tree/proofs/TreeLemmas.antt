@@ -5,10 +5,10 @@ use Rattle.std.proofs.lemmas.Bool.{cases_lt, ne_eqb}
 use Rattle.std.proofs.lemmas.List.{drop_all}
 use Rattle.std.proofs.lemmas.Option.{slice_get_past}
 use Rattle.scj_tree.specs.Forest.{Forest}
-use Rattle.scj_tree.specs.Recursion.{told, listed}
+use Rattle.scj_tree.specs.Recursion.{lookup, listed}
 use Rattle.scj_tree.proofs.RecursionLemmas.{listed-at, length-listed}
 use Rattle.scj_rules.specs.Words.{is_among, chain, along, or_else}
-use Rattle.scj_rules.specs.Classes.{superclasses}
+use Rattle.scj_rules.specs.Classes.{superclasses, first_user_class}
 use Rattle.scj_rules.specs.Contexts.{Declarations, declarations_of}
 use Rattle.scj_rules.specs.ScopeRules.{immortal_scope, definition_in, defined_by, defined_by_chain, parent_scope, is_outer}
 use Rattle.scj_rules.specs.ScopeRules.{scope_written_in}
@@ -48,9 +48,9 @@ same_chain f g same (suc left) a = rw (same a) (go (g a) (same_chain f g same le
     go (Some b) later = ap (λ (t : List ℕ). a ∷ t) (later b)
 
 -- a table of all classes tells what is said of each number, where nothing is said of those behind them
-pub table_tells : {A : Type 0} (default : A) (f : ℕ → A) (n : ℕ) → ((a : ℕ) → n ≤ a → f a ≡ default) → (xs : List A) → xs ≡ listed f n → (a : ℕ) → told default xs a ≡ f a
+pub table_tells : {A : Type 0} (default : A) (f : ℕ → A) (n : ℕ) → ((a : ℕ) → n ≤ a → f a ≡ default) → (xs : List A) → xs ≡ listed f n → (a : ℕ) → lookup default xs a ≡ f a
 table_tells default f n past xs e a =
-    ap (λ t. told default t a) e ∙ listed-at default f n a
+    ap (λ t. lookup default t a) e ∙ listed-at default f n a
     ∙ ⊎_elim (λ (l : a < n). let t : nat_lt a n ≡ true = grind (arith, nat_tests) in rw t refl)
     (λ (m : n ≤ a). let t : nat_lt a n ≡ false = grind (arith, nat_tests) in rw t (sym (past a m)))
     (cases_lt a n)
@@ -69,15 +69,15 @@ module _ (p : Declarations) where
   nothing_defined_past a h = rw (no_definition_past a h) refl
 
 pub outer_by_table : (forest : Forest) (tree : ScopeTree) (a b : ℕ) → IsTreeOf forest tree
-    → ((a == immortal_scope) || is_among a (chain (told None tree.parents.items) (length tree.parents.items) b)) ≡ is_outer (declarations_of forest) a b
+    → ((a == immortal_scope) || is_among a (chain (lookup None tree.parents.items) (length tree.parents.items) b)) ≡ is_outer (declarations_of forest) a b
 unfolding is_outer
 outer_by_table forest tree a b h =
     let p : Declarations = declarations_of forest in
-    let same : (x : ℕ) → told None tree.parents.items x ≡ parent_scope p x = table_tells None (parent_scope p) (length p.classes) (no_parent_past p) tree.parents.items h.parents in
+    let same : (x : ℕ) → lookup None tree.parents.items x ≡ parent_scope p x = table_tells None (parent_scope p) (length p.classes) (no_parent_past p) tree.parents.items h.parents in
     let long : length tree.parents.items ≡ length p.classes = ap length h.parents ∙ length-listed (parent_scope p) (length p.classes) in
-    ap (λ t. (a == immortal_scope) || is_among a t) (same_chain (told None tree.parents.items) (parent_scope p) same (length tree.parents.items) b ∙ ap (λ n. chain (parent_scope p) n b) long)
+    ap (λ t. (a == immortal_scope) || is_among a t) (same_chain (lookup None tree.parents.items) (parent_scope p) same (length tree.parents.items) b ∙ ap (λ n. chain (parent_scope p) n b) long)
 
-pub defined_by_table : (forest : Forest) (tree : ScopeTree) (a : ℕ) → IsTreeOf forest tree → told None tree.defined.items a ≡ defined_by (declarations_of forest) a
+pub defined_by_table : (forest : Forest) (tree : ScopeTree) (a : ℕ) → IsTreeOf forest tree → lookup None tree.defined.items a ≡ defined_by (declarations_of forest) a
 defined_by_table forest tree a h =
     let p : Declarations = declarations_of forest in
     table_tells None (defined_by p) (length p.classes) (nothing_defined_past p) tree.defined.items h.defined a
@@ -92,17 +92,17 @@ chain_past p a h some =
 no_interfaces_past : (p : Declarations) (a : ℕ) → length p.classes ≤ a → interfaces_in p.classes a ≡ []
 no_interfaces_past p a h = rw (slice_get_past p.classes a h, interfaces_in) refl
 
-not_implied_past : (p : Declarations) (a : ℕ) → length p.classes ≤ a → 16 ≤ length p.classes → is_implied_immortal p a ≡ false
+not_implied_past : (p : Declarations) (a : ℕ) → length p.classes ≤ a → first_user_class ≤ length p.classes → is_implied_immortal p a ≡ false
 unfolding is_implied_immortal all_interfaces
 not_implied_past p a h many =
     let one : superclasses p.classes a ≡ a ∷ [] = chain_past p a h (omega (arith, many)) in
     let none : interfaces_in p.classes a ≡ [] = no_interfaces_past p a h in
     let third : (3 == a) ≡ false = ne_eqb 3 a (λ e. omega (arith, e, h, many)) in
     let fourth : (4 == a) ≡ false = ne_eqb 4 a (λ e. omega (arith, e, h, many)) in
-    let user : nat_lt a 16 ≡ false = grind (arith, nat_tests) in
+    let user : nat_lt a first_user_class ≡ false = grind (arith, nat_tests) in
     rw (one, user, third, fourth) (rw none refl)
 
-pub no_scope_past : (p : Declarations) → 16 ≤ length p.classes → (a : ℕ) → length p.classes ≤ a → class_scope p a ≡ unannotated
+pub no_scope_past : (p : Declarations) → first_user_class ≤ length p.classes → (a : ℕ) → length p.classes ≤ a → class_scope p a ≡ unannotated
 unfolding class_scope class_scope_on class_scope_under scope_written_in differs_from_above scope_of_right_class
 no_scope_past p many a h =
     let one : superclasses p.classes a ≡ a ∷ [] = chain_past p a h (omega (arith, many)) in
@@ -110,18 +110,18 @@ no_scope_past p many a h =
     let free : is_implied_immortal p a ≡ false = not_implied_past p a h many in
     rw one (rw (none, free) refl)
 
-pub class_scope_by_table : (forest : Forest) (tree : ScopeTree) (a : ℕ) → IsTreeOf forest tree → told unannotated tree.class_scopes.items a ≡ class_scope (declarations_of forest) a
+pub class_scope_by_table : (forest : Forest) (tree : ScopeTree) (a : ℕ) → IsTreeOf forest tree → lookup unannotated tree.class_scopes.items a ≡ class_scope (declarations_of forest) a
 class_scope_by_table forest tree a h =
     let p : Declarations = declarations_of forest in
     table_tells unannotated (class_scope p) (length p.classes) (no_scope_past p (framework_first forest)) tree.class_scopes.items h.class_scopes a
 
 pub implied_by_table : (forest : Forest) (rows : List Bool) (a : ℕ) → rows ≡ listed (is_implied_immortal (declarations_of forest)) (length (declarations_of forest).classes)
-    → told false rows a ≡ is_implied_immortal (declarations_of forest) a
+    → lookup false rows a ≡ is_implied_immortal (declarations_of forest) a
 implied_by_table forest rows a h =
     let p : Declarations = declarations_of forest in
     table_tells false (is_implied_immortal p) (length p.classes) (λ b past. not_implied_past p b past (framework_first forest)) rows h a
 
-pub implied_by_tree : (forest : Forest) (tree : ScopeTree) (a : ℕ) → IsTreeOf forest tree → told false tree.implied.items a ≡ is_implied_immortal (declarations_of forest) a
+pub implied_by_tree : (forest : Forest) (tree : ScopeTree) (a : ℕ) → IsTreeOf forest tree → lookup false tree.implied.items a ≡ is_implied_immortal (declarations_of forest) a
 implied_by_tree forest tree a h = implied_by_table forest tree.implied.items a h.implied
 
 -- a chain that is put into a list, one more, and at its end
@@ -162,19 +162,19 @@ pub along_ended : {B : Type 0} (f : ℕ → Option B) (xs : List ℕ) (i : ℕ) 
 unfolding along
 along_ended f xs i h = rw (drop_all i xs h) refl
 
-pub parent_by_table : (forest : Forest) (tree : ScopeTree) (a : ℕ) → IsTreeOf forest tree → told None tree.parents.items a ≡ parent_scope (declarations_of forest) a
+pub parent_by_table : (forest : Forest) (tree : ScopeTree) (a : ℕ) → IsTreeOf forest tree → lookup None tree.parents.items a ≡ parent_scope (declarations_of forest) a
 parent_by_table forest tree a h =
     let p : Declarations = declarations_of forest in
     table_tells None (parent_scope p) (length p.classes) (no_parent_past p) tree.parents.items h.parents a
 
-nothing_chained_past : (p : Declarations) → 16 ≤ length p.classes → (a : ℕ) → length p.classes ≤ a → defined_by_chain p a ≡ None
+nothing_chained_past : (p : Declarations) → first_user_class ≤ length p.classes → (a : ℕ) → length p.classes ≤ a → defined_by_chain p a ≡ None
 unfolding defined_by_chain along
 nothing_chained_past p many a h =
     let one : superclasses p.classes a ≡ a ∷ [] = chain_past p a h (omega (arith, many)) in
     let none : defined_by p a ≡ None = nothing_defined_past p a h in
     rw one (rw (none, along) refl)
 
-pub chained_by_table : (forest : Forest) (tree : ScopeTree) (a : ℕ) → IsTreeOf forest tree → told None tree.chained.items a ≡ defined_by_chain (declarations_of forest) a
+pub chained_by_table : (forest : Forest) (tree : ScopeTree) (a : ℕ) → IsTreeOf forest tree → lookup None tree.chained.items a ≡ defined_by_chain (declarations_of forest) a
 chained_by_table forest tree a h =
     let p : Declarations = declarations_of forest in
     table_tells None (defined_by_chain p) (length p.classes) (nothing_chained_past p (framework_first forest)) tree.chained.items h.chained a

@@ -5,20 +5,21 @@ use Rattle.std.proofs.lemmas.Bool.{cases_lt, eq-eqb, ne_eqb, eqb-true}
 use Rattle.std.proofs.lemmas.List.{map-append, length-map, take_all}
 use Rattle.std.proofs.lemmas.Bool.Decides.{nat_tests}
 use Rattle.std.proofs.lemmas.Option.{slice_get_within, slice_get-map}
-use Rattle.scj_builtins.specs.Framework.{FrameworkClass, framework_classes, object}
+use Rattle.scj_builtins.specs.declared.classes.FrameworkClass.{FrameworkClass}
+use Rattle.scj_builtins.specs.Framework.{framework_classes, object}
 use Rattle.scj_tree.specs.declared.nodes.Node.{Node}
 use Rattle.scj_tree.specs.Counts.{times}
 use Rattle.scj_tree.specs.Forest.{Forest, IsForest, IsClass, is_class, AllClasses, joined, all_children}
 use Rattle.scj_rules.specs.declared.scopes.Definition.{Definition}
 use Rattle.scj_rules.specs.declared.scopes.Written.{Written}
-use Rattle.scj_rules.specs.Definitions.{read, definition, in_front, scope_named, definition_with, definition_of, definitions_in, definitions, written_of, values_of, define_scope_of, flags_of}
+use Rattle.scj_rules.specs.Definitions.{read, definition, in_front, definition_with, definition_of, definitions_in, definitions, written_of, values_of, define_scope_of, flags_of}
 use Rattle.scj_rules.specs.Views.{WrittenClass, class_at, class_of}
-use Rattle.scj_rules.specs.Classes.{ClassRow, class_nodes, user_classes, class_names, user_row, framework_row, framework_rows_from, written_rows, is_well_headed, counted_row, counted_from}
+use Rattle.scj_rules.specs.Classes.{ClassRow, class_nodes, user_classes, class_names, user_row, framework_row, framework_rows_from, written_rows, is_well_headed, counted_row, counted_from, first_user_class}
 use Rattle.scj_rules.specs.Contexts.{Declarations, declarations_of, number_of_class}
 use Rattle.scj_rules.specs.ScopeRules.{definition_in, scope_of_definition}
 use Rattle.scope_tree.proofs.DefinitionLemmas.{definitions_in-append}
+use Rattle.scope_tree.proofs.OwnerLemmas.{written_below}
 use Rattle.class_rows.specs.Tables.{class_written}
-use Rattle.scope_tree.specs.Index.{IsIndex}
 use Rattle.scope_tree.specs.Trees.{owner_at, owners_below}
 use Rattle.scj_tree.specs.Recursion.{joined_below}
 
@@ -85,16 +86,16 @@ user_rows_at nodes names [] k = refl
 user_rows_at nodes names (c ∷ users) zero = refl
 user_rows_at nodes names (c ∷ users) (suc k) = user_rows_at nodes names users k
 
-pub no_user_below : (forest : Forest) (class : ℕ) → class < 16 → written_in (declarations_of forest).classes class ≡ None
+pub no_user_below : (forest : Forest) (class : ℕ) → class < first_user_class → written_in (declarations_of forest).classes class ≡ None
 unfolding declarations_of written_rows framework_classes
 no_user_below forest class h =
     counted_at (class_names (user_classes forest)) (written_rows forest.nodes (user_classes forest)) 0 (written_rows forest.nodes (user_classes forest)) class
     ∙ framework_unwritten 0 framework_classes (map (user_row forest.nodes (class_names (user_classes forest))) (user_classes forest)) class h
 
-pub user_at : (forest : Forest) (k : ℕ) → written_in (declarations_of forest).classes (16 + k) ≡ slice_get (user_classes forest) k
+pub user_at : (forest : Forest) (k : ℕ) → written_in (declarations_of forest).classes (first_user_class + k) ≡ slice_get (user_classes forest) k
 unfolding declarations_of written_rows framework_classes
 user_at forest k =
-    counted_at (class_names (user_classes forest)) (written_rows forest.nodes (user_classes forest)) 0 (written_rows forest.nodes (user_classes forest)) (16 + k)
+    counted_at (class_names (user_classes forest)) (written_rows forest.nodes (user_classes forest)) 0 (written_rows forest.nodes (user_classes forest)) (first_user_class + k)
     ∙ behind_framework 0 framework_classes (map (user_row forest.nodes (class_names (user_classes forest))) (user_classes forest)) k
     ∙ user_rows_at forest.nodes (class_names (user_classes forest)) (user_classes forest) k
 
@@ -202,7 +203,7 @@ unfolding framework_rows_from
 framework-length number [] = refl
 framework-length number (c ∷ cs) = ap suc (framework-length (number + 1) cs)
 
-pub framework_first : (forest : Forest) → 16 ≤ length (declarations_of forest).classes
+pub framework_first : (forest : Forest) → first_user_class ≤ length (declarations_of forest).classes
 unfolding declarations_of written_rows framework_classes
 framework_first forest =
     let users = user_classes forest in
@@ -232,20 +233,20 @@ module _ (forest : Forest) (whole : IsForest forest) where
   some_of o c h = rw h refl
 
   -- the node of a user class
-  pub node_at : (k : ℕ) → option_map (λ (c : WrittenClass). c.node) (written_in p.classes (16 + k)) ≡ slice_get nodes_of k
+  pub node_at : (k : ℕ) → option_map (λ (c : WrittenClass). c.node) (written_in p.classes (first_user_class + k)) ≡ slice_get nodes_of k
   node_at k =
       ap (option_map (λ (c : WrittenClass). c.node)) (user_at forest k) ∙ sym (slice_get-map (λ (c : WrittenClass). c.node) (user_classes forest) k) ∙ ap (λ (xs : List ℕ). slice_get xs k) users_are
 
-  user_number : (class : ℕ) (c : WrittenClass) → written_in p.classes class ≡ Some c → 16 ≤ class
+  user_number : (class : ℕ) (c : WrittenClass) → written_in p.classes class ≡ Some c → first_user_class ≤ class
   user_number class c h =
-      ⊎_elim (λ (l : class < 16). absurd (let e : Some c ≡ None = sym h ∙ no_user_below forest class l in cc))
-      (λ (m : 16 ≤ class). m)
-      (cases_lt class 16)
+      ⊎_elim (λ (l : class < first_user_class). absurd (let e : Some c ≡ None = sym h ∙ no_user_below forest class l in cc))
+      (λ (m : first_user_class ≤ class). m)
+      (cases_lt class first_user_class)
 
-  node_there : (class : ℕ) (c : WrittenClass) → written_in p.classes class ≡ Some c → slice_get nodes_of (class - 16) ≡ Some c.node
+  node_there : (class : ℕ) (c : WrittenClass) → written_in p.classes class ≡ Some c → slice_get nodes_of (class - first_user_class) ≡ Some c.node
   node_there class c h =
-      let e : 16 + (class - 16) ≡ class = omega (arith, user_number class c h) in
-      sym (node_at (class - 16)) ∙ some_of (written_in p.classes (16 + (class - 16))) c (ap (written_in p.classes) e ∙ h)
+      let e : first_user_class + (class - first_user_class) ≡ class = omega (arith, user_number class c h) in
+      sym (node_at (class - first_user_class)) ∙ some_of (written_in p.classes (first_user_class + (class - first_user_class))) c (ap (written_in p.classes) e ∙ h)
 
   pub definition_by_node : (class : ℕ) → definition_in p class ≡ option_and_then (definition_of forest.nodes) (option_map (λ (c : WrittenClass). c.node) (written_in p.classes class))
   unfolding definition_in declarations_of definitions
@@ -254,7 +255,7 @@ module _ (forest : Forest) (whole : IsForest forest) where
       go : (o : Option WrittenClass) → written_in p.classes class ≡ o
           → option_and_then (λ (c : WrittenClass). find (is_class_of c.node) (definitions_in forest.nodes (joined forest.files))) o ≡ option_and_then (definition_of forest.nodes) (option_map (λ (c : WrittenClass). c.node) o)
       go None e = refl
-      go (Some c) e = found_definition forest.nodes nodes_of c.node (among_at nodes_of (class - 16) c.node (node_there class c e))
+      go (Some c) e = found_definition forest.nodes nodes_of c.node (among_at nodes_of (class - first_user_class) c.node (node_there class c e))
 
   abbrev number_for : Definition → Option ℕ
   number_for d = number_of_class nodes_of d.class
@@ -267,19 +268,19 @@ module _ (forest : Forest) (whole : IsForest forest) where
   once : (x : ℕ) → times x nodes_of ≤ 1
   once x = omega (arith, whole.one_place x, times-front x nodes_of (all_children forest.nodes))
 
-  number_there : (k x : ℕ) (d : Definition) → slice_get nodes_of k ≡ Some x → definition_of forest.nodes x ≡ Some d → number_for d ≡ Some (16 + k)
+  number_there : (k x : ℕ) (d : Definition) → slice_get nodes_of k ≡ Some x → definition_of forest.nodes x ≡ Some d → number_for d ≡ Some (first_user_class + k)
   unfolding number_of_class
   number_there k x d h e =
       let same : d.class ≡ x = class_of_definition forest.nodes x d e in
       rw same (rw (place_there x nodes_of k h (once x)) refl)
 
   -- one class more
-  owners_step : (k x : ℕ) → slice_get nodes_of k ≡ Some x → map (λ (n : ℕ). Some n) (owner_at p (16 + k)) ≡ map number_for (in_front (definition_of forest.nodes x) [])
+  owners_step : (k x : ℕ) → slice_get nodes_of k ≡ Some x → map (λ (n : ℕ). Some n) (owner_at p (first_user_class + k)) ≡ map number_for (in_front (definition_of forest.nodes x) [])
   unfolding owner_at
-  owners_step k x h = go (definition_of forest.nodes x) refl (definition_by_node (16 + k) ∙ ap (option_and_then (definition_of forest.nodes)) (node_at k ∙ h))
+  owners_step k x h = go (definition_of forest.nodes x) refl (definition_by_node (first_user_class + k) ∙ ap (option_and_then (definition_of forest.nodes)) (node_at k ∙ h))
     where
-      go : (o : Option Definition) → definition_of forest.nodes x ≡ o → definition_in p (16 + k) ≡ definition_of forest.nodes x
-          → map (λ (n : ℕ). Some n) (if is_some (definition_in p (16 + k)) then (16 + k) ∷ [] else []) ≡ map number_for (in_front o [])
+      go : (o : Option Definition) → definition_of forest.nodes x ≡ o → definition_in p (first_user_class + k) ≡ definition_of forest.nodes x
+          → map (λ (n : ℕ). Some n) (if is_some (definition_in p (first_user_class + k)) then (first_user_class + k) ∷ [] else []) ≡ map number_for (in_front o [])
       go None e f = rw (f ∙ e) refl
       go (Some d) e f = rw (f ∙ e, number_there k x d h e) refl
 
@@ -289,7 +290,7 @@ module _ (forest : Forest) (whole : IsForest forest) where
   take_more zero x (y ∷ xs) h = let e : y ≡ x = cc in rw e refl
   take_more (suc k) x (y ∷ xs) h = ap (λ (t : List ℕ). y ∷ t) (take_more k x xs h)
 
-  owners_before_users : (n : ℕ) → n ≤ 16 → owners_below p n ≡ []
+  owners_before_users : (n : ℕ) → n ≤ first_user_class → owners_below p n ≡ []
   unfolding owners_below joined_below owner_at definition_in
   owners_before_users zero h = refl
   owners_before_users (suc n) h =
@@ -301,29 +302,29 @@ module _ (forest : Forest) (whole : IsForest forest) where
   there_below (x ∷ xs) zero h = (x, refl)
   there_below (x ∷ xs) (suc k) h = there_below xs k (omega (arith, h))
 
-  owners_so_far : (k : ℕ) → k ≤ length nodes_of → map (λ (n : ℕ). Some n) (owners_below p (16 + k)) ≡ map number_for (definitions_in forest.nodes (take k nodes_of))
+  owners_so_far : (k : ℕ) → k ≤ length nodes_of → map (λ (n : ℕ). Some n) (owners_below p (first_user_class + k)) ≡ map number_for (definitions_in forest.nodes (take k nodes_of))
   unfolding owners_below joined_below definitions_in
-  owners_so_far zero h = ap (map (λ (n : ℕ). Some n)) (owners_before_users 16 (omega arith))
+  owners_so_far zero h = ap (map (λ (n : ℕ). Some n)) (owners_before_users first_user_class (omega arith))
   owners_so_far (suc k) h =
       let there = there_below nodes_of k (omega (arith, h)) in
       let x : ℕ = there.0 in
-      let e : 16 + suc k ≡ suc (16 + k) = omega arith in
+      let e : first_user_class + suc k ≡ suc (first_user_class + k) = omega arith in
       let here : take (suc k) nodes_of ≡ take k nodes_of ++ x ∷ [] = take_more k x nodes_of there.1 in
       let parts : definitions_in forest.nodes (take k nodes_of ++ x ∷ []) ≡ definitions_in forest.nodes (take k nodes_of) ++ in_front (definition_of forest.nodes x) [] = definitions_in-append forest.nodes (take k nodes_of) (x ∷ []) in
       rw (e, here, parts)
-      (map-append (λ (n : ℕ). Some n) (owners_below p (16 + k)) (owner_at p (16 + k))
-      ∙ ap (λ t. t ++ map (λ (n : ℕ). Some n) (owner_at p (16 + k))) (owners_so_far k (omega (arith, h)))
+      (map-append (λ (n : ℕ). Some n) (owners_below p (first_user_class + k)) (owner_at p (first_user_class + k))
+      ∙ ap (λ t. t ++ map (λ (n : ℕ). Some n) (owner_at p (first_user_class + k))) (owners_so_far k (omega (arith, h)))
       ∙ ap (λ t. map number_for (definitions_in forest.nodes (take k nodes_of)) ++ t) (owners_step k x there.1)
       ∙ sym (map-append number_for (definitions_in forest.nodes (take k nodes_of)) (in_front (definition_of forest.nodes x) [])))
 
-  pub class_count : length p.classes ≡ 16 + length nodes_of
+  pub class_count : length p.classes ≡ first_user_class + length nodes_of
   unfolding declarations_of written_rows framework_classes
   class_count =
       let users = user_classes forest in
       let same : length users ≡ length nodes_of = sym (length-map users (λ (c : WrittenClass). c.node)) ∙ ap length users_are in
       counted-length (class_names users) (written_rows forest.nodes users) 0 (written_rows forest.nodes users)
       ∙ length-append (framework_rows_from 0 framework_classes) (map (user_row forest.nodes (class_names users)) users)
-      ∙ (let a = framework-length 0 framework_classes in let b = length-map users (user_row forest.nodes (class_names users)) in rw (a, b) (ap (λ (n : ℕ). 16 + n) same))
+      ∙ (let a = framework-length 0 framework_classes in let b = length-map users (user_row forest.nodes (class_names users)) in rw (a, b) (ap (λ (n : ℕ). first_user_class + n) same))
 
   owners_are : map (λ (n : ℕ). Some n) (owners_below p (length p.classes)) ≡ map number_for p.scopes
   unfolding declarations_of definitions
@@ -336,21 +337,43 @@ module _ (forest : Forest) (whole : IsForest forest) where
   each (Some n) (Some d) h = cc
 
   -- the scope that a definition makes
-  pub owner_there : (k : ℕ) → slice_get (owners_below p (length p.classes)) k ≡ scope_of_definition p k
+  pub owner_there : (k : ℕ) → slice_get (owners_below p (length p.classes)) k ≡ option_and_then (scope_of_definition p) (slice_get p.scopes k)
   unfolding declarations_of
   owner_there k =
       each (slice_get (owners_below p (length p.classes)) k) (slice_get p.scopes k)
       (sym (slice_get-map (λ (n : ℕ). Some n) (owners_below p (length p.classes)) k) ∙ ap (λ t. slice_get t k) owners_are ∙ slice_get-map number_for p.scopes k)
       ∙ ap (λ (ids : List ℕ). option_and_then (λ (d : Definition). number_of_class ids d.class) (slice_get p.scopes k)) (sym users_are)
 
-  -- the scope of a name that isn't the root's
-  pub named_owner : (owners : List ℕ) (find : List ℕ → Option ℕ) (name : List ℕ) → owners ≡ owners_below p (length p.classes) → IsIndex p.scopes find
-      → option_and_then (λ k. slice_get owners k) (find name) ≡ option_and_then (scope_of_definition p) (scope_named p.scopes name)
-  named_owner owners find name e index = ap (option_and_then (λ k. slice_get owners k)) (index.finds name) ∙ go (scope_named p.scopes name)
-    where
-      go : (o : Option ℕ) → option_and_then (λ k. slice_get owners k) o ≡ option_and_then (scope_of_definition p) o
-      go None = refl
-      go (Some k) = ap (λ (t : List ℕ). slice_get t k) e ∙ owner_there k
+  -- the definitions are those of the classes, number after number
+  written_before_users : (n : ℕ) → n ≤ 16 → written_below p n ≡ []
+  unfolding joined_below definition_in
+  written_before_users zero h = refl
+  written_before_users (suc n) h =
+      let none : written_in p.classes n ≡ None = no_user_below forest n (omega (arith, h)) in
+      rw (written_before_users n (omega (arith, h)), none) refl
+
+  written_so_far : (k : ℕ) → k ≤ length nodes_of → written_below p (16 + k) ≡ definitions_in forest.nodes (take k nodes_of)
+  unfolding joined_below definitions_in
+  written_so_far zero h = written_before_users 16 (omega arith)
+  written_so_far (suc k) h =
+      let there = there_below nodes_of k (omega (arith, h)) in
+      let x : ℕ = there.0 in
+      let e : 16 + suc k ≡ suc (16 + k) = omega arith in
+      let here : take (suc k) nodes_of ≡ take k nodes_of ++ x ∷ [] = take_more k x nodes_of there.1 in
+      let parts : definitions_in forest.nodes (take k nodes_of ++ x ∷ []) ≡ definitions_in forest.nodes (take k nodes_of) ++ in_front (definition_of forest.nodes x) [] = definitions_in-append forest.nodes (take k nodes_of) (x ∷ []) in
+      let one : definition_in p (16 + k) ≡ definition_of forest.nodes x = definition_by_node (16 + k) ∙ ap (option_and_then (definition_of forest.nodes)) (node_at k ∙ there.1) in
+      rw (e, here, parts)
+      (ap (λ t. t ++ in_front (definition_in p (16 + k)) []) (written_so_far k (omega (arith, h)))
+      ∙ ap (λ o. definitions_in forest.nodes (take k nodes_of) ++ in_front o []) one)
+
+  pub all_written : p.scopes ≡ written_below p (length p.classes)
+  unfolding declarations_of definitions
+  all_written =
+      sym (rw class_count (written_so_far (length nodes_of) (omega arith) ∙ ap (definitions_in forest.nodes) (take_all (length nodes_of) nodes_of (omega arith))))
+
+  pub root_unwritten : definition_in p 0 ≡ None
+  unfolding definition_in
+  root_unwritten = let none : written_in p.classes 0 ≡ None = no_user_below forest 0 (omega arith) in rw none refl
 
 -- the definition of a class is read from its node
 pub definition_of_class : (forest : Forest) (class : ℕ) (at : Option ℕ) → IsForest forest → at ≡ option_map (λ (c : WrittenClass). c.node) (class_written (declarations_of forest) class)

@@ -7,7 +7,8 @@ use Rattle.scj_base.specs.declared.findings.Rule.{Rule}
 use Rattle.scj_base.specs.declared.findings.Rule.TheVariants.{S1, S2, S3}
 use Rattle.scj_base.specs.declared.places.Pos.{Pos}
 use Rattle.scj_rules.specs.declared.scopes.Definition.{Definition}
-use Rattle.scj_rules.specs.Definitions.{immortal, is_same}
+use Rattle.scj_base.specs.Bytes.{is_same}
+use Rattle.scj_rules.specs.Definitions.{immortal}
 
 abbrev pub is_number : ℕ → Option ℕ → Bool
 is_number number None = false
@@ -32,12 +33,14 @@ unless is_well rule pos = if is_well then [] else finding rule pos ∷ []
 unfoldable pub findings_at : (List ℕ → Option ℕ) → List Bool → ℕ → Definition → List Found
 findings_at find returns number definition =
     unless (makes_scope find number definition.scope.name) S1 definition.scope.place
-    ++ (unless (is_parent find definition.parent.name) S2 definition.parent.place ++ unless (not (slice_index_or returns number false)) S3 definition.parent.place)
+    ++ (unless (is_parent find definition.parent.name) S2 definition.parent.place
+    ++ unless (not (slice_index_or returns number false)) S3 definition.parent.place)
 
 -- what is found at definitions, of which the first has this number
 unfoldable pub findings_from : (List ℕ → Option ℕ) → List Bool → ℕ → List Definition → List Found
 findings_from find returns number [] = []
-findings_from find returns number (definition ∷ rest) = findings_at find returns number definition ++ findings_from find returns (number + 1) rest
+findings_from find returns number (definition ∷ rest) =
+    findings_at find returns number definition ++ findings_from find returns (number + 1) rest
 
 -- the number of a definition's parent, and `none` where that is no scope
 abbrev pub parent_number : (List ℕ → Option ℕ) → ℕ → Definition → ℕ

@@ -1,4 +1,5 @@
 pub mod Annotated
+pub mod DefinitionsSupport
 pub mod Findings
 pub mod Index
 pub mod Jumps

@@ -12,6 +12,7 @@ ghost use Rattle.scj_rules.specs.Report.{IsReport};
 ghost use Rattle.scope_tree.specs.Index.{IsIndex};
 ghost use Rattle.scope_tree.specs.Trees.{IsNaming, IsTreeOf};
 
+use crate::classes::is_whole;
 use crate::definitions::definition_findings;
 use crate::headers::definitions_of;
 use crate::names::index_of;
@@ -34,8 +35,10 @@ fn names_of(
     index: BTreeMap<Name, usize>,
 ) -> Result<ScopeNames, Memory>
     requires { IsIndex (declarations_of classes.now).scopes (get (slice_cmp nat_cmp) index) }
-    ensures { IfOk result (λ names. IsNaming (declarations_of classes.now) names) }
+    ensures named { IfOk result (λ names. IsNaming (declarations_of classes.now) names) }
+    ensures indexed { IfOk result (λ names. IsIndex (declarations_of classes.now).scopes (get (slice_cmp nat_cmp) names.index)) }
 {
+    is_whole(classes);
     let owners = owners_of(alloc, classes)?;
     Ok(ScopeNames { index, owners })
 }
@@ -72,6 +75,7 @@ fn report_of(
 ) -> Result<Vec<Found>, Memory>
     requires whole { definitions.now ≡ all_definitions classes.now }
     requires named { IsNaming (declarations_of classes.now) names.now }
+    requires indexed { IsIndex (declarations_of classes.now).scopes (get (slice_cmp nat_cmp) names.now.index) }
     ensures { IfOk result (λ found. IsReport (BreaksScopeRules classes.now) found.items) }
 {
     let program = classes.program();

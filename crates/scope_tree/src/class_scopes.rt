@@ -1,11 +1,10 @@
 //! Where the instances of classes lie.
 
-ghost use Rattle.std.specs.Prelude.{◌≡◌, ◌==◌, length};
+ghost use Rattle.std.specs.Prelude.{◌≡◌, ◌==◌, length, not};
+ghost use Rattle.std.specs.List.{list_any};
 ghost use Rattle.scj_tree.specs.Recursion.{listed};
-ghost use Rattle.scj_rules.specs.Words.{holds};
 ghost use Rattle.scj_rules.specs.Contexts.{declarations_of};
-ghost use Rattle.scj_rules.specs.ScopeRules.{scope_number};
-ghost use Rattle.scj_rules.specs.StaticScopes.{is_implied_immortal, has_unknown_scope, differs_from_above, scope_of_right_class, class_scope_under, class_scope_on};
+ghost use Rattle.scj_rules.specs.StaticScopes.{is_implied_immortal, has_unknown_scope, is_not_scope, implied_scopes, differs_from_above, scope_of_right_class, class_scope_under, class_scope_on};
 ghost use Rattle.scope_tree.specs.Trees.{IsNaming};
 
 use crate::classes::{scope_number, scope_written_in};
@@ -13,6 +12,7 @@ use crate::trees::{ScopeNames, mark};
 use class_rows::Classes;
 use scj_base::ids::{MISSION, MISSION_SEQUENCER, SAFELET};
 use scj_base::{ClassId, ScopeId};
+use scj_builtins::FRAMEWORK_CLASS_COUNT;
 use scj_rules::{ClassScope, Written};
 
 /// Whether the instances of a class lie in `IMMORTAL` although it doesn't write so.
@@ -20,7 +20,7 @@ use scj_rules::{ClassScope, Written};
 pub fn is_implied_immortal(classes: &Classes, class: ClassId) -> bool
     ensures { result ≡ is_implied_immortal (declarations_of classes.now) class }
 {
-    class.number() >= 16
+    class.number() >= FRAMEWORK_CLASS_COUNT
         && (classes.is_under(class, MISSION)
             || classes.is_under(class, MISSION_SEQUENCER)
             || classes.implements(class, SAFELET))
@@ -37,18 +37,33 @@ pub fn has_unknown_scope(classes: &Classes, names: &ScopeNames, written: &Option
     }
 }
 
-/// Whether a written name is that of a scope.
-fn is_scope(classes: &Classes, names: &ScopeNames, written: &Written, scope: ScopeId) -> bool
+/// Whether an annotation names another scope than this one, or none.
+fn is_not_scope(classes: &Classes, names: &ScopeNames, written: &Written, scope: ScopeId) -> bool
     requires { IsNaming (declarations_of classes.now) names.now }
-    ensures { result ≡ holds (scope_number (declarations_of classes.now) written.now.name) (λ s. s == scope) }
+    ensures { result ≡ is_not_scope (declarations_of classes.now) written.now scope }
 {
     match scope_number(classes, names, &written.name) {
-        Some(named) => named == scope,
-        None => false,
+        Some(named) => named != scope,
+        None => true,
     }
 }
 
-/// Whether what is written, the superclass's scope and what is implied aren't one scope.
+/// Whether an annotation names another scope than the implied one, if one is.
+fn isnt_implied(classes: &Classes, names: &ScopeNames, written: &Written, implied: bool) -> bool
+    requires { IsNaming (declarations_of classes.now) names.now }
+    ensures { result ≡ list_any (is_not_scope (declarations_of classes.now) written.now) (implied_scopes implied) }
+{
+    implied && is_not_scope(classes, names, written, ScopeId::IMMORTAL)
+}
+
+/// Whether a scope isn't the implied one, if one is.
+fn is_other_than_implied(scope: ScopeId, implied: bool) -> bool
+    ensures { result ≡ list_any (λ s. not (scope == s)) (implied_scopes implied) }
+{
+    implied && scope != ScopeId::IMMORTAL
+}
+
+/// Whether the scope that a class names, or else inherits, differs from its superclass's or from the implied one.
 #[tactic(auto, unfolding(scj_rules::specs::StaticScopes::differs_from_above))]
 pub fn differs_from_above(
     classes: &Classes,
@@ -61,13 +76,13 @@ pub fn differs_from_above(
     ensures { result ≡ differs_from_above (declarations_of classes.now) written.now above.now implied }
 {
     match (written, above) {
-        (None, ClassScope::Annotated(above)) => implied && *above != ScopeId::IMMORTAL,
+        (None, ClassScope::Annotated(above)) => is_other_than_implied(*above, implied),
         (None, _) => false,
         (Some(written), ClassScope::Annotated(above)) => {
-            !is_scope(classes, names, written, *above)
-                || (implied && !is_scope(classes, names, written, ScopeId::IMMORTAL))
+            is_not_scope(classes, names, written, *above)
+                || isnt_implied(classes, names, written, implied)
         }
-        (Some(written), _) => implied && !is_scope(classes, names, written, ScopeId::IMMORTAL),
+        (Some(written), _) => isnt_implied(classes, names, written, implied),
     }
 }
 

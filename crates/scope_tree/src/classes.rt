@@ -1,7 +1,7 @@
 //! What single classes say of scopes.
 
 ghost use Rattle.std.specs.Prelude.{◌≡◌, option_map, option_and_then, slice_get};
-ghost use Rattle.scj_rules.specs.Definitions.{scope_named, definition_of};
+ghost use Rattle.scj_rules.specs.Definitions.{first_definition, definition_of};
 ghost use Rattle.scj_rules.specs.Contexts.{declarations_of};
 ghost use Rattle.scj_rules.specs.ScopeRules.{scope_number, scope_of_definition, definition_in, defined_by, parent_scope, scope_written_in, user_class_in};
 ghost use Rattle.scj_rules.specs.Views.{WrittenClass};
@@ -76,12 +76,10 @@ fn owner_of(owners: &[ClassId], definition: Option<usize>) -> Option<ScopeId>
 }
 
 /// The scope that is defined under a name.
-#[tactic(auto, using(crate::proofs::UserLemmas::named_owner))]
 fn defined_scope(classes: &Classes, names: &ScopeNames, name: &Name) -> Option<ScopeId>
     requires { IsNaming (declarations_of classes.now) names.now }
-    ensures { result ≡ option_and_then (scope_of_definition (declarations_of classes.now)) (scope_named (declarations_of classes.now).scopes name.now) }
+    ensures { result ≡ option_and_then (scope_of_definition (declarations_of classes.now)) (first_definition (declarations_of classes.now).scopes name.now) }
 {
-    is_whole(classes);
     let definition = names.index.get(name).copied();
     owner_of(&names.owners, definition)
 }

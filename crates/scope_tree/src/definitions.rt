@@ -1,22 +1,19 @@
 //! The rules on definitions of scopes: each name once, with a parent that is known, and no cycle.
 
-ghost use Rattle.std.specs.Prelude.{◌≡◌, ◌<◌, ◌≤◌, ◌++◌, ◌↔◌, IfOk, OnOk, length};
+ghost use Rattle.std.specs.Prelude.{◌≡◌, ◌<◌, ◌≤◌, ◌++◌, IfOk, OnOk, length};
 ghost use Rattle.std.specs.BTreeMap.{get};
 ghost use Rattle.std.specs.Cmp.Lexicographic.{slice_cmp};
 ghost use Rattle.std.specs.Ordering.{nat_cmp};
-ghost use Rattle.scj_rules.specs.Breaks.{Breaks};
-ghost use Rattle.scj_base.specs.declared.findings.Found.{Found as Finding};
+ghost use Rattle.scj_tree.specs.Forest.{IsForest};
+ghost use Rattle.scj_rules.specs.Contexts.{declarations_of};
 ghost use Rattle.scj_rules.specs.Definitions.{definitions as all_definitions};
-ghost use Rattle.std.specs.List.{Contains};
-ghost use Rattle.scj_rules.specs.Report.{IsReport};
 ghost use Rattle.scope_tree.specs.Index.{IsIndex};
 ghost use Rattle.scope_tree.specs.Findings.{makes_scope, is_parent, unless, findings_at, findings_from, parent_steps};
+ghost use Rattle.scope_tree.specs.Rules.{tree_phase};
 
 use crate::cycles::returning;
-use crate::headers::definitions_of;
-use crate::names::index_of;
 use scj_base::{Found, Memory, Name, Pos, Rule};
-use scj_rules::{Definition, put_in_order};
+use scj_rules::Definition;
 use scj_tree::Program;
 use std::alloc::Global;
 use std::collections::BTreeMap;
@@ -59,7 +56,7 @@ fn parents_of(
 
 /// Notes a break of the rule, unless all is well.
 #[tactic(auto, unfolding(crate::specs::Findings::unless))]
-fn note(found: &mut Vec<Found>, is_well: bool, rule: Rule, pos: Pos) -> Result<(), Memory>
+fn report_if(found: &mut Vec<Found>, is_well: bool, rule: Rule, pos: Pos) -> Result<(), Memory>
     ensures { OnOk result (found.new.items ≡ found.old.items ++ unless is_well rule pos) }
 {
     if !is_well {
@@ -83,10 +80,10 @@ fn note_definition(
     let scope = &definition.scope;
     let parent = &definition.parent;
     let is_first = makes_scope(index, number, &scope.name);
-    note(found, is_first, Rule::S1, scope.place)?;
+    report_if(found, is_first, Rule::S1, scope.place)?;
     let is_known = is_parent(index, &parent.name);
-    note(found, is_known, Rule::S2, parent.place)?;
-    note(found, !returns[number], Rule::S3, parent.place)?;
+    report_if(found, is_known, Rule::S2, parent.place)?;
+    report_if(found, !returns[number], Rule::S3, parent.place)?;
     Ok(())
 }
 
@@ -107,7 +104,14 @@ fn findings_of(
     Ok(found)
 }
 
-/// What is broken at the definitions of scopes, in any order.
+/// A program is a forest.
+fn is_whole(program: &Program)
+    ensures { IsForest program.now }
+{
+    let _count = program.len();
+}
+
+/// What S1 to S3 find at the definitions of scopes.
 pub fn definition_findings(
     alloc: Global,
     program: &Program,
@@ -116,21 +120,11 @@ pub fn definition_findings(
 ) -> Result<Vec<Found>, Memory>
     requires whole { definitions.now ≡ all_definitions program.now }
     requires indexed { IsIndex (all_definitions program.now) (get (slice_cmp nat_cmp) index.now) }
-    ensures { IfOk result (λ found. (finding : Finding) → Contains found.items finding ↔ Breaks program.now finding.rule finding.pos) }
+    ensures { IfOk result (λ found. found.items ≡ tree_phase (declarations_of program.now)) }
 {
+    is_whole(program);
     let parents = parents_of(alloc, definitions, index)?;
     let returns = returning(alloc, parents)?;
     let found = findings_of(alloc, definitions, index, &returns)?;
-    Ok(found)
-}
-
-/// The breaks of the rules on the definitions of scopes, in the order of a report.
-pub fn check_definitions(alloc: Global, program: &Program) -> Result<Vec<Found>, Memory>
-    ensures { IfOk result (λ found. IsReport (Breaks program.now) found.items) }
-{
-    let definitions = definitions_of(alloc, program)?;
-    let index = index_of(alloc, &definitions)?;
-    let mut found = definition_findings(alloc, program, &definitions, &index)?;
-    put_in_order(&mut found);
     Ok(found)
 }

@@ -15,7 +15,6 @@ mod tables;
 pub mod trees;
 
 pub use builds::build;
-pub use definitions::check_definitions;
 pub use scopes::Scopes;
 pub use trees::{ScopeNames, ScopeTree};
 

@@ -2,13 +2,14 @@
 
 ghost use Rattle.std.specs.Prelude.{◌≡◌, ◌++◌, not, ◌&&◌, ◌||◌, is_some, option_map, OnOk, IfOk};
 ghost use Rattle.std.specs.List.{list_any};
-ghost use Rattle.scj_rules.specs.Words.{holds, along, is_same};
+ghost use Rattle.scj_base.specs.Bytes.{is_same};
+ghost use Rattle.scj_rules.specs.Words.{holds, along};
 ghost use Rattle.scj_rules.specs.declared.scopes.Written.{Written};
 ghost use Rattle.scj_rules.specs.Classes.{superclasses, classes_above};
 ghost use Rattle.scj_rules.specs.Contexts.{declarations_of};
-ghost use Rattle.scj_rules.specs.ScopeRules.{definition_in, is_mission, is_handler, scope_written_in, misfits_parent, user_class_in, s4, s5, definition_breaks, scope_breaks};
-ghost use Rattle.scj_rules.specs.Phases.{at_class, scope_phase};
-ghost use Rattle.scope_tree.specs.Rules.{header_of, s6_at};
+ghost use Rattle.scj_rules.specs.ScopeRules.{definition_in, is_mission, is_handler, scope_written_in, misfits_parent, user_class_in, s4, s5};
+ghost use Rattle.scj_rules.specs.Phases.{at_class};
+ghost use Rattle.scope_tree.specs.Rules.{definer_breaks, class_scope_breaks, definer_phase, header_of, s6_at};
 ghost use Rattle.scope_tree.specs.Trees.{IsNaming};
 
 use crate::chains::{any_defines, scope_written_on, superclasses_of};
@@ -18,7 +19,7 @@ use crate::trees::ScopeNames;
 use class_rows::Classes;
 use scj_base::ids::{APERIODIC_EVENT_HANDLER, MISSION, PERIODIC_EVENT_HANDLER, RUNNABLE};
 use scj_base::{ClassId, Found, Memory, Name, Pos, Rule, ScopeId};
-use scj_rules::{Definition, note};
+use scj_rules::{Definition, report_if};
 use std::alloc::Global;
 
 /// Whether a class stands under one of the framework's classes of handlers.
@@ -59,7 +60,7 @@ fn note_wrong_class(
     let may_define = classes.is_under(class, MISSION)
         || (is_handler(classes, class) || classes.is_sub(class, RUNNABLE));
     let is_wrong = !may_define || any_defines(classes, above);
-    note(found, is_wrong, Rule::S4, definition.scope.place)
+    report_if(found, is_wrong, Rule::S4, definition.scope.place)
 }
 
 /// Whether the scope in which the instances of a class lie has been written by this name.
@@ -112,7 +113,7 @@ fn note_wrong_parent(
         Some(parent) => misfits_parent(classes, class, definition, chain, parent),
         None => false,
     };
-    note(found, is_wrong, Rule::S5, definition.parent.place)
+    report_if(found, is_wrong, Rule::S5, definition.parent.place)
 }
 
 /// Whether a class that isn't abstract has a scope of its own.
@@ -143,11 +144,11 @@ fn note_missing(
 {
     let (is_abstract, place) = header;
     let test = is_missing(classes, class, is_abstract, chain);
-    note(found, test, Rule::S6, place)
+    report_if(found, test, Rule::S6, place)
 }
 
-/// Notes what is broken at the definition of a class.
-#[tactic(auto, unfolding(scj_rules::specs::ScopeRules::definition_breaks))]
+/// Notes S4 and S5 at the definition of a class.
+#[tactic(auto, unfolding(crate::specs::Rules::definer_breaks))]
 fn note_definition(
     alloc: Global,
     found: &mut Vec<Found>,
@@ -158,7 +159,7 @@ fn note_definition(
 ) -> Result<(), Memory>
     requires named { IsNaming (declarations_of classes.now) names.now }
     requires whole { chain.now ≡ superclasses (declarations_of classes.now).classes class }
-    ensures { OnOk result (found.new.items ≡ found.old.items ++ definition_breaks (declarations_of classes.now) class) }
+    ensures { OnOk result (found.new.items ≡ found.old.items ++ definer_breaks (declarations_of classes.now) class) }
 {
     let Some(definition) = definition_in(classes, class) else {
         return Ok(());
@@ -179,7 +180,7 @@ fn header_in(classes: &Classes, class: ClassId) -> Option<(bool, Pos)>
     }
 }
 
-/// Notes what is broken at a class.
+/// Notes S4 to S6 at a class.
 #[tactic(auto, using(crate::proofs::PhaseLemmas::broken_at_class, crate::proofs::PhaseLemmas::nothing_at_class))]
 fn note_class(
     alloc: Global,
@@ -189,7 +190,7 @@ fn note_class(
     class: ClassId,
 ) -> Result<(), Memory>
     requires { IsNaming (declarations_of classes.now) names.now }
-    ensures { OnOk result (found.new.items ≡ found.old.items ++ at_class (declarations_of classes.now) (λ class row c. scope_breaks (declarations_of classes.now) class c) class) }
+    ensures { OnOk result (found.new.items ≡ found.old.items ++ at_class (declarations_of classes.now) (λ class row c. class_scope_breaks (declarations_of classes.now) class c) class) }
 {
     let Some(header) = header_in(classes, class) else {
         return Ok(());
@@ -200,8 +201,8 @@ fn note_class(
     Ok(())
 }
 
-/// What is broken at the classes.
-#[tactic(auto, using(crate::proofs::PhaseLemmas::classes_joined), unfolding(scj_tree::specs::Recursion::joined_below, scj_rules::specs::Phases::scope_phase))]
+/// What S4 to S6 find at the classes.
+#[tactic(auto, using(crate::proofs::PhaseLemmas::classes_joined), unfolding(scj_tree::specs::Recursion::joined_below, crate::specs::Rules::definer_phase))]
 pub fn note_classes(
     alloc: Global,
     found: &mut Vec<Found>,
@@ -209,7 +210,7 @@ pub fn note_classes(
     names: &ScopeNames,
 ) -> Result<(), Memory>
     requires { IsNaming (declarations_of classes.now) names.now }
-    ensures { OnOk result (found.new.items ≡ found.old.items ++ scope_phase (declarations_of classes.now)) }
+    ensures { OnOk result (found.new.items ≡ found.old.items ++ definer_phase (declarations_of classes.now)) }
 {
     for number in 0..classes.count() {
         note_class(alloc, found, classes, names, class_numbered(number)?)?;

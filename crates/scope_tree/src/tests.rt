@@ -1,7 +1,7 @@
 ghost use Rattle.std.specs.Prelude.{◌≡◌, ◌<◌, ◌≤◌, ◌++◌, ◌^◌, OnOk, length};
 ghost use Rattle.scope_tree.specs.Samples.{header};
 
-use crate::{build, check_definitions};
+use crate::build;
 use class_rows::ClassTable;
 use scj_base::{ClassId, Found, Memory, Name, NodeId, Pos, Rule, ScopeId, SharedName};
 use scj_tree::{Arena, Node, NodeList, Program};
@@ -72,24 +72,6 @@ fn three_headers(alloc: Global) -> Result<Program, Memory> {
     let files = vec![in alloc; classes]?;
     let nodes = Arena::from_nodes(alloc, nodes)?;
     Ok(Program::from_parts(alloc, nodes, files))
-}
-
-#[test]
-fn each_rule_is_broken(rt: HostRuntime) -> Result<(), Fail> {
-    let alloc = rt.alloc();
-    let program = three_headers(alloc)?;
-    let found = check_definitions(alloc, &program)?;
-    let expected = [
-        (at(1, 31), Rule::S3),
-        (at(2, 19), Rule::S1),
-        (at(2, 31), Rule::S2),
-        (at(3, 19), Rule::S1),
-    ];
-    assert_eq!(rt; found.len(), expected.len());
-    for (finding, (pos, rule)) in found.iter().zip(expected) {
-        assert!(rt; *finding == Found { pos, rule });
-    }
-    Ok(())
 }
 
 #[test]

@@ -1,7 +1,7 @@
 //! The tree of scopes.
 
 ghost use Rattle.std.specs.Prelude.{◌≡◌, ◌==◌, ◌||◌, false, length};
-ghost use Rattle.scj_tree.specs.Recursion.{told};
+ghost use Rattle.scj_tree.specs.Recursion.{lookup};
 ghost use Rattle.scj_rules.specs.Words.{is_among, chain};
 ghost use Rattle.scj_tree.specs.Forest.{Forest};
 ghost use Rattle.scj_rules.specs.Contexts.{declarations_of};
@@ -40,7 +40,7 @@ pub struct ScopeTree {
 
 /// What stands in a table at the number of a class.
 pub fn entry(table: &[Option<ScopeId>], number: u32) -> Option<ScopeId>
-    ensures { result ≡ told None table.now number }
+    ensures { result ≡ lookup None table.now number }
 {
     match table.get(number as usize) {
         Some(scope) => *scope,
@@ -50,7 +50,7 @@ pub fn entry(table: &[Option<ScopeId>], number: u32) -> Option<ScopeId>
 
 /// What stands in a table of class scopes at the number of a class.
 pub fn class_entry(table: &[ClassScope], number: u32) -> ClassScope
-    ensures { result ≡ told unannotated table.now number }
+    ensures { result ≡ lookup unannotated table.now number }
 {
     match table.get(number as usize) {
         Some(scope) => *scope,
@@ -60,7 +60,7 @@ pub fn class_entry(table: &[ClassScope], number: u32) -> ClassScope
 
 /// What stands in a table of marks at the number of a class.
 pub fn mark(table: &[bool], number: u32) -> bool
-    ensures { result ≡ told false table.now number }
+    ensures { result ≡ lookup false table.now number }
 {
     match table.get(number as usize) {
         Some(mark) => *mark,
@@ -81,7 +81,7 @@ fn annotated_scope(scope: &ClassScope) -> Option<ScopeId>
 /// Whether a scope stands on the chain of parents of another one, itself among them.
 #[tactic(auto, using(crate::proofs::TreeLemmas::chain_here, crate::proofs::TreeLemmas::chain_ended))]
 pub fn is_reached(parents: &[Option<ScopeId>], a: ScopeId, b: ScopeId) -> bool
-    ensures { result ≡ is_among a (chain (told None parents.now) (length parents.now) b) }
+    ensures { result ≡ is_among a (chain (lookup None parents.now) (length parents.now) b) }
 {
     let mut here = Some(b);
     let mut left = parents.len();
@@ -100,7 +100,7 @@ pub fn is_reached(parents: &[Option<ScopeId>], a: ScopeId, b: ScopeId) -> bool
 
 /// Whether a scope is the root or stands on the chain of parents of another one.
 pub fn is_outer_in(parents: &[Option<ScopeId>], a: ScopeId, b: ScopeId) -> bool
-    ensures { result ≡ ((a == 0) || is_among a (chain (told None parents.now) (length parents.now) b)) }
+    ensures { result ≡ ((a == 0) || is_among a (chain (lookup None parents.now) (length parents.now) b)) }
 {
     a == ScopeId::IMMORTAL || is_reached(parents, a, b)
 }

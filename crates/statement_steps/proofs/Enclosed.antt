@@ -4,7 +4,7 @@ use Rattle.parser_machine.specs.Members.{is_else, statement_ended}
 use Rattle.parser_machine.specs.States.{State}
 use Rattle.parser_machine.specs.declared.entries.Entry.{Entry}
 use Rattle.parser_machine.specs.declared.entries.Entry.TheVariants.{ForBody, IfElse, IfThen, WhileBody}
-use Rattle.scj_tree.specs.Headers.{put}
+use Rattle.scj_tree.specs.Nodes.{put}
 use Rattle.scj_tree.specs.Lexemes.{Lexeme}
 use Rattle.scj_tree.specs.declared.nodes.Node.{Node}
 use Rattle.statement_steps.specs.Enclosing.{enclosing}

@@ -7,7 +7,7 @@ ghost use Rattle.parser_machine.specs.declared.entries.Entry.TheVariants.{ForHea
 ghost use Rattle.parser_machine.specs.declared.modes.Mode.TheVariants.{ForFirst, Operand};
 ghost use Rattle.parser_nodes.specs.Told.{gives, seen};
 ghost use Rattle.scj_tree.specs.Lexemes.{a_sign};
-ghost use Rattle.scj_tree.specs.Headers.{put};
+ghost use Rattle.scj_tree.specs.Nodes.{put};
 ghost use Rattle.scj_tree.specs.declared.nodes.Node.TheVariants.{SimpleName};
 ghost use Rattle.std.specs.Prelude.{length};
 
@@ -24,7 +24,7 @@ use scj_base::{Memory, NodeId, Pos, SharedName};
 use scj_tree::Node;
 use type_steps::declarations::flags_step;
 use type_steps::flags::no_flags;
-use type_steps::names::takes_argument;
+use type_steps::names::has_type_argument;
 use type_steps::types::typed;
 
 /// Where a target is due.
@@ -98,7 +98,7 @@ pub fn name_first_sign(
     ensures kept { nodes.new.kept ≡ nodes.old.kept }
 {
     if sign == LESS {
-        if takes_argument(name) {
+        if has_type_argument(name) {
             stack.push(Entry::LocalOpen { flags: None })?;
             return Ok(Some(Mode::TypeArgumentName {
                 place,

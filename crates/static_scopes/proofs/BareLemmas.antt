@@ -3,7 +3,7 @@ use Rattle.std.proofs.Common.{◌≡◌, ℕ, Bool, true, false, if◌then◌els
 use Rattle.scj_tree.specs.declared.nodes.Node.{Node}
 use Rattle.scj_tree.specs.declared.nodes.Node.TheVariants.{ClassType, Field, Parameter, Local, LocalWithValue}
 use Rattle.scj_tree.specs.Forest.{Forest}
-use Rattle.scj_rules.specs.declared.scopes.Thing.{Thing}
+use Rattle.scj_rules.specs.declared.scopes.ScopedDeclaration.{ScopedDeclaration}
 use Rattle.scj_rules.specs.declared.scopes.Written.{Written}
 use Rattle.scj_rules.specs.declared.typing.Scope.{Scope}
 use Rattle.scj_rules.specs.declared.views.Declared.{Declared}
@@ -12,10 +12,10 @@ use Rattle.scj_rules.specs.declared.views.WrittenType.TheVariants.{Class as clas
 use Rattle.scj_rules.specs.Definitions.{read}
 use Rattle.scj_rules.specs.Views.{declared, type_at, type_of_node, variable_at, variable_of, field_at, field_of}
 use Rattle.scj_rules.specs.Contexts.{Declarations, declarations_of, context, is_static_member}
-use Rattle.scj_rules.specs.StaticScopes.{has_no_scope, free_thing_scope, thing_scope, variable_thing, current_in, this_in, field_thing, field_scope}
+use Rattle.scj_rules.specs.StaticScopes.{has_no_scope, scope_as_written, declaration_scope, scoped_variable, current_in, this_in, scoped_field, field_scope}
 use Rattle.scj_rules.specs.ScopeRules.{immortal_scope}
 use Rattle.scj_rules.specs.declared.typing.Scope.TheVariants.{In}
-use Rattle.scj_rules.specs.AnnotationRules.{variable_thing_at}
+use Rattle.scj_rules.specs.AnnotationRules.{scoped_variable_at}
 use Rattle.class_rows.specs.declared.fields.FieldRef.{FieldRef}
 use Rattle.class_rows.specs.Fields.{found_field, no_field}
 use Rattle.static_scopes.specs.Found.{suited_scope}
@@ -50,39 +50,39 @@ bare_declared nodes id t name h e = go (slice_get nodes id) h
     go (Some (LocalWithValue place name_place n None u value)) h = (declared nodes id name_place n None u, (refl, record { no_value = refl; of_class = same u h }))
     go (Some _) h = absurd (let k : None ≡ Some t = h in cc)
 
-bare_thing : (p : Declarations) (class : ℕ) (current : Option Scope) (is_static : Bool) (d : Declared) (name : List ℕ) → IsBare d name → thing_scope p (variable_thing class current is_static d) ≡ bare_scope p current name
-unfolding thing_scope has_no_scope free_thing_scope bare_scope
+bare_thing : (p : Declarations) (class : ℕ) (current : Option Scope) (is_static : Bool) (d : Declared) (name : List ℕ) → IsBare d name → declaration_scope p (scoped_variable class current is_static d) ≡ bare_scope p current name
+unfolding declaration_scope has_no_scope scope_as_written bare_scope
 bare_thing p class current is_static d name bare =
-    ap (λ (t : WrittenType). thing_scope p (made t d.modifiers.scope)) bare.of_class
-    ∙ ap (λ (w : Option Written). thing_scope p (made (class_type name) w)) bare.no_value ∙ refl
+    ap (λ (t : WrittenType). declaration_scope p (made t d.modifiers.scope)) bare.of_class
+    ∙ ap (λ (w : Option Written). declaration_scope p (made (class_type name) w)) bare.no_value ∙ refl
   where
-    made : WrittenType → Option Written → Thing
+    made : WrittenType → Option Written → ScopedDeclaration
     made declared_type scope = record { class = class; current = current; default = current; is_field = false; is_static = is_static; declared_type = declared_type; scope = scope }
 
-bare_at : (p : Declarations) (id : ℕ) (d : Declared) (name : List ℕ) → variable_at p.nodes id ≡ Some d → IsBare d name → option_and_then (thing_scope p) (variable_thing_at p id) ≡ bare_scope_at p id name
-unfolding variable_thing_at
+bare_at : (p : Declarations) (id : ℕ) (d : Declared) (name : List ℕ) → variable_at p.nodes id ≡ Some d → IsBare d name → option_and_then (declaration_scope p) (scoped_variable_at p id) ≡ bare_scope_at p id name
+unfolding scoped_variable_at
 bare_at p id d name there bare = classes (context p id).class
   where
-    made : ℕ → ℕ → Declared → Thing
-    made class member d = variable_thing class (current_in p class member) (is_static_member p.nodes member) d
+    made : ℕ → ℕ → Declared → ScopedDeclaration
+    made class member d = scoped_variable class (current_in p class member) (is_static_member p.nodes member) d
 
-    here : (class member : ℕ) → option_and_then (thing_scope p) (option_map (made class member) (variable_at p.nodes id)) ≡ bare_scope p (current_in p class member) name
+    here : (class member : ℕ) → option_and_then (declaration_scope p) (option_map (made class member) (variable_at p.nodes id)) ≡ bare_scope p (current_in p class member) name
     here class member =
-        ap (λ (o : Option Declared). option_and_then (thing_scope p) (option_map (made class member) o)) there
+        ap (λ (o : Option Declared). option_and_then (declaration_scope p) (option_map (made class member) o)) there
         ∙ bare_thing p class (current_in p class member) (is_static_member p.nodes member) d name bare
 
     members : (class : ℕ) (o : Option ℕ)
-        → option_and_then (thing_scope p) (option_and_then (λ member. option_map (made class member) (variable_at p.nodes id)) o) ≡ option_and_then (λ member. bare_scope p (current_in p class member) name) o
+        → option_and_then (declaration_scope p) (option_and_then (λ member. option_map (made class member) (variable_at p.nodes id)) o) ≡ option_and_then (λ member. bare_scope p (current_in p class member) name) o
     members class None = refl
     members class (Some member) = here class member
 
-    classes : (o : Option ℕ) → option_and_then (thing_scope p) (option_and_then (λ class. option_and_then (λ member. option_map (made class member) (variable_at p.nodes id)) (context p id).member) o)
+    classes : (o : Option ℕ) → option_and_then (declaration_scope p) (option_and_then (λ class. option_and_then (λ member. option_map (made class member) (variable_at p.nodes id)) (context p id).member) o)
         ≡ option_and_then (λ class. option_and_then (λ member. bare_scope p (current_in p class member) name) (context p id).member) o
     classes None = refl
     classes (Some class) = members class (context p id).member
 
 pub bare_variable : (forest : Forest) (id t : ℕ) (name : List ℕ) → read forest.nodes bare_type_of id ≡ Some t → read forest.nodes class_name_of t ≡ Some name
-    → bare_scope_at (declarations_of forest) id name ≡ option_and_then (thing_scope (declarations_of forest)) (variable_thing_at (declarations_of forest) id)
+    → bare_scope_at (declarations_of forest) id name ≡ option_and_then (declaration_scope (declarations_of forest)) (scoped_variable_at (declarations_of forest) id)
 unfolding declarations_of
 bare_variable forest id t name h k =
     let found = bare_declared forest.nodes id t name h (class_written_at forest.nodes t name k) in
@@ -107,14 +107,14 @@ field_declared nodes id t name h e = go (slice_get nodes id) h
     go (Some (Field place n None u equals value)) h = (declared nodes id place n None u, (refl, record { no_value = refl; not_static = refl; of_class = same u h }))
     go (Some _) h = absurd (let k : None ≡ Some t = h in cc)
 
-field_thing_is : (p : Declarations) (class : ℕ) (d : Declared) (name : List ℕ) → IsBareField d name → thing_scope p (field_thing p class d) ≡ bare_scope p (this_in p class) name
-unfolding thing_scope has_no_scope free_thing_scope bare_scope
+field_thing_is : (p : Declarations) (class : ℕ) (d : Declared) (name : List ℕ) → IsBareField d name → declaration_scope p (scoped_field p class d) ≡ bare_scope p (this_in p class) name
+unfolding declaration_scope has_no_scope scope_as_written bare_scope
 field_thing_is p class d name bare =
-    ap (λ (b : Bool). thing_scope p (made b d.declared_type d.modifiers.scope)) bare.not_static
-    ∙ ap (λ (t : WrittenType). thing_scope p (made false t d.modifiers.scope)) bare.of_class
-    ∙ ap (λ (w : Option Written). thing_scope p (made false (class_type name) w)) bare.no_value ∙ refl
+    ap (λ (b : Bool). declaration_scope p (made b d.declared_type d.modifiers.scope)) bare.not_static
+    ∙ ap (λ (t : WrittenType). declaration_scope p (made false t d.modifiers.scope)) bare.of_class
+    ∙ ap (λ (w : Option Written). declaration_scope p (made false (class_type name) w)) bare.no_value ∙ refl
   where
-    made : Bool → WrittenType → Option Written → Thing
+    made : Bool → WrittenType → Option Written → ScopedDeclaration
     made is_static declared_type scope =
         record {
           class = class;
@@ -129,7 +129,7 @@ field_thing_is p class d name bare =
 field_scope_is : (p : Declarations) (class : ℕ) (d : Declared) (name : List ℕ) → IsBareField d name → suited_scope p class false (bare_scope p (this_in p class) name) ≡ field_scope p class d
 field_scope_is p class d name bare =
     ap (λ (s : Option Scope). suited_scope p class false s) (sym (field_thing_is p class d name bare))
-    ∙ ap (λ (b : Bool). suited_scope p class b (thing_scope p (field_thing p class d))) (sym bare.not_static)
+    ∙ ap (λ (b : Bool). suited_scope p class b (declaration_scope p (scoped_field p class d))) (sym bare.not_static)
     ∙ suited_field p class d
 
 pub bare_field : (forest : Forest) (f : FieldRef) (t : ℕ) (name : List ℕ) → read forest.nodes bare_field_type_of f.node ≡ Some t → read forest.nodes class_name_of t ≡ Some name

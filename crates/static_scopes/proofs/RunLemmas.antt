@@ -7,7 +7,7 @@ use Rattle.scj_tree.specs.declared.nodes.Node.{Node}
 use Rattle.scj_tree.specs.declared.nodes.Node.TheVariants.{Method}
 use Rattle.scj_tree.specs.Kinds.{kind_of}
 use Rattle.scj_tree.specs.Forest.{Forest}
-use Rattle.scj_tree.specs.Recursion.{told}
+use Rattle.scj_tree.specs.Recursion.{lookup}
 use Rattle.scj_tree.proofs.RecursionLemmas.{listed-at}
 use Rattle.scj_rules.specs.declared.typing.Scope.{Scope}
 use Rattle.scj_rules.specs.Words.{holds}
@@ -72,10 +72,10 @@ no_method_past forest id h t = go (slice_get forest.nodes id) (slice_get_past fo
     go (Some node) e t = absurd (let k : Some node ≡ None = e in cc)
 
 pub told_run : (forest : Forest) (runs : Runs) (class id : ℕ) → AreRuns forest runs → Some class ≡ (context (declarations_of forest) id).class → true ≡ is_some (method_at forest.nodes id)
-    → told None runs.rows.items id ≡ runs_in (declarations_of forest) class (method_in forest (at_node class id))
+    → lookup None runs.rows.items id ≡ runs_in (declarations_of forest) class (method_in forest (at_node class id))
 unfolding run_at
 told_run forest runs class id are here t =
-    ap (λ xs. told None xs id) are.rows ∙ listed-at None (run_at (declarations_of forest)) (length forest.nodes) id
+    ap (λ xs. lookup None xs id) are.rows ∙ listed-at None (run_at (declarations_of forest)) (length forest.nodes) id
     ∙ ⊎_elim (λ (l : id < length forest.nodes).
     let inside : nat_lt id (length forest.nodes) ≡ true = grind (arith, nat_tests) in
     rw inside (ap (option_and_then (λ (c : ℕ). runs_in_at (declarations_of forest) c id)) (sym here) ∙ sym (run_in_class forest class id t)))

@@ -1,8 +1,8 @@
 -- A method for which a short row stands, and a part of the scope of a thing.
 use Rattle.std.specs.Prelude.{ℕ, Bool, Option, Some, None, if◌then◌else◌, option_and_then}
 use Rattle.scj_rules.specs.Contexts.{Declarations}
-use Rattle.scj_rules.specs.StaticScopes.{class_scope, type_scope, free_thing_scope, suits_field}
-use Rattle.scj_rules.specs.declared.scopes.Thing.{Thing}
+use Rattle.scj_rules.specs.StaticScopes.{class_scope, type_scope, scope_as_written, suits_field}
+use Rattle.scj_rules.specs.declared.scopes.ScopedDeclaration.{ScopedDeclaration}
 use Rattle.scj_rules.specs.declared.scopes.ClassScope.TheVariants.{Unannotated as unannotated, Annotated as annotated, Unknown as unknown}
 use Rattle.scj_rules.specs.declared.typing.Scope.{Scope}
 use Rattle.scj_rules.specs.declared.typing.Scope.TheVariants.{In}
@@ -16,8 +16,8 @@ abbrev pub method_in : Forest → MethodRef → DeclaredMethod
 method_in forest m = (found_method forest.nodes m).method
 
 -- the scope of a thing whose declaration breaks no rule
-abbrev pub right_thing_scope : Declarations → Thing → Option Scope
-right_thing_scope p t = elim (type_scope p t.declared_type) [ unannotated ↦ free_thing_scope p t | annotated s ↦ Some (In s) | unknown ↦ None ]
+abbrev pub right_thing_scope : Declarations → ScopedDeclaration → Option Scope
+right_thing_scope p t = elim (type_scope p t.declared_type) [ unannotated ↦ scope_as_written p t | annotated s ↦ Some (In s) | unknown ↦ None ]
 
 -- the scope, where a field of the class may have it
 abbrev pub suited_scope : Declarations → ℕ → Bool → Option Scope → Option Scope

@@ -29,6 +29,6 @@ pub record AreRuns (forest : Forest) (runs : Runs) : Type 0 where
   pub rows : runs.rows.items ≡ listed (run_at (declarations_of forest)) (length forest.nodes)
 
 -- these are the contexts of the program, and the table is that program's
-pub record IsScoped (forest : Forest) (contexts : List Context) (runs : Runs) : Type 0 where
+pub record AreTablesOf (forest : Forest) (contexts : List Context) (runs : Runs) : Type 0 where
   pub own_contexts : contexts ≡ contexts_in forest
   pub own_runs : AreRuns forest runs

@@ -8,42 +8,17 @@ ghost use Rattle.scj_rules.specs.Classes.{FoundMethod, framework_row_named, meth
 ghost use Rattle.scj_rules.specs.ClassRules.{inherits_as, numbers_from};
 ghost use Rattle.scj_rules.specs.Contexts.{declarations_of};
 ghost use Rattle.scj_rules.specs.ScopeRules.{defined_by_chain};
-ghost use Rattle.scj_rules.specs.StaticScopes.{fixed_runs_in, fixed_for, is_inherited_by_safelet};
+ghost use Rattle.scj_rules.specs.StaticScopes.{fixed_scope, fixed_runs_in, fixed_for, is_inherited_by_safelet};
 ghost use Rattle.scj_rules.specs.declared.typing.Scope.TheVariants.{In, Caller};
 ghost use Rattle.static_scopes.specs.Found.{method_in};
 
 use class_rows::Classes;
 use method_rows::{MethodRef, builtin};
-use scj_base::ids::{
-    APERIODIC_EVENT_HANDLER_HANDLE_ASYNC_EVENT, MISSION_CLEAN_UP, MISSION_INITIALIZE,
-    MISSION_MISSION_MEMORY_SIZE, MISSION_SEQUENCER_GET_NEXT_MISSION,
-    PERIODIC_EVENT_HANDLER_HANDLE_ASYNC_EVENT, RUNNABLE_RUN, SAFELET, SAFELET_GET_SEQUENCER,
-    SAFELET_IMMORTAL_MEMORY_SIZE, SAFELET_INITIALIZE_APPLICATION,
-};
+use scj_base::ids::SAFELET;
 use scj_base::{ClassId, MethodId, Name, NodeId, ScopeId};
+use scj_builtins::{RunsInKind, framework_method};
 use scj_rules::Scope;
 use scope_tree::Scopes;
-
-/// Whether all overrides of a framework's method run in `IMMORTAL`.
-fn runs_in_immortal(number: MethodId) -> bool
-    ensures { result ≡ is_among number (1 ∷ 2 ∷ 3 ∷ 5 ∷ 8 ∷ []) }
-{
-    number == SAFELET_GET_SEQUENCER
-        || (number == SAFELET_IMMORTAL_MEMORY_SIZE
-            || (number == SAFELET_INITIALIZE_APPLICATION
-                || (number == MISSION_MISSION_MEMORY_SIZE
-                    || number == MISSION_SEQUENCER_GET_NEXT_MISSION)))
-}
-
-/// Whether all overrides of a framework's method run in the scope that their class defines.
-fn runs_in_defined(number: MethodId) -> bool
-    ensures { result ≡ is_among number (4 ∷ 6 ∷ 9 ∷ 11 ∷ []) }
-{
-    number == MISSION_INITIALIZE
-        || (number == MISSION_CLEAN_UP
-            || (number == PERIODIC_EVENT_HANDLER_HANDLE_ASYNC_EVENT
-                || number == APERIODIC_EVENT_HANDLER_HANDLE_ASYNC_EVENT))
-}
 
 /// The scope that the chain of a class defines, in normal form.
 fn defined_scope(scopes: &Scopes, class: ClassId) -> Option<Scope>
@@ -55,24 +30,31 @@ fn defined_scope(scopes: &Scopes, class: ClassId) -> Option<Scope>
     }
 }
 
-/// Where each override of a framework's method runs in a class.
+/// Where each declaration of a framework's method runs in a class.
+#[tactic(auto, unfolding(scj_rules::specs::StaticScopes::fixed_scope))]
+fn fixed_scope(scopes: &Scopes, class: ClassId, kind: RunsInKind) -> Option<Scope>
+    ensures { result ≡ fixed_scope (declarations_of scopes.now) class kind }
+{
+    match kind {
+        RunsInKind::Immortal => Some(Scope::In(ScopeId::IMMORTAL)),
+        RunsInKind::DefinedOrCaller => match scopes.defined_by_chain(class) {
+            Some(scope) => Some(Scope::In(scope)),
+            None => Some(Scope::Caller),
+        },
+        RunsInKind::DefinedOrDeclared => defined_scope(scopes, class),
+        RunsInKind::Caller => Some(Scope::Caller),
+    }
+}
+
+/// The same, where the method is given by its number.
 #[tactic(auto, unfolding(scj_rules::specs::StaticScopes::fixed_runs_in))]
 fn fixed_runs_in(scopes: &Scopes, class: ClassId, number: MethodId) -> Option<Scope>
     ensures { result ≡ fixed_runs_in (declarations_of scopes.now) class number }
 {
-    if runs_in_immortal(number) {
-        return Some(Scope::In(ScopeId::IMMORTAL));
+    match &framework_method(number) {
+        Some(row) => fixed_scope(scopes, class, row.runs_in),
+        None => None,
     }
-    if runs_in_defined(number) {
-        return match scopes.defined_by_chain(class) {
-            Some(scope) => Some(Scope::In(scope)),
-            None => Some(Scope::Caller),
-        };
-    }
-    if number == RUNNABLE_RUN {
-        return defined_scope(scopes, class);
-    }
-    Some(Scope::Caller)
 }
 
 /// The number of the framework's method that a method of the name in a class overrides.

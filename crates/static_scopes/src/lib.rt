@@ -16,5 +16,5 @@ pub use methods::{has_other_runs_in, has_unknown_runs_in};
 pub use plain::has_plain_field;
 pub use runs::Runs;
 pub use scoped::Scoped;
-pub use things::{contradicts, field_thing, is_unknown_scope, misfits_field};
+pub use things::{contradicts, is_unknown_scope, misfits_field, scoped_field};
 pub use words::{are_same_scope, fits, substitute};

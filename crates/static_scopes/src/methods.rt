@@ -1,13 +1,10 @@
 //! Where methods run.
 
-ghost use Rattle.std.specs.Prelude.{◌≡◌, ◌==◌, ◌||◌, not};
+ghost use Rattle.std.specs.Prelude.{◌≡◌, ◌||◌};
 ghost use Rattle.scj_rules.specs.Words.{holds};
 ghost use Rattle.scj_rules.specs.Contexts.{declarations_of};
-ghost use Rattle.scj_rules.specs.ScopeRules.{scope_number, immortal_scope};
-ghost use Rattle.scj_rules.specs.StaticScopes.{has_unknown_runs_in, has_other_runs_in, free_runs_in, runs_in, differs_from, fixed_for};
+ghost use Rattle.scj_rules.specs.StaticScopes.{differs_from_fixed, names_inner_scope, has_unknown_runs_in, has_other_runs_in, free_runs_in, runs_in};
 ghost use Rattle.scj_rules.specs.declared.scopes.Written.{Written as WrittenName};
-ghost use Rattle.scj_rules.specs.declared.typing.Scope.TheVariants.{Caller, This};
-ghost use Rattle.std.specs.Prelude.{Some};
 ghost use Rattle.static_scopes.specs.Found.{method_in};
 
 use crate::framework::{fixed_for, is_inherited_by_safelet};
@@ -37,7 +34,7 @@ pub fn has_unknown_runs_in(scopes: &Scopes, method: &MethodRef, written: &Writte
 
 /// Whether a name differs from the scope that is fixed for a method.
 fn differs_from_fixed(scopes: &Scopes, class: ClassId, method_name: &Name, name: &Name) -> bool
-    ensures { result ≡ holds (fixed_for (declarations_of scopes.now) class method_name.now) (differs_from (declarations_of scopes.now) class (Some Caller) name.now) }
+    ensures { result ≡ differs_from_fixed (declarations_of scopes.now) class method_name.now name.now }
 {
     match &fixed_for(scopes, class, method_name) {
         Some(fixed) => differs_from(scopes, class, &Some(Scope::Caller), name, fixed),
@@ -45,9 +42,9 @@ fn differs_from_fixed(scopes: &Scopes, class: ClassId, method_name: &Name, name:
     }
 }
 
-/// Whether a name is that of a scope other than `IMMORTAL`.
-fn is_inner_scope(scopes: &Scopes, name: &Name) -> bool
-    ensures { result ≡ holds (scope_number (declarations_of scopes.now) name.now) (λ s. not (s == immortal_scope)) }
+/// Whether a name is that of a scope inside `IMMORTAL`.
+fn names_inner_scope(scopes: &Scopes, name: &Name) -> bool
+    ensures { result ≡ names_inner_scope (declarations_of scopes.now) name.now }
 {
     match scopes.scope_number(name) {
         Some(scope) => scope != ScopeId::IMMORTAL,
@@ -67,7 +64,7 @@ pub fn has_other_runs_in(
 {
     let method_name = method_rows::name(scopes.classes().program(), method);
     differs_from_fixed(scopes, class, &method_name, &written.name)
-        || (is_inner_scope(scopes, &written.name) && is_inherited_by_safelet(scopes, method))
+        || (names_inner_scope(scopes, &written.name) && is_inherited_by_safelet(scopes, method))
 }
 
 /// Where a method runs that isn't fixed.

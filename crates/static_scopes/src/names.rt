@@ -1,14 +1,12 @@
 //! Scopes that are written by name, in normal form.
 
-ghost use Rattle.std.specs.Prelude.{◌≡◌, option_map};
-ghost use Rattle.scj_rules.specs.ScopeRules.{scope_number};
-ghost use Rattle.scj_rules.specs.declared.typing.Scope.TheVariants.{In};
+ghost use Rattle.std.specs.Prelude.{◌≡◌};
 ghost use Rattle.scj_rules.specs.Contexts.{declarations_of};
-ghost use Rattle.scj_rules.specs.StaticScopes.{this_in, written_scope, is_known_name, differs_from, default_runs_in};
+ghost use Rattle.scj_rules.specs.StaticScopes.{this_in, default_runs_in, resolved_or_missing, resolve_defined, resolve_name, is_other_scope, written_scope, is_known_name, differs_from};
 
 use crate::words::are_same_scope;
 use scj_base::{ClassId, Name};
-use scj_rules::{ClassScope, Scope};
+use scj_rules::{ClassScope, Resolution, Scope};
 use scope_tree::Scopes;
 
 /// Where the objects of a class lie, as their own methods say it.
@@ -37,17 +35,46 @@ pub fn default_runs_in(scopes: &Scopes, class: ClassId) -> Option<Scope>
     }
 }
 
-/// The scope of a name that is neither `THIS` nor `CALLER`.
-fn named_scope(scopes: &Scopes, name: &Name) -> Option<Scope>
-    ensures { result ≡ option_map (λ s. In s) (scope_number (declarations_of scopes.now) name.now) }
+/// A scope that may be missing, as what a name denotes.
+fn resolved_or_missing(scope: &Option<Scope>) -> Resolution
+    ensures { result ≡ resolved_or_missing scope.now }
 {
-    match scopes.scope_number(name) {
-        Some(scope) => Some(Scope::In(scope)),
-        None => None,
+    match scope {
+        Some(scope) => Resolution::Resolved(*scope),
+        None => Resolution::Missing,
     }
 }
 
-/// A written name in normal form, in a class and where a scope is current.
+/// What the name of a defined scope denotes.
+fn resolve_defined(scopes: &Scopes, name: &Name) -> Resolution
+    ensures { result ≡ resolve_defined (declarations_of scopes.now) name.now }
+{
+    match scopes.scope_number(name) {
+        Some(scope) => Resolution::Resolved(Scope::In(scope)),
+        None => Resolution::Unresolved,
+    }
+}
+
+/// What a name in an annotation denotes, in a class and where a scope is current.
+#[tactic(auto, unfolding(scj_rules::specs::StaticScopes::resolve_name))]
+pub fn resolve_name(
+    scopes: &Scopes,
+    class: ClassId,
+    current: &Option<Scope>,
+    name: &Name,
+) -> Resolution
+    ensures { result ≡ resolve_name (declarations_of scopes.now) class current.now name.now }
+{
+    if name.bytes() == b"THIS".as_slice() {
+        return resolved_or_missing(&this_in(scopes, class));
+    }
+    if name.bytes() == b"CALLER".as_slice() {
+        return resolved_or_missing(current);
+    }
+    resolve_defined(scopes, name)
+}
+
+/// The scope that a name denotes, in a class and where a scope is current.
 #[tactic(auto, unfolding(scj_rules::specs::StaticScopes::written_scope))]
 pub fn written_scope(
     scopes: &Scopes,
@@ -57,16 +84,14 @@ pub fn written_scope(
 ) -> Option<Scope>
     ensures { result ≡ written_scope (declarations_of scopes.now) class current.now name.now }
 {
-    if name.bytes() == b"THIS".as_slice() {
-        return this_in(scopes, class);
+    match &resolve_name(scopes, class, current, name) {
+        Resolution::Resolved(scope) => Some(*scope),
+        Resolution::Missing => None,
+        Resolution::Unresolved => None,
     }
-    if name.bytes() == b"CALLER".as_slice() {
-        return *current;
-    }
-    named_scope(scopes, name)
 }
 
-/// Whether a written name says anything.
+/// Whether a name denotes something in every class.
 pub fn is_known_name(scopes: &Scopes, name: &Name) -> bool
     ensures { result ≡ is_known_name (declarations_of scopes.now) name.now }
 {
@@ -74,7 +99,18 @@ pub fn is_known_name(scopes: &Scopes, name: &Name) -> bool
         || (name.bytes() == b"THIS".as_slice() || name.bytes() == b"CALLER".as_slice())
 }
 
-/// Whether a written name is another scope than this one; an unknown name is.
+/// Whether a name denotes another scope than this one, or nothing; a missing scope differs from none.
+pub fn is_other_scope(resolution: &Resolution, scope: &Scope) -> bool
+    ensures { result ≡ is_other_scope resolution.now scope.now }
+{
+    match resolution {
+        Resolution::Resolved(resolved) => !are_same_scope(resolved, scope),
+        Resolution::Missing => false,
+        Resolution::Unresolved => true,
+    }
+}
+
+/// Whether a name denotes another scope than this one, in a class and where a scope is current.
 #[tactic(auto, unfolding(scj_rules::specs::StaticScopes::differs_from))]
 pub fn differs_from(
     scopes: &Scopes,
@@ -85,11 +121,5 @@ pub fn differs_from(
 ) -> bool
     ensures { result ≡ differs_from (declarations_of scopes.now) class current.now name.now scope.now }
 {
-    if !is_known_name(scopes, name) {
-        return true;
-    }
-    match &written_scope(scopes, class, current, name) {
-        Some(written) => !are_same_scope(written, scope),
-        None => false,
-    }
+    is_other_scope(&resolve_name(scopes, class, current, name), scope)
 }

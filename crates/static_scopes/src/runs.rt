@@ -1,7 +1,7 @@
 //! The table of the scopes in which methods run.
 
 ghost use Rattle.std.specs.Prelude.{◌≡◌, IfOk, length};
-ghost use Rattle.scj_tree.specs.Recursion.{told, listed};
+ghost use Rattle.scj_tree.specs.Recursion.{lookup, listed};
 ghost use Rattle.scj_rules.specs.Words.{holds};
 ghost use Rattle.scj_rules.specs.Contexts.{declarations_of, contexts_in};
 ghost use Rattle.static_scopes.specs.Runs.{AreRuns, is_method_kind, run_at, runs_in_at};
@@ -106,7 +106,7 @@ impl Runs {
 
 /// What stands in the table at a node.
 pub fn run_in_table(rows: &[Option<Scope>], id: NodeId) -> Option<Scope>
-    ensures { result ≡ told None rows.now id }
+    ensures { result ≡ lookup None rows.now id }
 {
     match rows.get(id.place()) {
         Some(run) => *run,

@@ -10,8 +10,8 @@ ghost use Rattle.static_scopes.specs.Found.{method_in, at_node};
 ghost use Rattle.class_rows.specs.Fields.{found_field};
 ghost use Rattle.method_rows.specs.Methods.{found_method};
 ghost use Rattle.scj_rules.specs.Contexts.{declarations_of, context, contexts_in, is_static_member};
-ghost use Rattle.scj_rules.specs.StaticScopes.{this_in, runs_in, current_in, thing_scope, variable_thing, result_thing, parameter_scope, constructor_parameter_scope, field_scope};
-ghost use Rattle.scj_rules.specs.AnnotationRules.{variable_thing_at, result_scope};
+ghost use Rattle.scj_rules.specs.StaticScopes.{this_in, runs_in, current_in, declaration_scope, scoped_variable, scoped_result, parameter_scope, constructor_parameter_scope, field_scope};
+ghost use Rattle.scj_rules.specs.AnnotationRules.{scoped_variable_at, result_scope};
 ghost use Rattle.scj_rules.specs.UseRules.{this_at, current_at};
 
 use crate::bare::bare_type;
@@ -24,7 +24,7 @@ use method_rows::{MethodRef, MethodSource};
 use node_contexts::{Contexts, is_static_member};
 use node_views::{is_method, variable_at};
 use scj_base::{ClassId, Name, NodeId};
-use scj_rules::{ClassScope, Context, Declared, Scope, Thing};
+use scj_rules::{ClassScope, Context, Declared, Scope, ScopedDeclaration};
 use scj_tree::{Node, Program};
 use scope_tree::Scopes;
 use std::marker::Model;
@@ -42,11 +42,11 @@ impl<'a> Model for Scoped<'a> {
 
     ghost Value = { Forest };
 
-    ghost use Rattle.static_scopes.specs.Runs.{IsScoped};
+    ghost use Rattle.static_scopes.specs.Runs.{AreTablesOf};
 
     ghost view = { λ a. a.scopes };
 
-    ghost invariant = { λ a. IsScoped a.scopes a.contexts.now a.runs.now };
+    ghost invariant = { λ a. AreTablesOf a.scopes a.contexts.now a.runs.now };
 }
 
 impl<'a> Scoped<'a> {
@@ -172,21 +172,21 @@ impl<'a> Scoped<'a> {
 
     /// A method's result as a thing.
     #[tactic(auto, unfolding(method_rows::specs::Methods::found_method))]
-    pub fn result_thing(&self, method: &MethodRef) -> Thing
-        ensures { result ≡ result_thing (declarations_of self.now) (found_method self.now.nodes method.now).on (found_method self.now.nodes method.now).method }
+    pub fn scoped_result(&self, method: &MethodRef) -> ScopedDeclaration
+        ensures { result ≡ scoped_result (declarations_of self.now) (found_method self.now.nodes method.now).on (found_method self.now.nodes method.now).method }
     {
         let declared = methods::declared_of(&self.scopes, method);
         let modifiers = declared.modifiers;
         let current = self.runs_in(method);
-        things::variable_thing(method.on, &current, modifiers.is_static, &declared)
+        things::scoped_variable(method.on, &current, modifiers.is_static, &declared)
     }
 
     /// The scope of a method's result.
     pub fn result_scope(&self, method: &MethodRef) -> Option<Scope>
         ensures { result ≡ result_scope (declarations_of self.now) (found_method self.now.nodes method.now).on (found_method self.now.nodes method.now).method }
     {
-        let thing = self.result_thing(method);
-        things::thing_scope(&self.scopes, &thing)
+        let thing = self.scoped_result(method);
+        things::declaration_scope(&self.scopes, &thing)
     }
 
     /// The scope of a method's parameter.
@@ -200,8 +200,8 @@ impl<'a> Scoped<'a> {
         let declared = methods::declared_of(&self.scopes, method);
         let modifiers = declared.modifiers;
         let current = self.runs_in(method);
-        let thing = things::variable_thing(method.on, &current, modifiers.is_static, parameter);
-        things::thing_scope(&self.scopes, &thing)
+        let thing = things::scoped_variable(method.on, &current, modifiers.is_static, parameter);
+        things::declaration_scope(&self.scopes, &thing)
     }
 
     /// The scope of a parameter of a class's constructor.
@@ -213,8 +213,8 @@ impl<'a> Scoped<'a> {
             return None;
         }
         let current = self.this_in(class);
-        let thing = things::variable_thing(class, &current, false, parameter);
-        things::thing_scope(&self.scopes, &thing)
+        let thing = things::scoped_variable(class, &current, false, parameter);
+        things::declaration_scope(&self.scopes, &thing)
     }
 
     /// The scope of the field for which a row stands.
@@ -225,29 +225,29 @@ impl<'a> Scoped<'a> {
     }
 
     /// The scope of a thing.
-    pub fn thing_scope(&self, thing: &Thing) -> Option<Scope>
-        ensures { result ≡ thing_scope (declarations_of self.now) thing.now }
+    pub fn declaration_scope(&self, thing: &ScopedDeclaration) -> Option<Scope>
+        ensures { result ≡ declaration_scope (declarations_of self.now) thing.now }
     {
-        things::thing_scope(&self.scopes, thing)
+        things::declaration_scope(&self.scopes, thing)
     }
 
     /// The parameter or local that a node declares, as a thing in a member of a class.
-    fn variable_in(&self, class: ClassId, member: NodeId, id: NodeId) -> Option<Thing>
-        ensures { result ≡ option_map (λ (d : Declaration). variable_thing class (current_in (declarations_of self.now) class member) (is_static_member self.now.nodes member) d) (variable_at self.now.nodes id) }
+    fn variable_in(&self, class: ClassId, member: NodeId, id: NodeId) -> Option<ScopedDeclaration>
+        ensures { result ≡ option_map (λ (d : Declaration). scoped_variable class (current_in (declarations_of self.now) class member) (is_static_member self.now.nodes member) d) (variable_at self.now.nodes id) }
     {
         let program = self.program();
         let current = self.current_in(class, member);
         let is_static = is_static_member(program, member);
         match &variable_at(program, id) {
-            Some(declared) => Some(things::variable_thing(class, &current, is_static, declared)),
+            Some(declared) => Some(things::scoped_variable(class, &current, is_static, declared)),
             None => None,
         }
     }
 
     /// The parameter or local that a node declares, as a thing.
-    #[tactic(auto, unfolding(scj_rules::specs::AnnotationRules::variable_thing_at, scj_rules::specs::Contexts::declarations_of))]
-    pub fn variable_thing_at(&self, id: NodeId) -> Option<Thing>
-        ensures { result ≡ variable_thing_at (declarations_of self.now) id }
+    #[tactic(auto, unfolding(scj_rules::specs::AnnotationRules::scoped_variable_at, scj_rules::specs::Contexts::declarations_of))]
+    pub fn scoped_variable_at(&self, id: NodeId) -> Option<ScopedDeclaration>
+        ensures { result ≡ scoped_variable_at (declarations_of self.now) id }
     {
         let context = self.context(id);
         match (context.class, context.member) {
@@ -273,10 +273,10 @@ impl<'a> Scoped<'a> {
 
     /// The scope of the parameter or local that a node declares, by all that is written of it.
     fn declared_scope(&self, id: NodeId) -> Option<Scope>
-        ensures { result ≡ option_and_then (thing_scope (declarations_of self.now)) (variable_thing_at (declarations_of self.now) id) }
+        ensures { result ≡ option_and_then (declaration_scope (declarations_of self.now)) (scoped_variable_at (declarations_of self.now) id) }
     {
-        match &self.variable_thing_at(id) {
-            Some(thing) => self.thing_scope(thing),
+        match &self.scoped_variable_at(id) {
+            Some(thing) => self.declaration_scope(thing),
             None => None,
         }
     }
@@ -285,7 +285,7 @@ impl<'a> Scoped<'a> {
     #[tactic(auto, using(crate::proofs::BareLemmas::bare_variable), unfolding(crate::specs::Bare::class_name_of))]
     fn scope_of_bare(&self, id: NodeId, declared_type: NodeId) -> Option<Scope>
         requires { read self.now.nodes bare_type_of id ≡ Some declared_type }
-        ensures { result ≡ option_and_then (thing_scope (declarations_of self.now)) (variable_thing_at (declarations_of self.now) id) }
+        ensures { result ≡ option_and_then (declaration_scope (declarations_of self.now)) (scoped_variable_at (declarations_of self.now) id) }
     {
         match self.program().get(declared_type) {
             Some(
@@ -302,7 +302,7 @@ impl<'a> Scoped<'a> {
     /// The scope of the parameter or local that a node declares.
     #[tactic(auto, using(crate::proofs::ThingLemmas::variable_without_scope))]
     pub fn variable_scope(&self, id: NodeId) -> Option<Scope>
-        ensures { result ≡ option_and_then (thing_scope (declarations_of self.now)) (variable_thing_at (declarations_of self.now) id) }
+        ensures { result ≡ option_and_then (declaration_scope (declarations_of self.now)) (scoped_variable_at (declarations_of self.now) id) }
     {
         if has_plain_type(self.program(), id) {
             return None;

@@ -3,15 +3,15 @@
 ghost use Rattle.std.specs.Prelude.{◌≡◌};
 ghost use Rattle.scj_rules.specs.ClassRules.{class_written};
 ghost use Rattle.scj_rules.specs.Contexts.{declarations_of};
-ghost use Rattle.scj_rules.specs.StaticScopes.{has_no_scope, type_scope, is_unannotated, is_unknown_scope, contradicts, is_right_thing, free_thing_scope, thing_scope, variable_thing, field_thing, is_outer_of, suits_field, misfits_field, field_scope};
+ghost use Rattle.scj_rules.specs.StaticScopes.{has_no_scope, type_scope, is_unannotated, denotes_nothing, resolve_at, is_unknown_scope, contradicts, is_rightly_scoped, scope_as_written, declaration_scope, scoped_variable, scoped_field, is_outer_of, suits_field, misfits_field, field_scope};
 ghost use Rattle.scj_rules.specs.declared.views.WrittenType.TheVariants.{Class as class_type};
 ghost use Rattle.static_scopes.specs.Found.{right_thing_scope, suited_scope};
 
-use crate::names::{differs_from, this_in, written_scope};
+use crate::names::{is_other_scope, resolve_name, this_in, written_scope};
 use crate::words::are_same_scope;
 use class_rows::Classes;
 use scj_base::{ClassId, Name, ScopeId};
-use scj_rules::{ClassScope, Declared, Scope, Thing, Written, WrittenType};
+use scj_rules::{ClassScope, Declared, Resolution, Scope, ScopedDeclaration, Written, WrittenType};
 use scope_tree::Scopes;
 
 /// Whether the values of a type are no references.
@@ -70,44 +70,62 @@ fn is_unannotated(scope: &ClassScope) -> bool
     matches!(scope, ClassScope::Unannotated)
 }
 
-/// Whether a written scope says nothing at a thing.
-#[tactic(auto, unfolding(scj_rules::specs::StaticScopes::is_unknown_scope))]
-pub fn is_unknown_scope(scopes: &Scopes, thing: &Thing, written: &Written) -> bool
-    ensures { result ≡ is_unknown_scope (declarations_of scopes.now) thing.now written.now }
+/// Whether a name denotes nothing in the annotation of a declaration, though it does elsewhere: `THIS` in a static member
+/// of an unannotated class, and `CALLER` on a field.
+#[tactic(auto, unfolding(scj_rules::specs::StaticScopes::denotes_nothing))]
+fn denotes_nothing(scopes: &Scopes, thing: &ScopedDeclaration, name: &Name) -> bool
+    ensures { result ≡ denotes_nothing (declarations_of scopes.now) thing.now name.now }
 {
-    if written.name.bytes() == b"THIS".as_slice() {
+    if name.bytes() == b"THIS".as_slice() {
         let scope = scopes.class_scope(thing.class);
         return thing.is_static && is_unannotated(&scope);
     }
-    if written.name.bytes() == b"CALLER".as_slice() {
-        return thing.is_field;
+    name.bytes() == b"CALLER".as_slice() && thing.is_field
+}
+
+/// What a name denotes in the annotation of a declaration.
+#[tactic(auto, unfolding(scj_rules::specs::StaticScopes::resolve_at))]
+fn resolve_at(scopes: &Scopes, thing: &ScopedDeclaration, name: &Name) -> Resolution
+    ensures { result ≡ resolve_at (declarations_of scopes.now) thing.now name.now }
+{
+    if denotes_nothing(scopes, thing, name) {
+        return Resolution::Unresolved;
     }
-    scopes.scope_number(&written.name).is_none()
+    resolve_name(scopes, thing.class, &thing.current, name)
+}
+
+/// Whether the name in the annotation of a declaration denotes nothing.
+#[tactic(auto, unfolding(scj_rules::specs::StaticScopes::is_unknown_scope))]
+pub fn is_unknown_scope(scopes: &Scopes, thing: &ScopedDeclaration, written: &Written) -> bool
+    ensures { result ≡ is_unknown_scope (declarations_of scopes.now) thing.now written.now }
+{
+    match &resolve_at(scopes, thing, &written.name) {
+        Resolution::Resolved(_) => false,
+        Resolution::Missing => false,
+        Resolution::Unresolved => true,
+    }
 }
 
 /// Whether a written scope contradicts the type of a thing.
 #[tactic(auto, unfolding(scj_rules::specs::StaticScopes::contradicts))]
-pub fn contradicts(scopes: &Scopes, thing: &Thing, written: &Written) -> bool
+pub fn contradicts(scopes: &Scopes, thing: &ScopedDeclaration, written: &Written) -> bool
     ensures { result ≡ contradicts (declarations_of scopes.now) thing.now written.now }
 {
     if has_no_scope(&thing.declared_type) {
         return true;
     }
     match &type_scope(scopes, &thing.declared_type) {
-        ClassScope::Annotated(scope) => differs_from(
-            scopes,
-            thing.class,
-            &thing.current,
-            &written.name,
-            &Scope::In(*scope),
-        ),
+        ClassScope::Annotated(scope) => {
+            let resolution = resolve_at(scopes, thing, &written.name);
+            is_other_scope(&resolution, &Scope::In(*scope))
+        }
         _ => false,
     }
 }
 
 /// Whether what is written at a thing breaks no rule.
-pub fn is_right_thing(scopes: &Scopes, thing: &Thing) -> bool
-    ensures { result ≡ is_right_thing (declarations_of scopes.now) thing.now }
+pub fn is_rightly_scoped(scopes: &Scopes, thing: &ScopedDeclaration) -> bool
+    ensures { result ≡ is_rightly_scoped (declarations_of scopes.now) thing.now }
 {
     match &thing.scope {
         Some(written) => {
@@ -118,9 +136,9 @@ pub fn is_right_thing(scopes: &Scopes, thing: &Thing) -> bool
 }
 
 /// The scope of a thing by what is written, or else the default.
-#[tactic(auto, unfolding(scj_rules::specs::StaticScopes::free_thing_scope))]
-fn free_thing_scope(scopes: &Scopes, thing: &Thing) -> Option<Scope>
-    ensures { result ≡ free_thing_scope (declarations_of scopes.now) thing.now }
+#[tactic(auto, unfolding(scj_rules::specs::StaticScopes::scope_as_written))]
+fn scope_as_written(scopes: &Scopes, thing: &ScopedDeclaration) -> Option<Scope>
+    ensures { result ≡ scope_as_written (declarations_of scopes.now) thing.now }
 {
     match &thing.scope {
         Some(written) => written_scope(scopes, thing.class, &thing.current, &written.name),
@@ -129,25 +147,25 @@ fn free_thing_scope(scopes: &Scopes, thing: &Thing) -> Option<Scope>
 }
 
 /// The scope of a thing whose declaration breaks no rule.
-fn right_thing_scope(scopes: &Scopes, thing: &Thing) -> Option<Scope>
+fn right_thing_scope(scopes: &Scopes, thing: &ScopedDeclaration) -> Option<Scope>
     ensures { result ≡ right_thing_scope (declarations_of scopes.now) thing.now }
 {
     match &type_scope(scopes, &thing.declared_type) {
-        ClassScope::Unannotated => free_thing_scope(scopes, thing),
+        ClassScope::Unannotated => scope_as_written(scopes, thing),
         ClassScope::Annotated(scope) => Some(Scope::In(*scope)),
         ClassScope::Unknown => None,
     }
 }
 
 /// The scope of a thing.
-#[tactic(auto, unfolding(scj_rules::specs::StaticScopes::thing_scope))]
-pub fn thing_scope(scopes: &Scopes, thing: &Thing) -> Option<Scope>
-    ensures { result ≡ thing_scope (declarations_of scopes.now) thing.now }
+#[tactic(auto, unfolding(scj_rules::specs::StaticScopes::declaration_scope))]
+pub fn declaration_scope(scopes: &Scopes, thing: &ScopedDeclaration) -> Option<Scope>
+    ensures { result ≡ declaration_scope (declarations_of scopes.now) thing.now }
 {
     if has_no_scope(&thing.declared_type) {
         return None;
     }
-    if is_right_thing(scopes, thing) {
+    if is_rightly_scoped(scopes, thing) {
         right_thing_scope(scopes, thing)
     } else {
         None
@@ -155,16 +173,16 @@ pub fn thing_scope(scopes: &Scopes, thing: &Thing) -> Option<Scope>
 }
 
 /// A parameter, a local or a result as a thing.
-pub fn variable_thing(
+pub fn scoped_variable(
     class: ClassId,
     current: &Option<Scope>,
     is_static: bool,
     declared: &Declared,
-) -> Thing
-    ensures { result ≡ variable_thing class current.now is_static declared.now }
+) -> ScopedDeclaration
+    ensures { result ≡ scoped_variable class current.now is_static declared.now }
 {
     let modifiers = declared.modifiers;
-    Thing {
+    ScopedDeclaration {
         class,
         current: *current,
         default: *current,
@@ -176,8 +194,8 @@ pub fn variable_thing(
 }
 
 /// A field as a thing.
-pub fn field_thing(scopes: &Scopes, class: ClassId, field: &Declared) -> Thing
-    ensures { result ≡ field_thing (declarations_of scopes.now) class field.now }
+pub fn scoped_field(scopes: &Scopes, class: ClassId, field: &Declared) -> ScopedDeclaration
+    ensures { result ≡ scoped_field (declarations_of scopes.now) class field.now }
 {
     let modifiers = field.modifiers;
     let default = if modifiers.is_static {
@@ -185,7 +203,7 @@ pub fn field_thing(scopes: &Scopes, class: ClassId, field: &Declared) -> Thing
     } else {
         this_in(scopes, class)
     };
-    Thing {
+    ScopedDeclaration {
         class,
         current: None,
         default,
@@ -228,9 +246,9 @@ fn suits_field(scopes: &Scopes, class: &ClassScope, is_static: bool, scope: &Sco
 pub fn misfits_field(scopes: &Scopes, class: ClassId, field: &Declared) -> bool
     ensures { result ≡ misfits_field (declarations_of scopes.now) class field.now }
 {
-    let thing = field_thing(scopes, class, field);
+    let thing = scoped_field(scopes, class, field);
     let class_scope = scopes.class_scope(class);
-    match &thing_scope(scopes, &thing) {
+    match &declaration_scope(scopes, &thing) {
         Some(scope) => !suits_field(scopes, &class_scope, thing.is_static, scope),
         None => false,
     }
@@ -266,7 +284,7 @@ pub fn field_scope(scopes: &Scopes, class: ClassId, field: &Declared) -> Option<
     if has_no_scope(&field.declared_type) {
         return None;
     }
-    let thing = field_thing(scopes, class, field);
-    let scope = thing_scope(scopes, &thing);
+    let thing = scoped_field(scopes, class, field);
+    let scope = declaration_scope(scopes, &thing);
     suited_scope(scopes, class, thing.is_static, &scope)
 }

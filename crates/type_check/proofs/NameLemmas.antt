@@ -11,19 +11,19 @@ use Rattle.scj_rules.specs.Words.{broken}
 use Rattle.scj_rules.specs.Classes.{is_empty}
 use Rattle.scj_rules.specs.Contexts.{Declarations, has_object}
 use Rattle.scj_rules.specs.Types.{meaning}
-use Rattle.scj_rules.specs.TypeRules.{Types, t1, t2, t3, t4, t5, t6, t7, t8, t9, t10, t11, t12, t13, t14, type_breaks, type_of, type_of_meaning, type_of_right, stands_for_nothing, is_instance_field}
+use Rattle.scj_rules.specs.TypeRules.{Types, t1, t2, t3, t4, t5, t6, t7, t8, t9, t10, t11, t12, t13, t14, type_breaks, type_of, type_of_meaning, type_of_right, denotes_no_declaration, is_instance_field}
 use Rattle.type_check.specs.Passes.{type_of_right_name}
 
 -- T1 and T13, by what a name stands for and whether its field lacks an object
 abbrev broken_by : Meaning → Bool → Pos → List Found
-broken_by m lacks place = broken (stands_for_nothing m) T1 place ++ (broken lacks T13 place ++ [])
+broken_by m lacks place = broken (denotes_no_declaration m) T1 place ++ (broken lacks T13 place ++ [])
 
 abbrev type_by : Declarations → Meaning → Bool → Option Ty
 type_by p m lacks = if lacks then None else type_of_meaning p m
 
 -- of no type, where something is broken
 same_type : (p : Declarations) (m : Meaning) (lacks : Bool) (place : Pos) → type_by p m lacks ≡ (if is_empty (broken_by m lacks place) then type_of_meaning p m else None)
-unfolding stands_for_nothing type_of_meaning is_empty
+unfolding denotes_no_declaration type_of_meaning is_empty
 same_type p nothing true place = refl
 same_type p nothing false place = refl
 same_type p (a_variable v) true place = refl

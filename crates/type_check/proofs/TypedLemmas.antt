@@ -9,8 +9,8 @@ use Rattle.scj_tree.specs.declared.nodes.Node.{Node}
 use Rattle.scj_tree.specs.declared.nodes.Node.TheVariants.{Field, Method, SuperCall, LocalWithValue, Assign, If, While, For, Return, Binary, Unary, Cast, FieldAccess, Call, Element, New, NewArray}
 use Rattle.scj_tree.specs.Forest.{Forest, IsForest, AllBelow, ChildrenFirst}
 use Rattle.scj_tree.specs.Shape.{children, optional}
-use Rattle.scj_tree.specs.Recursion.{told, rising}
-use Rattle.scj_tree.proofs.RecursionLemmas.{rising-at}
+use Rattle.scj_tree.specs.Recursion.{lookup, bottom_up}
+use Rattle.scj_tree.proofs.RecursionLemmas.{bottom_up-at}
 use Rattle.scj_rules.specs.declared.typing.Ty.{Ty}
 use Rattle.scj_rules.specs.declared.typing.Ty.TheVariants.{Class as ClassTy}
 use Rattle.scj_rules.specs.declared.typing.FoundField.{FoundField}
@@ -21,9 +21,9 @@ use Rattle.scj_rules.specs.Words.{broken, holds}
 use Rattle.scj_rules.specs.Classes.{FoundMethod, class_number, is_empty, is_user_class}
 use Rattle.scj_rules.specs.Views.{place_at}
 use Rattle.scj_rules.specs.Contexts.{Declarations, declarations_of, variable_named}
-use Rattle.scj_rules.specs.Types.{receiver, call_receiver, class_at_name, all_types, take_arguments, is_no_reference, called_method, accessed_field, is_int, is_boolean, is_array, is_array_value, is_length, binary_type, unary_type, kind_is, is_form, has_form, is_form_part, constructor_parameters}
+use Rattle.scj_rules.specs.Types.{receiver, call_receiver, class_at_name, all_types, accepts_arguments, is_no_reference, called_method, accessed_field, is_int, is_boolean, is_array, is_array_value, is_length, binary_type, unary_type, kind_is, is_form, has_form, is_form_part, constructor_parameters}
 use Rattle.type_check.specs.Passes.{breaks_at}
-use Rattle.scj_rules.specs.TypeRules.{Types, t1, t2, t3, t4, t5, t6, t7, t8, t9, t10, t11, t12, t13, t14, type_breaks, type_of, type_of_right, type_of_next, types_in, lacks_field, lacks_method, lacks_object, misfits_method, misfits_new, is_never_made, are_related, element_class, written_type, misfits_value, is_length_target, superclass_at, result_at, fits_result}
+use Rattle.scj_rules.specs.TypeRules.{Types, t1, t2, t3, t4, t5, t6, t7, t8, t9, t10, t11, t12, t13, t14, type_breaks, type_of, type_of_right, type_of_next, types_in, lacks_field, lacks_method, lacks_object, misfits_method, misfits_new, misfits_form_part, is_never_made, are_related, element_class, written_type, misfits_value, is_length_target, superclass_at, result_at, fits_result}
 
 -- the types of the smaller numbers are the same
 abbrev Same : ℕ → Types → Types → Type 0
@@ -51,6 +51,23 @@ module _ (p : Declarations) where
   ints-same id t u (c ∷ cs) same b =
       ap (λ (o : Option Ty). (not (is_form_part p c) && holds o (λ ty. not (is_int ty))) || list_any (no-int t) cs) (same c b.0)
       ∙ ap (λ (b : Bool). no-int u c || b) (ints-same id t u cs same b.1)
+
+  abbrev untyped : Types → ℕ → Bool
+  untyped t a = not (is_form_part p a) && not (is_some (t a))
+
+  untyped-same : (id : ℕ) (t u : Types) (ids : List ℕ) → Same id t u → AllBelow id ids
+      → list_any (untyped t) ids ≡ list_any (untyped u) ids
+  unfolding AllBelow
+  untyped-same id t u [] same b = refl
+  untyped-same id t u (c ∷ cs) same b =
+      ap (λ (o : Option Ty). (not (is_form_part p c) && not (is_some o)) || list_any (untyped t) cs) (same c b.0)
+      ∙ ap (λ (b : Bool). untyped u c || b) (untyped-same id t u cs same b.1)
+
+  part-same : (id : ℕ) (t u : Types) (ids : List ℕ) → Same id t u → AllBelow id ids
+      → misfits_form_part p t ids ≡ misfits_form_part p u ids
+  part-same id t u ids same b =
+      ap (λ (x : Bool). not x && list_any (no-int t) ids) (untyped-same id t u ids same b)
+      ∙ ap (λ (x : Bool). not (list_any (untyped u) ids) && x) (ints-same id t u ids same b)
 
   receiver-same : (t u : Types) (object : ℕ) → t object ≡ u object → receiver p t object ≡ receiver p u object
   unfolding receiver
@@ -100,17 +117,17 @@ module _ (p : Declarations) where
       let f : Option Receiver → Option (List Ty) → List Found = λ o ts.
       broken (holds o (λ r. holds ts (λ _. is_no_reference r))) T3 place
       ++ (broken (holds o (λ r. holds ts (λ _. lacks_method p r name))) T5 place
-      ++ (broken (holds o (λ r. not (lacks_method p r name) && holds (called_method p r name) (λ (m : FoundMethod). holds ts (λ xs. not (take_arguments p m.method.parameters xs))))) T6 place
+      ++ (broken (holds o (λ r. not (lacks_method p r name) && holds (called_method p r name) (λ (m : FoundMethod). holds ts (λ xs. not (accepts_arguments p m.method.parameters xs))))) T6 place
       ++ (broken (holds o (λ r. holds ts (λ _. lacks_object p id r && (not (lacks_method p r name) && holds (called_method p r name) (λ (m : FoundMethod). not m.method.declared.modifiers.is_static))))) T13 place ++ []))) in
       ap (λ o. f o (all_types t arguments)) (call-receiver-same id t u object arguments same b)
       ∙ ap (λ ts. f (call_receiver p u id object) ts) (all-same id t u arguments same (below-right id (optional object) arguments b))
   breaks-same first id t u (New place name_place name arguments) same b =
-      let f : Bool → Option (List Ty) → List Found = λ ints ts.
-      broken (if is_form_part p id then ints else holds (class_number p.names name) (λ class. (is_user_class class || (class == 0)) && holds ts (λ xs. not (take_arguments p (constructor_parameters p.classes class) xs)))) T6 place
+      let f : Bool → Option (List Ty) → List Found = λ part ts.
+      broken (if is_form_part p id then part else holds (class_number p.names name) (λ class. (is_user_class class || (class == 0)) && holds ts (λ xs. not (accepts_arguments p (constructor_parameters p.classes class) xs)))) T6 place
       ++ (broken (holds ts (λ _. holds (class_number p.names name) (kind_is is_never_made p))) T11 place
       ++ broken (holds (class_number p.names name) (kind_is is_form p) && not (is_form_part p id)) T14 place) in
-      ap (λ ints. f ints (all_types t arguments)) (ints-same id t u arguments same b)
-      ∙ ap (λ ts. f (list_any (no-int u) arguments) ts) (all-same id t u arguments same b)
+      ap (λ part. f part (all_types t arguments)) (part-same id t u arguments same b)
+      ∙ ap (λ ts. f (misfits_form_part p u arguments) ts) (all-same id t u arguments same b)
   breaks-same first id t u (Field place name flags declared_type None value) same b = refl
   breaks-same first id t u (Field place name flags declared_type (Some equals) None) same b = refl
   breaks-same first id t u (Field place name flags declared_type (Some equals) (Some value)) same b =
@@ -118,7 +135,7 @@ module _ (p : Declarations) where
   breaks-same first id t u (Method place name flags result_type parameters None) same b = refl
   breaks-same first id t u (Method place name flags result_type parameters (Some body)) same b = refl
   breaks-same first id t u (SuperCall place arguments) same b =
-      ap (λ (o : Option (List Ty)). broken (holds (superclass_at p id) (λ superclass. not (has_form superclass) && holds o (λ ts. not (take_arguments p (constructor_parameters p.classes superclass) ts)))) T6 place ++ [])
+      ap (λ (o : Option (List Ty)). broken (holds (superclass_at p id) (λ superclass. not (has_form superclass) && holds o (λ ts. not (accepts_arguments p (constructor_parameters p.classes superclass) ts)))) T6 place ++ [])
       (all-same id t u arguments same b)
   breaks-same first id t u (LocalWithValue place name_place name flags declared_type value) same b =
       ap (λ (o : Option Ty). broken (is_some (variable_named p id name)) T2 name_place ++ (broken (misfits_value p (written_type p declared_type) o) T7 place ++ []))
@@ -140,9 +157,9 @@ module _ (p : Declarations) where
   breaks-same first id t u _ same b = refl
 
   -- the types so far are those of all nodes
-  same-so-far : (id : ℕ) → id < length p.nodes → Same id (told None (rising None (type_of_next p) id)) (told None (types_in p))
+  same-so-far : (id : ℕ) → id < length p.nodes → Same id (lookup None (bottom_up None (type_of_next p) id)) (lookup None (types_in p))
   unfolding types_in
-  same-so-far id inside c l = rising-at None (type_of_next p) id c l ∙ sym (rising-at None (type_of_next p) (length p.nodes) c (omega (arith, inside, l)))
+  same-so-far id inside c l = bottom_up-at None (type_of_next p) id c l ∙ sym (bottom_up-at None (type_of_next p) (length p.nodes) c (omega (arith, inside, l)))
 
   -- what has a type breaks nothing
   pub right_typed : (t : Types) (id : ℕ) (node : Node) → is_some (type_of_right p t id node) ≡ true → type_breaks p t id node ≡ []
@@ -176,17 +193,17 @@ behind-children forest whole k node there =
 
 -- with the types of the nodes before a node the same is broken there as with those of all nodes
 pub breaks_so_far : (forest : Forest) → IsForest forest → (id : ℕ)
-    → breaks_at (declarations_of forest) (told None (rising None (type_of_next (declarations_of forest)) id)) id ≡ breaks_at (declarations_of forest) (told None (types_in (declarations_of forest))) id
+    → breaks_at (declarations_of forest) (lookup None (bottom_up None (type_of_next (declarations_of forest)) id)) id ≡ breaks_at (declarations_of forest) (lookup None (types_in (declarations_of forest))) id
 breaks_so_far forest whole id = go (slice_get p.nodes id) refl
   where
     p : Declarations
     p = declarations_of forest
 
     before : Types
-    before = told None (rising None (type_of_next p) id)
+    before = lookup None (bottom_up None (type_of_next p) id)
 
     all : Types
-    all = told None (types_in p)
+    all = lookup None (types_in p)
 
     go : (o : Option Node) → slice_get p.nodes id ≡ o
         → elim o as (λ _. List Found) [ None ↦ [] | Some node ↦ type_breaks p before id node ] ≡ elim o as (λ _. List Found) [ None ↦ [] | Some node ↦ type_breaks p all id node ]

@@ -1,7 +1,7 @@
 //! What is broken at a node.
 
 ghost use Rattle.std.specs.Prelude.{◌≡◌, ◌++◌, Some, None, OnOk};
-ghost use Rattle.scj_tree.specs.Recursion.{told};
+ghost use Rattle.scj_tree.specs.Recursion.{lookup};
 ghost use Rattle.scj_rules.specs.Contexts.{declarations_of};
 ghost use Rattle.scj_rules.specs.TypeRules.{type_breaks};
 ghost use Rattle.type_rules.specs.Kinds.{variable_breaks, value_breaks, end_breaks, size_breaks};
@@ -32,7 +32,7 @@ fn note_local(
     value: NodeId,
     found: &mut Vec<Found>,
 ) -> Result<(), Memory>
-    ensures { OnOk result (found.new.items ≡ found.old.items ++ (variable_breaks (declarations_of known.now) id name_place name.now ++ value_breaks (declarations_of known.now) (told None types.now) place declared_type value)) }
+    ensures { OnOk result (found.new.items ≡ found.old.items ++ (variable_breaks (declarations_of known.now) id name_place name.now ++ value_breaks (declarations_of known.now) (lookup None types.now) place declared_type value)) }
 {
     note_variable(known, id, name_place, name, found)?;
     note_value(known, types, place, declared_type, value, found)?;
@@ -65,7 +65,7 @@ pub fn note_breaks(
     node: &Node,
     found: &mut Vec<Found>,
 ) -> Result<(), Memory>
-    ensures { OnOk result (found.new.items ≡ found.old.items ++ type_breaks (declarations_of known.now) (told None types.now) id node.now) }
+    ensures { OnOk result (found.new.items ≡ found.old.items ++ type_breaks (declarations_of known.now) (lookup None types.now) id node.now) }
 {
     match node {
         Node::Class { place, name, .. } => note_class(known, *place, name.get(), found),

@@ -1,7 +1,7 @@
 //! The pass over all nodes.
 
 ghost use Rattle.std.specs.Prelude.{◌≡◌, ◌++◌, None, Some, slice_get, IfOk, OnOk};
-ghost use Rattle.scj_tree.specs.Recursion.{told};
+ghost use Rattle.scj_tree.specs.Recursion.{lookup};
 ghost use Rattle.scj_rules.specs.Contexts.{declarations_of};
 ghost use Rattle.scj_rules.specs.TypeRules.{types_in, type_breaks, type_of_right, type_of_next};
 ghost use Rattle.scj_rules.specs.Phases.{type_phase};
@@ -26,8 +26,8 @@ fn noted_type(
     node: &Node,
     found: &mut Vec<Found>,
 ) -> Result<Option<Ty>, Memory>
-    ensures type_of { IfOk result (λ t. t ≡ type_of_right (declarations_of known.now) (told None types.now) id node.now) }
-    ensures found { OnOk result (found.new.items ≡ found.old.items ++ type_breaks (declarations_of known.now) (told None types.now) id node.now) }
+    ensures type_of { IfOk result (λ t. t ≡ type_of_right (declarations_of known.now) (lookup None types.now) id node.now) }
+    ensures found { OnOk result (found.new.items ≡ found.old.items ++ type_breaks (declarations_of known.now) (lookup None types.now) id node.now) }
 {
     let count = found.len();
     note_breaks(known, types, id, node, found)?;
@@ -46,8 +46,8 @@ fn note_untyped(
     t: &Option<Ty>,
     found: &mut Vec<Found>,
 ) -> Result<(), Memory>
-    requires { t.now ≡ type_of_right (declarations_of known.now) (told None types.now) id node.now }
-    ensures { OnOk result (found.new.items ≡ found.old.items ++ type_breaks (declarations_of known.now) (told None types.now) id node.now) }
+    requires { t.now ≡ type_of_right (declarations_of known.now) (lookup None types.now) id node.now }
+    ensures { OnOk result (found.new.items ≡ found.old.items ++ type_breaks (declarations_of known.now) (lookup None types.now) id node.now) }
 {
     if t.is_some() {
         return Ok(());
@@ -66,8 +66,8 @@ fn node_type(
     found: &mut Vec<Found>,
 ) -> Result<Option<Ty>, Memory>
     requires { slice_get known.now.nodes id ≡ Some node.now }
-    ensures type_of { IfOk result (λ t. t ≡ type_of_right (declarations_of known.now) (told None types.now) id node.now) }
-    ensures found { OnOk result (found.new.items ≡ found.old.items ++ type_breaks (declarations_of known.now) (told None types.now) id node.now) }
+    ensures type_of { IfOk result (λ t. t ≡ type_of_right (declarations_of known.now) (lookup None types.now) id node.now) }
+    ensures found { OnOk result (found.new.items ≡ found.old.items ++ type_breaks (declarations_of known.now) (lookup None types.now) id node.now) }
 {
     match node {
         Node::SimpleName { place, name } => {
@@ -87,8 +87,8 @@ fn type_at(
     id: NodeId,
     found: &mut Vec<Found>,
 ) -> Result<Option<Ty>, Memory>
-    ensures type_of { IfOk result (λ t. t ≡ type_of_next (declarations_of known.now) id (told None types.now)) }
-    ensures found { OnOk result (found.new.items ≡ found.old.items ++ breaks_at (declarations_of known.now) (told None types.now) id) }
+    ensures type_of { IfOk result (λ t. t ≡ type_of_next (declarations_of known.now) id (lookup None types.now)) }
+    ensures found { OnOk result (found.new.items ≡ found.old.items ++ breaks_at (declarations_of known.now) (lookup None types.now) id) }
 {
     match known.program().get(id) {
         Some(node) => node_type(known, types, id, node, found),
@@ -103,8 +103,8 @@ fn next_type(
     id: NodeId,
     found: &mut Vec<Found>,
 ) -> Result<Option<Ty>, Memory>
-    ensures type_of { IfOk result (λ t. t ≡ type_of_next (declarations_of known.now) id (told None types.now)) }
-    ensures found { OnOk result (found.new.items ≡ found.old.items ++ breaks_at (declarations_of known.now) (told None types.now) id) }
+    ensures type_of { IfOk result (λ t. t ≡ type_of_next (declarations_of known.now) id (lookup None types.now)) }
+    ensures found { OnOk result (found.new.items ≡ found.old.items ++ breaks_at (declarations_of known.now) (lookup None types.now) id) }
 {
     match type_by_kind(known, id) {
         Some(t) => Ok(t),

@@ -1,7 +1,7 @@
 //! The types of the nodes of a program, and what breaks the rules on types.
 
 ghost use Rattle.std.specs.Prelude.{◌≡◌, None, IfOk};
-ghost use Rattle.scj_tree.specs.Recursion.{told};
+ghost use Rattle.scj_tree.specs.Recursion.{lookup};
 ghost use Rattle.scj_rules.specs.Contexts.{declarations_of, contexts_in};
 ghost use Rattle.scj_rules.specs.Bindings.{bindings_in};
 ghost use Rattle.scj_rules.specs.Report.{IsReport};
@@ -40,7 +40,7 @@ impl Model for Types {
 impl Types {
     /// The type of a node, if it has one.
     pub fn of(&self, node: NodeId) -> Option<Ty>
-        ensures { result ≡ told None self.now.types node }
+        ensures { result ≡ lookup None self.now.types node }
     {
         told(&self.types, node)
     }

@@ -8,7 +8,7 @@ use Rattle.scj_rules.specs.declared.typing.Ty.{Ty}
 use Rattle.scj_rules.specs.Views.{DeclaredConstructor}
 use Rattle.scj_rules.specs.Words.{holds}
 use Rattle.scj_rules.specs.Contexts.{Declarations}
-use Rattle.scj_rules.specs.Types.{type_written, assigns, all_types, take_arguments}
+use Rattle.scj_rules.specs.Types.{type_written, assigns, all_types, accepts_arguments}
 use Rattle.scj_rules.specs.TypeRules.{Types, misfit}
 use Rattle.type_rules.specs.Parameters.{fit_each, takes_type}
 
@@ -83,34 +83,34 @@ module _ (p : Declarations) (types : Types) where
       go None f e = cc
       go (Some t) f e = later t f (all_types types ids) refl e
 
-  same-fit : (ds : List Declared) (ids : List ℕ) (ts : List Ty) → all_types types ids ≡ Some ts → take_arguments p ds ts ≡ fit_each p types ds ids
-  unfolding take_arguments fit_each all_types
+  same-fit : (ds : List Declared) (ids : List ℕ) (ts : List Ty) → all_types types ids ≡ Some ts → accepts_arguments p ds ts ≡ fit_each p types ds ids
+  unfolding accepts_arguments fit_each all_types
   same-fit [] [] ts e =
       let n : [] ≡ ts = cc in
-      (let P : List Ty → Type 0 = λ us. take_arguments p [] us ≡ true in subst P n refl)
+      (let P : List Ty → Type 0 = λ us. accepts_arguments p [] us ≡ true in subst P n refl)
   same-fit (d ∷ ds) [] ts e =
       let n : [] ≡ ts = cc in
-      (let P : List Ty → Type 0 = λ us. take_arguments p (d ∷ ds) us ≡ false in subst P n refl)
+      (let P : List Ty → Type 0 = λ us. accepts_arguments p (d ∷ ds) us ≡ false in subst P n refl)
   same-fit [] (id ∷ ids) ts e =
       let f = with-first id ids ts e in
-      (let P : List Ty → Type 0 = λ us. take_arguments p [] us ≡ false in subst P (sym f.4) refl)
+      (let P : List Ty → Type 0 = λ us. accepts_arguments p [] us ≡ false in subst P (sym f.4) refl)
   same-fit (d ∷ ds) (id ∷ ids) ts e =
       let f = with-first id ids ts e in
       let t : Ty = f.0 in
-      let P : List Ty → Type 0 = λ us. take_arguments p (d ∷ ds) us ≡ (holds (types id) (λ t. takes_type p t d) && fit_each p types ds ids) in
+      let P : List Ty → Type 0 = λ us. accepts_arguments p (d ∷ ds) us ≡ (holds (types id) (λ t. takes_type p t d) && fit_each p types ds ids) in
       subst P (sym f.4) (ap (λ b. takes_type p t d && b) (same-fit ds ids f.1 f.3) ∙ sym (ap (λ (o : Option Ty). holds o (λ t. takes_type p t d) && fit_each p types ds ids) f.2))
 
   pub misfit_typed : (ds : List Declared) (ids : List ℕ) → is_some (all_types types ids) ≡ true → misfit p types ds ids ≡ not (fit_each p types ds ids)
   misfit_typed ds ids h = go (all_types types ids) refl h
     where
-      go : (o : Option (List Ty)) → all_types types ids ≡ o → is_some o ≡ true → holds o (λ ts. not (take_arguments p ds ts)) ≡ not (fit_each p types ds ids)
+      go : (o : Option (List Ty)) → all_types types ids ≡ o → is_some o ≡ true → holds o (λ ts. not (accepts_arguments p ds ts)) ≡ not (fit_each p types ds ids)
       go None e h = absurd (true≢false (sym h))
       go (Some ts) e h = ap not (same-fit ds ids ts e)
 
   pub misfit_untyped : (ds : List Declared) (ids : List ℕ) → is_some (all_types types ids) ≡ false → misfit p types ds ids ≡ false
   misfit_untyped ds ids h = go (all_types types ids) h
     where
-      go : (o : Option (List Ty)) → is_some o ≡ false → holds o (λ ts. not (take_arguments p ds ts)) ≡ false
+      go : (o : Option (List Ty)) → is_some o ≡ false → holds o (λ ts. not (accepts_arguments p ds ts)) ≡ false
       go None h = refl
       go (Some ts) h = absurd (true≢false h)
 

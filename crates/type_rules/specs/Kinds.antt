@@ -15,7 +15,7 @@ use Rattle.scj_rules.specs.Classes.{FoundMethod, class_number, superclass_in}
 use Rattle.scj_rules.specs.ClassRules.{is_same_type}
 use Rattle.scj_rules.specs.Contexts.{Declarations, variable_named, has_object}
 use Rattle.scj_rules.specs.Types.{is_array, is_int, meaning, receiver, call_receiver, is_value, is_no_reference, accessed_field, called_method, is_callable, all_types, constructor_parameters, kind_is, is_form, form_in, is_form_part, has_form, binary_type, unary_type}
-use Rattle.scj_rules.specs.TypeRules.{Types, written_type, stands_for_nothing, is_instance_field, lacks_field, lacks_method, lacks_object, misfit, misfits_method, misfits_new, misfits_class, superclass_at, misfits_value, is_length_target, misfits_condition, result_at, fits_result, always_returns, is_never_made, are_related, element_class, misfits_size}
+use Rattle.scj_rules.specs.TypeRules.{Types, written_type, denotes_no_declaration, is_instance_field, lacks_field, lacks_method, lacks_object, misfit, misfits_method, misfits_new, misfits_class, superclass_at, misfits_value, is_length_target, misfits_condition, result_at, fits_result, always_returns, is_never_made, are_related, element_class, misfits_size}
 
 abbrev pub class_breaks : Declarations → Pos → List ℕ → List Found
 class_breaks p place name =
@@ -70,7 +70,7 @@ cast_breaks p types place name operand =
 
 abbrev pub name_breaks : Declarations → ℕ → Pos → List ℕ → List Found
 name_breaks p id place name =
-    broken (stands_for_nothing (meaning p id name)) T1 place ++ (broken (is_instance_field (meaning p id name) && not (has_object p id)) T13 place ++ [])
+    broken (denotes_no_declaration (meaning p id name)) T1 place ++ (broken (is_instance_field (meaning p id name) && not (has_object p id)) T13 place ++ [])
 
 abbrev pub this_breaks : Declarations → ℕ → Pos → List Found
 this_breaks p id place = broken (not (has_object p id)) T13 place ++ []

@@ -2,7 +2,7 @@
 
 ghost use Rattle.std.specs.Prelude.{◌≡◌, None, length, is_some, option_map, slice_get};
 ghost use Rattle.scj_rules.specs.declared.views.Declared.{Declared as Declaration};
-ghost use Rattle.scj_tree.specs.Recursion.{told};
+ghost use Rattle.scj_tree.specs.Recursion.{lookup};
 ghost use Rattle.scj_rules.specs.Words.{holds};
 ghost use Rattle.scj_rules.specs.Classes.{is_empty};
 ghost use Rattle.scj_rules.specs.Contexts.{declarations_of};
@@ -27,7 +27,7 @@ pub enum Takes {
 
 /// Whether each of these nodes has a type.
 pub fn are_typed(types: &[Option<Ty>], ids: &[NodeId]) -> bool
-    ensures { result ≡ is_some (all_types (told None types.now) ids.now) }
+    ensures { result ≡ is_some (all_types (lookup None types.now) ids.now) }
 {
     for id in ids {
         if told(types, *id).is_none() {
@@ -75,7 +75,7 @@ fn fits(known: &Known<'_>, takes: &Takes, i: usize, t: &Ty) -> bool
 
 /// Whether the arguments have types, and their number or types don't fit (JLS 15.9.3, 15.12.2, 8.8.7).
 pub fn misfit(known: &Known<'_>, types: &[Option<Ty>], takes: &Takes, ids: &[NodeId]) -> bool
-    ensures { result ≡ misfit (declarations_of known.now) (told None types.now) (taken known.now.nodes takes.now) ids.now }
+    ensures { result ≡ misfit (declarations_of known.now) (lookup None types.now) (taken known.now.nodes takes.now) ids.now }
 {
     if !are_typed(types, ids) {
         return false;

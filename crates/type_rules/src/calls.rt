@@ -2,13 +2,13 @@
 
 ghost use Rattle.std.specs.Prelude.{◌≡◌, ◌++◌, ◌&&◌, ◌||◌, not, [], ◌∷◌, true, None, Some, OnOk, is_some, option_map, option_and_then};
 ghost use Rattle.std.specs.List.{list_any};
-ghost use Rattle.scj_tree.specs.Recursion.{told};
+ghost use Rattle.scj_tree.specs.Recursion.{lookup};
 ghost use Rattle.scj_rules.specs.Views.{DeclaredConstructor};
 ghost use Rattle.scj_rules.specs.Classes.{FoundMethod, class_number, superclass_in, is_empty};
 ghost use Rattle.scj_rules.specs.Words.{holds};
 ghost use Rattle.scj_rules.specs.Contexts.{declarations_of};
 ghost use Rattle.scj_rules.specs.Types.{all_types, called_method, is_size_method, is_callable, is_form_part, is_int, kind_is, is_concrete, is_form, has_form, form_in, constructor_parameters, constructor_in};
-ghost use Rattle.scj_rules.specs.TypeRules.{misfits_new, misfits_class, calls_unwritten, is_concrete_safelet, is_never_made};
+ghost use Rattle.scj_rules.specs.TypeRules.{misfits_new, misfits_form_part, has_untyped_argument, has_other_than_int, misfits_class, calls_unwritten, is_concrete_safelet, is_never_made};
 ghost use Rattle.method_rows.specs.Methods.{found_method};
 ghost use Rattle.type_rules.specs.Kinds.{called_breaks, call_breaks, new_breaks, class_breaks, lacks_found, misfits_found, needs_object};
 
@@ -21,8 +21,8 @@ use crate::statements::is_long_row;
 use method_rows::{MethodRef, is_callable_row, is_static, result_type};
 use scj_base::ids::{OBJECT, SAFELET};
 use scj_base::{ClassId, Found, Memory, Name, NodeId, Pos, Rule};
-use scj_builtins::ClassKind;
-use scj_rules::{Receiver, Ty, note};
+use scj_builtins::{ClassKind, FRAMEWORK_CLASS_COUNT};
+use scj_rules::{Receiver, Ty, report_if};
 use type_words::{are_same, is_long, is_no_reference, is_value};
 
 /// Whether the method is one of the framework's size methods.
@@ -66,7 +66,7 @@ fn misfits_found(
     method: &Option<MethodRef>,
     arguments: &[NodeId],
 ) -> bool
-    ensures { result ≡ misfits_found (declarations_of known.now) (told None types.now) (option_map (found_method known.now.nodes) method.now) arguments.now }
+    ensures { result ≡ misfits_found (declarations_of known.now) (lookup None types.now) (option_map (found_method known.now.nodes) method.now) arguments.now }
 {
     match method {
         Some(method) => misfit(known, types, &Takes::Method(*method), arguments),
@@ -96,16 +96,16 @@ fn note_called(
     arguments: &[NodeId],
     found: &mut Vec<Found>,
 ) -> Result<(), Memory>
-    ensures { OnOk result (found.new.items ≡ found.old.items ++ called_breaks (declarations_of known.now) (told None types.now) id place name.now receiver.now arguments.now) }
+    ensures { OnOk result (found.new.items ≡ found.old.items ++ called_breaks (declarations_of known.now) (lookup None types.now) id place name.now receiver.now arguments.now) }
 {
     let method = called_method(known, receiver, name);
     let lacks = lacks_found(known, receiver, &method);
     let misfits = !lacks && misfits_found(known, types, &method, arguments);
     let is_apart = lacks_object(known, id, receiver) && !lacks && needs_object(known, &method);
-    note(found, is_no_reference(receiver), Rule::T3, place)?;
-    note(found, lacks, Rule::T5, place)?;
-    note(found, misfits, Rule::T6, place)?;
-    note(found, is_apart, Rule::T13, place)?;
+    report_if(found, is_no_reference(receiver), Rule::T3, place)?;
+    report_if(found, lacks, Rule::T5, place)?;
+    report_if(found, misfits, Rule::T6, place)?;
+    report_if(found, is_apart, Rule::T13, place)?;
     Ok(())
 }
 
@@ -121,7 +121,7 @@ pub fn note_call(
     arguments: &[NodeId],
     found: &mut Vec<Found>,
 ) -> Result<(), Memory>
-    ensures { OnOk result (found.new.items ≡ found.old.items ++ call_breaks (declarations_of known.now) (told None types.now) id place name.now object.now arguments.now) }
+    ensures { OnOk result (found.new.items ≡ found.old.items ++ call_breaks (declarations_of known.now) (lookup None types.now) id place name.now object.now arguments.now) }
 {
     let Some(receiver) = call_receiver(known, types, id, object) else {
         return Ok(());
@@ -134,7 +134,7 @@ pub fn note_call(
 
 /// Whether an argument in a form has a type that isn't int.
 fn has_no_int(known: &Known<'_>, types: &[Option<Ty>], arguments: &[NodeId]) -> bool
-    ensures { result ≡ list_any (λ a. not (is_form_part (declarations_of known.now) a) && holds (told None types.now a) (λ t. not (is_int t))) arguments.now }
+    ensures { result ≡ has_other_than_int (declarations_of known.now) (lookup None types.now) arguments.now }
 {
     for a in arguments {
         if no_int(known, types, *a) {
@@ -144,9 +144,28 @@ fn has_no_int(known: &Known<'_>, types: &[Option<Ty>], arguments: &[NodeId]) -> 
     false
 }
 
+/// Whether an argument in a form has no type, and is no part of the form itself.
+fn has_untyped_argument(known: &Known<'_>, types: &[Option<Ty>], arguments: &[NodeId]) -> bool
+    ensures { result ≡ has_untyped_argument (declarations_of known.now) (lookup None types.now) arguments.now }
+{
+    for a in arguments {
+        if !is_form_part(known, *a) && told(types, *a).is_none() {
+            return true;
+        }
+    }
+    false
+}
+
+/// Whether the arguments in a form have types, and one isn't int.
+fn misfits_form_part(known: &Known<'_>, types: &[Option<Ty>], arguments: &[NodeId]) -> bool
+    ensures { result ≡ misfits_form_part (declarations_of known.now) (lookup None types.now) arguments.now }
+{
+    !has_untyped_argument(known, types, arguments) && has_no_int(known, types, arguments)
+}
+
 /// Whether this argument in a form has a type that isn't int.
 fn no_int(known: &Known<'_>, types: &[Option<Ty>], id: NodeId) -> bool
-    ensures { result ≡ (not (is_form_part (declarations_of known.now) id) && holds (told None types.now id) (λ t. not (is_int t))) }
+    ensures { result ≡ (not (is_form_part (declarations_of known.now) id) && holds (lookup None types.now id) (λ t. not (is_int t))) }
 {
     if is_form_part(known, id) {
         return false;
@@ -166,14 +185,14 @@ fn misfits_new(
     name: &Name,
     arguments: &[NodeId],
 ) -> bool
-    ensures { result ≡ misfits_new (declarations_of known.now) (told None types.now) id name.now arguments.now }
+    ensures { result ≡ misfits_new (declarations_of known.now) (lookup None types.now) id name.now arguments.now }
 {
     if is_form_part(known, id) {
-        return has_no_int(known, types, arguments);
+        return misfits_form_part(known, types, arguments);
     }
     match known.class_of(name) {
         Some(class) => {
-            (class.number() >= 16 || class == OBJECT)
+            (class.number() >= FRAMEWORK_CLASS_COUNT || class == OBJECT)
                 && misfit(
                     known,
                     types,
@@ -198,7 +217,7 @@ fn is_never_made_class(known: &Known<'_>, class: ClassId) -> bool
 
 /// Whether a `new` with arguments that have types makes what has no objects.
 fn makes_none(known: &Known<'_>, types: &[Option<Ty>], name: &Name, arguments: &[NodeId]) -> bool
-    ensures { result ≡ holds (all_types (told None types.now) arguments.now) (λ ts. holds (class_number (declarations_of known.now).names name.now) (kind_is is_never_made (declarations_of known.now))) }
+    ensures { result ≡ holds (all_types (lookup None types.now) arguments.now) (λ ts. holds (class_number (declarations_of known.now).names name.now) (kind_is is_never_made (declarations_of known.now))) }
 {
     if !are_typed(types, arguments) {
         return false;
@@ -229,21 +248,21 @@ pub fn note_new(
     arguments: &[NodeId],
     found: &mut Vec<Found>,
 ) -> Result<(), Memory>
-    ensures { OnOk result (found.new.items ≡ found.old.items ++ new_breaks (declarations_of known.now) (told None types.now) id place name.now arguments.now) }
+    ensures { OnOk result (found.new.items ≡ found.old.items ++ new_breaks (declarations_of known.now) (lookup None types.now) id place name.now arguments.now) }
 {
-    note(
+    report_if(
         found,
         misfits_new(known, types, id, name, arguments),
         Rule::T6,
         place,
     )?;
-    note(
+    report_if(
         found,
         makes_none(known, types, name, arguments),
         Rule::T11,
         place,
     )?;
-    note(found, is_misplaced(known, id, name), Rule::T14, place)?;
+    report_if(found, is_misplaced(known, id, name), Rule::T14, place)?;
     Ok(())
 }
 
@@ -310,7 +329,7 @@ pub fn note_class(
     let Some(class) = known.class_of(name) else {
         return Ok(());
     };
-    note(found, misfits_class(known, class), Rule::T6, place)?;
-    note(found, lacks_form(known, class), Rule::T14, place)?;
+    report_if(found, misfits_class(known, class), Rule::T6, place)?;
+    report_if(found, lacks_form(known, class), Rule::T14, place)?;
     Ok(())
 }

@@ -1,7 +1,7 @@
 //! What is broken at operators, names and accesses.
 
 ghost use Rattle.std.specs.Prelude.{◌≡◌, ◌++◌, ◌&&◌, ◌||◌, not, None, OnOk, is_some, option_map};
-ghost use Rattle.scj_tree.specs.Recursion.{told};
+ghost use Rattle.scj_tree.specs.Recursion.{lookup};
 ghost use Rattle.scj_rules.specs.declared.typing.FoundField.{FoundField as Row};
 ghost use Rattle.scj_rules.specs.declared.typing.Ty.TheVariants.{Class as class_type};
 ghost use Rattle.scj_rules.specs.Classes.{class_number};
@@ -13,12 +13,12 @@ ghost use Rattle.scj_rules.specs.TypeRules.{element_class, are_related, lacks_fi
 ghost use Rattle.type_rules.specs.Kinds.{binary_breaks, unary_breaks, element_breaks, array_breaks, cast_breaks, name_breaks, this_breaks, access_breaks, lacks_this_field};
 
 use crate::known::Known;
-use crate::meanings::{is_instance_field, stands_for_nothing};
+use crate::meanings::{denotes_no_declaration, is_instance_field};
 use crate::names::{accessed_field, assigns, binary_type, meaning, receiver, told};
 use class_rows::fields::is_static_field;
 use scj_base::{ClassId, Found, Memory, Name, NodeId, Pos, Rule};
 use scj_builtins::ClassKind;
-use scj_rules::{Receiver, Ty, note};
+use scj_rules::{Receiver, Ty, report_if};
 use scj_tree::Node;
 use type_words::{
     are_same, is_array, is_array_value, is_length, is_no_reference, is_reference, is_value,
@@ -48,11 +48,11 @@ pub fn note_binary(
     right: NodeId,
     found: &mut Vec<Found>,
 ) -> Result<(), Memory>
-    ensures { OnOk result (found.new.items ≡ found.old.items ++ binary_breaks (declarations_of known.now) (told None types.now) place operator left right) }
+    ensures { OnOk result (found.new.items ≡ found.old.items ++ binary_breaks (declarations_of known.now) (lookup None types.now) place operator left right) }
 {
     let left = told(types, left);
     let right = told(types, right);
-    note(
+    report_if(
         found,
         misfits_binary(known, operator, &left, &right),
         Rule::T3,
@@ -69,14 +69,14 @@ pub fn note_unary(
     operand: NodeId,
     found: &mut Vec<Found>,
 ) -> Result<(), Memory>
-    ensures { OnOk result (found.new.items ≡ found.old.items ++ unary_breaks (declarations_of known.now) (told None types.now) place operator operand) }
+    ensures { OnOk result (found.new.items ≡ found.old.items ++ unary_breaks (declarations_of known.now) (lookup None types.now) place operator operand) }
 {
     let _ = known;
     let test = match told(types, operand) {
         Some(t) => unary_type(operator, &t).is_none(),
         None => false,
     };
-    note(found, test, Rule::T3, place)
+    report_if(found, test, Rule::T3, place)
 }
 
 /// Whether an array and its index have types that don't fit.
@@ -101,12 +101,12 @@ pub fn note_element(
     index: NodeId,
     found: &mut Vec<Found>,
 ) -> Result<(), Memory>
-    ensures { OnOk result (found.new.items ≡ found.old.items ++ element_breaks (declarations_of known.now) (told None types.now) place array index) }
+    ensures { OnOk result (found.new.items ≡ found.old.items ++ element_breaks (declarations_of known.now) (lookup None types.now) place array index) }
 {
     let _ = known;
     let array = told(types, array);
     let index = told(types, index);
-    note(found, misfits_element(&array, &index), Rule::T3, place)
+    report_if(found, misfits_element(&array, &index), Rule::T3, place)
 }
 
 /// Whether the class is a part of a form.
@@ -140,7 +140,7 @@ pub fn note_new_array(
     length: NodeId,
     found: &mut Vec<Found>,
 ) -> Result<(), Memory>
-    ensures { OnOk result (found.new.items ≡ found.old.items ++ array_breaks (declarations_of known.now) (told None types.now) place element length) }
+    ensures { OnOk result (found.new.items ≡ found.old.items ++ array_breaks (declarations_of known.now) (lookup None types.now) place element length) }
 {
     let no_int = match told(types, length) {
         Some(t) => !are_same(&t, &Ty::Int),
@@ -150,8 +150,8 @@ pub fn note_new_array(
         Some(class) => is_form_class(known, class),
         None => false,
     };
-    note(found, no_int, Rule::T3, place)?;
-    note(found, of_form, Rule::T14, place)?;
+    report_if(found, no_int, Rule::T3, place)?;
+    report_if(found, of_form, Rule::T14, place)?;
     Ok(())
 }
 
@@ -172,7 +172,7 @@ pub fn note_cast(
     operand: NodeId,
     found: &mut Vec<Found>,
 ) -> Result<(), Memory>
-    ensures { OnOk result (found.new.items ≡ found.old.items ++ cast_breaks (declarations_of known.now) (told None types.now) place name.now operand) }
+    ensures { OnOk result (found.new.items ≡ found.old.items ++ cast_breaks (declarations_of known.now) (lookup None types.now) place name.now operand) }
 {
     let test = match told(types, operand) {
         Some(t) => match known.class_of(name) {
@@ -181,7 +181,7 @@ pub fn note_cast(
         },
         None => false,
     };
-    note(found, test, Rule::T12, place)
+    report_if(found, test, Rule::T12, place)
 }
 
 /// Notes a name that stands for nothing, or for an instance field where there is no object.
@@ -195,9 +195,9 @@ pub fn note_name(
     ensures { OnOk result (found.new.items ≡ found.old.items ++ name_breaks (declarations_of known.now) id place name.now) }
 {
     let meaning = meaning(known, id, name);
-    note(found, stands_for_nothing(&meaning), Rule::T1, place)?;
+    report_if(found, denotes_no_declaration(&meaning), Rule::T1, place)?;
     let lacks_object = is_instance_field(known.program(), &meaning) && !known.has_object(id);
-    note(found, lacks_object, Rule::T13, place)?;
+    report_if(found, lacks_object, Rule::T13, place)?;
     Ok(())
 }
 
@@ -210,7 +210,7 @@ pub fn note_this(
 ) -> Result<(), Memory>
     ensures { OnOk result (found.new.items ≡ found.old.items ++ this_breaks (declarations_of known.now) id place) }
 {
-    note(found, !known.has_object(id), Rule::T13, place)
+    report_if(found, !known.has_object(id), Rule::T13, place)
 }
 
 /// Whether no object is at hand: a class is named, or no object is written and there is none here.
@@ -260,14 +260,14 @@ pub fn note_access(
     object: NodeId,
     found: &mut Vec<Found>,
 ) -> Result<(), Memory>
-    ensures { OnOk result (found.new.items ≡ found.old.items ++ access_breaks (declarations_of known.now) (told None types.now) id place name.now object) }
+    ensures { OnOk result (found.new.items ≡ found.old.items ++ access_breaks (declarations_of known.now) (lookup None types.now) id place name.now object) }
 {
     let Some(r) = receiver(known, types, object) else {
         return Ok(());
     };
-    note(found, is_no_reference(&r), Rule::T3, place)?;
-    note(found, lacks_field(known, &r, name), Rule::T4, place)?;
-    note(
+    report_if(found, is_no_reference(&r), Rule::T3, place)?;
+    report_if(found, lacks_field(known, &r, name), Rule::T4, place)?;
+    report_if(
         found,
         lacks_this_field(known, id, &r, name),
         Rule::T13,

@@ -6,7 +6,7 @@ ghost use Rattle.scj_rules.specs.Definitions.{read};
 ghost use Rattle.scj_rules.specs.Views.{DeclaredConstructor};
 ghost use Rattle.scj_rules.specs.Words.{is_among, holds};
 ghost use Rattle.scj_rules.specs.Contexts.{declarations_of};
-ghost use Rattle.scj_rules.specs.Types.{new_of, is_new, periodic_part, middle_part, form_parts, has_form, form_in, is_form_part, constructor_in};
+ghost use Rattle.scj_rules.specs.Types.{new_of, is_new, periodic_part, release_part, form_parts, has_form, form_in, is_form_part, constructor_in};
 ghost use Rattle.type_rules.specs.Forms.{middle_listed, form_listed, times_listed, more_listed};
 
 use crate::known::Known;
@@ -81,9 +81,9 @@ fn periodic_part(known: &Known<'_>, id: NodeId, arguments: &[NodeId]) -> Option<
 }
 
 /// The part in the middle of a handler's form.
-#[tactic(auto, unfolding(scj_rules::specs::Types::middle_part))]
-fn middle_part(known: &Known<'_>, superclass: ClassId, id: NodeId) -> Option<Middle>
-    ensures { option_map middle_listed result ≡ middle_part (declarations_of known.now) superclass id }
+#[tactic(auto, unfolding(scj_rules::specs::Types::release_part))]
+fn release_part(known: &Known<'_>, superclass: ClassId, id: NodeId) -> Option<Middle>
+    ensures { option_map middle_listed result ≡ release_part (declarations_of known.now) superclass id }
 {
     if superclass == PERIODIC_EVENT_HANDLER {
         let arguments = new_of(known, PERIODIC_PARAMETERS, 2, id)?;
@@ -124,7 +124,7 @@ fn form_parts(known: &Known<'_>, superclass: ClassId, arguments: &[NodeId]) -> O
         }
         [priority, middle, storage] => {
             if superclass != MISSION_SEQUENCER && has_ends(known, *priority, *storage) {
-                let part = middle_part(known, superclass, *middle)?;
+                let part = release_part(known, superclass, *middle)?;
                 Some(Form {
                     priority: *priority,
                     storage: *storage,

@@ -3,7 +3,7 @@
 ghost use Rattle.std.specs.Prelude.{◌≡◌, List};
 ghost use Rattle.scj_tree.specs.declared.nodes.Node.{Node as Row};
 ghost use Rattle.scj_rules.specs.Types.{class_in};
-ghost use Rattle.scj_rules.specs.TypeRules.{stands_for_nothing, is_instance_field};
+ghost use Rattle.scj_rules.specs.TypeRules.{denotes_no_declaration, is_instance_field};
 ghost use Rattle.type_rules.specs.Meanings.{meant};
 
 use class_rows::FieldRef;
@@ -36,9 +36,9 @@ pub fn class_in(meaning: &NameMeaning) -> Option<ClassId>
 }
 
 /// Whether a name stands for nothing.
-#[tactic(auto, unfolding(crate::specs::Meanings::meant, scj_rules::specs::TypeRules::stands_for_nothing))]
-pub fn stands_for_nothing(meaning: &NameMeaning) -> bool
-    ensures { (nodes : List Row) → result ≡ stands_for_nothing (meant nodes meaning.now) }
+#[tactic(auto, unfolding(crate::specs::Meanings::meant, scj_rules::specs::TypeRules::denotes_no_declaration))]
+pub fn denotes_no_declaration(meaning: &NameMeaning) -> bool
+    ensures { (nodes : List Row) → result ≡ denotes_no_declaration (meant nodes meaning.now) }
 {
     matches!(meaning, NameMeaning::Nothing)
 }

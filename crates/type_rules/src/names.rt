@@ -2,7 +2,7 @@
 
 ghost use Rattle.std.specs.Prelude.{◌≡◌, ◌&&◌, ◌||◌, [], ◌∷◌, None, Some, length, option_and_then, option_map, slice_get, IfOk};
 ghost use Rattle.scj_base.specs.Vocabulary.{sign_equal, sign_not_equal, sign_less, sign_greater, sign_less_equal, sign_greater_equal, sign_and_and, sign_or_or};
-ghost use Rattle.scj_tree.specs.Recursion.{told};
+ghost use Rattle.scj_tree.specs.Recursion.{lookup};
 ghost use Rattle.scj_tree.specs.declared.nodes.Node.TheVariants.{SimpleName};
 ghost use Rattle.scj_rules.specs.Definitions.{read};
 ghost use Rattle.scj_rules.specs.Words.{is_among};
@@ -29,7 +29,7 @@ use type_words::{are_same, class_of_receiver, is_long, is_reference};
 
 /// The type of a node, among those that are told.
 pub fn told(types: &[Option<Ty>], id: NodeId) -> Option<Ty>
-    ensures { result ≡ told None types.now id }
+    ensures { result ≡ lookup None types.now id }
 {
     match types.get(id.place()) {
         Some(t) => *t,
@@ -266,7 +266,7 @@ fn meaning_at(known: &Known<'_>, id: NodeId) -> NameMeaning
 
 /// What the names of all nodes stand for, in time that grows with their number and that of the variables around them.
 pub fn meanings_of(alloc: Global, known: &Known<'_>) -> Result<Vec<NameMeaning>, Memory>
-    ensures told { IfOk result (λ rows. AreMeanings known.now rows.items) }
+    ensures lookup { IfOk result (λ rows. AreMeanings known.now rows.items) }
     ensures whole { IfOk result (λ rows. length rows.items ≡ length known.now.nodes) }
 {
     let mut rows = Vec::with_capacity(alloc, known.program().len())?;
@@ -290,7 +290,7 @@ fn class_at_name(known: &Known<'_>, object: NodeId) -> Option<ClassId>
 /// What stands before a dot.
 #[tactic(auto, unfolding(scj_rules::specs::Types::receiver))]
 pub fn receiver(known: &Known<'_>, types: &[Option<Ty>], object: NodeId) -> Option<Receiver>
-    ensures { result ≡ receiver (declarations_of known.now) (told None types.now) object }
+    ensures { result ≡ receiver (declarations_of known.now) (lookup None types.now) object }
 {
     if let Some(class) = class_at_name(known, object) {
         return Some(Receiver::Class(class));
@@ -309,7 +309,7 @@ pub fn call_receiver(
     id: NodeId,
     object: &Option<NodeId>,
 ) -> Option<Receiver>
-    ensures { result ≡ call_receiver (declarations_of known.now) (told None types.now) id object.now }
+    ensures { result ≡ call_receiver (declarations_of known.now) (lookup None types.now) id object.now }
 {
     match object {
         Some(object) => receiver(known, types, *object),

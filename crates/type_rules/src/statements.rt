@@ -1,7 +1,7 @@
 //! What is broken at declarations and statements.
 
 ghost use Rattle.std.specs.Prelude.{◌≡◌, ◌++◌, ◌||◌, [], None, OnOk, option_and_then};
-ghost use Rattle.scj_tree.specs.Recursion.{told};
+ghost use Rattle.scj_tree.specs.Recursion.{lookup};
 ghost use Rattle.scj_rules.specs.declared.views.WrittenType.TheVariants.{Long as long_type};
 ghost use Rattle.scj_rules.specs.Classes.{FoundMethod, superclass_in, framework_row_named};
 ghost use Rattle.scj_rules.specs.ClassRules.{is_same_type};
@@ -18,7 +18,7 @@ use crate::names::{assigns, receiver, told, type_written, written_type};
 use method_rows::result_type;
 use node_views::{place_at, type_at};
 use scj_base::{ClassId, Found, Memory, Name, NodeId, Pos, Rule};
-use scj_rules::{Ty, WrittenType, note};
+use scj_rules::{Ty, WrittenType, report_if};
 use scj_tree::Node;
 use type_words::{are_same, is_array_value, is_length, is_long, is_size_body, is_void};
 
@@ -32,7 +32,7 @@ pub fn note_variable(
 ) -> Result<(), Memory>
     ensures { OnOk result (found.new.items ≡ found.old.items ++ variable_breaks (declarations_of known.now) id place name.now) }
 {
-    note(
+    report_if(
         found,
         known.variable_named(id, name).is_some(),
         Rule::T2,
@@ -62,11 +62,11 @@ pub fn note_value(
     value: NodeId,
     found: &mut Vec<Found>,
 ) -> Result<(), Memory>
-    ensures { OnOk result (found.new.items ≡ found.old.items ++ value_breaks (declarations_of known.now) (told None types.now) place declared_type value) }
+    ensures { OnOk result (found.new.items ≡ found.old.items ++ value_breaks (declarations_of known.now) (lookup None types.now) place declared_type value) }
 {
     let target = written_type(known, declared_type);
     let value = told(types, value);
-    note(
+    report_if(
         found,
         misfits_value(known, &target, &value),
         Rule::T7,
@@ -77,7 +77,7 @@ pub fn note_value(
 /// Whether the target is the length of an array.
 #[tactic(auto, unfolding(scj_rules::specs::TypeRules::is_length_target, scj_rules::specs::Contexts::declarations_of))]
 fn is_length_target(known: &Known<'_>, types: &[Option<Ty>], target: NodeId) -> bool
-    ensures { result ≡ holds (read (declarations_of known.now).nodes (is_length_target (declarations_of known.now) (told None types.now)) target) (λ b. b) }
+    ensures { result ≡ holds (read (declarations_of known.now).nodes (is_length_target (declarations_of known.now) (lookup None types.now)) target) (λ b. b) }
 {
     match known.program().get(target) {
         Some(Node::FieldAccess { name, object, .. }) => match receiver(known, types, *object) {
@@ -97,14 +97,14 @@ pub fn note_assign(
     value: NodeId,
     found: &mut Vec<Found>,
 ) -> Result<(), Memory>
-    ensures { OnOk result (found.new.items ≡ found.old.items ++ assign_breaks (declarations_of known.now) (told None types.now) place target value) }
+    ensures { OnOk result (found.new.items ≡ found.old.items ++ assign_breaks (declarations_of known.now) (lookup None types.now) place target value) }
 {
     let old = told(types, target);
     let new = told(types, value);
     let test = old.is_some()
         && new.is_some()
         && (misfits_value(known, &old, &new) || is_length_target(known, types, target));
-    note(found, test, Rule::T7, place)
+    report_if(found, test, Rule::T7, place)
 }
 
 /// Notes a condition that isn't boolean.
@@ -115,13 +115,13 @@ pub fn note_condition(
     condition: NodeId,
     found: &mut Vec<Found>,
 ) -> Result<(), Memory>
-    ensures { OnOk result (found.new.items ≡ found.old.items ++ condition_breaks (declarations_of known.now) (told None types.now) condition) }
+    ensures { OnOk result (found.new.items ≡ found.old.items ++ condition_breaks (declarations_of known.now) (lookup None types.now) condition) }
 {
     let test = match told(types, condition) {
         Some(t) => !are_same(&t, &Ty::Bool),
         None => false,
     };
-    note(found, test, Rule::T8, place_at(known.program(), condition))
+    report_if(found, test, Rule::T8, place_at(known.program(), condition))
 }
 
 /// Whether a value of the type fits the result. An int fits a result `long`.
@@ -149,7 +149,7 @@ pub fn note_return(
     value: &Option<NodeId>,
     found: &mut Vec<Found>,
 ) -> Result<(), Memory>
-    ensures { OnOk result (found.new.items ≡ found.old.items ++ return_breaks (declarations_of known.now) (told None types.now) id place value.now) }
+    ensures { OnOk result (found.new.items ≡ found.old.items ++ return_breaks (declarations_of known.now) (lookup None types.now) id place value.now) }
 {
     let result_type = known.result_at(id);
     let test = match value {
@@ -159,7 +159,7 @@ pub fn note_return(
             None => false,
         },
     };
-    note(found, test, Rule::T9, place)
+    report_if(found, test, Rule::T9, place)
 }
 
 /// Notes a body with a result that doesn't always return.
@@ -174,7 +174,7 @@ pub fn note_end(
     ensures { OnOk result (found.new.items ≡ found.old.items ++ end_breaks (declarations_of known.now) place result_type body) }
 {
     let written = type_at(known.program(), result_type);
-    note(
+    report_if(
         found,
         !is_void(&written) && !known.always_returns(body),
         Rule::T10,
@@ -224,7 +224,7 @@ pub fn note_size(
     ensures { OnOk result (found.new.items ≡ found.old.items ++ size_breaks (declarations_of known.now) id place name.now result_type body.now) }
 {
     let written = type_at(known.program(), result_type);
-    note(
+    report_if(
         found,
         is_long(&written) && misfits_size(known, id, name, body),
         Rule::T14,
@@ -249,7 +249,7 @@ pub fn note_super_call(
     arguments: &[NodeId],
     found: &mut Vec<Found>,
 ) -> Result<(), Memory>
-    ensures { OnOk result (found.new.items ≡ found.old.items ++ super_breaks (declarations_of known.now) (told None types.now) id place arguments.now) }
+    ensures { OnOk result (found.new.items ≡ found.old.items ++ super_breaks (declarations_of known.now) (lookup None types.now) id place arguments.now) }
 {
     let test = match superclass_at(known, id) {
         Some(superclass) => {
@@ -263,5 +263,5 @@ pub fn note_super_call(
         }
         None => false,
     };
-    note(found, test, Rule::T6, place)
+    report_if(found, test, Rule::T6, place)
 }

@@ -6,7 +6,7 @@ ghost use Rattle.parser_nodes.specs.Told.{gives, seen};
 ghost use Rattle.scj_tree.specs.Lexemes.{a_sign};
 
 use crate::elements::{element_node, same_element};
-use crate::names::takes_argument;
+use crate::names::has_type_argument;
 use parser_machine::{ElementType, Entry, Mode};
 use parser_nodes::growing_nodes::Nodes;
 use parser_nodes::stacks::Stack;
@@ -151,7 +151,7 @@ pub fn type_name_sign(
     ensures kept { nodes.new.kept ≡ nodes.old.kept }
 {
     if sign == LESS {
-        if takes_argument(name) {
+        if has_type_argument(name) {
             return Ok(Some(Mode::TypeArgumentName {
                 place,
                 name: name.share()?,

@@ -3,7 +3,7 @@ use Rattle.std.specs.Prelude.{ℕ, Bool, true, false, List, Option, Some, length
 use Rattle.scj_tree.specs.declared.nodes.Node.{Node}
 use Rattle.scj_tree.specs.declared.kinds.NodeKind.{NodeKind}
 use Rattle.scj_tree.specs.declared.kinds.NodeKind.TheVariants.{Return, Block, If, While}
-use Rattle.scj_tree.specs.Recursion.{rising}
+use Rattle.scj_tree.specs.Recursion.{bottom_up}
 use Rattle.scj_rules.specs.Words.{holds}
 use Rattle.scj_rules.specs.Types.{returns_of}
 
@@ -13,7 +13,7 @@ returns_next nodes id returns = holds (slice_get nodes id) (returns_of nodes ret
 
 -- the nodes that always return
 unfoldable pub all_returns : List Node → List Bool
-all_returns nodes = rising false (returns_next nodes) (length nodes)
+all_returns nodes = bottom_up false (returns_next nodes) (length nodes)
 
 -- nodes of the kind may always return
 unfoldable pub is_returning_kind : Option NodeKind → Bool

@@ -2,7 +2,7 @@
 
 ghost use Rattle.std.specs.Prelude.{◌≡◌, ◌≤◌, List, IfOk, false, is_some};
 ghost use Rattle.std.specs.List.{list_any};
-ghost use Rattle.scj_tree.specs.Recursion.{told};
+ghost use Rattle.scj_tree.specs.Recursion.{lookup};
 ghost use Rattle.scj_rules.specs.Definitions.{read};
 ghost use Rattle.scj_rules.specs.Contexts.{declarations_of};
 ghost use Rattle.scj_rules.specs.Types.{is_true_literal, returns_of};
@@ -15,7 +15,7 @@ use std::alloc::Global;
 
 /// What is told of a node.
 fn told(returns: &[bool], id: NodeId) -> bool
-    ensures { result ≡ told false returns.now id }
+    ensures { result ≡ lookup false returns.now id }
 {
     match returns.get(id.place()) {
         Some(returns) => *returns,
@@ -25,7 +25,7 @@ fn told(returns: &[bool], id: NodeId) -> bool
 
 /// Whether one of these nodes returns.
 fn any_returns(returns: &[bool], ids: &[NodeId]) -> bool
-    ensures { result ≡ list_any (told false returns.now) ids.now }
+    ensures { result ≡ list_any (lookup false returns.now) ids.now }
 {
     for id in ids {
         if told(returns, *id) {
@@ -49,7 +49,7 @@ fn is_true(program: &Program, id: NodeId) -> bool
 /// Whether a node returns, by what is told of those before it.
 #[tactic(auto, unfolding(scj_rules::specs::Types::returns_of))]
 fn returns_of(program: &Program, returns: &[bool], node: &Node) -> bool
-    ensures { result ≡ returns_of program.now.nodes (told false returns.now) node.now }
+    ensures { result ≡ returns_of program.now.nodes (lookup false returns.now) node.now }
 {
     match node {
         Node::Return { .. } => true,
@@ -81,7 +81,7 @@ fn is_returning_kind(kind: &Option<NodeKind>) -> bool
 /// Whether the node of a number returns, by what is told of those before it. Its kind is looked at first, since most
 /// nodes are no statements.
 fn returns_at(program: &Program, returns: &[bool], id: NodeId) -> bool
-    ensures { result ≡ returns_next program.now.nodes id (told false returns.now) }
+    ensures { result ≡ returns_next program.now.nodes id (lookup false returns.now) }
 {
     let kind = program.kind(id);
     if !is_returning_kind(&kind) {

@@ -1,6 +1,6 @@
 use Rattle.std.proofs.Common.{arith}
 use Rattle.indexmap.specs.IndexMap.{get}
-use Rattle.scj_rules.specs.Words.{is_same}
+use Rattle.scj_base.specs.Bytes.{is_same}
 use Rattle.class_headers.proofs.IndexLemmas.{index_more}
 use Rattle.class_headers.proofs.names.index_of.Goals as goal
 

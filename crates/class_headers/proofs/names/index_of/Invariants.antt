@@ -1,7 +1,7 @@
 use Rattle.std.proofs.Common.{◌≡◌, ℕ, List, take}
 use Rattle.std.specs.List.{position}
 use Rattle.indexmap.specs.IndexMap.{get}
-use Rattle.scj_rules.specs.Words.{is_same}
+use Rattle.scj_base.specs.Bytes.{is_same}
 use Rattle.class_headers.proofs.names.index_of.Given as goal
 
 -- the names so far have their places

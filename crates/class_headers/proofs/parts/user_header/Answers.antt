@@ -1,7 +1,7 @@
 use Rattle.std.proofs.Common.{refl}
 use Rattle.scj_rules.specs.Views.{class_at}
 use Rattle.indexmap.specs.IndexMap.{get}
-use Rattle.scj_rules.specs.Words.{is_same}
+use Rattle.scj_base.specs.Bytes.{is_same}
 use Rattle.class_headers.proofs.HeaderLemmas.{header_is, no_header}
 use Rattle.class_headers.proofs.parts.user_header.Goals as goal
 

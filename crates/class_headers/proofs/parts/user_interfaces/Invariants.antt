@@ -1,7 +1,7 @@
 use Rattle.std.proofs.Common.{◌≡◌, ◌++◌, length}
 use Rattle.std.specs.List.{filter_map}
 use Rattle.indexmap.specs.IndexMap.{get}
-use Rattle.scj_rules.specs.Words.{is_same}
+use Rattle.scj_base.specs.Bytes.{is_same}
 use Rattle.scj_rules.specs.Definitions.{read}
 use Rattle.scj_rules.specs.Views.{named_super}
 use Rattle.class_headers.specs.Columns.{interfaces_by}

@@ -10,7 +10,7 @@ use Rattle.class_rules.proofs.twice.note_twice.Goals as goal
 
 pub loop-others-preserved : goal.loop-others-preserved
 loop-others-preserved c =
-    rw (c.in_ok-note.ensures, c.contains_key.ensures) (twice_step (get (slice_cmp nat_cmp) c.loop-others.earlier) (get (slice_cmp nat_cmp) c.insert.new.self) tt c.loop-others.found.items
+    rw (c.in_ok-report_if.ensures, c.contains_key.ensures) (twice_step (get (slice_cmp nat_cmp) c.loop-others.earlier) (get (slice_cmp nat_cmp) c.insert.new.self) tt c.loop-others.found.items
     (c.args.found.now.items ++ broken_at c.args.rule (named_twice name_of [] c.args.names.now)) c.args.rule c.written-item.result c.loop-others.others.now
     c.in-len1-up.len_at_least c.written-item.is c.loop-others.invariant c.in_ok-insert.ensures.updates.0)
 

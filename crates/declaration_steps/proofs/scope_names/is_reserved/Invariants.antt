@@ -1,6 +1,6 @@
 use Rattle.std.proofs.Common.{◌≡◌, drop}
 use Rattle.scj_base.specs.Vocabulary.{words}
-use Rattle.scj_tree.specs.Lexemes.{is_one_of}
+use Rattle.scj_base.specs.Bytes.{is_one_of}
 use Rattle.declaration_steps.proofs.scope_names.is_reserved.Given as goal
 
 abbrev pub invariant-loop-i : goal.invariant-loop-i

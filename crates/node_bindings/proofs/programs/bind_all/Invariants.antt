@@ -1,9 +1,9 @@
 use Rattle.std.proofs.Common.{◌≡◌, None}
-use Rattle.scj_tree.specs.Recursion.{told, listed}
+use Rattle.scj_tree.specs.Recursion.{lookup, listed}
 use Rattle.scj_rules.specs.Contexts.{declarations_of}
 use Rattle.scj_rules.specs.Bindings.{binding_at}
 use Rattle.node_bindings.proofs.programs.bind_all.Given as goal
 
 -- what the nodes so far stand for is told
 abbrev pub invariant-loop-place : goal.invariant-loop-place
-invariant-loop-place l = l.bindings ≡ listed (binding_at (declarations_of l.known) (told None l.types)) l.place
+invariant-loop-place l = l.bindings ≡ listed (binding_at (declarations_of l.known) (lookup None l.types)) l.place

@@ -1,8 +1,9 @@
 use Rattle.std.proofs.Common.{◌≡◌, ◌<◌, ◌+◌, ◌-◌, ℕ, suc, List, None, arith, sym, ap, ◌∙◌, subst, length, get_or, length-set, ◌==◌, drop, option_map, position}
-use Rattle.scj_tree.specs.Recursion.{told}
+use Rattle.scj_tree.specs.Recursion.{lookup}
 use Rattle.scj_rules.specs.Contexts.{number_of_class}
 use Rattle.node_contexts.proofs.ListLemmas.{all_below, numbered}
 use Rattle.node_contexts.proofs.class_numbers.class_numbers.Goals as goal
+use Rattle.scj_rules.specs.Classes.{first_user_class}
 
 pub index_mut-requires : goal.index_mut-requires
 index_mut-requires c =
@@ -26,7 +27,7 @@ loop-place-preserved c =
       within = omega (arith, c.loop-place.invariant.within);
       whole = length-set _ _ _ ∙ c.loop-place.invariant.whole;
       exact = λ id.
-          let P : ℕ → Type 0 = λ m. told None c.loop-place.numbers.items id ≡ option_map (λ k. (16 + m) + k) (position (λ other. id == other) (drop m all)) in
+          let P : ℕ → Type 0 = λ m. lookup None c.loop-place.numbers.items id ≡ option_map (λ k. (first_user_class + m) + k) (position (λ other. id == other) (drop m all)) in
           numbered all n c.place.result c.at.result c.loop-place.numbers.items id inside read there c.at.ensures (subst P up (c.loop-place.invariant.exact id));
     }
 
@@ -34,6 +35,6 @@ pub returns-clause-exact : goal.returns-clause-exact
 unfolding number_of_class
 returns-clause-exact c = λ id.
     let all = c.in_ok-all.all.items in
-    let P : ℕ → Type 0 = λ m. told None c.loop-place.numbers.items id ≡ option_map (λ k. (16 + m) + k) (position (λ other. id == other) (drop m all)) in
+    let P : ℕ → Type 0 = λ m. lookup None c.loop-place.numbers.items id ≡ option_map (λ k. (first_user_class + m) + k) (position (λ other. id == other) (drop m all)) in
     let zero : c.loop-place.place ≡ 0 = omega (arith, c.loop-place-test.false) in
-    subst P zero (c.loop-place.invariant.exact id) ∙ ap (λ (xs : List ℕ). option_map (λ k. 16 + k) (position (λ other. id == other) xs)) c.in_ok-all.ensures
+    subst P zero (c.loop-place.invariant.exact id) ∙ ap (λ (xs : List ℕ). option_map (λ k. first_user_class + k) (position (λ other. id == other) xs)) c.in_ok-all.ensures

@@ -1,5 +1,5 @@
 use Rattle.std.proofs.Common.{◌++◌, ◌+◌, ℕ, None, List, Option, sym, ap, ◌∙◌, drop}
-use Rattle.scj_tree.specs.Recursion.{told}
+use Rattle.scj_tree.specs.Recursion.{lookup}
 use Rattle.scj_tree.specs.Forest.{Forest}
 use Rattle.scj_base.specs.declared.findings.Found.{Found}
 use Rattle.scj_rules.specs.declared.typing.Scope.{Scope}
@@ -13,7 +13,7 @@ use Rattle.runs_in_check.proofs.arguments.note_arguments.Goals as goal
 pub loop-i-preserved : goal.loop-i-preserved
 loop-i-preserved c =
     let forest : Forest = c.args.uses.now in
-    let scopes : Scopes = told None c.args.scopes.now in
+    let scopes : Scopes = lookup None c.args.scopes.now in
     let seen : Declared → Option Scope = seen_scope forest c.args.callee.now in
     let ds : List Declared = parameters_of forest c.args.callee.now.called in
     let ids : List ℕ = c.args.arguments.now in
@@ -25,5 +25,5 @@ loop-i-preserved c =
 pub returns : goal.returns
 returns c =
     let forest : Forest = c.args.uses.now in
-    sym (arguments_all forest (told None c.args.scopes.now) (seen_scope forest c.args.callee.now) c.loop-i.found.items (parameters_of forest c.args.callee.now.called) c.args.arguments.now c.loop-i.i c.loop-i-test.false)
+    sym (arguments_all forest (lookup None c.args.scopes.now) (seen_scope forest c.args.callee.now) c.loop-i.found.items (parameters_of forest c.args.callee.now.called) c.args.arguments.now c.loop-i.i c.loop-i-test.false)
     ∙ c.loop-i.invariant

@@ -1,10 +1,9 @@
 use Rattle.std.proofs.Common.{◌≡◌, Err, ap}
-use Rattle.scj_check.proofs.ParserLaws.{read_as_added, broken_as_refused}
 use Rattle.scj_check.proofs.readings.add_tokens.Goals as goal
 
 pub returns-in-Ok-clause-ok : goal.returns-in-Ok-clause-ok
-returns-in-Ok-clause-ok c = read_as_added _ _ _ c.in-Ok.ensures.ok
+returns-in-Ok-clause-ok c = c.in-Ok.ensures.ok
 
 pub returns-in-Err-Bad-clause-ok : goal.returns-in-Err-Bad-clause-ok
 returns-in-Err-Bad-clause-ok c =
-    rw c.in-Err-Bad.field-0-is (broken_as_refused _ _ _ (c.in-Err-Bad.ensures.bad c.in-Err-Bad.found (ap (λ e. Err e) c.in-Err-Bad.field-0-is)))
+    rw c.in-Err-Bad.field-0-is (c.in-Err-Bad.ensures.bad c.in-Err-Bad.found (ap (λ e. Err e) c.in-Err-Bad.field-0-is))

@@ -3,9 +3,9 @@ use Rattle.std.proofs.lemmas.Result.{err_from_is_err_and}
 use Rattle.std.proofs.lemmas.List.{take_all}
 use Rattle.scj_io.specs.Loads.{shelf_run}
 use Rattle.scj_check.specs.Texts.{texts_of}
-use Rattle.scj_cli.specs.Endings.{IsAmong, MayStand}
+use Rattle.scj_cli.specs.Endings.{IsReached, MayStand}
 use Rattle.scj_cli.specs.Endings.MayStand.{none}
-use Rattle.scj_cli.proofs.LoadLaws.{goes_by, goes_then, among_at, refused_later, stands_more, one_more_source, held_first}
+use Rattle.scj_cli.proofs.LoadLaws.{goes_by, goes_then, reached_at, refused_later, stands_more, one_more_source, held_first}
 use Rattle.scj_cli.proofs.loads.load_all.Goals as goal
 
 pub loop-name-init : goal.loop-name-init
@@ -14,9 +14,14 @@ loop-name-init g c = (goes_by _ _ _, λ f n m. rw c.new-sources.ensures none, rw
 pub returns-in_err-bytes-clause-refusal : goal.returns-in_err-bytes-clause-refusal
 returns-in_err-bytes-clause-refusal g c =
     let p = err_from_is_err_and c.from_residual.result c.from_residual.ensures.1 in
-    let at = among_at string_bytes c.args.names.now c.loop-name.name-index c.name-item.result c.loop-name-test.true in
-    let among : IsAmong c.deref.result.now (map string_bytes c.args.names.now) = rw (c.deref.ensures, c.name-item.is) at in
-    rw (p.1, p.2) (refused_later _ _ _ _ _ _ _ _ _ _ _ c.loop-name.invariant.0 among c.in_err-bytes.ensures.refusal)
+    let held = g.H.Shelf.held c.args.shelf.now in
+    let faults = g.H.Shelf.faults c.args.shelf.now in
+    let at =
+    reached_at (shelf_run held faults faults faults) string_bytes c.args.names.now c.loop-name.name-index c.name-item.result
+    (texts_of c.loop-name.sources) c.loop-name-test.true (c.loop-name.invariant.1 faults faults faults) in
+    let reached : IsReached held c.deref.result.now (map string_bytes c.args.names.now) =
+    rw (c.deref.ensures, c.name-item.is) at in
+    rw (p.1, p.2) (refused_later _ _ _ _ _ _ _ _ _ _ _ c.loop-name.invariant.0 reached c.in_err-bytes.ensures.refusal)
 
 pub loop-name-preserved : goal.loop-name-preserved
 loop-name-preserved g c =

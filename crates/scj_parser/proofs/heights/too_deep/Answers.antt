@@ -3,7 +3,7 @@ use Rattle.scj_base.specs.declared.places.Pos.{Pos}
 use Rattle.scj_tree.specs.Heights.{first_too_deep, highest, too_deep, weight}
 use Rattle.scj_tree.specs.Shape.{children, place_of}
 use Rattle.scj_parser.proofs.HeightLemmas.{Gone, gone_all, gone_at, gone_deep, gone_next, gone_small_child, light}
-use Rattle.scj_parser.specs.HeightRows.{body_height_by, row}
+use Rattle.scj_parser.specs.HeightRowsSupport.{body_height_by, row}
 use Rattle.scj_parser.proofs.heights.too_deep.Goals as goal
 
 pub returns-then-body_height-gt-HIGHEST : goal.returns-then-body_height-gt-HIGHEST

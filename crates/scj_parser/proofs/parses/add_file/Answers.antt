@@ -1,10 +1,10 @@
-use Rattle.std.proofs.Common.{◌≡◌, ℕ, List, Some, drop, length, ap, sym, ◌∙◌, subst, arith}
+use Rattle.std.proofs.Common.{◌≡◌, ℕ, List, Some, drop, length, ap, sym, ◌∙◌, subst, arith, refl}
 use Rattle.scj_base.specs.declared.findings.Found.{Found}
 use Rattle.scj_base.specs.declared.findings.Rule.TheVariants.{P2}
 use Rattle.scj_parser.proofs.ParsingLemmas.{same_found}
 use Rattle.scj_parser.proofs.Within.{tree_longer, tree_within}
-use Rattle.scj_parser.specs.HeightRows.{ChildrenWithin}
-use Rattle.scj_parser.specs.Parsing.{IsRefused, too_high}
+use Rattle.scj_parser.specs.HeightRowsSupport.{ChildrenWithin}
+use Rattle.scj_tree.specs.Files.{BreaksGrammar, too_high}
 use Rattle.scj_tree.specs.Heights.{too_deep}
 use Rattle.scj_tree.specs.Lexemes.{lexemes_of}
 use Rattle.scj_tree.specs.declared.nodes.Node.{Node}
@@ -32,10 +32,10 @@ returns-in-Some-clause-bad c = λ found e.
     let deep : too_deep (length c.args.nodes.now.all) c.read_classes.new.nodes.all ≡ Some c.in-Some.pos =
     ap (λ (n : ℕ). too_deep n c.read_classes.new.nodes.all) f ∙ (ap (λ (M : List Node). too_deep c.kept_len-first.result M) (sym c.items.ensures.all) ∙ (sym c.in_ok-pos.ensures ∙ c.in-Some.is)) in
     let same = same_found (record { pos = c.in-Some.pos; rule = P2 }) found e in
-    let P : Found → Type 0 = λ g. IsRefused c.args.nodes.now.all (lexemes_of c.args.bytes.now c.args.tokens.now) g in
-    subst P same (too_high (record {
-      nodes = c.read_classes.new.nodes.all;
+    let P : Found → Type 0 = λ g. BreaksGrammar c.args.nodes.now.all (lexemes_of c.args.bytes.now c.args.tokens.now) g in
+    subst P same (too_high refl (record {
+      after = c.read_classes.new.nodes.all;
       classes = c.in_ok-classes.classes;
       tree = c.read_classes.ensures.ok c.in_ok-classes.classes c.in_ok-classes.was;
-      deep = deep;
+      is_high = deep;
     }))

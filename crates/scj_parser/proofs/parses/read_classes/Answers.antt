@@ -3,7 +3,7 @@ use Rattle.parser_steps.specs.declared.file_reads.FileRead.{FileRead}
 use Rattle.scj_base.specs.declared.findings.Found.{Found}
 use Rattle.scj_base.specs.declared.findings.Rule.TheVariants.{P1}
 use Rattle.scj_parser.proofs.ParsingLemmas.{never_unfinished, refused_stop, same_found, whole_tree}
-use Rattle.scj_parser.specs.Parsing.{IsRefused}
+use Rattle.scj_tree.specs.Files.{BreaksGrammar}
 use Rattle.scj_tree.specs.Grammar.{Tree}
 use Rattle.scj_tree.specs.Lexemes.{lexemes_of}
 use Rattle.scj_parser.proofs.parses.read_classes.Goals as goal
@@ -20,5 +20,5 @@ returns-in-Whole-clause-ok c = λ classes e.
 pub returns-in-Stopped-clause-bad : goal.returns-in-Stopped-clause-bad
 returns-in-Stopped-clause-bad c = λ found e.
     let same = same_found (record { pos = c.in-Stopped.pos; rule = P1 }) found e in
-    let P : Found → Type 0 = λ f. IsRefused c.args.nodes.now.all (lexemes_of c.args.bytes.now c.args.tokens.now) f in
+    let P : Found → Type 0 = λ f. BreaksGrammar c.args.nodes.now.all (lexemes_of c.args.bytes.now c.args.tokens.now) f in
     subst P same (refused_stop c.args.nodes.now.all (lexemes_of c.args.bytes.now c.args.tokens.now) c.in-Stopped.pos (c.read_file.ensures.stopped c.in-Stopped.pos (c.in_ok-classes.was ∙ ap (λ (r : FileRead). Ok r) c.in-Stopped.is)))

@@ -5,4 +5,4 @@ pub returns : goal.returns
 unfolding s6_at
 returns c =
     let test = rw c.requires at c.is_missing-test.ensures in
-    rw test at c.note.ensures
+    rw test at c.report_if.ensures

@@ -1,8 +1,8 @@
 use Rattle.std.proofs.Common.{◌≡◌, false}
-use Rattle.scj_tree.specs.Recursion.{rising}
+use Rattle.scj_tree.specs.Recursion.{bottom_up}
 use Rattle.type_words.specs.Returns.{returns_next}
 use Rattle.type_words.proofs.returns.returning.Given as goal
 
 -- the nodes so far are told
 abbrev pub invariant-loop-place : goal.invariant-loop-place
-invariant-loop-place l = l.returns.items ≡ rising false (returns_next l.program.nodes) l.place
+invariant-loop-place l = l.returns.items ≡ bottom_up false (returns_next l.program.nodes) l.place

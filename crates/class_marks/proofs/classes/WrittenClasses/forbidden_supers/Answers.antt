@@ -1,4 +1,4 @@
-use Rattle.std.proofs.Common.{◌∙◌, arith}
+use Rattle.std.proofs.Common.{arith}
 use Rattle.std.proofs.lemmas.Grind.{common_steps}
 use Rattle.scj_rules.specs.Views.{class_at}
 use Rattle.scj_rules.specs.Contexts.{declarations_of}

@@ -4,8 +4,9 @@ use Rattle.scj_rules.specs.Contexts.{declarations_of}
 use Rattle.class_marks.proofs.SuperLemmas.{one_forbidden, none_forbidden}
 use Rattle.class_marks.proofs.classes.WrittenClasses.note_interfaces.Goals as goal
 
-pub loop-others-preserved-in_ok-add_kind : goal.loop-others-preserved-in_ok-add_kind
-loop-others-preserved-in_ok-add_kind c = grind (arith, common_steps, one_forbidden (declarations_of c.args.self.now), c.in_ok-note_interface.ensures, c.in_ok-add_kind.ensures)
+pub loop-others-preserved-in_ok-add_kinds : goal.loop-others-preserved-in_ok-add_kinds
+loop-others-preserved-in_ok-add_kinds c =
+    grind (arith, common_steps, one_forbidden (declarations_of c.args.self.now), c.in_ok-kinds.ensures, c.in_ok-note_interface.ensures, c.in_ok-add_kinds.ensures)
 
 pub returns : goal.returns
 returns c = grind (arith, common_steps, none_forbidden (declarations_of c.args.self.now))

@@ -1,6 +1,6 @@
 use Rattle.std.proofs.Common.{◌≡◌, ◌<◌, ℕ, List, suc, length, arith, sym, ap, ◌∙◌, subst, replicate}
 use Rattle.std.proofs.lemmas.List.{length-replicate}
-use Rattle.scj_tree.specs.Recursion.{told}
+use Rattle.scj_tree.specs.Recursion.{lookup}
 use Rattle.scj_tree.specs.Forest.{AllBelow}
 use Rattle.scj_tree.specs.Shape.{children}
 use Rattle.scj_rules.specs.Contexts.{outermost}
@@ -17,7 +17,7 @@ loop-place-init c =
     record {
       within = omega (arith, full);
       whole = ap length rows ∙ length-replicate (length forest.nodes) outermost;
-      exact = let P : ℕ → Type 0 = λ k. (id : ℕ) → id < length forest.nodes → told outermost c.in_ok-rows.rows.items id ≡ told_from forest k id in
+      exact = let P : ℕ → Type 0 = λ k. (id : ℕ) → id < length forest.nodes → lookup outermost c.in_ok-rows.rows.items id ≡ told_from forest k id in
           subst P (sym full) (init forest c.len.ensures.whole c.in_ok-rows.rows.items rows);
     }
 
@@ -38,7 +38,7 @@ loop-place-preserved c =
     let parent : ℕ = c.at-parent.result in
     let rows : List Context = c.loop-place.rows.items in
     let up : c.loop-place.place ≡ suc parent = omega (arith, c.loop-place-test.true, c.at-parent.ensures) in
-    let P : ℕ → Type 0 = λ k. (id : ℕ) → id < length forest.nodes → told outermost rows id ≡ told_from forest k id in
+    let P : ℕ → Type 0 = λ k. (id : ℕ) → id < length forest.nodes → lookup outermost rows id ≡ told_from forest k id in
     record {
       within = omega (arith, c.loop-place.invariant.within);
       whole = c.in_ok-spread_children.ensures.whole ∙ c.loop-place.invariant.whole;
@@ -51,5 +51,5 @@ pub returns : goal.returns
 returns c =
     let forest = c.args.program.now in
     let zero : c.loop-place.place ≡ 0 = omega (arith, c.loop-place-test.false) in
-    let P : ℕ → Type 0 = λ k. (id : ℕ) → id < length forest.nodes → told outermost c.loop-place.rows.items id ≡ told_from forest k id in
+    let P : ℕ → Type 0 = λ k. (id : ℕ) → id < length forest.nodes → lookup outermost c.loop-place.rows.items id ≡ told_from forest k id in
     done forest c.len.ensures.whole c.loop-place.rows.items c.loop-place.invariant.whole (subst P zero c.loop-place.invariant.exact)

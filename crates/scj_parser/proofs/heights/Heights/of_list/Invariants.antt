@@ -1,6 +1,6 @@
 use Rattle.std.proofs.Common.{◌≡◌, length, max}
 use Rattle.scj_tree.specs.Heights.{highest}
-use Rattle.scj_parser.specs.HeightRows.{row}
+use Rattle.scj_parser.specs.HeightRowsSupport.{row}
 use Rattle.scj_parser.proofs.heights.Heights.of_list.Given as goal
 
 abbrev pub invariant-loop-rest : goal.invariant-loop-rest
