@@ -2,7 +2,7 @@
 
 `ordinary` and `few` have COUNT bytes, about. `ordinary` has classes of about 4 KiB, 16 in a file, as a controller has
 them: missions, handlers, private memories, shared objects and helpers, in groups of 16, and as densely written as the
-programs in examples/ (4.8 bytes a token, a seventh of the bytes in comments). `few` has one class in each
+pump station in examples/ and its like (4.8 bytes a token, a seventh of the bytes in comments). `few` has one class in each
 file of 1 MiB. The hostile ones have COUNT of something:
 
     chain      classes, each under the one before          scopes     private scopes, each in the one before

@@ -1,7 +1,7 @@
 """Makes sources of whole classes from a number: python3 syntax_sources.py SHAPE SHARE [FIRST] > FILE.
 
 Each is a part 1/SHARE of a whole. Shapes: `ordinary` (1 MiB of classes as a controller has them, about as densely
-written as the programs in examples/, numbered from FIRST), and hostile ones: `operators` (one expression of 300,000 operators), `parentheses` (500,000 opening ones), `comment`
+written as the pump station in examples/, numbered from FIRST), and hostile ones: `operators` (one expression of 300,000 operators), `parentheses` (500,000 opening ones), `comment`
 (one of 1 MiB), `line` (1 MiB of ordinary classes in one line), `empty_classes` (100,000 of them) and `else_if` (one chain of 20,000).
 """
 

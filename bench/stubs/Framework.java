@@ -1,5 +1,6 @@
-// Empty classes by the names of the framework, so that a Java compiler reads the same sources.
-interface Safelet<M> {
+// Empty classes by the names of the framework, with the types that JSR 302 gives them, so that a Java compiler reads the
+// same sources.
+interface Safelet<M extends Mission> {
     MissionSequencer<M> getSequencer();
 
     long immortalMemorySize();
@@ -8,26 +9,36 @@ interface Safelet<M> {
 }
 
 abstract class Mission {
-    public abstract void initialize();
+    protected abstract void initialize();
 
     public abstract long missionMemorySize();
 
-    public void cleanUp() {}
+    protected void cleanUp() {}
 
     public final void requestTermination() {}
 }
 
-abstract class MissionSequencer<M> {
+abstract class MissionSequencer<M extends Mission> {
     MissionSequencer(PriorityParameters priority, StorageParameters storage) {}
 
-    public abstract Mission getNextMission();
+    MissionSequencer(PriorityParameters priority, StorageParameters storage, String name) {}
+
+    protected abstract M getNextMission();
 }
 
 abstract class PeriodicEventHandler {
     PeriodicEventHandler(
             PriorityParameters priority, PeriodicParameters release, StorageParameters storage) {}
 
+    PeriodicEventHandler(
+            PriorityParameters priority,
+            PeriodicParameters release,
+            StorageParameters storage,
+            String name) {}
+
     public abstract void handleAsyncEvent();
+
+    public void cleanUp() {}
 
     public final void register() {}
 }
@@ -36,7 +47,15 @@ abstract class AperiodicEventHandler {
     AperiodicEventHandler(
             PriorityParameters priority, AperiodicParameters release, StorageParameters storage) {}
 
+    AperiodicEventHandler(
+            PriorityParameters priority,
+            AperiodicParameters release,
+            StorageParameters storage,
+            String name) {}
+
     public abstract void handleAsyncEvent();
+
+    public void cleanUp() {}
 
     public final void register() {}
 
@@ -44,7 +63,7 @@ abstract class AperiodicEventHandler {
 }
 
 class ManagedMemory {
-    static void enterPrivateMemory(int size, Runnable logic) {}
+    static void enterPrivateMemory(long size, Runnable logic) {}
 
     static void executeInAreaOf(Object object, Runnable logic) {}
 }
@@ -74,9 +93,9 @@ class PeriodicParameters {
 class AperiodicParameters {}
 
 class StorageParameters {
-    StorageParameters(int size) {}
+    StorageParameters(long size) {}
 }
 
 class RelativeTime {
-    RelativeTime(int milliseconds, int nanoseconds) {}
+    RelativeTime(long milliseconds, int nanoseconds) {}
 }

@@ -2,7 +2,7 @@
 // tells when it is too high. One mission that never ends.
 
 class Station implements Safelet<Pumping> {
-  public MissionSequencer getSequencer() { return new Once(); }
+  public MissionSequencer<Pumping> getSequencer() { return new Once(); }
   public long immortalMemorySize() { return 600; }
   public void initializeApplication() { Trace.print("station", 1); }
 }
@@ -13,7 +13,7 @@ class Once extends MissionSequencer<Pumping> {
   Once() { super(new PriorityParameters(5), new StorageParameters(0)); }
 
   // Runs in immortal memory, and so does the mission's constructor.
-  public Mission getNextMission() {
+  public Pumping getNextMission() {
     if (given) return null;
     given = true;
     return new Pumping();

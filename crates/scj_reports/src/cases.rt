@@ -1,8 +1,6 @@
 //! One case: its files, and what goes wrong outside.
 
-use crate::edits::Edit;
-use crate::lines::add_line;
-use crate::stops::Stop;
+use case_tables::{Edit, Stop, add_line};
 use scj_io::{MemShelf, MemSink};
 use std::alloc::Global;
 
@@ -48,7 +46,7 @@ impl Case {
     /// Takes a line of the file that is being written; elsewhere the line is a comment.
     pub fn add_line(&mut self, line: &str) -> Result<(), Stop> {
         if self.is_open {
-            add_line(&mut self.source, line)?;
+            add_line(&mut self.source, line.as_bytes())?;
         }
         Ok(())
     }
@@ -63,12 +61,8 @@ impl Case {
     }
 
     /// The case of the last written file alone, changed by an edit.
-    pub fn edited(&self, edit: &Edit<'_>) -> Result<Case, Stop> {
-        let front = self.source.get(..edit.from).ok_or(Stop::BadLine)?;
-        let behind = self.source.get(edit.to..).ok_or(Stop::BadLine)?;
-        let mut source = Vec::from_slice(self.alloc, front)?;
-        source.extend_from_slice(edit.text.as_bytes())?;
-        source.extend_from_slice(behind)?;
+    pub fn edited(&self, edit: Edit<'_>) -> Result<Case, Stop> {
+        let source = edit.changed(self.alloc, &self.source)?;
         let mut case = Case::new(self.alloc);
         case.shelf.add(&self.name, &source)?;
         Ok(case)

@@ -5,23 +5,20 @@
 //! file of so many blanks. `! load N`, `! out N` and `! err N` make that load or put fail, counted from 1, and
 //! `! room N` leaves room for so many bytes on the output. `$ WORDS` calls the checker, with words parted by single
 //! blanks. `~ FROM TO TEXT` checks the last written file alone, with the text in the place of the bytes from FROM up to
-//! TO. Lines outside a file and outside these kinds are comments. In a file `\xNN` is one byte, by two digits from 0 to 9
-//! and a to f, and a line that ends in `\` has no line feed behind it.
+//! TO. Lines outside a file and outside these kinds are comments. In files and texts `\xNN` is one byte, by two digits
+//! from 0 to 9 and a to f, and a line that ends in `\` has no line feed behind it.
 #![tactic(auto)]
 
 mod calls;
 mod cases;
-mod edits;
-mod lines;
 mod runs;
-mod stops;
 
+use case_tables::Stop;
 use runs::Run;
 use scj_io::FileShelf;
 use std::alloc::Global;
 use std::io::{self, BufRead, BufReader, BufWriter, Write};
 use std::rt::Files;
-use stops::Stop;
 
 fn main(rt: HostRuntime) -> Result<(), Stop> {
     let alloc = rt.alloc();

@@ -2,8 +2,7 @@
 
 use crate::calls::Ending;
 use crate::cases::Case;
-use crate::edits::Edit;
-use crate::stops::Stop;
+use case_tables::{Edit, Stop};
 use scj_io::Shelf;
 use std::alloc::Global;
 use std::io::Write;
@@ -58,7 +57,9 @@ impl<S: Shelf + Drop, W: Write + Drop> Run<S, W> {
 
     fn take_file(&mut self, name: &str) -> Result<(), Stop> {
         self.case.end_file()?;
-        let bytes = self.files.load(self.alloc, name, LONGEST)?;
+        let Ok(bytes) = self.files.load(self.alloc, name, LONGEST) else {
+            return Err(Stop::NoFile);
+        };
         self.case.shelf.add(name, &bytes)?;
         Ok(())
     }
@@ -73,7 +74,7 @@ impl<S: Shelf + Drop, W: Write + Drop> Run<S, W> {
     fn change(&mut self, words: &str) -> Result<(), Stop> {
         self.case.end_file()?;
         let edit = Edit::parse(words)?;
-        let mut case = self.case.edited(&edit)?;
+        let mut case = self.case.edited(edit)?;
         let call = format!(in self.alloc; "check {}", self.case.name)?;
         let ending = Ending::of(self.alloc, &call, &mut case)?;
         writeln!(self.out, "~ {words}")?;

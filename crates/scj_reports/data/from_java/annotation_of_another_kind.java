@@ -1,0 +1,3 @@
+class Pump {
+  @Deprecated void stop() { }
+}

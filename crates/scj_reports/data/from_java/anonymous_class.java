@@ -1,0 +1,7 @@
+class Pump {
+  Runnable flush;
+
+  Pump() {
+    flush = new Runnable() { public void run() { } };
+  }
+}

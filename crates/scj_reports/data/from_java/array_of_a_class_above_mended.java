@@ -1,0 +1,11 @@
+class Part { }
+
+class Tank extends Part { }
+
+class Pump {
+  int level;
+
+  void step(int n) {
+    Part[] parts = new Part[4];
+  }
+}

@@ -1,0 +1,6 @@
+class Pump {
+  int[][] grid;
+  int width;
+
+  int at(int x, int y) { return grid[y][x]; }
+}

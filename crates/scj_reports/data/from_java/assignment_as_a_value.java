@@ -1,0 +1,7 @@
+class Pump {
+  int level;
+
+  void step(int n) {
+    while ((n = Device.read(1)) > 0) level++;
+  }
+}

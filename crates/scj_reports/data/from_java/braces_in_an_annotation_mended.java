@@ -1,0 +1,4 @@
+class Pump {
+  @SuppressWarnings("unchecked")
+  void stop() { }
+}

@@ -1,0 +1,1 @@
+class Device { int port; }

@@ -1,0 +1,1 @@
+class Port { int port; }

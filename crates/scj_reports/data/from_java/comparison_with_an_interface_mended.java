@@ -1,0 +1,11 @@
+class Tank {
+  int level;
+}
+
+class Pump {
+  int level;
+
+  void step(Object work, Tank tank) {
+    if (work == tank) level++;
+  }
+}

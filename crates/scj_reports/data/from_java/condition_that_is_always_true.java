@@ -1,0 +1,5 @@
+class Pump {
+  int level;
+
+  int count() { while (1 < 2) { level++; if (level > 9) return level; } }
+}

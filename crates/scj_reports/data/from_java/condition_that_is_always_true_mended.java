@@ -1,0 +1,10 @@
+class Pump {
+  int level;
+
+  int count() {
+    while (true) {
+      level++;
+      if (level > 9) return level;
+    }
+  }
+}

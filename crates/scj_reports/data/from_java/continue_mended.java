@@ -1,0 +1,9 @@
+class Pump {
+  int level;
+
+  void step(int n) {
+    for (int i = 0; i < n; i++) {
+      if (i != 3) level++;
+    }
+  }
+}

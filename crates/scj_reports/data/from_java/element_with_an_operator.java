@@ -1,0 +1,7 @@
+class Pump {
+  int[] rows;
+
+  void step(int n) {
+    rows[n] += 2;
+  }
+}

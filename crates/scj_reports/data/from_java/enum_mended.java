@@ -1,0 +1,4 @@
+class Mode {
+  static int OFF = 0;
+  static int ON = 1;
+}

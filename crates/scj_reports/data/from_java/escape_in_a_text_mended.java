@@ -1,0 +1,7 @@
+class Pump {
+  int level;
+
+  void step(int n) {
+    Trace.print("level", n);
+  }
+}

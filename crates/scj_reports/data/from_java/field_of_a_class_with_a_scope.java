@@ -1,0 +1,7 @@
+@DefineScope(name="Pumping", parent="IMMORTAL")
+abstract class Pumping extends Mission { }
+
+@Scope("Pumping")
+class Tank { }
+
+class Pump { Tank tank; }

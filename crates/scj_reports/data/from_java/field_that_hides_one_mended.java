@@ -1,0 +1,5 @@
+class Tank {
+  int level;
+}
+
+class Cistern extends Tank { }

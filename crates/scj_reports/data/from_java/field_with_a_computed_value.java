@@ -1,0 +1,3 @@
+class Pump {
+  int room = 64 * 1024;
+}

@@ -1,0 +1,7 @@
+class Tank {
+  int level;
+}
+
+class Pump {
+  Tank tank = new Tank();
+}

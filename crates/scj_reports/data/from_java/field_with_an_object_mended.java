@@ -1,0 +1,9 @@
+class Tank {
+  int level;
+}
+
+class Pump {
+  Tank tank;
+
+  Pump() { tank = new Tank(); }
+}

@@ -1,0 +1,4 @@
+class Pump {
+  static final int MOST = 90;
+  int limit = MOST;
+}

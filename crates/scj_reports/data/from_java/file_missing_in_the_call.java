@@ -1,0 +1,3 @@
+class Pump {
+  Tank first; Tank second;
+}

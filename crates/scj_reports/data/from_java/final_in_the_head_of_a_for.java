@@ -1,0 +1,7 @@
+class Pump {
+  int level;
+
+  void step(int n) {
+    for (final int i = 0; n < 3; n++) level = i;
+  }
+}

@@ -1,0 +1,10 @@
+class Pump {
+  int level;
+
+  void step(int n) {
+    while (n < 3) {
+      level++;
+      n++;
+    }
+  }
+}

@@ -1,0 +1,3 @@
+class Pump {
+  static int HIGH = 20;
+}

@@ -1,0 +1,1 @@
+class Queue<T> { T head; }

@@ -1,0 +1,9 @@
+class Tank {
+  int level;
+}
+
+class Pump {
+  Tank tank;
+
+  @Scope(Scope.THIS) Tank get() { return tank; }
+}

@@ -1,0 +1,1 @@
+interface Filter { int step(int value); }

@@ -1,0 +1,1 @@
+abstract class Filter { abstract int step(int value); }

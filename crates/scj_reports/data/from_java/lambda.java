@@ -1,0 +1,9 @@
+class Pump {
+  Runnable flush;
+
+  Pump() {
+    flush = () -> stop();
+  }
+
+  void stop() { }
+}

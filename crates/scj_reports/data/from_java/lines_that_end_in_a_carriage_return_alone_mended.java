@@ -1,0 +1,6 @@
+// The safelet.
+class App implements Safelet {
+  public MissionSequencer getSequencer() { return null; }
+  public long immortalMemorySize() { return 64; }
+  public void initializeApplication() { }
+}

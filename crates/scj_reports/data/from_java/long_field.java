@@ -1,0 +1,3 @@
+class Pump {
+  long sum;
+}

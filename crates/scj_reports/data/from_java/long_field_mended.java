@@ -1,0 +1,3 @@
+class Pump {
+  int sum;
+}

@@ -1,0 +1,8 @@
+class Pump {
+  int level;
+
+  void step(int n) {
+    int sum = 0;
+    level = n;
+  }
+}

@@ -1,0 +1,3 @@
+class Pump {
+  public static void main(String[] words) { }
+}

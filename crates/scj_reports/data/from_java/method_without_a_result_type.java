@@ -1,0 +1,5 @@
+class Pump {
+  int level;
+
+  stop() { level = 0; }
+}

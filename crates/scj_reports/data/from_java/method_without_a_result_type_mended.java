@@ -1,0 +1,5 @@
+class Pump {
+  int level;
+
+  void stop() { level = 0; }
+}

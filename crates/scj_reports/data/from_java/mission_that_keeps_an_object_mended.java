@@ -1,0 +1,12 @@
+@DefineScope(name="Pumping", parent="IMMORTAL")
+class Pumping extends Mission {
+  public long missionMemorySize() { return 400; }
+
+  public void initialize() {
+    Tank tank = new Tank();
+    Services.setCeiling(tank, 20);
+  }
+}
+
+@Scope("Pumping")
+class Tank { int level; }

@@ -1,0 +1,3 @@
+class Pump {
+  synchronized void full() { notify(); }
+}

@@ -1,0 +1,3 @@
+class Pump {
+  void full(AperiodicEventHandler alarm) { alarm.release(); }
+}

@@ -1,0 +1,9 @@
+class Pump {
+  boolean open;
+
+  void step(boolean full) {
+    open = open && full;
+    open = open || full;
+    open = open != full;
+  }
+}

@@ -1,0 +1,5 @@
+class Tank {
+  int level;
+
+  boolean same(Tank other) { return this.equals(other); }
+}

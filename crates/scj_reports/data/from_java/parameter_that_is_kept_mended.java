@@ -1,0 +1,12 @@
+class Tank {
+  int level;
+}
+
+class Pump {
+  Tank[] tanks;
+  int count;
+
+  Pump() { tanks = new Tank[4]; }
+
+  void add(@Scope(Scope.THIS) Tank t) { tanks[count] = t; count++; }
+}

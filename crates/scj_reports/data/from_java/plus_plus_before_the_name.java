@@ -1,0 +1,7 @@
+class Pump {
+  int level;
+
+  void step(int n) {
+    ++n;
+  }
+}

@@ -1,0 +1,15 @@
+class Pumping extends Mission {
+  public long missionMemorySize() { return 400; }
+
+  public void initialize() { new Sensor().register(); }
+}
+
+class Sensor extends AperiodicEventHandler {
+  Sensor() {
+    super(new PriorityParameters(12), new AperiodicParameters(), new StorageParameters(64));
+  }
+
+  public void handleAsyncEvent() { }
+}
+
+class Samples { int count; }

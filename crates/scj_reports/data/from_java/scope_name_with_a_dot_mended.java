@@ -1,0 +1,5 @@
+@DefineScope(name="Pumping", parent="IMMORTAL")
+abstract class Pumping extends Mission { }
+
+@Scope("Pumping")
+class Tank { }

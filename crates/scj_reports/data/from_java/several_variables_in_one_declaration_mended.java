@@ -1,0 +1,4 @@
+class Pump {
+  int low;
+  int high;
+}

@@ -1,0 +1,5 @@
+class Pump {
+  static int most;
+
+  static { most = 90; }
+}

@@ -1,0 +1,9 @@
+@DefineScope(name="Pumping", parent="IMMORTAL")
+abstract class Pumping extends Mission { }
+
+@Scope("Pumping")
+class Tank { }
+
+class Pump {
+  @RunsIn("Pumping") void fill() { Tank tank = new Tank(); }
+}

@@ -1,0 +1,5 @@
+class Pump {
+  static Pump only;
+
+  static Pump get() { return only; }
+}

@@ -1,0 +1,11 @@
+class Pump {
+  int level;
+
+  void step(int n) {
+    if (n < 0) {
+      Trace.print("negative", n);
+      return;
+    }
+    level = n;
+  }
+}

@@ -1,0 +1,5 @@
+class Tank {
+  int level;
+
+  public String toString() { return "tank"; }
+}

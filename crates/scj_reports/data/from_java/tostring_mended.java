@@ -1,0 +1,5 @@
+class Tank {
+  int level;
+
+  void show() { Trace.print("tank", level); }
+}

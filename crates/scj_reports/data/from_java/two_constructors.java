@@ -1,0 +1,5 @@
+class Tank {
+  int level;
+
+  Tank() { } Tank(int start) { level = start; }
+}

@@ -1,0 +1,7 @@
+class Tank {
+  int level;
+
+  Tank(int start) { level = start; }
+
+  Tank empty() { return new Tank(0); }
+}

@@ -1,0 +1,8 @@
+class Tank {
+  int level;
+}
+
+class Pump {
+  Tank[] tanks;
+  int count;
+}

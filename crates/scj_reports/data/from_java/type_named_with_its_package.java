@@ -1,0 +1,3 @@
+class Pump {
+  java.lang.Object last;
+}

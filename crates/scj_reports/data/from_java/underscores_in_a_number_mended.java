@@ -1,0 +1,3 @@
+class Pump {
+  int limit = 1000;
+}

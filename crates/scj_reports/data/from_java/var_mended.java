@@ -1,0 +1,8 @@
+class Pump {
+  int level;
+
+  void step(int n) {
+    int next = n + 1;
+    level = next;
+  }
+}

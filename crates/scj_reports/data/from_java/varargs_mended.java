@@ -1,0 +1,3 @@
+class Pump {
+  int first(int[] values) { return values[0]; }
+}

@@ -1,0 +1,3 @@
+class Pump {
+  volatile int level;
+}

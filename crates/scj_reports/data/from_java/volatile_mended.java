@@ -1,0 +1,7 @@
+class Pump {
+  int level;
+
+  synchronized int get() { return level; }
+
+  synchronized void set(int n) { level = n; }
+}
