@@ -1,0 +1,87 @@
+-- The type of a node of a program that breaks no rule on types is that of its kind, by the types of all nodes.
+use Rattle.std.proofs.Common.{◌≡◌, ◌<◌, ◌+◌, ◌==◌, ℕ, zero, suc, Bool, true, not, ◌&&◌, ◌||◌, List, [], ◌∷◌, ◌++◌, length, Option, Some, None, is_some, option_map, option_and_then, if◌then◌else◌, slice_get, refl, sym, ap, ◌∙◌, subst, arith}
+use Rattle.std.proofs.lemmas.Bool.{true≢false}
+use Rattle.std.proofs.lemmas.Option.{slice_get_within}
+use Rattle.std.specs.List.{list_any}
+use Rattle.scj_base.specs.declared.findings.Found.{Found}
+use Rattle.scj_base.specs.declared.findings.Rule.TheVariants.{T2, T3, T4, T5, T6, T7, T8, T9, T11, T12, T13, T14}
+use Rattle.scj_tree.specs.declared.nodes.Node.{Node}
+use Rattle.scj_tree.specs.declared.nodes.Node.TheVariants.{Parenthesized, Field, Method, SuperCall, LocalWithValue, Assign, If, While, For, Return, Binary, Unary, Cast, FieldAccess, Call, Element, New, NewArray}
+use Rattle.scj_tree.specs.Forest.{Forest, IsForest, AllBelow, ChildrenFirst}
+use Rattle.scj_tree.specs.Shape.{children, optional}
+use Rattle.scj_tree.specs.Recursion.{lookup, bottom_up, below, joined_below}
+use Rattle.scj_tree.specs.declared.nodes.Node.TheVariants.{Class as ClassNode}
+use Rattle.std.proofs.lemmas.Bool.Decides.{nat_tests}
+use Rattle.std.proofs.Common.{nat_lt, append_assoc, length-append, false, ◌⊎◌, inl, inr}
+use Rattle.std.specs.List.{Contains}
+use Rattle.scj_rules.specs.Phases.{IsFound, NothingBreaks, IsAccepted, over_nodes, type_phase, use_phase}
+use Rattle.scj_rules.proofs.ReportLemmas.{Contains-head}
+use Rattle.scj_base.specs.declared.findings.Rule.{Rule}
+use Rattle.scj_base.specs.declared.places.Pos.{Pos}
+use Rattle.scj_rules.specs.Types.{binary_type, element_type, array_of}
+use Rattle.scj_rules.specs.TypeRules.{access_type, call_type}
+use Rattle.scj_tree.proofs.RecursionLemmas.{bottom_up-at, bottom_up-is}
+use Rattle.scj_rules.specs.declared.typing.Ty.{Ty}
+use Rattle.scj_rules.specs.declared.typing.Ty.TheVariants.{Class as ClassTy}
+use Rattle.scj_rules.specs.declared.typing.FoundField.{FoundField}
+use Rattle.scj_rules.specs.declared.typing.Receiver.{Receiver}
+use Rattle.scj_rules.specs.declared.typing.Receiver.TheVariants.{Class as the_class, Value as the_value}
+use Rattle.scj_rules.specs.Definitions.{read}
+use Rattle.scj_rules.specs.Words.{broken, holds}
+use Rattle.scj_rules.specs.Classes.{FoundMethod, class_number, is_empty, is_user_class}
+use Rattle.scj_rules.specs.Views.{place_at}
+use Rattle.scj_rules.specs.Contexts.{Declarations, declarations_of, variable_named}
+use Rattle.scj_rules.specs.Types.{receiver, call_receiver, class_at_name, all_types, accepts_arguments, is_no_reference, called_method, accessed_field, is_int, is_boolean, is_array, is_array_value, is_length, binary_type, unary_type, kind_is, is_form, has_form, is_form_part, constructor_parameters}
+use Rattle.scj_rules.specs.TypeRules.{Types, t1, t2, t3, t4, t5, t6, t7, t8, t9, t10, t11, t12, t13, t14, type_breaks, type_of, type_of_right, type_of_next, types_in, lacks_field, lacks_method, lacks_object, misfits_method, misfits_new, is_never_made, are_related, element_class, written_type, misfits_value, is_length_target, superclass_at, result_at, fits_result}
+use Rattle.scj_rules.proofs.ParentLemmas.{children_below}
+use Rattle.accepted_laws.proofs.TypesBelow.{Same, BehindChildren, breaks-same, receiver-same, call-receiver-same, all-same, below-right}
+use Rattle.accepted_laws.proofs.Breaks.{nothing_at}
+
+-- the type of a node of a program without breaks is that of its kind, by the types of all nodes
+module _ (p : Declarations) where
+  type-same : (id : ℕ) (t u : Types) (node : Node) → Same id t u → AllBelow id (children node) → type_of p t id node ≡ type_of p u id node
+  unfolding AllBelow children type_of
+  type-same id t u (Parenthesized place inner) same b = same inner b.0
+  type-same id t u (Binary place operator left right) same b =
+      let f : Option Ty → Option Ty → Option Ty = λ l r. option_and_then (λ a. option_and_then (binary_type p.classes operator a) r) l in
+      ap (λ l. f l (t right)) (same left b.0) ∙ ap (λ r. f (u left) r) (same right b.1.0)
+  type-same id t u (Unary place operator operand) same b = ap (λ (o : Option Ty). option_and_then (unary_type operator) o) (same operand b.0)
+  type-same id t u (Cast place name_place name operand) same b = ap (λ (o : Option Ty). option_and_then (λ t. option_map (λ class. ClassTy class) (class_number p.names name)) o) (same operand b.0)
+  type-same id t u (FieldAccess place name object) same b = ap (λ (o : Option Receiver). option_and_then (λ r. access_type p r name) o) (receiver-same p t u object (same object b.0))
+  type-same id t u (Call place name object arguments) same b =
+      let f : Option Receiver → Option (List Ty) → Option Ty = λ o ts. option_and_then (λ r. option_and_then (λ _. call_type p r name) ts) o in
+      ap (λ o. f o (all_types t arguments)) (call-receiver-same p id t u object arguments same b) ∙ ap (λ ts. f (call_receiver p u id object) ts) (all-same id t u arguments same (below-right id (optional object) arguments b))
+  type-same id t u (Element place array index) same b =
+      let f : Option Ty → Option Ty → Option Ty = λ l r. option_and_then (λ a. option_and_then (λ i. element_type a) r) l in
+      ap (λ l. f l (t index)) (same array b.0) ∙ ap (λ r. f (u array) r) (same index b.1.0)
+  type-same id t u (New place name_place name arguments) same b =
+      ap (λ (ts : Option (List Ty)). if is_form_part p id then None else option_and_then (λ _. option_map (λ class. ClassTy class) (class_number p.names name)) ts) (all-same id t u arguments same b)
+  type-same id t u (NewArray place element length_) same b = ap (λ (o : Option Ty). option_and_then (λ n. option_and_then array_of (written_type p element)) o) (same length_ b.1.0)
+  type-same id t u _ same b = refl
+
+  below-types : (id : ℕ) (f : Types) → Same id (below None id f) f
+  below-types id f c l =
+      let t : nat_lt c id ≡ true = grind (arith, nat_tests) in
+      rw t refl
+
+  pub types_are : BehindChildren p → type_phase p ≡ [] → (id : ℕ) (node : Node) → slice_get p.nodes id ≡ Some node
+      → (type_breaks p (lookup None (types_in p)) id node ≡ []) × (lookup None (types_in p) id ≡ type_of p (lookup None (types_in p)) id node)
+  unfolding types_in type_phase type_of_next type_of_right is_empty
+  types_are first none id node at =
+      let all : Types = lookup None (bottom_up None (type_of_next p) (length p.nodes)) in
+      let nothing : type_breaks p all id node ≡ [] = nothing_at p (type_breaks p all) none id node at in
+      let same = below-types id all in
+      let so_far : type_breaks p (below None id all) id node ≡ [] = breaks-same p first id (below None id all) all node same (first id node at) ∙ nothing in (
+        nothing,
+        bottom_up-is None (type_of_next p) (length p.nodes) id (slice_get_within p.nodes id node at)
+            ∙ ap (λ o. option_and_then (type_of_right p (below None id all) id) o) at
+            ∙ ap (λ fs. if is_empty fs then type_of p (below None id all) id node else None) so_far
+            ∙ type-same id (below None id all) all node same (first id node at),
+      )
+
+pub behind_children : (forest : Forest) → IsForest forest → BehindChildren (declarations_of forest)
+unfolding declarations_of
+behind_children forest whole k node there =
+    let same : 0 + k ≡ k = omega arith in
+    let Q : ℕ → Type 0 = λ m. AllBelow m (children node) in
+    subst Q same (children_below forest.nodes 0 k node whole.children_first there)

@@ -1,0 +1,5 @@
+use Rattle.accepted_laws.proofs.Rows.{acyclic}
+use Rattle.accepted_laws.proofs.classes.no_class_is_above_itself.Goals as goal
+
+pub returns : goal.returns
+returns c = acyclic

@@ -1,0 +1,6 @@
+pub mod Judgements
+pub mod Kinds
+pub mod Overriding
+pub mod Programs
+pub mod Sorts
+pub mod Unbroken

@@ -1,0 +1,171 @@
+-- What it means that a program is safe: no job is ever stuck, no reference that can be used names an object of a closed
+-- area, and each store keeps references from outliving their objects, whichever job is chosen; and under the machine's
+-- own choice monitors exclude one another and areas are closed in the order of a stack (JSR 302: the rules of
+-- assignment between memory areas; priority ceiling emulation).
+use Rattle.std.specs.Prelude.{◌≡◌, ℕ, ◌<◌, ◌≤◌, ◌==◌, Bool, true, false, not, ◌&&◌, List, [], ◌∷◌, ◌++◌, length, map, filter, filter_map, flat_map, Contains, IsTrue, IsFalse, IsSome, Option, Some, None, option_to_list, if◌then◌else◌}
+use Rattle.scj_base.specs.declared.values.Value.{Value}
+use Rattle.scj_base.specs.declared.values.Value.TheVariants.{At}
+use Rattle.scj_rules.specs.declared.views.Body.TheVariants.{Written, Empty}
+use Rattle.scj_rules.specs.Words.{holds}
+use Rattle.scj_rules.specs.ScopeRules.{immortal_scope}
+use Rattle.scj_rules.specs.Bodies.{is_synchronized_body}
+use Rattle.scj_model.specs.declared.handlers.HandlerRow.{HandlerRow}
+use Rattle.scj_model.specs.declared.plans.ReadingRow.{ReadingRow}
+use Rattle.scj_model.specs.Code.{Code}
+use Rattle.scj_model.specs.Plan.{Plan}
+use Rattle.scj_model.specs.State.{Object, Frame, Activity, Release, Job, sequencer, release, State, activity_in, activity_of, object_at, area_at, is_open_area}
+use Rattle.scj_model.specs.Memory.{lies_in}
+use Rattle.scj_model.specs.Effects.{Effect, stores, stores_static}
+use Rattle.scj_model.specs.Apply.{Result, is_exec}
+use Rattle.scj_model.specs.Sequencer.{phase_after}
+use Rattle.scj_model.specs.Arrivals.{arrivals}
+use Rattle.scj_model.specs.Choice.{Policy, by_priority, by_list, may_act}
+use Rattle.scj_model.specs.Run.{effect_at, ref_op, acts, is_over, has_ended, run}
+
+-- ---- Live: the references that can be used
+
+unfoldable pub reference_in : Value → Option ℕ
+reference_in (At r) = Some r
+reference_in _ = None
+
+abbrev pub references : List Value → List ℕ
+references values = filter_map reference_in values
+
+unfoldable pub references_of_frame : Frame → List ℕ
+references_of_frame f = option_to_list f.this ++ (references f.locals ++ references f.operands)
+
+abbrev pub references_of_job : Activity → List ℕ
+references_of_job activity = flat_map references_of_frame activity.frames
+
+-- the frames, areas and priorities of the started releases
+unfoldable pub started_activities : State → List Activity
+started_activities s = filter_map (λ (r : Release). activity_in r.progress) s.releases
+
+-- the objects of open areas
+abbrev pub open_objects : State → List Object
+open_objects s = filter (λ (o : Object). is_open_area s o.area) s.objects
+
+-- what a job can come to: from its frames, the static fields and the handlers, from the safelet, its sequencer and the
+-- mission, and from the objects whose memory is still there
+unfoldable pub live : State → List ℕ
+live s =
+    references_of_job s.activity
+    ++ (flat_map references_of_job (started_activities s)
+    ++ (references s.statics
+    ++ (map (λ (row : HandlerRow). row.at) s.registry
+    ++ (option_to_list s.safelet ++ (option_to_list s.mission_sequencer ++ (option_to_list s.mission
+    ++ flat_map (λ (o : Object). references o.slots) (open_objects s)))))))
+
+-- the reference names an object of an open area
+abbrev pub is_of_open_area : State → ℕ → Bool
+is_of_open_area s r = holds (object_at s r) (λ o. is_open_area s o.area)
+
+-- NoDangling
+abbrev pub NoDangling : State → Type 0
+NoDangling s = (r : ℕ) → Contains (live s) r → IsTrue (is_of_open_area s r)
+
+-- ---- Passes: what an operation stores
+
+-- an object of this area may hold the value: null, a plain value, or a reference to an object whose area is the same
+-- one or one around it
+unfoldable pub may_hold : State → ℕ → Value → Bool
+may_hold s area (At r) = holds (object_at s r) (λ o. lies_in s area o.area)
+may_hold s area _ = true
+
+-- a static field may hold the value: a reference is to an object in immortal memory
+unfoldable pub static_may_hold : State → Value → Bool
+static_may_hold s (At r) = holds (object_at s r) (λ o. holds (area_at s o.area) (λ x. x.scope == immortal_scope))
+static_may_hold s _ = true
+
+unfoldable pub effect_passes : State → Effect → Bool
+effect_passes s (stores f r slot value) = holds (object_at s r) (λ o. may_hold s o.area value)
+effect_passes s (stores_static f place value) = static_may_hold s value
+effect_passes s _ = true
+
+-- what the next operation of a job stores may be stored; what has no frame yet stores nothing
+unfoldable pub frame_passes : Code → List ReadingRow → State → Activity → Bool
+frame_passes code rows s activity =
+    elim activity.frames [
+      | [] ↦ true
+      | f ∷ below ↦ elim f.rest [ [] ↦ true | op ∷ rest ↦ effect_passes s (effect_at code rows s f op rest) ]
+    ]
+
+unfoldable pub passes : Code → List ReadingRow → State → Job → Bool
+passes code rows s job = elim (activity_of s job) [ None ↦ true | Some activity ↦ frame_passes code rows s activity ]
+
+-- ---- Exclusive: monitors
+
+-- the object that a frame of a synchronized method holds
+unfoldable pub held_by_frame : Code → Frame → Option ℕ
+held_by_frame code f =
+    elim f.body [ Written node ↦ if is_synchronized_body code.program node then f.this else None | Empty ↦ None ]
+
+abbrev pub held_by : Code → Activity → List ℕ
+held_by code activity = filter_map (held_by_frame code) activity.frames
+
+abbrev pub IsHeldBy : Code → State → Job → ℕ → Type 0
+IsHeldBy code s job r = (activity : Activity) × (activity_of s job ≡ Some activity) × Contains (held_by code activity) r
+
+-- no two jobs hold one object, so none enters a synchronized method on an object that another one holds
+abbrev pub Exclusive : Code → State → Type 0
+Exclusive code s = (job other : Job) (r : ℕ) → IsHeldBy code s job r → IsHeldBy code s other r → job ≡ other
+
+-- ---- Lifo: areas are closed as a stack is emptied. Of what a step closes, nothing that was opened behind it stays open
+
+abbrev pub Lifo : State → State → Type 0
+Lifo before after =
+    (a b : ℕ) → IsTrue (is_open_area before a) → IsFalse (is_open_area after a) → a < b → IsFalse (is_open_area after b)
+
+-- ---- Safe
+
+abbrev pub most_started : ℕ
+most_started = 28
+
+abbrev pub started_count : State → ℕ
+started_count s = length (started_activities s)
+
+-- the job may act in this state: outside execution the sequencer, in execution each waiting or started release
+unfoldable pub job_may_act : State → Job → Bool
+job_may_act s sequencer = not (is_exec s.phase) && not (is_over s.phase)
+job_may_act s (release place) = is_exec s.phase && may_act s place
+
+-- the run goes on after so many units; and then the state of the next unit after its arrivals
+abbrev pub GoesOn : Code → Plan → Policy → ℕ → Type 0
+GoesOn code plan policy n = has_ended (run code plan policy n) ≡ false
+
+abbrev pub arrived : Code → Plan → Policy → ℕ → State
+arrived code plan policy n = (arrivals code plan (run code plan policy n).state).state
+
+-- an operation of a job has a result, passes, leaves no dangling reference, and the sequencer goes on behind it
+pub record IsSafeOperation (code : Code) (rows : List ReadingRow) (s : State) (job : Job) : Type 0 where
+  pub result : Result
+  pub has_result : ref_op code rows s job ≡ Some result
+  pub stores_pass : IsTrue (passes code rows s job)
+  pub keeps : NoDangling result.state
+  pub goes_on : IsSome (phase_after code result.state)
+
+-- whatever the plan is, and whichever release is named in each unit
+pub record IsSafeInAnyOrder (code : Code) : Type 0 where
+  pub between : (plan : Plan) (choices : List ℕ) (n : ℕ) →
+      (run code plan (by_list choices) n).is_stuck ≡ false → NoDangling (run code plan (by_list choices) n).state
+  pub operations : (plan : Plan) (choices : List ℕ) (n : ℕ) (job : Job) → GoesOn code plan (by_list choices) n →
+      IsTrue (job_may_act (arrived code plan (by_list choices) n) job) →
+      IsSafeOperation code plan.readings (arrived code plan (by_list choices) n) job
+
+-- what holds of the two steps of a unit under the machine's own choice: the operation and what follows it
+pub record IsSafeUnit (code : Code) (s : State) (result followed : Result) : Type 0 where
+  pub exclusive : Exclusive code result.state
+  pub closes_in_order : Lifo s result.state
+  pub follows_in_order : Lifo result.state followed.state
+  pub few_are_started : started_count result.state ≤ most_started
+
+pub record IsSafeByPriority (code : Code) : Type 0 where
+  pub units : (plan : Plan) (n : ℕ) (result followed : Result) → GoesOn code plan by_priority n →
+      acts code plan.readings by_priority (arrived code plan by_priority n) ≡ Some result →
+      phase_after code result.state ≡ Some followed →
+      IsSafeUnit code (arrived code plan by_priority n) result followed
+
+-- Safe
+pub record IsSafe (code : Code) : Type 0 where
+  pub in_any_order : IsSafeInAnyOrder code
+  pub under_priorities : IsSafeByPriority code

@@ -1,0 +1,10 @@
+@DefineScope(name="M", parent="IMMORTAL") class Main extends Mission {
+  public long missionMemorySize() { return 200; }
+  public void initialize() { new H(this).register(); }
+}
+@Scope("M") @DefineScope(name="P", parent="M") class H extends AperiodicEventHandler {
+  Main m;
+  H(Main x) { super(new PriorityParameters(7), new AperiodicParameters(), new StorageParameters(47)); m = x; }
+  public void handleAsyncEvent() { new Box(1); new Box(2); Trace.print("ok", 0); }
+}
+class Box { int v; Box(int a) { v = a; } }

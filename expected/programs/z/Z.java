@@ -1,0 +1,7 @@
+class App implements Safelet {
+  public MissionSequencer getSequencer() { return null; }
+  public long immortalMemorySize() { return 64; }
+  public void initializeApplication() {
+    Trace.print("z", 1 / 0);
+  }
+}
