@@ -1,7 +1,7 @@
 //! A whole call of the checker on a case.
 
 use crate::cases::Case;
-use crate::stops::Stop;
+use case_tables::Stop;
 use scj_base::Status;
 use scj_cli::scj;
 use scj_io::{MemShelf, MemSink};

@@ -8,14 +8,12 @@
 
 mod calls;
 mod cases;
-mod edits;
 mod runs;
-mod stops;
 
+use case_tables::Stop;
 use runs::Run;
 use std::alloc::Global;
 use std::io::{self, BufRead, BufReader, BufWriter, Write};
-use stops::Stop;
 
 fn main(rt: HostRuntime) -> Result<(), Stop> {
     let alloc = rt.alloc();

@@ -2,8 +2,7 @@
 
 use crate::calls::Ending;
 use crate::cases::Case;
-use crate::edits::Edit;
-use crate::stops::Stop;
+use case_tables::{Edit, Stop};
 use std::alloc::Global;
 use std::io::Write;
 
@@ -59,8 +58,9 @@ impl<W: Write + Drop> Run<W> {
 
     fn run_edited(&mut self, words: &str) -> Result<(), Stop> {
         self.run_waiting()?;
+        let (name, words) = words.split_once(' ').ok_or(Stop::BadLine)?;
         let edit = Edit::parse(words)?;
-        let case = self.base.edited(self.alloc, &edit)?;
+        let case = self.base.edited(self.alloc, name, edit)?;
         print(self.alloc, &case, &mut self.out)
     }
 }

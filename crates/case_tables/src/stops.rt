@@ -1,4 +1,4 @@
-//! Why the program stops before the end of its input.
+//! Why a program over a table of cases stops before the end of its input.
 
 use scj_base::Memory;
 use std::alloc::{AllocError, AllocFailed};
@@ -6,9 +6,14 @@ use std::io;
 
 #[derive(Debug, Drop)]
 pub enum Stop {
+    /// There was no memory.
     Memory,
+    /// The table couldn't be read, or an answer couldn't be printed.
     Stream(io::Error),
-    BadEdit,
+    /// A line isn't as the program's head says.
+    BadLine,
+    /// A file that the table names isn't there.
+    NoFile,
 }
 
 impl From<AllocError> for Stop {

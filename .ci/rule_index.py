@@ -1,0 +1,249 @@
+"""Makes docs/RULE_INDEX.md: for each rule of docs/RULES.md its definition, the code that notes it, and wrong bodies.
+
+    python3 rule_index.py          writes the page
+    python3 rule_index.py --check  compares it with what would be written
+
+Definitions are found by the rule's code in them, or in the comment above them as `-- C1, what it asks`; functions by
+the code in them. The wrong bodies stand below, by hand. What isn't found, and an edit that isn't there, fails.
+"""
+
+import glob
+import os
+import re
+import sys
+
+PAGE = "docs/RULE_INDEX.md"
+# Where rules are defined: those of lexemes, of the grammar, and all others.
+DEFINED_IN = ("scj_base", "scj_tree", "scj_rules")
+# What names more rules than so is about all of them.
+MOST = 8
+
+EDITS = {
+    "L1": "scj_lexer/sign_left_out scj_lexer/tab_no_blank",
+    "L2": "scj_lexer/number_one_larger",
+    "L3": "scj_lexer/open_comment_as_bad_byte scj_lexer/overlapping_close",
+    "L4": "scj_lexer/name_one_shorter",
+    "P1": "parser_steps/place_one_token_late parser_steps/token_skipped "
+    "scj_parser/stops_are_too_deep scj_check/grammar_break_dropped",
+    "P2": "scj_parser/deep_at_64 scj_parser/first_node_named scj_parser/lower_of_body_and_super_call "
+    "scj_parser/lower_of_two_operands scj_parser/super_call_under_no_block",
+    "C1": "class_rules/later_class_has_the_name class_headers/known_name_overwritten",
+    "C2": "class_marks/no_extends_is_unknown class_table/forbidden_super_by_another_rule",
+    "C3": "class_marks/all_are_cyclic class_marks/cycles_forgiven class_rows/mission_is_cyclic",
+    "C4": "class_rules/hiding_is_fine class_members/known_member_overwritten",
+    "C5": "class_members/method_and_constructor",
+    "C6": "class_rules/parameters_compared_with_themselves class_rules/types_compared_by_name_alone",
+    "C7": "class_rules/interface_method_left_open node_views/static_is_abstract",
+    "C8": "class_rules/second_safelet_not_named class_table/safelets_left_out class_headers/framework_names_lost",
+    "C9": "node_rules/cast_of_any_class node_rules/casts_passed_over node_rules/mission_argument_noted",
+    "C10": "class_marks/aperiodic_is_no_kind class_marks/no_kind_is_added class_marks/static_and_too_many class_marks/extends_forbidden_twice "
+    "class_marks/old_is_new class_marks/static_is_implemented class_marks/too_many_either_way "
+    "class_table/forbidden_super_by_another_rule",
+    "C11": "node_rules/local_at_its_value node_rules/static_class",
+    "K1": "class_rules/last_allowed_class_is_too_many class_table/no_limits",
+    "K2": "node_rules/one_local_more",
+    "K3": "node_rules/one_parameter_more",
+    "K4": "class_rules/one_field_more class_table/no_limits",
+    "T1": "type_rules/no_meanings_told type_check/unknown_name_passed_over "
+    "node_contexts/local_known_in_its_own_value node_contexts/local_known_below_an_if_alone",
+    "T2": "type_rules/known_name_is_right node_contexts/same_variable_again",
+    "T3": "type_rules/void_call_as_an_operand type_rules/unrelated_references_compared type_check/operands_swapped",
+    "T4": "type_rules/static_field_through_a_value",
+    "T5": "type_rules/size_method_called",
+    "T6": "type_rules/more_arguments_than_parameters type_rules/untyped_part_misfits node_views/first_parameter_twice",
+    "T7": "type_rules/value_and_target_swapped",
+    "T8": "",
+    "T9": "type_rules/int_fits_no_long type_words/void_is_long",
+    "T10": "type_rules/body_that_returns_is_noted type_words/loops_never_return type_words/one_branch_returns "
+    "type_words/while_true_may_end",
+    "T11": "type_rules/static_class_made",
+    "T12": "type_rules/cast_down_refused",
+    "T13": "type_rules/this_in_static_calls node_contexts/object_in_static_members",
+    "T14": "type_rules/form_twice_for_storage type_words/largest_size_refused",
+    "S1": "scope_tree/place_of_the_parent scope_tree/reserved_makes_scope scope_tree/unknown_can_be_defined",
+    "S2": "scope_tree/parent_behind_is_unknown scope_tree/root_is_unknown",
+    "S3": "scope_tree/cycle_asked_of_every_definition scope_tree/cycle_at_the_name scope_tree/jumps_too_short "
+    "scope_tree/own_parent_missed",
+    "S4": "scope_tree/wrong_parent_as_wrong_class",
+    "S5": "scope_tree/mission_below_a_mission scope_tree/wrong_parent_as_wrong_class",
+    "S6": "",
+    "A1": "static_scopes/caller_on_a_field annotation_rules/annotated_variables_passed_over "
+    "annotation_rules/contradiction_as_unknown",
+    "A2": "annotation_rules/other_scope_in_a_subclass scope_tree/implied_scope_is_unknown",
+    "A3": "static_scopes/field_may_lie_inside static_scopes/field_of_an_unsuited_scope",
+    "A4": "static_scopes/field_of_an_unsuited_scope",
+    "A5": "static_scopes/field_of_an_unsuited_scope",
+    "A6": "annotation_rules/override_may_run_elsewhere annotation_rules/static_override "
+    "annotation_rules/this_is_as_written_above",
+    "A7": "annotation_rules/unknown_runs_in_as_other static_scopes/static_method_may_name_this",
+    "A8": "static_scopes/compared_as_spelled",
+    "A9": "annotation_rules/contradiction_as_unknown static_scopes/boolean_is_no_plain_type "
+          "static_scopes/unknown_name_as_known_elsewhere",
+    "E1": "",
+    "E2": "runs_in_check/caller_refused runs_in_check/missing_scope_breaks static_scopes/method_runs_with_its_object",
+    "E3": "runs_in_check/this_not_replaced static_scopes/null_fits_nothing",
+    "E4": "runs_in_check/any_value_is_stored",
+    "E5": "runs_in_check/any_value_is_stored runs_in_check/caller_value_into_an_own_field",
+    "E6": "runs_in_check/caller_value_into_an_own_field",
+    "E7": "runs_in_check/entered_from_anywhere scope_tree/parents_are_the_scopes",
+    "E8": "runs_in_check/executed_at_unnamed_scope",
+    "E9": "runs_in_check/any_value_is_cast",
+    "E10": "runs_in_check/array_of_inner_scope scope_tree/immortal_is_not_outer scope_tree/own_scope_is_not_outer",
+}
+# Of every rule.
+COMMON = {
+    "the order of a report, and each break once": "scj_check/not_sorted scj_check/first_break_only",
+    "the phases": "scj_check/classes_and_types_together scj_check/scopes_and_uses_together",
+    "the places of the lexemes": "scj_lexer/column_from_zero scj_lexer/line_ended_by_carriage_return",
+    "the texts of the rules, their codes and their order": "scj_base/another_text scj_base/another_rule_code "
+    "scj_base/order_turned",
+}
+
+HEAD = """# Where each rule stands
+
+`docs/RULES.md` says what each rule asks. This page leads from its code to its definition, to the functions that note its breaks, and to wrong bodies that the proofs must refuse. `python3 .ci/rule_index.py` makes the page.
+
+Definitions stand in a crate's `specs/`, functions in its `src/`, and wrong bodies, as edits, in its `must-fail/`. A definition is named as it stands in its file, without `.antt`.
+"""
+
+
+def read(path):
+    with open(path, encoding="utf-8") as file:
+        return file.read()
+
+
+def parts_of(path, begins, comment):
+    """The lines of a file, each with the name of the item in which it stands, without comments."""
+    name = None
+    for line in read(path).split("\n"):
+        line = line.partition(comment)[0]
+        found = begins(line)
+        name = found or name
+        yield name, line
+
+
+def definition_begun(line):
+    if re.match(r"(pub |unfoldable )*(use|mod|module)\b", line):
+        return None
+    found = re.match(r"(?:(?:abbrev|unfoldable|opaque|pub|data|record) )*([^\s:(){}]+)(?=\s)", line)
+    return found and found[1]
+
+
+def function_begun(line):
+    found = re.match(r"\s*(?:pub(?:\(\w+\))? )?(?:const )?fn (\w+)", line)
+    return found and found[1]
+
+
+def headed_rules(pattern, rules):
+    """For each rule the definitions that a comment with its code stands above, as (file, item)."""
+    code = "|".join(sorted(rules, key=len, reverse=True))
+    head = re.compile(rf"(?<![\w.])({code})(?: to ({code}))?(?:[:;]|,(?! and)| off?) ")
+    found = {}
+    for path in sorted(glob.glob(pattern, recursive=True)):
+        comment = ""
+        for line in read(path).split("\n"):
+            item = definition_begun(line)
+            if item and not line.startswith("--"):
+                for first, last in head.findall(comment):
+                    for rule in rules[rules.index(first) : rules.index(last or first) + 1]:
+                        if (path, item) not in found.setdefault(rule, []):
+                            found[rule].append((path, item))
+            comment = f"{comment} {line} " if line.startswith("--") else ""
+    return found
+
+
+def named_rules(pattern, begins, comment, mention):
+    """For each rule the items of the files that name it, as (file, item)."""
+    named = {}
+    for path in sorted(glob.glob(pattern, recursive=True)):
+        if re.search(r"/tests?([./])", path):
+            continue
+        for item, line in parts_of(path, begins, comment):
+            if item is None or re.match(r"\s*(ghost )?(pub )?(unfoldable )?use ", line):
+                continue
+            for rule in re.findall(mention, line):
+                items = named.setdefault((path, item), [])
+                if rule not in items:
+                    items.append(rule)
+    found = {}
+    for place, rules in named.items():
+        if len(rules) <= MOST:
+            for rule in rules:
+                found.setdefault(rule, []).append(place)
+    return found
+
+
+def told(places):
+    """Items by their files: `item`, `item` in crate/file."""
+    files = {}
+    for path, item in places:
+        files.setdefault(path, []).append(item)
+    parts = []
+    for path, items in files.items():
+        _, crate, folder, *rest = path.split("/")
+        name = "/".join(rest)
+        place = f"{crate}/{os.path.splitext(name)[0]}" if folder == "specs" else f"{crate}/{name}"
+        parts.append(f"{', '.join(f'`{item}`' for item in items)} in {place}")
+    return "; ".join(parts)
+
+
+def edits_told(words, fail):
+    for word in words.split():
+        crate, _, name = word.partition("/")
+        if not os.path.isfile(f"crates/{crate}/must-fail/{name}.edit"):
+            fail(f"there is no edit {word}")
+    return ", ".join(words.split()) or "none of its own"
+
+
+def page(fail):
+    heads = re.findall(r"(?m)^### ([A-Z]+[0-9]+): (.*)$", read("docs/RULES.md"))
+    known = "|".join(sorted((rule for rule, _ in heads), key=len, reverse=True))
+    definitions = {}
+    for crate in DEFINED_IN:
+        files = f"crates/{crate}/specs/**/*.antt"
+        headed = headed_rules(files, [rule for rule, _ in heads])
+        named = named_rules(files, definition_begun, "--", rf"(?<![\w.])({known})(?!\w)")
+        for found in headed, named:
+            for rule, places in found.items():
+                row = definitions.setdefault(rule, [])
+                row += [place for place in places if place not in row]
+    functions = named_rules("crates/*/src/**/*.rt", function_begun, "//", rf"Rule::({known})(?!\w)")
+    lines = [HEAD, "| Rule | Defined by | Noted by | Wrong bodies |", "|---|---|---|---|"]
+    for rule, text in heads:
+        for what, found in ("definition", definitions), ("function", functions), ("row of edits", EDITS):
+            if rule not in found:
+                fail(f"no {what} is found that names {rule}")
+        cells = [
+            f"[{rule}](RULES.md#{anchor(rule, text)}) {text}",
+            told(definitions.get(rule, [])),
+            told(functions.get(rule, [])),
+            edits_told(EDITS.get(rule, ""), fail),
+        ]
+        lines.append(f"| {' | '.join(cells)} |")
+    lines += ["", "Of all rules:", ""]
+    lines += [f"- {what}: {edits_told(words, fail)}" for what, words in COMMON.items()]
+    return "\n".join(lines) + "\n"
+
+
+def anchor(rule, text):
+    """The name that a heading `rule: text` has as the end of a link."""
+    return re.sub(r"[^\w\- ]", "", f"{rule}: {text}".lower()).replace(" ", "-")
+
+
+def main():
+    os.chdir(os.path.join(os.path.dirname(os.path.abspath(__file__)), ".."))
+    wrong = []
+    made = page(wrong.append)
+    if "--check" in sys.argv[1:]:
+        if not os.path.isfile(PAGE) or read(PAGE) != made:
+            wrong.append(f"{PAGE} isn't what the crates say: python3 .ci/rule_index.py makes it anew")
+    else:
+        with open(PAGE, "w", encoding="utf-8") as file:
+            file.write(made)
+    for it in wrong:
+        print(f"rule_index: {it}", file=sys.stderr)
+    return 1 if wrong else 0
+
+
+if __name__ == "__main__":
+    sys.exit(main())

@@ -1,0 +1,20 @@
+-- A change of a source.
+use Rattle.std.specs.Prelude.{ℕ, ◌==◌, List, ◌++◌, take, drop}
+use Rattle.std.specs.List.{before_first, after_first}
+use Rattle.std.specs.Str.Parse.{digits_value, without_leading_plus}
+use Rattle.case_tables.specs.Lines.{text_bytes}
+
+-- what stands before the first blank, and what behind it
+abbrev pub first_word : List ℕ → List ℕ
+first_word words = before_first (λ byte. byte == 32) words
+
+abbrev pub other_words : List ℕ → List ℕ
+other_words words = after_first (λ byte. byte == 32) words
+
+-- the number that digits write
+abbrev pub number_of : List ℕ → ℕ
+number_of word = digits_value 10 (without_leading_plus word)
+
+-- the source with a text in the place of the bytes from one place up to another
+abbrev pub changed : List ℕ → ℕ → ℕ → List ℕ → List ℕ
+changed source from to text = take from source ++ text_bytes text ++ drop to source

@@ -1,6 +1,0 @@
--- Each turn takes a byte at least.
-use Rattle.std.proofs.Common.{length}
-use Rattle.scj_cases.proofs.cases.add_bytes.Given as goal
-
-abbrev pub decreases-loop-rest : goal.decreases-loop-rest
-decreases-loop-rest l = length l.rest
