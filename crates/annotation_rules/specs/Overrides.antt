@@ -8,13 +8,17 @@ use Rattle.scj_rules.specs.AnnotationRules.{seen_in, differ, parameters_differ}
 
 -- a parameter has another scope than the one above
 abbrev pub parameter_differs : Declarations → FoundMethod → FoundMethod → Declared → Declared → Bool
-parameter_differs p f g d e = differ (parameter_scope p f.on f.method d) (seen_in p f.on (parameter_scope p g.on g.method e))
+parameter_differs p f g d e =
+    differ (parameter_scope p f.on f.method d) (seen_in p f.on (parameter_scope p g.on g.method e))
 
 -- the parameters of a number, where both are there
 unfoldable pub differs_at : Declarations → FoundMethod → FoundMethod → ℕ → Option Bool
 differs_at p f g i =
-    option_and_then (λ (d : Declared). option_map (λ (e : Declared). parameter_differs p f g d e) (slice_get g.method.parameters i)) (slice_get f.method.parameters i)
+    option_and_then
+    (λ (d : Declared). option_map (λ (e : Declared). parameter_differs p f g d e) (slice_get g.method.parameters i))
+    (slice_get f.method.parameters i)
 
 -- the parameters from a number on
 unfoldable pub parameters_from : Declarations → FoundMethod → FoundMethod → ℕ → Bool
-parameters_from p f g i = parameters_differ p f.on f.method g.on g.method (drop i f.method.parameters) (drop i g.method.parameters)
+parameters_from p f g i = parameters_differ p f.on f.method g.on g.method (drop i f.method.parameters)
+    (drop i g.method.parameters)

@@ -38,13 +38,15 @@ unknown_of_class p (Some class) = broken_value (scope_written_in p class) (λ w.
 abbrev pub other_of_class : Declarations → Pos → Option ℕ → List Found
 other_of_class p place None = []
 other_of_class p place (Some class) =
-    broken (differs_from_above p (scope_written_in p class) (scope_above p class) (is_implied_immortal p class)) A2 (a2_place place (scope_written_in p class))
+    broken (differs_from_above p (scope_written_in p class) (scope_above p class) (is_implied_immortal p class)) A2
+    (a2_place place (scope_written_in p class))
 
 -- what is broken at the node of a number
 unfoldable pub found_at : Declarations → ℕ → List Found
 found_at p id = elim (slice_get p.nodes id) [ None ↦ [] | Some node ↦ annotation_breaks p id node ]
 
--- a class, a field, a method, or a variable before which something is written: nothing else breaks a rule on annotations
+-- a class, a field, a method, or a variable before which something is written: nothing else breaks a rule on
+-- annotations
 unfoldable pub may_break : Node → Bool
 may_break (Class place name flags header members) = true
 may_break (Field place name flags declared_type equals value) = true
@@ -73,4 +75,5 @@ is_bare _ = false
 -- A3 to A5 at a field of a class
 abbrev pub field_breaks : Declarations → ℕ → Option Declared → List Found
 field_breaks p class None = []
-field_breaks p class (Some f) = broken (misfits_field p class f) (field_rule (class_scope p class) f.modifiers.is_static) f.place
+field_breaks p class (Some f) =
+    broken (misfits_field p class f) (field_rule (class_scope p class) f.modifiers.is_static) f.place

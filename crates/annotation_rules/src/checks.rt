@@ -80,7 +80,8 @@ fn note_other_of_class(
     class: Option<ClassId>,
     place: Pos,
 ) -> Result<(), Memory>
-    ensures { OnOk result (found.new.items ≡ found.old.items ++ other_of_class (declarations_of scoped.now) place class) }
+    ensures { OnOk result (found.new.items ≡ found.old.items
+        ++ other_of_class (declarations_of scoped.now) place class) }
 {
     match class {
         Some(class) => classes::note_other_scope(found, scoped, class, place),
@@ -136,7 +137,8 @@ fn note_declaration(
     id: NodeId,
     node: &Node,
 ) -> Result<(), Memory>
-    ensures { OnOk result (found.new.items ≡ found.old.items ++ annotation_breaks (declarations_of scoped.now) id node.now) }
+    ensures { OnOk result (found.new.items ≡ found.old.items
+        ++ annotation_breaks (declarations_of scoped.now) id node.now) }
 {
     let thing = scoped_declaration_at(scoped, id, node);
     note_unknown(found, scoped, id, node, &thing)?;
@@ -180,7 +182,8 @@ fn is_bare(node: &Node) -> bool
 fn note_bare(found: &mut Vec<Found>, scoped: &Scoped, id: NodeId, node: &Node) -> Result<(), Memory>
     requires there { slice_get (declarations_of scoped.now).nodes id ≡ Some node.now }
     requires bare { true ≡ is_bare node.now }
-    ensures { OnOk result (found.new.items ≡ found.old.items ++ annotation_breaks (declarations_of scoped.now) id node.now) }
+    ensures { OnOk result (found.new.items ≡ found.old.items
+        ++ annotation_breaks (declarations_of scoped.now) id node.now) }
 {
     note_misfit(found, scoped, id, node)?;
     note_runs_in(found, scoped, id, node)?;
@@ -195,7 +198,8 @@ fn note_annotation(
     node: &Node,
 ) -> Result<(), Memory>
     requires { slice_get (declarations_of scoped.now).nodes id ≡ Some node.now }
-    ensures { OnOk result (found.new.items ≡ found.old.items ++ annotation_breaks (declarations_of scoped.now) id node.now) }
+    ensures { OnOk result (found.new.items ≡ found.old.items
+        ++ annotation_breaks (declarations_of scoped.now) id node.now) }
 {
     if !may_break(node) {
         return Ok(());
@@ -257,7 +261,8 @@ fn note_node(found: &mut Vec<Found>, scoped: &Scoped, id: NodeId) -> Result<(), 
 /// Notes what is broken at the nodes of a program.
 #[tactic(auto, using(crate::proofs::MethodLemmas::nodes_joined), unfolding(scj_tree::specs::Recursion::joined_below))]
 pub fn note_annotations(found: &mut Vec<Found>, scoped: &Scoped) -> Result<(), Memory>
-    ensures { OnOk result (found.new.items ≡ found.old.items ++ over_nodes (declarations_of scoped.now) (annotation_breaks (declarations_of scoped.now))) }
+    ensures { OnOk result (found.new.items ≡ found.old.items
+        ++ over_nodes (declarations_of scoped.now) (annotation_breaks (declarations_of scoped.now))) }
 {
     for place in 0..scoped.program().len() {
         note_node(found, scoped, NodeId::at(place as u32))?;
@@ -268,7 +273,10 @@ pub fn note_annotations(found: &mut Vec<Found>, scoped: &Scoped) -> Result<(), M
 /// The breaks of the rules on annotations, in the order of a report; by the static scopes of the program, which the
 /// checks on uses ask too.
 pub fn check_scoped_annotations(alloc: Global, scoped: &Scoped) -> Result<Vec<Found>, Memory>
-    ensures { IfOk result (λ found. IsReport (IsFound (over_nodes (declarations_of scoped.now) (annotation_breaks (declarations_of scoped.now)))) found.items) }
+    ensures { IfOk result
+        (λ found. IsReport
+        (IsFound (over_nodes (declarations_of scoped.now) (annotation_breaks (declarations_of scoped.now))))
+        found.items) }
 {
     let mut found = Vec::new(alloc);
     note_annotations(&mut found, scoped)?;
@@ -285,7 +293,10 @@ pub fn check_annotations(
 ) -> Result<Vec<Found>, Memory>
     requires table { IsTableOf program.now table.now }
     requires tree { IsTreeOf program.now tree.now }
-    ensures { IfOk result (λ found. IsReport (IsFound (over_nodes (declarations_of program.now) (annotation_breaks (declarations_of program.now)))) found.items) }
+    ensures { IfOk result
+        (λ found. IsReport
+        (IsFound (over_nodes (declarations_of program.now) (annotation_breaks (declarations_of program.now))))
+        found.items) }
 {
     let contexts = Contexts::of(alloc, program)?;
     let runs = Runs::of(alloc, &Scopes::new(program, table, tree), &contexts)?;

@@ -14,7 +14,9 @@ use static_scopes::Scoped;
 
 /// Notes A1 at the value that is written at a class.
 pub fn note_unknown(found: &mut Vec<Found>, scoped: &Scoped, class: ClassId) -> Result<(), Memory>
-    ensures { OnOk result (found.new.items ≡ found.old.items ++ broken_value (scope_written_in (declarations_of scoped.now) class) (λ w. has_unknown_scope (declarations_of scoped.now) (Some w)) A1) }
+    ensures { OnOk result (found.new.items ≡ found.old.items
+        ++ broken_value (scope_written_in (declarations_of scoped.now) class)
+        (λ w. has_unknown_scope (declarations_of scoped.now) (Some w)) A1) }
 {
     let scopes = scoped.scopes();
     let written = scopes.scope_written_in(class);
@@ -54,7 +56,10 @@ pub fn note_other_scope(
     class: ClassId,
     place: Pos,
 ) -> Result<(), Memory>
-    ensures { OnOk result (found.new.items ≡ found.old.items ++ broken (differs_from_above (declarations_of scoped.now) (scope_written_in (declarations_of scoped.now) class) (scope_above (declarations_of scoped.now) class) (is_implied_immortal (declarations_of scoped.now) class)) A2 (a2_place place (scope_written_in (declarations_of scoped.now) class))) }
+    ensures { OnOk result (found.new.items ≡ found.old.items
+        ++ broken (differs_from_above (declarations_of scoped.now) (scope_written_in (declarations_of scoped.now) class)
+        (scope_above (declarations_of scoped.now) class) (is_implied_immortal (declarations_of scoped.now) class)) A2
+        (a2_place place (scope_written_in (declarations_of scoped.now) class))) }
 {
     let scopes = scoped.scopes();
     let written = scopes.scope_written_in(class);

@@ -36,7 +36,9 @@ fn note_field(
     class: ClassId,
     field: &Declared,
 ) -> Result<(), Memory>
-    ensures { OnOk result (found.new.items ≡ found.old.items ++ broken (misfits_field (declarations_of scoped.now) class field.now) (field_rule (class_scope (declarations_of scoped.now) class) field.now.modifiers.is_static) field.now.place) }
+    ensures { OnOk result (found.new.items ≡ found.old.items
+        ++ broken (misfits_field (declarations_of scoped.now) class field.now)
+        (field_rule (class_scope (declarations_of scoped.now) class) field.now.modifiers.is_static) field.now.place) }
 {
     let scopes = scoped.scopes();
     let modifiers = field.modifiers;
@@ -53,7 +55,8 @@ fn note_in_class(
     class: ClassId,
     id: NodeId,
 ) -> Result<(), Memory>
-    ensures { OnOk result (found.new.items ≡ found.old.items ++ field_breaks (declarations_of scoped.now) class (field_at scoped.now.nodes id)) }
+    ensures { OnOk result (found.new.items ≡ found.old.items ++ field_breaks (declarations_of scoped.now) class
+        (field_at scoped.now.nodes id)) }
 {
     if has_plain_field(scoped.program(), id) {
         return Ok(());

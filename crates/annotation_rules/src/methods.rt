@@ -22,7 +22,10 @@ use static_scopes::{Scoped, has_other_runs_in, has_unknown_runs_in};
 
 /// Whether a method that isn't static has other scopes than the one that it overrides.
 fn is_other_override(scoped: &Scoped, method: &MethodRef) -> bool
-    ensures { let p = declarations_of scoped.now in let f = found_method scoped.now.nodes method.now in result ≡ (not f.method.declared.modifiers.is_static && holds (method_above p.classes f.on f.method.declared.name) (λ (g : FoundMethod). is_user_class g.on && scopes_differ p f.on f.method g.on g.method)) }
+    ensures { let p = declarations_of scoped.now in let f = found_method scoped.now.nodes method.now in
+        result ≡ (not f.method.declared.modifiers.is_static
+        && holds (method_above p.classes f.on f.method.declared.name) (λ (g : FoundMethod). is_user_class g.on
+        && scopes_differ p f.on f.method g.on g.method)) }
 {
     let is_static = method_rows::is_static(scoped.program(), method);
     let name = method_rows::name(scoped.program(), method);
@@ -32,7 +35,8 @@ fn is_other_override(scoped: &Scoped, method: &MethodRef) -> bool
 /// Notes A6 at a method.
 #[tactic(auto, unfolding(scj_rules::specs::AnnotationRules::a6_of))]
 fn note_override(found: &mut Vec<Found>, scoped: &Scoped, method: &MethodRef) -> Result<(), Memory>
-    ensures { let f = found_method scoped.now.nodes method.now in OnOk result (found.new.items ≡ found.old.items ++ a6_of (declarations_of scoped.now) f.on f.method) }
+    ensures { let f = found_method scoped.now.nodes method.now in
+        OnOk result (found.new.items ≡ found.old.items ++ a6_of (declarations_of scoped.now) f.on f.method) }
 {
     let test = is_other_override(scoped, method);
     if !test {
@@ -70,7 +74,9 @@ fn runs_in_written(scoped: &Scoped, method: &MethodRef) -> Option<Written>
 
 /// Notes A7 at a method.
 fn note_unknown(found: &mut Vec<Found>, scoped: &Scoped, method: &MethodRef) -> Result<(), Memory>
-    ensures { let m = (found_method scoped.now.nodes method.now).method in OnOk result (found.new.items ≡ found.old.items ++ broken_value m.declared.modifiers.runs_in (has_unknown_runs_in (declarations_of scoped.now) m) A7) }
+    ensures { let m = (found_method scoped.now.nodes method.now).method in
+        OnOk result (found.new.items ≡ found.old.items
+        ++ broken_value m.declared.modifiers.runs_in (has_unknown_runs_in (declarations_of scoped.now) m) A7) }
 {
     match &runs_in_written(scoped, method) {
         Some(written) => {
@@ -84,7 +90,9 @@ fn note_unknown(found: &mut Vec<Found>, scoped: &Scoped, method: &MethodRef) -> 
 /// Notes A8 at a method.
 #[tactic(auto, unfolding(method_rows::specs::Methods::found_method))]
 fn note_other(found: &mut Vec<Found>, scoped: &Scoped, method: &MethodRef) -> Result<(), Memory>
-    ensures { let f = found_method scoped.now.nodes method.now in OnOk result (found.new.items ≡ found.old.items ++ broken_value f.method.declared.modifiers.runs_in (has_other_runs_in (declarations_of scoped.now) f.on f.method) A8) }
+    ensures { let f = found_method scoped.now.nodes method.now in
+        OnOk result (found.new.items ≡ found.old.items ++ broken_value f.method.declared.modifiers.runs_in
+        (has_other_runs_in (declarations_of scoped.now) f.on f.method) A8) }
 {
     match &runs_in_written(scoped, method) {
         Some(written) => {
@@ -98,7 +106,10 @@ fn note_other(found: &mut Vec<Found>, scoped: &Scoped, method: &MethodRef) -> Re
 /// Notes A6 to A8 at a method.
 #[tactic(auto, unfolding(scj_rules::specs::AnnotationRules::a7_and_a8_of))]
 fn note_method(found: &mut Vec<Found>, scoped: &Scoped, method: &MethodRef) -> Result<(), Memory>
-    ensures { let f = found_method scoped.now.nodes method.now in OnOk result (found.new.items ≡ found.old.items ++ (a6_of (declarations_of scoped.now) f.on f.method ++ a7_and_a8_of (declarations_of scoped.now) f.on f.method)) }
+    ensures { let f = found_method scoped.now.nodes method.now in
+        OnOk result (found.new.items ≡ found.old.items
+        ++ (a6_of (declarations_of scoped.now) f.on f.method
+        ++ a7_and_a8_of (declarations_of scoped.now) f.on f.method)) }
 {
     note_override(found, scoped, method)?;
     note_unknown(found, scoped, method)?;
@@ -114,7 +125,8 @@ fn note_in_class(
     class: ClassId,
     id: NodeId,
 ) -> Result<(), Memory>
-    ensures { OnOk result (found.new.items ≡ found.old.items ++ method_breaks (declarations_of scoped.now) class (method_at scoped.now.nodes id)) }
+    ensures { OnOk result (found.new.items ≡ found.old.items ++ method_breaks (declarations_of scoped.now) class
+        (method_at scoped.now.nodes id)) }
 {
     if !is_method(scoped.program(), id) {
         return Ok(());

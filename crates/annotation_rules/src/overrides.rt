@@ -59,7 +59,8 @@ fn parameter_differs(
     own: &Declared,
     other: &Declared,
 ) -> bool
-    ensures { let f = found_method scoped.now.nodes method.now in let g = found_method scoped.now.nodes above.now in result ≡ parameter_differs (declarations_of scoped.now) f g own.now other.now }
+    ensures { let f = found_method scoped.now.nodes method.now in let g = found_method scoped.now.nodes above.now in
+        result ≡ parameter_differs (declarations_of scoped.now) f g own.now other.now }
 {
     let own = scoped.parameter_scope(method, own);
     let other = scoped.parameter_scope(above, other);
@@ -69,7 +70,8 @@ fn parameter_differs(
 /// Whether the parameter of a number has another scope than the one above, where both are there.
 #[tactic(auto, unfolding(crate::specs::Overrides::differs_at))]
 fn differs_at(scoped: &Scoped, method: &MethodRef, above: &MethodRef, i: usize) -> Option<bool>
-    ensures { let f = found_method scoped.now.nodes method.now in let g = found_method scoped.now.nodes above.now in result ≡ differs_at (declarations_of scoped.now) f g i }
+    ensures { let f = found_method scoped.now.nodes method.now in let g = found_method scoped.now.nodes above.now in
+        result ≡ differs_at (declarations_of scoped.now) f g i }
 {
     let program = scoped.program();
     match (
@@ -84,7 +86,8 @@ fn differs_at(scoped: &Scoped, method: &MethodRef, above: &MethodRef, i: usize) 
 /// Whether parameters have other scopes than those above.
 #[tactic(auto, using(crate::proofs::ParameterLemmas::differs_found, crate::proofs::ParameterLemmas::differs_later, crate::proofs::ParameterLemmas::differs_nowhere, crate::proofs::ParameterLemmas::differs_at_end))]
 fn parameters_differ(scoped: &Scoped, method: &MethodRef, above: &MethodRef) -> bool
-    ensures { let f = found_method scoped.now.nodes method.now in let g = found_method scoped.now.nodes above.now in result ≡ parameters_from (declarations_of scoped.now) f g 0 }
+    ensures { let f = found_method scoped.now.nodes method.now in let g = found_method scoped.now.nodes above.now in
+        result ≡ parameters_from (declarations_of scoped.now) f g 0 }
 {
     for i in 0..parameter_count(scoped.program(), method) {
         match differs_at(scoped, method, above, i) {
@@ -98,7 +101,9 @@ fn parameters_differ(scoped: &Scoped, method: &MethodRef, above: &MethodRef) -> 
 
 /// Whether a method runs in another scope than the one above.
 fn runs_elsewhere(scoped: &Scoped, method: &MethodRef, above: &MethodRef) -> bool
-    ensures { let p = declarations_of scoped.now in let f = found_method scoped.now.nodes method.now in let g = found_method scoped.now.nodes above.now in result ≡ differ (runs_in p f.on f.method) (seen_in p f.on (runs_in p g.on g.method)) }
+    ensures { let p = declarations_of scoped.now in let f = found_method scoped.now.nodes method.now in
+        let g = found_method scoped.now.nodes above.now in
+        result ≡ differ (runs_in p f.on f.method) (seen_in p f.on (runs_in p g.on g.method)) }
 {
     let other = scoped.runs_in(above);
     let own = scoped.runs_in(method);
@@ -107,7 +112,9 @@ fn runs_elsewhere(scoped: &Scoped, method: &MethodRef, above: &MethodRef) -> boo
 
 /// Whether a method's result has another scope than the one above.
 fn result_differs(scoped: &Scoped, method: &MethodRef, above: &MethodRef) -> bool
-    ensures { let p = declarations_of scoped.now in let f = found_method scoped.now.nodes method.now in let g = found_method scoped.now.nodes above.now in result ≡ differ (result_scope p f.on f.method) (seen_in p f.on (result_scope p g.on g.method)) }
+    ensures { let p = declarations_of scoped.now in let f = found_method scoped.now.nodes method.now in
+        let g = found_method scoped.now.nodes above.now in
+        result ≡ differ (result_scope p f.on f.method) (seen_in p f.on (result_scope p g.on g.method)) }
 {
     let other = scoped.result_scope(above);
     let own = scoped.result_scope(method);
@@ -117,7 +124,8 @@ fn result_differs(scoped: &Scoped, method: &MethodRef, above: &MethodRef) -> boo
 /// Whether a method has other scopes than the one above.
 #[tactic(auto, unfolding(scj_rules::specs::AnnotationRules::scopes_differ, crate::specs::Overrides::parameters_from))]
 fn scopes_differ(scoped: &Scoped, method: &MethodRef, above: &MethodRef) -> bool
-    ensures { let f = found_method scoped.now.nodes method.now in let g = found_method scoped.now.nodes above.now in result ≡ scopes_differ (declarations_of scoped.now) f.on f.method g.on g.method }
+    ensures { let f = found_method scoped.now.nodes method.now in let g = found_method scoped.now.nodes above.now in
+        result ≡ scopes_differ (declarations_of scoped.now) f.on f.method g.on g.method }
 {
     runs_elsewhere(scoped, method, above)
         || (parameters_differ(scoped, method, above) || result_differs(scoped, method, above))
@@ -125,7 +133,8 @@ fn scopes_differ(scoped: &Scoped, method: &MethodRef, above: &MethodRef) -> bool
 
 /// The method of a name above a method's class.
 fn method_above(scoped: &Scoped, method: &MethodRef, name: &Name) -> Option<MethodRef>
-    ensures { option_map (found_method scoped.now.nodes) result ≡ method_above (declarations_of scoped.now).classes (found_method scoped.now.nodes method.now).on name.now }
+    ensures { option_map (found_method scoped.now.nodes) result ≡ method_above (declarations_of scoped.now).classes
+        (found_method scoped.now.nodes method.now).on name.now }
 {
     let class = class_of(scoped, method);
     scoped.scopes().classes().method_above(class, name)
@@ -133,7 +142,9 @@ fn method_above(scoped: &Scoped, method: &MethodRef, name: &Name) -> Option<Meth
 
 /// Whether the method above is a user class's and has other scopes.
 fn misfits_above(scoped: &Scoped, method: &MethodRef, above: &MethodRef) -> bool
-    ensures { let p = declarations_of scoped.now in let f = found_method scoped.now.nodes method.now in let g = found_method scoped.now.nodes above.now in result ≡ (is_user_class g.on && scopes_differ p f.on f.method g.on g.method) }
+    ensures { let p = declarations_of scoped.now in let f = found_method scoped.now.nodes method.now in
+        let g = found_method scoped.now.nodes above.now in
+        result ≡ (is_user_class g.on && scopes_differ p f.on f.method g.on g.method) }
 {
     class_of(scoped, above).number() >= FRAMEWORK_CLASS_COUNT
         && scopes_differ(scoped, method, above)
@@ -141,7 +152,9 @@ fn misfits_above(scoped: &Scoped, method: &MethodRef, above: &MethodRef) -> bool
 
 /// Whether a method has other scopes than the one of a user class that it overrides.
 pub fn overrides_scopes(scoped: &Scoped, method: &MethodRef, name: &Name) -> bool
-    ensures { let p = declarations_of scoped.now in let f = found_method scoped.now.nodes method.now in result ≡ holds (method_above p.classes f.on name.now) (λ (g : FoundMethod). is_user_class g.on && scopes_differ p f.on f.method g.on g.method) }
+    ensures { let p = declarations_of scoped.now in let f = found_method scoped.now.nodes method.now in
+        result ≡ holds (method_above p.classes f.on name.now) (λ (g : FoundMethod). is_user_class g.on
+        && scopes_differ p f.on f.method g.on g.method) }
 {
     match &method_above(scoped, method, name) {
         Some(above) => misfits_above(scoped, method, above),

@@ -17,7 +17,8 @@ use static_scopes::{Scoped, contradicts, is_unknown_scope, scoped_field};
 
 /// The field that a node declares, as a thing in a class.
 fn field_in(scoped: &Scoped, class: ClassId, id: NodeId) -> Option<ScopedDeclaration>
-    ensures { result ≡ option_map (λ (f : Declaration). scoped_field (declarations_of scoped.now) class f) (field_at scoped.now.nodes id) }
+    ensures { result ≡ option_map (λ (f : Declaration). scoped_field (declarations_of scoped.now) class f)
+        (field_at scoped.now.nodes id) }
 {
     match &field_at(scoped.program(), id) {
         Some(field) => Some(scoped_field(scoped.scopes(), class, field)),
@@ -28,7 +29,8 @@ fn field_in(scoped: &Scoped, class: ClassId, id: NodeId) -> Option<ScopedDeclara
 /// The result of the method that a node declares, as a thing in a class.
 #[tactic(auto, using(crate::proofs::MethodLemmas::result_at_node, crate::proofs::MethodLemmas::no_result_at_node))]
 fn result_in(scoped: &Scoped, class: ClassId, id: NodeId) -> Option<ScopedDeclaration>
-    ensures { result ≡ option_map (λ (m : DeclaredMethod). scoped_result (declarations_of scoped.now) class m) (method_at scoped.now.nodes id) }
+    ensures { result ≡ option_map (λ (m : DeclaredMethod). scoped_result (declarations_of scoped.now) class m)
+        (method_at scoped.now.nodes id) }
 {
     if is_method(scoped.program(), id) {
         let method = MethodRef {
@@ -43,7 +45,9 @@ fn result_in(scoped: &Scoped, class: ClassId, id: NodeId) -> Option<ScopedDeclar
 
 /// The field that a node declares, as a thing.
 fn field_thing_at(scoped: &Scoped, id: NodeId) -> Option<ScopedDeclaration>
-    ensures { result ≡ option_and_then (λ class. option_map (λ (f : Declaration). scoped_field (declarations_of scoped.now) class f) (field_at scoped.now.nodes id)) (context (declarations_of scoped.now) id).class }
+    ensures { result ≡ option_and_then
+        (λ class. option_map (λ (f : Declaration). scoped_field (declarations_of scoped.now) class f)
+        (field_at scoped.now.nodes id)) (context (declarations_of scoped.now) id).class }
 {
     let context = scoped.context(id);
     match context.class {
@@ -54,7 +58,9 @@ fn field_thing_at(scoped: &Scoped, id: NodeId) -> Option<ScopedDeclaration>
 
 /// The result of the method that a node declares, as a thing.
 fn result_thing_at(scoped: &Scoped, id: NodeId) -> Option<ScopedDeclaration>
-    ensures { result ≡ option_and_then (λ class. option_map (λ (m : DeclaredMethod). scoped_result (declarations_of scoped.now) class m) (method_at scoped.now.nodes id)) (context (declarations_of scoped.now) id).class }
+    ensures { result ≡ option_and_then
+        (λ class. option_map (λ (m : DeclaredMethod). scoped_result (declarations_of scoped.now) class m)
+        (method_at scoped.now.nodes id)) (context (declarations_of scoped.now) id).class }
 {
     let context = scoped.context(id);
     match context.class {
@@ -84,7 +90,8 @@ pub fn note_unknown(
     scoped: &Scoped,
     thing: &ScopedDeclaration,
 ) -> Result<(), Memory>
-    ensures { OnOk result (found.new.items ≡ found.old.items ++ broken_value thing.now.scope (is_unknown_scope (declarations_of scoped.now) thing.now) A1) }
+    ensures { OnOk result (found.new.items ≡ found.old.items
+        ++ broken_value thing.now.scope (is_unknown_scope (declarations_of scoped.now) thing.now) A1) }
 {
     match &thing.scope {
         Some(written) => {
@@ -101,7 +108,8 @@ pub fn note_contradiction(
     scoped: &Scoped,
     thing: &ScopedDeclaration,
 ) -> Result<(), Memory>
-    ensures { OnOk result (found.new.items ≡ found.old.items ++ broken_value thing.now.scope (contradicts (declarations_of scoped.now) thing.now) A9) }
+    ensures { OnOk result (found.new.items ≡ found.old.items
+        ++ broken_value thing.now.scope (contradicts (declarations_of scoped.now) thing.now) A9) }
 {
     match &thing.scope {
         Some(written) => {

@@ -31,7 +31,8 @@ impl<'a> Edit<'a> {
 
     /// What the change makes of a source.
     pub fn changed(self, alloc: Global, source: &[u8]) -> Result<Vec<u8>, Stop>
-        ensures { IfOk result (λ bytes. bytes.items ≡ changed source.now self.entry.from self.entry.to self.entry.text.now) }
+        ensures { IfOk result
+            (λ bytes. bytes.items ≡ changed source.now self.entry.from self.entry.to self.entry.text.now) }
     {
         let front = source.get(..self.from).ok_or(Stop::BadLine)?;
         let behind = source.get(self.to..).ok_or(Stop::BadLine)?;

@@ -15,26 +15,32 @@ use Rattle.scj_rules.specs.Contexts.{declarations_of}
 use Rattle.class_headers.specs.declared.headers.Headers.{Headers}
 use Rattle.class_headers.specs.Columns.{header_of, header_by, superclass_by, interfaces_by, framework_header, framework_headers, IsHeadersOf}
 
-module _ (nodes : List Node) (names : List (List ℕ)) (find : List ℕ → Option ℕ) (finds : (name : List ℕ) → find name ≡ class_number names name) where
+module _ (nodes : List Node) (names : List (List ℕ)) (find : List ℕ → Option ℕ)
+    (finds : (name : List ℕ) → find name ≡ class_number names name) where
   superclass_is : (extends : Option Written) → superclass_by find extends ≡ superclass_written names extends
   unfolding superclass_by superclass_written
   superclass_is None = refl
   superclass_is (Some w) = finds w.name
 
-  interfaces_are : (ws : List Written) → interfaces_by find ws ≡ filter_map (λ (w : Written). class_number names w.name) ws
+  interfaces_are : (ws : List Written) →
+      interfaces_by find ws ≡ filter_map (λ (w : Written). class_number names w.name) ws
   interfaces_are [] = refl
   interfaces_are (w ∷ ws) =
-      ap (λ (o : Option ℕ). cons_option o (interfaces_by find ws)) (finds w.name) ∙ ap (cons_option (class_number names w.name)) (interfaces_are ws)
+      ap (λ (o : Option ℕ). cons_option o (interfaces_by find ws)) (finds w.name)
+      ∙ ap (cons_option (class_number names w.name)) (interfaces_are ws)
 
   header_is : (c : WrittenClass) → header_by nodes find c ≡ header_of (user_row nodes names c)
   unfolding header_by header_of user_row
   header_is c = let e = superclass_is c.extends in rw e refl
 
-  user_headers : (users : List WrittenClass) → map (header_by nodes find) users ≡ map header_of (map (user_row nodes names) users)
+  user_headers : (users : List WrittenClass) →
+      map (header_by nodes find) users ≡ map header_of (map (user_row nodes names) users)
   user_headers [] = refl
-  user_headers (c ∷ users) = ap (λ h. h ∷ map (header_by nodes find) users) (header_is c) ∙ ap (λ hs. header_of (user_row nodes names c) ∷ hs) (user_headers users)
+  user_headers (c ∷ users) = ap (λ h. h ∷ map (header_by nodes find) users) (header_is c)
+      ∙ ap (λ hs. header_of (user_row nodes names c) ∷ hs) (user_headers users)
 
-  user_lists : (users : List WrittenClass) → map (λ (c : WrittenClass). interfaces_by find c.implements) users ≡ map (λ (row : ClassRow). row.interfaces) (map (user_row nodes names) users)
+  user_lists : (users : List WrittenClass) → map (λ (c : WrittenClass). interfaces_by find c.implements) users ≡ map
+      (λ (row : ClassRow). row.interfaces) (map (user_row nodes names) users)
   unfolding user_row
   user_lists [] = refl
   user_lists (c ∷ users) =
@@ -45,25 +51,36 @@ pub framework_headers_are : map framework_header framework_classes ≡ framework
 unfolding framework_headers framework_rows_from framework_classes
 framework_headers_are = refl
 
-all_headers : (nodes : List Node) (users : List WrittenClass) (find : List ℕ → Option ℕ) → ((name : List ℕ) → find name ≡ class_number (class_names users) name)
+all_headers : (nodes : List Node) (users : List WrittenClass) (find : List ℕ → Option ℕ) →
+    ((name : List ℕ) → find name ≡ class_number (class_names users) name)
     → framework_headers ++ map (header_by nodes find) users ≡ map header_of (written_rows nodes users)
 unfolding written_rows framework_headers
 all_headers nodes users find finds =
     ap (λ hs. framework_headers ++ hs) (user_headers nodes (class_names users) find finds users)
-    ∙ sym (map-append header_of (framework_rows_from 0 framework_classes) (map (user_row nodes (class_names users)) users))
+    ∙ sym
+    (map-append header_of (framework_rows_from 0 framework_classes)
+    (map (user_row nodes (class_names users)) users))
 
-all_lists : (nodes : List Node) (users : List WrittenClass) (find : List ℕ → Option ℕ) → ((name : List ℕ) → find name ≡ class_number (class_names users) name)
-    → replicate framework_class_count [] ++ map (λ (c : WrittenClass). interfaces_by find c.implements) users ≡ map (λ (row : ClassRow). row.interfaces) (written_rows nodes users)
+all_lists : (nodes : List Node) (users : List WrittenClass) (find : List ℕ → Option ℕ) →
+    ((name : List ℕ) → find name ≡ class_number (class_names users) name)
+    → replicate framework_class_count [] ++ map (λ (c : WrittenClass). interfaces_by find c.implements) users ≡ map
+    (λ (row : ClassRow). row.interfaces) (written_rows nodes users)
 unfolding written_rows framework_rows_from framework_row framework_classes
 all_lists nodes users find finds =
-    ap (λ (xss : List (List ℕ)). replicate framework_class_count [] ++ xss) (user_lists nodes (class_names users) find finds users)
-    ∙ sym (map-append (λ (row : ClassRow). row.interfaces) (framework_rows_from 0 framework_classes) (map (user_row nodes (class_names users)) users))
+    ap (λ (xss : List (List ℕ)). replicate framework_class_count [] ++ xss)
+    (user_lists nodes (class_names users) find finds users)
+    ∙ sym (map-append (λ (row : ClassRow). row.interfaces) (framework_rows_from 0 framework_classes)
+    (map (user_row nodes (class_names users)) users))
 
 pub headers_are : (forest : Forest) (headers : Headers) (ids : List ℕ) (all : List (List ℕ)) → ids ≡ class_nodes forest
-    → all ≡ map (λ (c : FrameworkClass). c.name) framework_classes ++ map (λ (c : WrittenClass). c.name) (filter_map (class_at forest.nodes) ids)
+    → all ≡ map (λ (c : FrameworkClass). c.name) framework_classes
+    ++ map (λ (c : WrittenClass). c.name) (filter_map (class_at forest.nodes) ids)
     → ((name : List ℕ) → get is_same headers.names name ≡ position (is_same name) all)
-    → headers.rows.items ≡ framework_headers ++ map (header_by forest.nodes (get is_same headers.names)) (filter_map (class_at forest.nodes) ids)
-    → map (λ v. v.items) headers.interfaces.items ≡ replicate framework_class_count [] ++ map (λ (c : WrittenClass). interfaces_by (get is_same headers.names) c.implements) (filter_map (class_at forest.nodes) ids)
+    → headers.rows.items ≡ framework_headers ++ map (header_by forest.nodes (get is_same headers.names))
+    (filter_map (class_at forest.nodes) ids)
+    → map (λ v. v.items) headers.interfaces.items ≡ replicate framework_class_count []
+    ++ map (λ (c : WrittenClass). interfaces_by (get is_same headers.names) c.implements)
+    (filter_map (class_at forest.nodes) ids)
     → IsHeadersOf forest headers
 unfolding declarations_of class_number class_names user_classes
 headers_are forest headers ids all same names finds rows lists =
@@ -71,9 +88,15 @@ headers_are forest headers ids all same names finds rows lists =
     let as_users : filter_map (class_at forest.nodes) ids ≡ users = ap (filter_map (class_at forest.nodes)) same in
     let all_names : all ≡ class_names users = names ∙ ap (λ (us : List WrittenClass). class_names us) as_users in
     let find : List ℕ → Option ℕ = get is_same headers.names in
-    let found : (name : List ℕ) → find name ≡ class_number (class_names users) name = λ name. finds name ∙ ap (λ (ns : List (List ℕ)). position (is_same name) ns) all_names in
+    let found : (name : List ℕ) → find name ≡ class_number (class_names users) name = λ name. finds name
+    ∙ ap (λ (ns : List (List ℕ)). position (is_same name) ns) all_names in
     record {
       names = found;
-      rows = rows ∙ ap (λ (us : List WrittenClass). framework_headers ++ map (header_by forest.nodes find) us) as_users ∙ all_headers forest.nodes users find found;
-      interfaces = lists ∙ ap (λ (us : List WrittenClass). replicate framework_class_count [] ++ map (λ (c : WrittenClass). interfaces_by find c.implements) us) as_users ∙ all_lists forest.nodes users find found;
+      rows = rows ∙ ap (λ (us : List WrittenClass). framework_headers ++ map (header_by forest.nodes find) us) as_users
+          ∙ all_headers forest.nodes users find found;
+      interfaces =
+          lists
+          ∙ ap (λ (us : List WrittenClass). replicate framework_class_count []
+          ++ map (λ (c : WrittenClass). interfaces_by find c.implements) us) as_users
+          ∙ all_lists forest.nodes users find found;
     }

@@ -14,33 +14,42 @@ use Rattle.class_headers.specs.declared.headers.Header.{Header}
 use Rattle.class_headers.specs.Columns.{superclass_by, header_by, first_node}
 
 -- one file's classes more
-pub file_joined : (files : List (List ℕ)) (i : ℕ) (classes xs : List ℕ) → slice_get files i ≡ Some classes → (xs ++ classes) ++ joined (drop (i + 1) files) ≡ xs ++ joined (drop i files)
+pub file_joined : (files : List (List ℕ)) (i : ℕ) (classes xs : List ℕ) → slice_get files i ≡ Some classes →
+    (xs ++ classes) ++ joined (drop (i + 1) files) ≡ xs ++ joined (drop i files)
 unfolding joined
 file_joined files i classes xs h =
     let e : drop i files ≡ classes ∷ drop (i + 1) files =
-    drop_more files i classes (slice_get_within files i classes h) ∙ ap (λ t. t ∷ drop (i + 1) files) (get_or_from_slice_get files i classes classes h) in
+    drop_more files i classes (slice_get_within files i classes h)
+    ∙ ap (λ t. t ∷ drop (i + 1) files) (get_or_from_slice_get files i classes classes h) in
     rw e (append_assoc xs classes (joined (drop (i + 1) files)))
 
-pub all_joined : (files : List (List ℕ)) (i : ℕ) (xs ids : List ℕ) → length files ≤ i → xs ++ joined (drop i files) ≡ ids → xs ≡ ids
+pub all_joined : (files : List (List ℕ)) (i : ℕ) (xs ids : List ℕ) → length files ≤ i → xs
+    ++ joined (drop i files) ≡ ids → xs ≡ ids
 unfolding joined
-all_joined files i xs ids h k = let e : drop i files ≡ [] = drop_all i files h in sym (append-nil xs) ∙ ap (λ t. xs ++ joined t) (sym e) ∙ k
+all_joined files i xs ids h k = let e : drop i files ≡ [] = drop_all i files h in sym (append-nil xs)
+    ∙ ap (λ t. xs ++ joined t) (sym e) ∙ k
 
 -- a class that is read at a node is that node's
-node_of_class : (nodes : List Node) (id : ℕ) (o : Option Node) (c : WrittenClass) → option_and_then (class_of nodes id) o ≡ Some c → c.node ≡ id
+node_of_class : (nodes : List Node) (id : ℕ) (o : Option Node) (c : WrittenClass) →
+    option_and_then (class_of nodes id) o ≡ Some c → c.node ≡ id
 unfolding class_of
 node_of_class nodes id None c h = cc
-node_of_class nodes id (Some (Class place name flags header members)) c h = ap (λ (w : Option WrittenClass). elim w [ None ↦ id | Some d ↦ d.node ]) (sym h)
+node_of_class nodes id (Some (Class place name flags header members)) c h =
+    ap (λ (w : Option WrittenClass). elim w [ None ↦ id | Some d ↦ d.node ]) (sym h)
 node_of_class nodes id (Some _) c h = cc
 
 abbrev pub kind_by : Bool → ClassKind
 kind_by is_abstract = if is_abstract then abstract_class else concrete_class
 
-made_of : (nodes : List Node) (find : List ℕ → Option ℕ) (id : ℕ) (o : Option WrittenClass) (m : Modifiers) → class_at nodes id ≡ o → Some m ≡ option_map (λ (c : WrittenClass). c.modifiers) o
+made_of : (nodes : List Node) (find : List ℕ → Option ℕ) (id : ℕ) (o : Option WrittenClass) (m : Modifiers) →
+    class_at nodes id ≡ o → Some m ≡ option_map (λ (c : WrittenClass). c.modifiers) o
     → ◌≡◌ {A = Option Header} (Some (record {
       node = Some id;
       kind = kind_by m.is_abstract;
       superclass = superclass_by find (option_and_then (λ (c : WrittenClass). c.extends) o);
-      constructor = first_node (filter_map (constructor_at nodes) (unwrap_or (option_map (λ (c : WrittenClass). c.members) o) []));
+      constructor =
+          first_node
+          (filter_map (constructor_at nodes) (unwrap_or (option_map (λ (c : WrittenClass). c.members) o) []));
     })) (option_map (header_by nodes find) o)
 unfolding header_by
 made_of nodes find id None m e h = cc
@@ -55,11 +64,15 @@ pub header_is : (nodes : List Node) (find : List ℕ → Option ℕ) (id : ℕ) 
       node = Some id;
       kind = kind_by m.is_abstract;
       superclass = superclass_by find (option_and_then (λ (c : WrittenClass). c.extends) (class_at nodes id));
-      constructor = first_node (filter_map (constructor_at nodes) (unwrap_or (option_map (λ (c : WrittenClass). c.members) (class_at nodes id)) []));
+      constructor =
+          first_node
+          (filter_map (constructor_at nodes)
+          (unwrap_or (option_map (λ (c : WrittenClass). c.members) (class_at nodes id)) []));
     }
     → Some h ≡ option_map (header_by nodes find) (class_at nodes id)
 header_is nodes find id h m e k = ap (λ (x : Header). Some x) k ∙ made_of nodes find id (class_at nodes id) m refl e
 
-pub no_header : (nodes : List Node) (find : List ℕ → Option ℕ) (o : Option WrittenClass) → None ≡ option_map (λ (c : WrittenClass). c.modifiers) o → None ≡ option_map (header_by nodes find) o
+pub no_header : (nodes : List Node) (find : List ℕ → Option ℕ) (o : Option WrittenClass) →
+    None ≡ option_map (λ (c : WrittenClass). c.modifiers) o → None ≡ option_map (header_by nodes find) o
 no_header nodes find None e = refl
 no_header nodes find (Some c) e = cc

@@ -20,7 +20,13 @@ first_node (c ∷ cs) = Some c.node
 
 -- the header in a row
 unfoldable pub header_of : ClassRow → Header
-header_of row = record { node = option_map (λ (c : WrittenClass). c.node) row.written; kind = row.kind; superclass = row.superclass; constructor = first_node row.constructors }
+header_of row =
+    record {
+      node = option_map (λ (c : WrittenClass). c.node) row.written;
+      kind = row.kind;
+      superclass = row.superclass;
+      constructor = first_node row.constructors;
+    }
 
 -- the same by what `find` tells of names
 unfoldable pub superclass_by : (List ℕ → Option ℕ) → Option Written → Option ℕ
@@ -51,4 +57,5 @@ framework_headers = map header_of (framework_rows_from 0 framework_classes)
 pub record IsHeadersOf (forest : Forest) (headers : Headers) : Type 0 where
   pub names : (name : List ℕ) → get is_same headers.names name ≡ class_number (declarations_of forest).names name
   pub rows : headers.rows.items ≡ map header_of (declarations_of forest).written
-  pub interfaces : map (λ v. v.items) headers.interfaces.items ≡ map (λ (row : ClassRow). row.interfaces) (declarations_of forest).written
+  pub interfaces : map (λ v. v.items) headers.interfaces.items ≡ map (λ (row : ClassRow). row.interfaces)
+      (declarations_of forest).written

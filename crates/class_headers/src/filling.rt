@@ -60,7 +60,9 @@ fn add_headers(
     ids: &[NodeId],
     headers: &mut Vec<Header>,
 ) -> Result<(), Memory>
-    ensures { OnOk result (headers.new.items ≡ headers.old.items ++ map (header_by program.now.nodes (get is_same names.now)) (filter_map (class_at program.now.nodes) ids.now)) }
+    ensures { OnOk result (headers.new.items ≡ headers.old.items
+        ++ map (header_by program.now.nodes (get is_same names.now))
+        (filter_map (class_at program.now.nodes) ids.now)) }
 {
     let mut others = ids;
     while let [id, rest @ ..] = others {
@@ -80,7 +82,9 @@ fn headers_of(
     names: &IndexMap<NameKey, ClassId>,
     ids: &[NodeId],
 ) -> Result<Vec<Header>, Memory>
-    ensures { IfOk result (λ headers. headers.items ≡ framework_headers ++ map (header_by program.now.nodes (get is_same names.now)) (filter_map (class_at program.now.nodes) ids.now)) }
+    ensures { IfOk result (λ headers. headers.items ≡ framework_headers
+        ++ map (header_by program.now.nodes (get is_same names.now))
+        (filter_map (class_at program.now.nodes) ids.now)) }
 {
     let mut headers = Vec::new(alloc);
     add_framework_headers(&framework_classes(), &mut headers)?;
@@ -91,7 +95,8 @@ fn headers_of(
 /// Puts so many empty lists last.
 #[tactic(auto, using(std::proofs::lemmas::List::replicate_more))]
 fn add_empty(alloc: Global, lists: &mut Vec<Vec<ClassId>>, count: usize) -> Result<(), Memory>
-    ensures { OnOk result (map (λ v. v.items) lists.new.items ≡ map (λ v. v.items) lists.old.items ++ replicate count []) }
+    ensures { OnOk result (map (λ v. v.items) lists.new.items ≡ map (λ v. v.items) lists.old.items
+        ++ replicate count []) }
 {
     let mut made = 0;
     while made < count {
@@ -110,7 +115,9 @@ fn add_list(
     id: NodeId,
     lists: &mut Vec<Vec<ClassId>>,
 ) -> Result<(), Memory>
-    ensures { OnOk result (map (λ v. v.items) lists.new.items ≡ map (λ v. v.items) lists.old.items ++ map (λ (c : WrittenClass). interfaces_by (get is_same names.now) c.implements) (cons_option (class_at program.now.nodes id) [])) }
+    ensures { OnOk result (map (λ v. v.items) lists.new.items ≡ map (λ v. v.items) lists.old.items
+        ++ map (λ (c : WrittenClass). interfaces_by (get is_same names.now) c.implements)
+        (cons_option (class_at program.now.nodes id) [])) }
 {
     if class_name(program, id).is_none() {
         return Ok(());
@@ -129,7 +136,9 @@ fn add_interfaces(
     ids: &[NodeId],
     lists: &mut Vec<Vec<ClassId>>,
 ) -> Result<(), Memory>
-    ensures { OnOk result (map (λ v. v.items) lists.new.items ≡ map (λ v. v.items) lists.old.items ++ map (λ (c : WrittenClass). interfaces_by (get is_same names.now) c.implements) (filter_map (class_at program.now.nodes) ids.now)) }
+    ensures { OnOk result (map (λ v. v.items) lists.new.items ≡ map (λ v. v.items) lists.old.items
+        ++ map (λ (c : WrittenClass). interfaces_by (get is_same names.now) c.implements)
+        (filter_map (class_at program.now.nodes) ids.now)) }
 {
     let mut others = ids;
     while let [id, rest @ ..] = others {
@@ -146,7 +155,9 @@ fn interfaces_of(
     names: &IndexMap<NameKey, ClassId>,
     ids: &[NodeId],
 ) -> Result<Vec<Vec<ClassId>>, Memory>
-    ensures { IfOk result (λ lists. map (λ v. v.items) lists.items ≡ replicate framework_class_count [] ++ map (λ (c : WrittenClass). interfaces_by (get is_same names.now) c.implements) (filter_map (class_at program.now.nodes) ids.now)) }
+    ensures { IfOk result (λ lists. map (λ v. v.items) lists.items ≡ replicate framework_class_count []
+        ++ map (λ (c : WrittenClass). interfaces_by (get is_same names.now) c.implements)
+        (filter_map (class_at program.now.nodes) ids.now)) }
 {
     let mut lists = Vec::new(alloc);
     add_empty(alloc, &mut lists, FRAMEWORK_CLASS_COUNT as usize)?;

@@ -31,7 +31,8 @@ fn add_framework_names(classes: &[FrameworkClass], names: &mut Vec<Name>) -> Res
 /// Puts the names of the classes at these nodes last.
 #[tactic(auto, using(crate::proofs::MapLemmas::one_more, crate::proofs::MapLemmas::none_more))]
 fn add_names(program: &Program, ids: &[NodeId], names: &mut Vec<Name>) -> Result<(), Memory>
-    ensures { OnOk result (names.new.items ≡ names.old.items ++ map (λ (c : WrittenClass). c.name) (filter_map (class_at program.now.nodes) ids.now)) }
+    ensures { OnOk result (names.new.items ≡ names.old.items
+        ++ map (λ (c : WrittenClass). c.name) (filter_map (class_at program.now.nodes) ids.now)) }
 {
     let mut others = ids;
     while let [id, rest @ ..] = others {
@@ -45,7 +46,8 @@ fn add_names(program: &Program, ids: &[NodeId], names: &mut Vec<Name>) -> Result
 
 /// The names of the framework's classes and of the classes at these nodes.
 pub fn names_of(alloc: Global, program: &Program, ids: &[NodeId]) -> Result<Vec<Name>, Memory>
-    ensures { IfOk result (λ names. names.items ≡ map (λ (c : FrameworkClass). c.name) framework_classes ++ map (λ (c : WrittenClass). c.name) (filter_map (class_at program.now.nodes) ids.now)) }
+    ensures { IfOk result (λ names. names.items ≡ map (λ (c : FrameworkClass). c.name) framework_classes
+        ++ map (λ (c : WrittenClass). c.name) (filter_map (class_at program.now.nodes) ids.now)) }
 {
     let mut names = Vec::new(alloc);
     add_framework_names(&framework_classes(), &mut names)?;
@@ -56,7 +58,8 @@ pub fn names_of(alloc: Global, program: &Program, ids: &[NodeId]) -> Result<Vec<
 /// Enters a number under a name, unless the name has one.
 #[tactic(auto, using(crate::proofs::IndexLemmas::entered_known, crate::proofs::IndexLemmas::entered_new))]
 fn enter(index: &mut IndexMap<NameKey, ClassId>, name: Name, number: usize) -> Result<(), Memory>
-    ensures { OnOk result ((other : List ℕ) → get is_same index.new other ≡ option_or (get is_same index.old other) (if is_same other name then Some number else None)) }
+    ensures { OnOk result ((other : List ℕ) → get is_same index.new other ≡ option_or (get is_same index.old other)
+        (if is_same other name then Some number else None)) }
 {
     let key = NameKey::of(name);
     if index.contains_key(&key) {

@@ -68,7 +68,8 @@ pub fn user_header(
     names: &IndexMap<NameKey, ClassId>,
     id: NodeId,
 ) -> Option<Header>
-    ensures { result ≡ option_map (header_by program.now.nodes (get is_same names.now)) (class_at program.now.nodes id) }
+    ensures { result ≡ option_map (header_by program.now.nodes (get is_same names.now))
+        (class_at program.now.nodes id) }
 {
     match class_modifiers(program, id) {
         Some(modifiers) => {
@@ -94,7 +95,9 @@ pub fn user_interfaces(
     names: &IndexMap<NameKey, ClassId>,
     id: NodeId,
 ) -> Result<Vec<ClassId>, Memory>
-    ensures { IfOk result (λ found. found.items ≡ interfaces_by (get is_same names.now) (unwrap_or (option_map (λ (c : WrittenClass). c.implements) (class_at program.now.nodes id)) [])) }
+    ensures { IfOk result
+        (λ found. found.items ≡ interfaces_by (get is_same names.now)
+        (unwrap_or (option_map (λ (c : WrittenClass). c.implements) (class_at program.now.nodes id)) [])) }
 {
     let mut found = Vec::new(alloc);
     let mut others = interface_nodes(program, id);
@@ -109,7 +112,8 @@ pub fn user_interfaces(
 
 /// The class that a node names.
 fn interface(program: &Program, names: &IndexMap<NameKey, ClassId>, node: NodeId) -> Option<ClassId>
-    ensures { result ≡ option_and_then (λ (w : Written). get is_same names.now w.name) (read program.now.nodes named_super node) }
+    ensures { result ≡ option_and_then (λ (w : Written). get is_same names.now w.name)
+        (read program.now.nodes named_super node) }
 {
     let written = named_super(program, node)?;
     let key = NameKey::of(written.name);

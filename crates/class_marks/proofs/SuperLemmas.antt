@@ -12,19 +12,25 @@ extends_of o = option_and_then (λ (c : WrittenClass). c.extends) o
 abbrev implements_of : Option WrittenClass → List Written
 implements_of o = unwrap_or (option_map (λ (c : WrittenClass). c.implements) o) []
 
-first_known : (names : List (List ℕ)) (e : Written) (ws : List Written) → are_known names (e ∷ ws) ≡ (is_known names e && are_known names ws)
+first_known : (names : List (List ℕ)) (e : Written) (ws : List Written) →
+    are_known names (e ∷ ws) ≡ (is_known names e && are_known names ws)
 unfolding is_empty
 first_known names e ws = go (is_known names e)
   where
-    go : (t : Bool) → is_empty (cond (not t) (e ∷ filter (λ (w : Written). not (is_known names w)) ws) (filter (λ (w : Written). not (is_known names w)) ws)) ≡ (t && are_known names ws)
+    go : (t : Bool) →
+        is_empty
+        (cond (not t) (e ∷ filter (λ (w : Written). not (is_known names w)) ws)
+        (filter (λ (w : Written). not (is_known names w)) ws)) ≡ (t && are_known names ws)
     go true = refl
     go false = refl
 
-with_extends : (p : Declarations) (c : WrittenClass) (o : Option Written) → c.extends ≡ o → is_empty (unknown_supers p.names c) ≡ (is_known_if_there p.names o && are_known p.names c.implements)
+with_extends : (p : Declarations) (c : WrittenClass) (o : Option Written) → c.extends ≡ o →
+    is_empty (unknown_supers p.names c) ≡ (is_known_if_there p.names o && are_known p.names c.implements)
 with_extends p c None e = rw e refl
 with_extends p c (Some w) e = rw e (first_known p.names w c.implements)
 
-pub knows_both : (p : Declarations) (o : Option WrittenClass) → knows_supers p o ≡ (is_known_if_there p.names (extends_of o) && are_known p.names (implements_of o))
+pub knows_both : (p : Declarations) (o : Option WrittenClass) →
+    knows_supers p o ≡ (is_known_if_there p.names (extends_of o) && are_known p.names (implements_of o))
 unfolding knows_supers is_empty
 knows_both p None = refl
 knows_both p (Some c) = with_extends p c c.extends refl
@@ -42,7 +48,8 @@ at_class : (p : Declarations) (there : List ℕ) (w : Written) (ws : List Writte
           ++ forbidden_interfaces p.names p.written (with_kinds there (kinds_of p.written class)) ws
     ]
     ≡ elim o [ None ↦ [] | Some class ↦ if is_forbidden_interface p.written there class then w ∷ [] else [] ]
-    ++ forbidden_interfaces p.names p.written (with_kinds there (elim o [ None ↦ [] | Some class ↦ kinds_of p.written class ])) ws
+    ++ forbidden_interfaces p.names p.written
+    (with_kinds there (elim o [ None ↦ [] | Some class ↦ kinds_of p.written class ])) ws
 unfolding with_kinds
 at_class p there w ws None = refl
 at_class p there w ws (Some class) = refl
@@ -54,16 +61,23 @@ unfolding forbidden_interfaces bad_interface kinds_brought
 step p there w ws = at_class p there w ws (class_number p.names w.name)
 
 pub one_forbidden : (p : Declarations) (there : List ℕ) (w : Written) (ws found : List Written)
-    → (found ++ bad_interface p there w) ++ forbidden_interfaces p.names p.written (with_kinds there (kinds_brought p w)) ws
+    → (found ++ bad_interface p there w)
+    ++ forbidden_interfaces p.names p.written (with_kinds there (kinds_brought p w)) ws
     ≡ found ++ forbidden_interfaces p.names p.written there (w ∷ ws)
 one_forbidden p there w ws found =
-    append_assoc found (bad_interface p there w) (forbidden_interfaces p.names p.written (with_kinds there (kinds_brought p w)) ws)
+    append_assoc found (bad_interface p there w)
+    (forbidden_interfaces p.names p.written (with_kinds there (kinds_brought p w)) ws)
     ∙ ap (λ (xs : List Written). found ++ xs) (sym (step p there w ws))
 
 -- both parts of a header
 above_class : (p : Declarations) (e : Written) (ws : List Written) (o : Option ℕ)
-    → elim o [ None ↦ [] | Some class ↦ if is_forbidden_superclass p.written class then e ∷ [] else [] ] ++ forbidden_interfaces p.names p.written (elim o [ None ↦ [] | Some class ↦ kinds_of p.written class ]) ws
-    ≡ elim o [ None ↦ forbidden_interfaces p.names p.written [] ws | Some class ↦ (if is_forbidden_superclass p.written class then e ∷ [] else []) ++ forbidden_interfaces p.names p.written (kinds_of p.written class) ws ]
+    → elim o [ None ↦ [] | Some class ↦ if is_forbidden_superclass p.written class then e ∷ [] else [] ]
+    ++ forbidden_interfaces p.names p.written (elim o [ None ↦ [] | Some class ↦ kinds_of p.written class ]) ws
+    ≡ elim o [
+      | None ↦ forbidden_interfaces p.names p.written [] ws
+      | Some class ↦ (if is_forbidden_superclass p.written class then e ∷ [] else [])
+          ++ forbidden_interfaces p.names p.written (kinds_of p.written class) ws
+    ]
 above_class p e ws None = refl
 above_class p e ws (Some class) = refl
 
@@ -73,18 +87,22 @@ above_name : (p : Declarations) (ws : List Written) (o : Option Written)
       | None ↦ forbidden_interfaces p.names p.written [] ws
       | Some e ↦ elim (class_number p.names e.name) [
         | None ↦ forbidden_interfaces p.names p.written [] ws
-        | Some class ↦ (if is_forbidden_superclass p.written class then e ∷ [] else []) ++ forbidden_interfaces p.names p.written (kinds_of p.written class) ws
+        | Some class ↦ (if is_forbidden_superclass p.written class then e ∷ [] else [])
+            ++ forbidden_interfaces p.names p.written (kinds_of p.written class) ws
       ]
     ]
 unfolding bad_extends kinds_above
 above_name p ws None = refl
 above_name p ws (Some e) = above_class p e ws (class_number p.names e.name)
 
-both : (p : Declarations) (c : WrittenClass) → bad_extends p c.extends ++ forbidden_interfaces p.names p.written (kinds_above p c.extends) c.implements ≡ forbidden_supers p.names p.written c
+both : (p : Declarations) (c : WrittenClass) → bad_extends p c.extends
+    ++ forbidden_interfaces p.names p.written (kinds_above p c.extends) c.implements ≡ forbidden_supers p.names
+    p.written c
 unfolding forbidden_supers
 both p c = above_name p c.implements c.extends
 
-pub forbidden_parts : (p : Declarations) (o : Option WrittenClass) → bad_extends p (extends_of o) ++ forbidden_interfaces p.names p.written (kinds_above p (extends_of o)) (implements_of o) ≡ forbidden_in p o
+pub forbidden_parts : (p : Declarations) (o : Option WrittenClass) → bad_extends p (extends_of o)
+    ++ forbidden_interfaces p.names p.written (kinds_above p (extends_of o)) (implements_of o) ≡ forbidden_in p o
 unfolding forbidden_in bad_extends kinds_above forbidden_interfaces
 forbidden_parts p None = refl
 forbidden_parts p (Some c) = both p c

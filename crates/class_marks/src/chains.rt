@@ -152,7 +152,8 @@ impl<'a> WrittenClasses<'a> {
 
     /// The class, those above it, and their interfaces.
     pub fn ancestors(&self, class: ClassId) -> Ancestors<'a>
-        ensures { result ≡ superclasses (declarations_of self.now).written class ++ all_interfaces (declarations_of self.now).written class }
+        ensures { result ≡ superclasses (declarations_of self.now).written class
+            ++ all_interfaces (declarations_of self.now).written class }
     {
         Ancestors {
             chain: self.superclasses(class),

@@ -89,7 +89,8 @@ impl<'a> WrittenClasses<'a> {
     /// What a class may be used for.
     #[tactic(auto, using(crate::proofs::ColumnLemmas::kind_is))]
     pub fn kind(&self, class: ClassId) -> Option<ClassKind>
-        ensures { result ≡ option_map (λ (row : ClassRow). row.kind) (slice_get (declarations_of self.now).written class) }
+        ensures { result ≡ option_map (λ (row : ClassRow). row.kind)
+            (slice_get (declarations_of self.now).written class) }
     {
         let header = self.header(class)?;
         Some(header.kind)
@@ -128,8 +129,10 @@ impl<'a> WrittenClasses<'a> {
     /// The node of a user class.
     #[tactic(auto, using(crate::proofs::SoundLemmas::class_at_node))]
     pub fn class_node(&self, class: ClassId) -> Option<NodeId>
-        ensures node { result ≡ option_map (λ (c : WrittenClass). c.node) (class_written (declarations_of self.now) class) }
-        ensures class { option_and_then (class_at self.now.nodes) result ≡ class_written (declarations_of self.now) class }
+        ensures node { result ≡ option_map (λ (c : WrittenClass). c.node)
+            (class_written (declarations_of self.now) class) }
+        ensures class { option_and_then (class_at self.now.nodes) result ≡ class_written
+            (declarations_of self.now) class }
     {
         self.node(class)
     }
@@ -148,7 +151,8 @@ impl<'a> WrittenClasses<'a> {
     /// The first constructor of a class.
     #[tactic(auto, using(crate::proofs::ColumnLemmas::constructor_is))]
     pub fn constructor(&self, class: ClassId) -> Option<NodeId>
-        ensures { result ≡ option_map (λ (c : DeclaredConstructor). c.node) (constructor_in (declarations_of self.now).written class) }
+        ensures { result ≡ option_map (λ (c : DeclaredConstructor). c.node)
+            (constructor_in (declarations_of self.now).written class) }
     {
         let header = self.header(class)?;
         header.constructor

@@ -50,7 +50,8 @@ impl<'a> WrittenClasses<'a> {
     /// Whether each of these nodes names a class that is there.
     #[tactic(auto, unfolding(scj_rules::specs::Classes::is_empty))]
     fn knows_all(&self, nodes: &[NodeId]) -> bool
-        ensures { result ≡ are_known (declarations_of self.now).names (filter_map (read self.now.nodes named_super) nodes.now) }
+        ensures { result ≡ are_known (declarations_of self.now).names
+            (filter_map (read self.now.nodes named_super) nodes.now) }
     {
         let mut others = nodes;
         while let [node, rest @ ..] = others {
@@ -66,7 +67,8 @@ impl<'a> WrittenClasses<'a> {
 
     /// Whether the class after `extends` is there, or none is named.
     fn knows_extends(&self, node: NodeId) -> bool
-        ensures { result ≡ is_known_if_there (declarations_of self.now).names (option_and_then (λ (c : WrittenClass). c.extends) (class_at self.now.nodes node)) }
+        ensures { result ≡ is_known_if_there (declarations_of self.now).names
+            (option_and_then (λ (c : WrittenClass). c.extends) (class_at self.now.nodes node)) }
     {
         match class_extends(self.program(), node) {
             Some(written) => self.is_known(&written),
@@ -84,7 +86,8 @@ impl<'a> WrittenClasses<'a> {
 
     /// Whether a class may be extended.
     fn may_extend(&self, class: ClassId) -> bool
-        ensures { result ≡ holds (slice_get (declarations_of self.now).written class) (λ (row : ClassRow). is_extended row.kind) }
+        ensures { result ≡ holds (slice_get (declarations_of self.now).written class)
+            (λ (row : ClassRow). is_extended row.kind) }
     {
         match self.kind(class) {
             Some(kind) => is_extended(kind),
@@ -94,7 +97,8 @@ impl<'a> WrittenClasses<'a> {
 
     /// Whether a class may be implemented.
     fn may_implement(&self, class: ClassId) -> bool
-        ensures { result ≡ holds (slice_get (declarations_of self.now).written class) (λ (row : ClassRow). is_implemented row.kind) }
+        ensures { result ≡ holds (slice_get (declarations_of self.now).written class)
+            (λ (row : ClassRow). is_implemented row.kind) }
     {
         match self.kind(class) {
             Some(kind) => is_implemented(kind),
@@ -124,7 +128,8 @@ impl<'a> WrittenClasses<'a> {
         found: &mut Vec<Written>,
     ) -> Result<(), Memory>
         requires { kinds.now ≡ kinds_brought (declarations_of self.now) written.now }
-        ensures { OnOk result (found.new.items ≡ found.old.items ++ bad_interface (declarations_of self.now) there.now written.now) }
+        ensures { OnOk result (found.new.items ≡ found.old.items
+            ++ bad_interface (declarations_of self.now) there.now written.now) }
     {
         if let Some(class) = self.class_of(&written.name) {
             if !self.may_implement(class) || brings_too_many(there, kinds) {
@@ -143,7 +148,9 @@ impl<'a> WrittenClasses<'a> {
         there: &mut Vec<ClassId>,
         found: &mut Vec<Written>,
     ) -> Result<(), Memory>
-        ensures { OnOk result (found.new.items ≡ found.old.items ++ forbidden_interfaces (declarations_of self.now).names (declarations_of self.now).written there.old.items (filter_map (read self.now.nodes named_super) nodes.now)) }
+        ensures { OnOk result (found.new.items ≡ found.old.items
+            ++ forbidden_interfaces (declarations_of self.now).names (declarations_of self.now).written there.old.items
+            (filter_map (read self.now.nodes named_super) nodes.now)) }
     {
         let mut others = nodes;
         while let [node, rest @ ..] = others {
@@ -160,7 +167,9 @@ impl<'a> WrittenClasses<'a> {
     /// The kinds of the class after `extends`.
     #[tactic(auto, unfolding(crate::specs::Supers::kinds_above))]
     fn kinds_above(&self, alloc: Global, node: NodeId) -> Result<Vec<ClassId>, Memory>
-        ensures { IfOk result (λ kinds. kinds.items ≡ kinds_above (declarations_of self.now) (option_and_then (λ (c : WrittenClass). c.extends) (class_at self.now.nodes node))) }
+        ensures { IfOk result
+            (λ kinds. kinds.items ≡ kinds_above (declarations_of self.now)
+            (option_and_then (λ (c : WrittenClass). c.extends) (class_at self.now.nodes node))) }
     {
         if let Some(written) = class_extends(self.program(), node) {
             if let Some(class) = self.class_of(&written.name) {
@@ -179,8 +188,11 @@ impl<'a> WrittenClasses<'a> {
         kinds: &[ClassId],
         found: &mut Vec<Written>,
     ) -> Result<(), Memory>
-        requires { kinds.now ≡ kinds_above (declarations_of self.now) (option_and_then (λ (c : WrittenClass). c.extends) (class_at self.now.nodes node)) }
-        ensures { OnOk result (found.new.items ≡ found.old.items ++ bad_extends (declarations_of self.now) (option_and_then (λ (c : WrittenClass). c.extends) (class_at self.now.nodes node))) }
+        requires { kinds.now ≡ kinds_above (declarations_of self.now)
+            (option_and_then (λ (c : WrittenClass). c.extends) (class_at self.now.nodes node)) }
+        ensures { OnOk result (found.new.items ≡ found.old.items
+            ++ bad_extends (declarations_of self.now)
+            (option_and_then (λ (c : WrittenClass). c.extends) (class_at self.now.nodes node))) }
     {
         if let Some(written) = class_extends(self.program(), node) {
             if let Some(class) = self.class_of(&written.name) {
@@ -195,7 +207,8 @@ impl<'a> WrittenClasses<'a> {
     /// What is forbidden in the header of the class at a node.
     #[tactic(auto, using(crate::proofs::SuperLemmas::forbidden_parts))]
     pub fn forbidden_supers(&self, alloc: Global, node: NodeId) -> Result<Vec<Written>, Memory>
-        ensures { IfOk result (λ found. found.items ≡ forbidden_in (declarations_of self.now) (class_at self.now.nodes node)) }
+        ensures { IfOk result
+            (λ found. found.items ≡ forbidden_in (declarations_of self.now) (class_at self.now.nodes node)) }
     {
         let mut there = self.kinds_above(alloc, node)?;
         let mut found = Vec::new(alloc);
@@ -213,7 +226,8 @@ impl<'a> WrittenClasses<'a> {
         class: ClassId,
         node: NodeId,
     ) -> Result<bool, Memory>
-        ensures { IfOk result (λ is_good. is_good ≡ is_well_headed_in (declarations_of self.now) class (class_at self.now.nodes node)) }
+        ensures { IfOk result
+            (λ is_good. is_good ≡ is_well_headed_in (declarations_of self.now) class (class_at self.now.nodes node)) }
     {
         if !self.knows_supers(node) || self.is_cyclic(class) {
             return Ok(false);

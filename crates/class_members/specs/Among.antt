@@ -16,7 +16,8 @@ unfoldable pub field_among : List Node → List ℕ → List ℕ → Option ℕ
 field_among nodes name members = find (λ id. holds (field_at nodes id) (λ (f : Declared). is_same name f.name)) members
 
 unfoldable pub method_among : List Node → List ℕ → List ℕ → Option ℕ
-method_among nodes name members = find (λ id. holds (method_at nodes id) (λ (m : DeclaredMethod). is_same name m.declared.name)) members
+method_among nodes name members =
+    find (λ id. holds (method_at nodes id) (λ (m : DeclaredMethod). is_same name m.declared.name)) members
 
 abbrev pub member_key : ℕ → List ℕ → MemberKey
 member_key class name = record { class = class; name = name }
@@ -37,7 +38,9 @@ methods_among nodes members = filter (λ id. is_some (method_at nodes id) || is_
 
 -- those of the classes below a number
 unfoldable pub fields_below : Forest → ℕ → List ℕ
-fields_below forest n = joined_below (λ (class : ℕ). fields_among forest.nodes (members_in (declarations_of forest) class)) n
+fields_below forest n =
+    joined_below (λ (class : ℕ). fields_among forest.nodes (members_in (declarations_of forest) class)) n
 
 unfoldable pub methods_below : Forest → ℕ → List ℕ
-methods_below forest n = joined_below (λ (class : ℕ). methods_among forest.nodes (members_in (declarations_of forest) class)) n
+methods_below forest n =
+    joined_below (λ (class : ℕ). methods_among forest.nodes (members_in (declarations_of forest) class)) n

@@ -26,7 +26,8 @@ fn enter(
     name: Name,
     node: NodeId,
 ) -> Result<(), Memory>
-    ensures { OnOk result ((key : Key) → get is_same_member map.new key ≡ option_or (get is_same_member map.old key) (if is_same_member (member_key class name) key then Some node else None)) }
+    ensures { OnOk result ((key : Key) → get is_same_member map.new key ≡ option_or (get is_same_member map.old key)
+        (if is_same_member (member_key class name) key then Some node else None)) }
 {
     let key = MemberKey {
         class: class.number(),
@@ -57,7 +58,8 @@ fn add_fields(
     members: &[NodeId],
     map: &mut IndexMap<MemberKey, NodeId>,
 ) -> Result<(), Memory>
-    ensures { OnOk result ((key : Key) → get is_same_member map.new key ≡ option_or (get is_same_member map.old key) (in_class class key (field_among program.now.nodes key.name members.now))) }
+    ensures { OnOk result ((key : Key) → get is_same_member map.new key ≡ option_or (get is_same_member map.old key)
+        (in_class class key (field_among program.now.nodes key.name members.now))) }
 {
     let mut others = members;
     while let [id, rest @ ..] = others {
@@ -76,7 +78,8 @@ fn add_methods(
     members: &[NodeId],
     map: &mut IndexMap<MemberKey, NodeId>,
 ) -> Result<(), Memory>
-    ensures { OnOk result ((key : Key) → get is_same_member map.new key ≡ option_or (get is_same_member map.old key) (in_class class key (method_among program.now.nodes key.name members.now))) }
+    ensures { OnOk result ((key : Key) → get is_same_member map.new key ≡ option_or (get is_same_member map.old key)
+        (in_class class key (method_among program.now.nodes key.name members.now))) }
 {
     let mut others = members;
     while let [id, rest @ ..] = others {
@@ -93,7 +96,9 @@ pub fn fields_by_name(
     alloc: Global,
     classes: &WrittenClasses,
 ) -> Result<IndexMap<MemberKey, NodeId>, Memory>
-    ensures { IfOk result (λ map. (class : ℕ) (name : List ℕ) → get is_same_member map (member_key class name) ≡ field_among classes.now.nodes name (members_in (declarations_of classes.now) class)) }
+    ensures { IfOk result (λ map. (class : ℕ) (name : List ℕ) →
+        get is_same_member map (member_key class name) ≡ field_among classes.now.nodes name
+        (members_in (declarations_of classes.now) class)) }
 {
     let count = classes.count();
     if count > u32::MAX as usize {
@@ -112,7 +117,9 @@ pub fn methods_by_name(
     alloc: Global,
     classes: &WrittenClasses,
 ) -> Result<IndexMap<MemberKey, NodeId>, Memory>
-    ensures { IfOk result (λ map. (class : ℕ) (name : List ℕ) → get is_same_member map (member_key class name) ≡ method_among classes.now.nodes name (members_in (declarations_of classes.now) class)) }
+    ensures { IfOk result (λ map. (class : ℕ) (name : List ℕ) →
+        get is_same_member map (member_key class name) ≡ method_among classes.now.nodes name
+        (members_in (declarations_of classes.now) class)) }
 {
     let count = classes.count();
     if count > u32::MAX as usize {

@@ -13,12 +13,14 @@ use Rattle.class_marks.specs.Supers.{is_well_headed_in, knows_supers, forbidden_
 use Rattle.class_rows.specs.declared.tables.Marks.{Marks}
 use Rattle.class_rows.specs.Tables.{marks_of, is_good_header, class_written}
 
-pub good_framework : (p : Declarations) (class : ℕ) (o : Option WrittenClass) → None ≡ option_map (λ (c : WrittenClass). c.node) o → true ≡ is_good_header p class o
+pub good_framework : (p : Declarations) (class : ℕ) (o : Option WrittenClass) →
+    None ≡ option_map (λ (c : WrittenClass). c.node) o → true ≡ is_good_header p class o
 unfolding is_good_header
 good_framework p class None e = refl
 good_framework p class (Some c) e = cc
 
-pub good_user : (p : Declarations) (class node : ℕ) (o : Option WrittenClass) → Some node ≡ option_map (λ (c : WrittenClass). c.node) o → is_well_headed_in p class o ≡ is_good_header p class o
+pub good_user : (p : Declarations) (class node : ℕ) (o : Option WrittenClass) →
+    Some node ≡ option_map (λ (c : WrittenClass). c.node) o → is_well_headed_in p class o ≡ is_good_header p class o
 unfolding is_good_header is_well_headed_in knows_supers forbidden_in is_well_headed
 good_user p class node None e = cc
 good_user p class node (Some c) e = refl
@@ -42,7 +44,9 @@ marks_are forest class h = rw (some_at (declarations_of forest).written class h)
 
 -- one class more
 abbrev pub MarksBelow : Forest → ℕ → List Marks → Type 0
-MarksBelow forest n rows = (class : ℕ) → class < n → slice_get rows class ≡ option_map (marks_of (declarations_of forest) class) (slice_get (declarations_of forest).written class)
+MarksBelow forest n rows = (class : ℕ) → class < n →
+    slice_get rows class ≡ option_map (marks_of (declarations_of forest) class)
+    (slice_get (declarations_of forest).written class)
 
 push_left : {X : Type 0} (xs : List X) (y : X) (i : ℕ) → i < length xs → slice_get (xs ++ y ∷ []) i ≡ slice_get xs i
 push_left [] y i h = absurd (omega (arith, h))
@@ -53,22 +57,30 @@ push_end : {X : Type 0} (xs : List X) (y : X) → slice_get (xs ++ y ∷ []) (le
 push_end [] y = refl
 push_end (x ∷ xs) y = push_end xs y
 
-pub marks_more : (forest : Forest) (n : ℕ) (rows : List Marks) (row : Marks) → length rows ≡ n → MarksBelow forest n rows
-    → option_map (marks_of (declarations_of forest) n) (slice_get (declarations_of forest).written n) ≡ Some row → MarksBelow forest (n + 1) (rows ++ row ∷ [])
+pub marks_more : (forest : Forest) (n : ℕ) (rows : List Marks) (row : Marks) → length rows ≡ n →
+    MarksBelow forest n rows
+    → option_map (marks_of (declarations_of forest) n) (slice_get (declarations_of forest).written n) ≡ Some row →
+    MarksBelow forest (n + 1) (rows ++ row ∷ [])
 marks_more forest n rows row size before here class h =
     ⊎_elim (λ (l : class < n). push_left rows row class (omega (arith, size, l)) ∙ before class l)
     (λ (l : n ≤ class).
     let same : class ≡ length rows = omega (arith, size, l, h) in
     let last : length rows ≡ n = size in
-    ap (slice_get (rows ++ row ∷ [])) same ∙ push_end rows row ∙ sym here ∙ ap (λ (k : ℕ). option_map (marks_of (declarations_of forest) k) (slice_get (declarations_of forest).written k)) (sym (same ∙ last)))
+    ap (slice_get (rows ++ row ∷ [])) same ∙ push_end rows row ∙ sym here
+    ∙ ap
+    (λ (k : ℕ). option_map (marks_of (declarations_of forest) k) (slice_get (declarations_of forest).written k))
+    (sym (same ∙ last)))
     (cases_lt class n)
 
-pub marks_all : (forest : Forest) (n : ℕ) (rows : List Marks) → length rows ≡ n → n ≡ length (declarations_of forest).written → MarksBelow forest n rows
-    → (class : ℕ) → slice_get rows class ≡ option_map (marks_of (declarations_of forest) class) (slice_get (declarations_of forest).written class)
+pub marks_all : (forest : Forest) (n : ℕ) (rows : List Marks) → length rows ≡ n →
+    n ≡ length (declarations_of forest).written → MarksBelow forest n rows
+    → (class : ℕ) → slice_get rows class ≡ option_map (marks_of (declarations_of forest) class)
+    (slice_get (declarations_of forest).written class)
 marks_all forest n rows size whole below class =
     ⊎_elim (λ (l : class < n). below class l)
     (λ (l : n ≤ class).
-    slice_get_past rows class (omega (arith, size, l)) ∙ ap (option_map (marks_of (declarations_of forest) class)) (sym (slice_get_past (declarations_of forest).written class (omega (arith, whole, l)))))
+    slice_get_past rows class (omega (arith, size, l)) ∙ ap (option_map (marks_of (declarations_of forest) class))
+    (sym (slice_get_past (declarations_of forest).written class (omega (arith, whole, l)))))
     (cases_lt class n)
 
 -- numbers
@@ -76,11 +88,14 @@ no_shift : (o : Option ℕ) → option_map (λ place. 0 + place) o ≡ o
 no_shift None = refl
 no_shift (Some k) = ap (λ (n : ℕ). Some n) (zero-add k)
 
-pub field_place : (rows : List ClassRow) (id : ℕ) → option_map (λ place. 0 + place) (position (λ other. id == other) (field_nodes rows)) ≡ field_number rows id
+pub field_place : (rows : List ClassRow) (id : ℕ) →
+    option_map (λ place. 0 + place) (position (λ other. id == other) (field_nodes rows)) ≡ field_number rows id
 unfolding field_number
 field_place rows id = no_shift (position (λ other. id == other) (field_nodes rows))
 
 pub method_place : (forest : Forest) (id : ℕ)
-    → option_map (λ place. framework_method_count + place) (position (λ other. id == other) (method_nodes forest.nodes (declarations_of forest).users)) ≡ method_number forest.nodes (declarations_of forest).users id
+    → option_map (λ place. framework_method_count + place)
+    (position (λ other. id == other) (method_nodes forest.nodes (declarations_of forest).users))
+    ≡ method_number forest.nodes (declarations_of forest).users id
 unfolding method_number framework_methods
 method_place forest id = refl

@@ -16,7 +16,8 @@ use Rattle.class_members.proofs.ListLemmas.{field_there}
 use Rattle.class_rows.proofs.FindLemmas.{find_passes}
 use Rattle.class_rows.proofs.MemberLemmas.{on_class, own_field_is, declares_some}
 
-pub static_is : (o : Option Declared) (node : ℕ) → holds o (λ (f : Declared). f.modifiers.is_static) ≡ (unwrap_or o (no_field node)).modifiers.is_static
+pub static_is : (o : Option Declared) (node : ℕ) →
+    holds o (λ (f : Declared). f.modifiers.is_static) ≡ (unwrap_or o (no_field node)).modifiers.is_static
 static_is None node = refl
 static_is (Some d) node = refl
 
@@ -24,7 +25,8 @@ abbrev pub field_row : ℕ → ℕ → FieldRef
 field_row class node = record { on = class; node = node }
 
 found_row : (nodes : List Node) (class : ℕ) (name members : List ℕ) (o : Option ℕ) → o ≡ field_among nodes name members
-    → option_map (found_field nodes) (option_map (field_row class) o) ≡ option_map (on_class class) (option_and_then (field_at nodes) o)
+    → option_map (found_field nodes) (option_map (field_row class) o) ≡ option_map (on_class class)
+    (option_and_then (field_at nodes) o)
 unfolding found_field field_among
 found_row nodes class name members None e = refl
 found_row nodes class name members (Some id) e =
@@ -32,13 +34,17 @@ found_row nodes class name members (Some id) e =
     (declares_some (field_at nodes id) (λ (f : Declared). is_same name f.name) (no_field id)
     (find_passes (λ i. holds (field_at nodes i) (λ (f : Declared). is_same name f.name)) members id (sym e)))
 
-pub own_field_row : (forest : Forest) (class : ℕ) (name : List ℕ) (o : Option ℕ) → o ≡ field_among forest.nodes name (members_in (declarations_of forest) class)
-    → option_map (found_field forest.nodes) (option_map (field_row class) o) ≡ own_field (declarations_of forest).classes name class
+pub own_field_row : (forest : Forest) (class : ℕ) (name : List ℕ) (o : Option ℕ) →
+    o ≡ field_among forest.nodes name (members_in (declarations_of forest) class)
+    → option_map (found_field forest.nodes) (option_map (field_row class) o) ≡ own_field
+    (declarations_of forest).classes name class
 own_field_row forest class name o e =
     found_row forest.nodes class name (members_in (declarations_of forest) class) o e
-    ∙ ap (λ (n : Option ℕ). option_map (on_class class) (option_and_then (field_at forest.nodes) n)) e ∙ own_field_is forest class name
+    ∙ ap (λ (n : Option ℕ). option_map (on_class class) (option_and_then (field_at forest.nodes) n)) e
+    ∙ own_field_is forest class name
 
-unwrapped : (o : Option Declared) (id : ℕ) → (is_some o ≡ true → option_map (λ (f : Declared). f.node) o ≡ Some id) → (unwrap_or o (no_field id)).node ≡ id
+unwrapped : (o : Option Declared) (id : ℕ) → (is_some o ≡ true → option_map (λ (f : Declared). f.node) o ≡ Some id) →
+    (unwrap_or o (no_field id)).node ≡ id
 unwrapped None id h = refl
 unwrapped (Some d) id h = let e : Some d.node ≡ Some id = h refl in cc
 

@@ -9,16 +9,19 @@ found_first : {A : Type 0} (read : ℕ → Option A) (test : A → Bool) (id : �
 found_first read test id more None e h = rw e h
 found_first {A} read test id more (Some a) e h = rw e (go (test a))
   where
-    go : (t : Bool) → cond t (Some a) (find test (filter_map read more)) ≡ option_and_then read (cond t (Some id) (find (λ i. holds (read i) test) more))
+    go : (t : Bool) → cond t (Some a) (find test (filter_map read more)) ≡ option_and_then read
+        (cond t (Some id) (find (λ i. holds (read i) test) more))
     go true = sym e
     go false = h
 
 -- reading first and then looking, or looking by what is read
-pub find_read : {A : Type 0} (read : ℕ → Option A) (test : A → Bool) (ids : List ℕ) → find test (filter_map read ids) ≡ option_and_then read (find (λ i. holds (read i) test) ids)
+pub find_read : {A : Type 0} (read : ℕ → Option A) (test : A → Bool) (ids : List ℕ) →
+    find test (filter_map read ids) ≡ option_and_then read (find (λ i. holds (read i) test) ids)
 find_read read test [] = refl
 find_read read test (id ∷ more) = found_first read test id more (read id) refl (find_read read test more)
 
-passes_or_later : (test : ℕ → Bool) (x id : ℕ) (t : Bool) → test x ≡ t → (later : Option ℕ) → cond t (Some x) later ≡ Some id → (later ≡ Some id → test id ≡ true) → test id ≡ true
+passes_or_later : (test : ℕ → Bool) (x id : ℕ) (t : Bool) → test x ≡ t → (later : Option ℕ) →
+    cond t (Some x) later ≡ Some id → (later ≡ Some id → test id ≡ true) → test id ≡ true
 passes_or_later test x id true e later h k = let same : x ≡ id = cc in ap test (sym same) ∙ e
 passes_or_later test x id false e later h k = k h
 

@@ -31,7 +31,8 @@ once x (y ∷ ys) h =
     (λ (e : eqb x y ≡ false). rw e (omega (arith, once x ys parts.1)))
     (cases_Bool (eqb x y))
 
-pub two_are_a_forest : (p : Pos) (a b c d e f g : List ℕ) → IsForest (forest_of (two_classes p a b c d e f g) ((7 ∷ 11 ∷ []) ∷ []))
+pub two_are_a_forest : (p : Pos) (a b c d e f g : List ℕ) →
+    IsForest (forest_of (two_classes p a b c d e f g) ((7 ∷ 11 ∷ []) ∷ []))
 unfolding joined all_children AllBelow ChildrenFirst AllClasses children
 two_are_a_forest p a b c d e f g = record {
   children_first = search rules;

@@ -16,31 +16,44 @@ walk_out forest left None h = refl
 walk_out forest zero (Some class) h = refl
 walk_out forest (suc left) (Some class) h = cc
 
-step_on : (forest : Forest) (left : ℕ) (class : ℕ) (o : Option ℕ) → superclass_in (declarations_of forest).classes class ≡ o
+step_on : (forest : Forest) (left : ℕ) (class : ℕ) (o : Option ℕ) →
+    superclass_in (declarations_of forest).classes class ≡ o
     → chain_from forest (suc left) (Some class) ≡ class ∷ chain_from forest left o
 unfolding chain_from chain
 step_on forest left class None e = rw e refl
 step_on forest left class (Some above) e = rw e refl
 
-pub walk_goes : (forest : Forest) (left less : ℕ) (class : ℕ) (o : Option ℕ) → o ≡ superclass_in (declarations_of forest).classes class → left ≡ less + 1
+pub walk_goes : (forest : Forest) (left less : ℕ) (class : ℕ) (o : Option ℕ) →
+    o ≡ superclass_in (declarations_of forest).classes class → left ≡ less + 1
     → chain_from forest left (Some class) ≡ class ∷ chain_from forest less o
-walk_goes forest left less class o e h = (let same : left ≡ suc less = omega (arith, h) in ap (λ n. chain_from forest n (Some class)) same) ∙ step_on forest less class o (sym e)
+walk_goes forest left less class o e h =
+    (let same : left ≡ suc less = omega (arith, h) in ap (λ n. chain_from forest n (Some class)) same)
+    ∙ step_on forest less class o (sym e)
 
-pub walk_behind : (forest : Forest) (class : ℕ) (o : Option ℕ) → o ≡ superclass_in (declarations_of forest).classes class
-    → chain_from forest (length (declarations_of forest).classes) o ≡ classes_above (declarations_of forest).classes class
+pub walk_behind : (forest : Forest) (class : ℕ) (o : Option ℕ) →
+    o ≡ superclass_in (declarations_of forest).classes class
+    → chain_from forest (length (declarations_of forest).classes) o ≡ classes_above
+    (declarations_of forest).classes class
 unfolding chain_from classes_above chain_behind
 walk_behind forest class o e = go o e
   where
     go : (o : Option ℕ) → o ≡ superclass_in (declarations_of forest).classes class
-        → chain_from forest (length (declarations_of forest).classes) o ≡ elim (superclass_in (declarations_of forest).classes class) [ None ↦ [] | Some b ↦ chain (superclass_in (declarations_of forest).classes) (length (declarations_of forest).classes) b ]
+        → chain_from forest (length (declarations_of forest).classes) o ≡ elim
+        (superclass_in (declarations_of forest).classes class) [
+          | None ↦ []
+          | Some b ↦ chain (superclass_in (declarations_of forest).classes)
+              (length (declarations_of forest).classes) b
+        ]
     go None k = rw (← k) refl
     go (Some b) k = rw (← k) refl
 
-along_at : {A B : Type 0} (f : A → Option B) (x : A) (xs : List A) (o : Option B) → o ≡ f x → along f (x ∷ xs) ≡ elim o [ None ↦ along f xs | Some y ↦ Some y ]
+along_at : {A B : Type 0} (f : A → Option B) (x : A) (xs : List A) (o : Option B) → o ≡ f x →
+    along f (x ∷ xs) ≡ elim o [ None ↦ along f xs | Some y ↦ Some y ]
 unfolding along
 along_at {A} {B} f x xs o e = ap (λ (p : Option B). elim p [ None ↦ along f xs | Some y ↦ Some y ]) (sym e)
 
-pub along_found : {A B : Type 0} (f : A → Option B) (x : A) (xs : List A) (y : B) → Some y ≡ f x → along f (x ∷ xs) ≡ Some y
+pub along_found : {A B : Type 0} (f : A → Option B) (x : A) (xs : List A) (y : B) → Some y ≡ f x →
+    along f (x ∷ xs) ≡ Some y
 along_found f x xs y e = along_at f x xs (Some y) e
 
 pub along_next : {A B : Type 0} (f : A → Option B) (x : A) (xs : List A) → None ≡ f x → along f (x ∷ xs) ≡ along f xs

@@ -38,8 +38,14 @@ marks_of p class row =
 -- the table is that of the program
 pub record IsTableOf (forest : Forest) (table : ClassTable) : Type 0 where
   pub headers : IsHeadersOf forest table.headers
-  pub marks : (class : ℕ) → slice_get table.marks.items class ≡ option_map (marks_of (declarations_of forest) class) (slice_get (declarations_of forest).written class)
-  pub fields : (class : ℕ) (name : List ℕ) → get is_same_member table.fields (member_key class name) ≡ field_among forest.nodes name (members_in (declarations_of forest) class)
-  pub methods : (class : ℕ) (name : List ℕ) → get is_same_member table.methods (member_key class name) ≡ method_among forest.nodes name (members_in (declarations_of forest) class)
+  pub marks : (class : ℕ) → slice_get table.marks.items class ≡ option_map (marks_of (declarations_of forest) class)
+      (slice_get (declarations_of forest).written class)
+  pub fields : (class : ℕ) (name : List ℕ) →
+      get is_same_member table.fields (member_key class name) ≡ field_among forest.nodes name
+      (members_in (declarations_of forest) class)
+  pub methods : (class : ℕ) (name : List ℕ) →
+      get is_same_member table.methods (member_key class name) ≡ method_among forest.nodes name
+      (members_in (declarations_of forest) class)
   pub field_numbers : (id : ℕ) → get ◌==◌ table.field_numbers id ≡ field_number (declarations_of forest).classes id
-  pub method_numbers : (id : ℕ) → get ◌==◌ table.method_numbers id ≡ method_number forest.nodes (declarations_of forest).users id
+  pub method_numbers : (id : ℕ) → get ◌==◌ table.method_numbers id ≡ method_number forest.nodes
+      (declarations_of forest).users id

@@ -20,7 +20,9 @@ use std::alloc::Global;
 /// Whether nothing in the header of a class is forbidden.
 #[tactic(auto, using(crate::proofs::BuildingLemmas::good_user, crate::proofs::BuildingLemmas::good_framework))]
 fn has_good_header(alloc: Global, written: &WrittenClasses, class: ClassId) -> Result<bool, Memory>
-    ensures { IfOk result (λ is_good. is_good ≡ is_good_header (declarations_of written.now) class (class_written (declarations_of written.now) class)) }
+    ensures { IfOk result
+        (λ is_good. is_good ≡ is_good_header (declarations_of written.now) class
+        (class_written (declarations_of written.now) class)) }
 {
     match written.class_node(class) {
         Some(node) => written.is_well_headed(alloc, class, node),
@@ -32,7 +34,9 @@ fn has_good_header(alloc: Global, written: &WrittenClasses, class: ClassId) -> R
 #[tactic(auto, using(crate::proofs::BuildingLemmas::marks_are))]
 fn marks_at(alloc: Global, written: &WrittenClasses, class: ClassId) -> Result<Marks, Memory>
     requires { class < length (declarations_of written.now).written }
-    ensures { IfOk result (λ marks. option_map (marks_of (declarations_of written.now) class) (slice_get (declarations_of written.now).written class) ≡ Some marks) }
+    ensures { IfOk result
+        (λ marks. option_map (marks_of (declarations_of written.now) class)
+        (slice_get (declarations_of written.now).written class) ≡ Some marks) }
 {
     let is_well_headed = has_good_header(alloc, written, class)?;
     Ok(Marks {
@@ -45,7 +49,9 @@ fn marks_at(alloc: Global, written: &WrittenClasses, class: ClassId) -> Result<M
 
 /// What is found of each class.
 fn all_marks(alloc: Global, written: &WrittenClasses) -> Result<Vec<Marks>, Memory>
-    ensures { IfOk result (λ all. (class : ℕ) → slice_get all.items class ≡ option_map (marks_of (declarations_of written.now) class) (slice_get (declarations_of written.now).written class)) }
+    ensures { IfOk result
+        (λ all. (class : ℕ) → slice_get all.items class ≡ option_map (marks_of (declarations_of written.now) class)
+        (slice_get (declarations_of written.now).written class)) }
 {
     let count = written.count();
     if count > u32::MAX as usize {
@@ -72,7 +78,8 @@ fn field_numbers(alloc: Global, written: &WrittenClasses) -> Result<IndexMap<usi
 /// The number of each method and constructor.
 #[tactic(auto, using(crate::proofs::BuildingLemmas::method_place))]
 fn method_numbers(alloc: Global, written: &WrittenClasses) -> Result<IndexMap<usize, u32>, Memory>
-    ensures { IfOk result (λ map. (id : ℕ) → get ◌==◌ map id ≡ method_number written.now.nodes (declarations_of written.now).users id) }
+    ensures { IfOk result
+        (λ map. (id : ℕ) → get ◌==◌ map id ≡ method_number written.now.nodes (declarations_of written.now).users id) }
 {
     let ids = method_nodes(alloc, written)?;
     let places = places_of(alloc, &ids, FRAMEWORK_METHOD_COUNT)?;

@@ -162,7 +162,8 @@ impl<'a> Classes<'a> {
 
     /// The class, those above it, and their interfaces.
     pub fn ancestors(&self, class: ClassId) -> Ancestors<'a>
-        ensures { result ≡ superclasses (declarations_of self.now).classes class ++ all_interfaces (declarations_of self.now).classes class }
+        ensures { result ≡ superclasses (declarations_of self.now).classes class
+            ++ all_interfaces (declarations_of self.now).classes class }
     {
         Ancestors {
             chain: self.superclasses(class),
@@ -172,7 +173,8 @@ impl<'a> Classes<'a> {
 
     /// The classes above a class, and the interfaces of it and of those.
     pub fn ancestors_above(&self, class: ClassId) -> Ancestors<'a>
-        ensures { result ≡ classes_above (declarations_of self.now).classes class ++ all_interfaces (declarations_of self.now).classes class }
+        ensures { result ≡ classes_above (declarations_of self.now).classes class
+            ++ all_interfaces (declarations_of self.now).classes class }
     {
         Ancestors {
             chain: self.classes_above(class),

@@ -77,7 +77,8 @@ impl<'a> Classes<'a> {
 
     /// What is found of a class.
     fn marks(&self, class: ClassId) -> Option<&'a Marks>
-        ensures { option_copied result ≡ option_map (marks_of (declarations_of self.now) class) (slice_get (declarations_of self.now).written class) }
+        ensures { option_copied result ≡ option_map (marks_of (declarations_of self.now) class)
+            (slice_get (declarations_of self.now).written class) }
     {
         self.table.marks.get(class.number() as usize)
     }
@@ -85,15 +86,18 @@ impl<'a> Classes<'a> {
     /// What a class may be used for.
     #[tactic(auto, using(crate::proofs::RowLemmas::kind_is))]
     pub fn kind(&self, class: ClassId) -> Option<ClassKind>
-        ensures { result ≡ option_map (λ (row : ClassRow). row.kind) (slice_get (declarations_of self.now).classes class) }
+        ensures { result ≡ option_map (λ (row : ClassRow). row.kind)
+            (slice_get (declarations_of self.now).classes class) }
     {
         self.written().kind(class)
     }
 
     /// The node of a user class.
     pub fn class_node(&self, class: ClassId) -> Option<NodeId>
-        ensures node { result ≡ option_map (λ (c : WrittenClass). c.node) (class_written (declarations_of self.now) class) }
-        ensures class { option_and_then (class_at self.now.nodes) result ≡ class_written (declarations_of self.now) class }
+        ensures node { result ≡ option_map (λ (c : WrittenClass). c.node)
+            (class_written (declarations_of self.now) class) }
+        ensures class { option_and_then (class_at self.now.nodes) result ≡ class_written
+            (declarations_of self.now) class }
     {
         self.written().class_node(class)
     }
@@ -187,7 +191,8 @@ impl<'a> Classes<'a> {
     /// The node that the table has of the first constructor of a class.
     #[tactic(auto, using(crate::proofs::RowLemmas::constructor_is))]
     fn first_constructor(&self, class: ClassId) -> Option<NodeId>
-        ensures { result ≡ option_map (λ (c : DeclaredConstructor). c.node) (constructor_in (declarations_of self.now).classes class) }
+        ensures { result ≡ option_map (λ (c : DeclaredConstructor). c.node)
+            (constructor_in (declarations_of self.now).classes class) }
     {
         self.written().constructor(class)
     }
@@ -195,8 +200,10 @@ impl<'a> Classes<'a> {
     /// The node of the first constructor of a class.
     #[tactic(auto, using(crate::proofs::ConstructorLemmas::constructor_whole))]
     pub fn constructor_in(&self, class: ClassId) -> Option<NodeId>
-        ensures node { result ≡ option_map (λ (c : DeclaredConstructor). c.node) (constructor_in (declarations_of self.now).classes class) }
-        ensures whole { option_and_then (constructor_at self.now.nodes) result ≡ constructor_in (declarations_of self.now).classes class }
+        ensures node { result ≡ option_map (λ (c : DeclaredConstructor). c.node)
+            (constructor_in (declarations_of self.now).classes class) }
+        ensures whole { option_and_then (constructor_at self.now.nodes) result ≡ constructor_in
+            (declarations_of self.now).classes class }
     {
         self.first_constructor(class)
     }

@@ -63,7 +63,8 @@ impl<'a> Classes<'a> {
 
     /// The first field of a name that a class declares itself.
     pub fn own_field(&self, class: ClassId, name: &Name) -> Option<FieldRef>
-        ensures { option_map (found_field self.now.nodes) result ≡ own_field (declarations_of self.now).classes name.now class }
+        ensures { option_map (found_field self.now.nodes) result ≡ own_field (declarations_of self.now).classes name.now
+            class }
     {
         match self.field_node(class, name) {
             Some(node) => Some(FieldRef { on: class, node }),
@@ -84,7 +85,8 @@ impl<'a> Classes<'a> {
 
     /// The first method of a name that a class declares itself.
     pub fn own_method(&self, class: ClassId, name: &Name) -> Option<MethodRef>
-        ensures { option_map (found_method self.now.nodes) result ≡ own_method (declarations_of self.now).classes name.now class }
+        ensures { option_map (found_method self.now.nodes) result ≡ own_method (declarations_of self.now).classes
+            name.now class }
     {
         if class.number() < FRAMEWORK_CLASS_COUNT {
             self.framework_row(class, name)
@@ -96,7 +98,8 @@ impl<'a> Classes<'a> {
     /// The method of a name that a framework class declares itself.
     fn framework_row(&self, class: ClassId, name: &Name) -> Option<MethodRef>
         requires { class < first_user_class }
-        ensures { option_map (found_method self.now.nodes) result ≡ own_method (declarations_of self.now).classes name.now class }
+        ensures { option_map (found_method self.now.nodes) result ≡ own_method (declarations_of self.now).classes
+            name.now class }
     {
         match framework_method(class, name) {
             Some(id) => Some(MethodRef {
@@ -110,7 +113,8 @@ impl<'a> Classes<'a> {
     /// The first method of a name that a user class declares itself.
     fn declared_row(&self, class: ClassId, name: &Name) -> Option<MethodRef>
         requires { first_user_class ≤ class }
-        ensures { option_map (found_method self.now.nodes) result ≡ own_method (declarations_of self.now).classes name.now class }
+        ensures { option_map (found_method self.now.nodes) result ≡ own_method (declarations_of self.now).classes
+            name.now class }
     {
         match self.method_node(class, name) {
             Some(node) => Some(MethodRef {
@@ -124,7 +128,8 @@ impl<'a> Classes<'a> {
     /// The field of a name that a class has, its own or the nearest above.
     #[tactic(auto, using(crate::proofs::WalkLemmas::along_found, crate::proofs::WalkLemmas::along_next, crate::proofs::WalkLemmas::along_end), unfolding(scj_rules::specs::Classes::field_named))]
     pub fn field_named(&self, class: ClassId, name: &Name) -> Option<FieldRef>
-        ensures { option_map (found_field self.now.nodes) result ≡ field_named (declarations_of self.now).classes class name.now }
+        ensures { option_map (found_field self.now.nodes) result ≡ field_named (declarations_of self.now).classes class
+            name.now }
     {
         let mut chain = self.superclasses(class);
         while let Some(at) = chain.next() {
@@ -138,7 +143,8 @@ impl<'a> Classes<'a> {
     /// The method of a name that a class has: the nearest declaration above, or else an interface's.
     #[tactic(auto, using(crate::proofs::WalkLemmas::along_found, crate::proofs::WalkLemmas::along_next, crate::proofs::WalkLemmas::along_end), unfolding(scj_rules::specs::Classes::method_named))]
     pub fn method_named(&self, class: ClassId, name: &Name) -> Option<MethodRef>
-        ensures { option_map (found_method self.now.nodes) result ≡ method_named (declarations_of self.now).classes class name.now }
+        ensures { option_map (found_method self.now.nodes) result ≡ method_named (declarations_of self.now).classes
+            class name.now }
     {
         let mut ancestors = self.ancestors(class);
         while let Some(at) = ancestors.next() {
@@ -152,7 +158,8 @@ impl<'a> Classes<'a> {
     /// What a declaration of the name in the class overrides.
     #[tactic(auto, using(crate::proofs::WalkLemmas::along_found, crate::proofs::WalkLemmas::along_next, crate::proofs::WalkLemmas::along_end), unfolding(scj_rules::specs::Classes::method_above))]
     pub fn method_above(&self, class: ClassId, name: &Name) -> Option<MethodRef>
-        ensures { option_map (found_method self.now.nodes) result ≡ method_above (declarations_of self.now).classes class name.now }
+        ensures { option_map (found_method self.now.nodes) result ≡ method_above (declarations_of self.now).classes
+            class name.now }
     {
         let mut ancestors = self.ancestors_above(class);
         while let Some(at) = ancestors.next() {
@@ -166,7 +173,8 @@ impl<'a> Classes<'a> {
     /// The framework's own method of the name, where the class stands under the framework class or implements it.
     #[tactic(auto, using(crate::proofs::WalkLemmas::along_found, crate::proofs::WalkLemmas::along_next, crate::proofs::WalkLemmas::along_end), unfolding(scj_rules::specs::Classes::framework_row_named))]
     pub fn framework_row_named(&self, class: ClassId, name: &Name) -> Option<MethodRef>
-        ensures { option_map (found_method self.now.nodes) result ≡ framework_row_named (declarations_of self.now).classes class name.now }
+        ensures { option_map (found_method self.now.nodes) result ≡ framework_row_named
+            (declarations_of self.now).classes class name.now }
     {
         let mut ancestors = self.ancestors(class);
         while let Some(at) = ancestors.next() {

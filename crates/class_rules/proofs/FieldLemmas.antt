@@ -19,34 +19,47 @@ pub no_field : (o : Option Declared) → false ≡ is_some o → false ≡ holds
 no_field None h = refl
 no_field (Some f) h = absurd (true≢false (sym h))
 
-pub instance_here : (o : Option Declared) (b : Bool) → true ≡ is_some o → b ≡ holds o (λ (f : Declared). f.modifiers.is_static) → not b ≡ holds o is_instance
+pub instance_here : (o : Option Declared) (b : Bool) → true ≡ is_some o →
+    b ≡ holds o (λ (f : Declared). f.modifiers.is_static) → not b ≡ holds o is_instance
 instance_here None b h e = absurd (true≢false h)
 instance_here (Some f) b h e = ap not e
 
-counted : (m : Option Declared) (more : List Declared) → length (filter is_instance (cons_option m more)) ≡ (if holds m is_instance then 1 else 0) + length (filter is_instance more)
+counted : (m : Option Declared) (more : List Declared) →
+    length (filter is_instance (cons_option m more)) ≡ (if holds m is_instance then 1 else 0) + length
+    (filter is_instance more)
 counted None more = omega arith
 counted (Some f) more = pick (is_instance f) refl
   where
-    pick : (b : Bool) → is_instance f ≡ b → length (filter is_instance (f ∷ more)) ≡ (if is_instance f then 1 else 0) + length (filter is_instance more)
+    pick : (b : Bool) → is_instance f ≡ b →
+        length (filter is_instance (f ∷ more)) ≡ (if is_instance f then 1 else 0) + length (filter is_instance more)
     pick true e = rw e (omega arith)
     pick false e = rw e (omega arith)
 
 pub one_more : (nodes : List Node) (id : ℕ) (ids : List ℕ) → true ≡ holds (field_at nodes id) is_instance
-    → length (filter is_instance (filter_map (field_at nodes) (id ∷ ids))) ≡ 1 + length (filter is_instance (filter_map (field_at nodes) ids))
+    → length (filter is_instance (filter_map (field_at nodes) (id ∷ ids))) ≡ 1 + length
+    (filter is_instance (filter_map (field_at nodes) ids))
 one_more nodes id ids h =
-    counted (field_at nodes id) (filter_map (field_at nodes) ids) ∙ ap (λ b. (if b then 1 else 0) + length (filter is_instance (filter_map (field_at nodes) ids))) (sym h)
+    counted (field_at nodes id) (filter_map (field_at nodes) ids)
+    ∙ ap (λ b. (if b then 1 else 0) + length (filter is_instance (filter_map (field_at nodes) ids))) (sym h)
 
 pub no_more : (nodes : List Node) (id : ℕ) (ids : List ℕ) → false ≡ holds (field_at nodes id) is_instance
-    → length (filter is_instance (filter_map (field_at nodes) (id ∷ ids))) ≡ length (filter is_instance (filter_map (field_at nodes) ids))
+    → length (filter is_instance (filter_map (field_at nodes) (id ∷ ids))) ≡ length
+    (filter is_instance (filter_map (field_at nodes) ids))
 no_more nodes id ids h =
-    counted (field_at nodes id) (filter_map (field_at nodes) ids) ∙ ap (λ b. (if b then 1 else 0) + length (filter is_instance (filter_map (field_at nodes) ids))) (sym h)
-    ∙ (let e : 0 + length (filter is_instance (filter_map (field_at nodes) ids)) ≡ length (filter is_instance (filter_map (field_at nodes) ids)) = omega arith in e)
+    counted (field_at nodes id) (filter_map (field_at nodes) ids)
+    ∙ ap (λ b. (if b then 1 else 0) + length (filter is_instance (filter_map (field_at nodes) ids))) (sym h)
+    ∙ (let e : 0 + length (filter is_instance (filter_map (field_at nodes) ids)) ≡ length
+    (filter is_instance (filter_map (field_at nodes) ids)) = omega arith in e)
 
-pub fields_of_class : (forest : Forest) (on : ℕ) → own_instance_fields (declarations_of forest).classes on ≡ filter is_instance (filter_map (field_at forest.nodes) (members_in (declarations_of forest) on))
+pub fields_of_class : (forest : Forest) (on : ℕ) →
+    own_instance_fields (declarations_of forest).classes on ≡ filter is_instance
+    (filter_map (field_at forest.nodes) (members_in (declarations_of forest) on))
 unfolding own_instance_fields
-fields_of_class forest on = go (slice_get (declarations_of forest).classes on) ∙ ap (filter is_instance) (fields_here forest on)
+fields_of_class forest on = go (slice_get (declarations_of forest).classes on)
+    ∙ ap (filter is_instance) (fields_here forest on)
   where
-    go : (o : Option ClassRow) → elim o [ None ↦ [] | Some row ↦ filter is_instance row.fields ] ≡ filter is_instance (elim o [ None ↦ [] | Some row ↦ row.fields ])
+    go : (o : Option ClassRow) → elim o [ None ↦ [] | Some row ↦ filter is_instance row.fields ] ≡ filter is_instance
+        (elim o [ None ↦ [] | Some row ↦ row.fields ])
     go None = refl
     go (Some row) = refl
 
@@ -58,30 +71,38 @@ module _ (forest : Forest) where
   split : (on : ℕ) (rest : List ℕ) → length (flat_map own (on ∷ rest)) ≡ length (own on) + length (flat_map own rest)
   split on rest = length-append (own on) (flat_map own rest)
 
-  pub too_many_here : (on : ℕ) (rest : List ℕ) (allowed count : ℕ) → count ≡ length (own on) → allowed < count → true ≡ nat_lt allowed (length (flat_map own (on ∷ rest)))
-  too_many_here on rest allowed count e l = let s = split on rest in rw s (let more : allowed < length (own on) + length (flat_map own rest) = omega (arith, e, l) in grind (arith, nat_tests))
+  pub too_many_here : (on : ℕ) (rest : List ℕ) (allowed count : ℕ) → count ≡ length (own on) → allowed < count →
+      true ≡ nat_lt allowed (length (flat_map own (on ∷ rest)))
+  too_many_here on rest allowed count e l = let s = split on rest in
+      rw s (let more : allowed < length (own on) + length (flat_map own rest) = omega (arith, e, l) in
+      grind (arith, nat_tests))
 
   pub fewer_left : (on : ℕ) (rest : List ℕ) (allowed count : ℕ) → count ≡ length (own on) → count ≤ allowed
       → nat_lt (allowed - count) (length (flat_map own rest)) ≡ nat_lt allowed (length (flat_map own (on ∷ rest)))
-  fewer_left on rest allowed count e l = let s = split on rest in rw (s, ← e) (shift allowed count (length (flat_map own rest)) l)
+  fewer_left on rest allowed count e l = let s = split on rest in
+      rw (s, ← e) (shift allowed count (length (flat_map own rest)) l)
     where
       shift : (a c r : ℕ) → c ≤ a → nat_lt (a - c) r ≡ nat_lt a (c + r)
       shift a c r l = grind (arith, nat_tests)
 
-  flat_append : (xs ys : List ℕ) → length (flat_map own (xs ++ ys)) ≡ length (flat_map own xs) + length (flat_map own ys)
+  flat_append : (xs ys : List ℕ) → length (flat_map own (xs ++ ys)) ≡ length (flat_map own xs) + length
+      (flat_map own ys)
   flat_append [] ys = omega arith
-  flat_append (x ∷ xs) ys = let a = split x (xs ++ ys) in let b = flat_append xs ys in let c = split x xs in omega (arith, a, b, c)
+  flat_append (x ∷ xs) ys = let a = split x (xs ++ ys) in let b = flat_append xs ys in let c =
+      split x xs in omega (arith, a, b, c)
 
   flat_reversed : (xs : List ℕ) → length (flat_map own (reverse xs)) ≡ length (flat_map own xs)
   flat_reversed [] = refl
   flat_reversed (x ∷ xs) =
-      let e : length (flat_map own (reverse (x ∷ xs))) ≡ length (flat_map own (reverse xs ++ x ∷ [])) = ap (λ ys. length (flat_map own ys)) (reverse-append (x ∷ []) xs) in
+      let e : length (flat_map own (reverse (x ∷ xs))) ≡ length (flat_map own (reverse xs ++ x ∷ [])) =
+      ap (λ ys. length (flat_map own ys)) (reverse-append (x ∷ []) xs) in
       let a = flat_append (reverse xs) (x ∷ []) in
       let b = split x [] in
       let c = split x xs in
       let h = flat_reversed xs in
       omega (arith, e, a, b, c, h)
 
-  pub all_fields : (class : ℕ) → length (instance_fields (declarations_of forest).classes class) ≡ length (flat_map own (superclasses (declarations_of forest).classes class))
+  pub all_fields : (class : ℕ) → length (instance_fields (declarations_of forest).classes class) ≡ length
+      (flat_map own (superclasses (declarations_of forest).classes class))
   unfolding instance_fields
   all_fields class = flat_reversed (superclasses (declarations_of forest).classes class)

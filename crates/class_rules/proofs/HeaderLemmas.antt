@@ -7,9 +7,11 @@ use Rattle.scj_rules.specs.Words.{broken}
 use Rattle.scj_rules.specs.ClassRules.{broken_at}
 
 pub one_unknown : (rule : Rule) (test : Written → Bool) (w : Written) (ws : List Written) (found : List Found)
-    → (found ++ broken (test w) rule w.place) ++ broken_at rule (filter test ws) ≡ found ++ broken_at rule (filter test (w ∷ ws))
+    → (found ++ broken (test w) rule w.place) ++ broken_at rule (filter test ws) ≡ found
+    ++ broken_at rule (filter test (w ∷ ws))
 one_unknown rule test w ws found = go (test w) refl
   where
-    go : (b : Bool) → test w ≡ b → (found ++ broken (test w) rule w.place) ++ broken_at rule (filter test ws) ≡ found ++ broken_at rule (filter test (w ∷ ws))
+    go : (b : Bool) → test w ≡ b → (found ++ broken (test w) rule w.place) ++ broken_at rule (filter test ws) ≡ found
+        ++ broken_at rule (filter test (w ∷ ws))
     go true e = rw e (append_assoc found (record { pos = w.place; rule = rule } ∷ []) (broken_at rule (filter test ws)))
     go false e = rw e (ap (λ xs. xs ++ broken_at rule (filter test ws)) (append-nil found))

@@ -17,4 +17,5 @@ pub same-sym : (xs ys : List ℕ) → is_same xs ys ≡ is_same ys xs
 same-sym xs ys = nat_list_eq_equiv.symm xs ys
 
 pub ordered_same : (xs ys : List ℕ) → is_eq (slice_cmp nat_cmp xs ys) ≡ is_same xs ys
-ordered_same xs ys = same_from_slice_cmp nat_cmp is_eq is_same refl (λ _ _. refl) (λ _ _. refl) (λ x y xs ys o h. grind (arith, nat_tests)) xs ys _ refl
+ordered_same xs ys = same_from_slice_cmp nat_cmp is_eq is_same refl (λ _ _. refl) (λ _ _. refl)
+    (λ x y xs ys o h. grind (arith, nat_tests)) xs ys _ refl

@@ -21,51 +21,64 @@ none_there zero = refl
 none_there (suc i) = refl
 
 pub same_here : (xs ys : List Declared) (i : ℕ) (x y : Declared) → slice_get xs i ≡ Some x → slice_get ys i ≡ Some y
-    → have_same_types (drop i xs) (drop i ys) ≡ is_same_type x.declared_type y.declared_type && have_same_types (drop (i + 1) xs) (drop (i + 1) ys)
+    → have_same_types (drop i xs) (drop i ys) ≡ is_same_type x.declared_type y.declared_type
+    && have_same_types (drop (i + 1) xs) (drop (i + 1) ys)
 same_here [] ys i x y h k = cc
 same_here (v ∷ xs) [] i x y h k = cc
 same_here (v ∷ xs) (w ∷ ys) zero x y h k =
     let e : v ≡ x = cc in
     let f : w ≡ y = cc in
-    ap (λ (z : Declared). is_same_type z.declared_type w.declared_type && have_same_types xs ys) e ∙ ap (λ (z : Declared). is_same_type x.declared_type z.declared_type && have_same_types xs ys) f
+    ap (λ (z : Declared). is_same_type z.declared_type w.declared_type && have_same_types xs ys) e
+    ∙ ap (λ (z : Declared). is_same_type x.declared_type z.declared_type && have_same_types xs ys) f
 same_here (v ∷ xs) (w ∷ ys) (suc i) x y h k =
     let n : suc i + 1 ≡ suc (i + 1) = omega arith in
-    same_here xs ys i x y h k ∙ ap (λ m. is_same_type x.declared_type y.declared_type && have_same_types (drop m (v ∷ xs)) (drop m (w ∷ ys))) (sym n)
+    same_here xs ys i x y h k
+    ∙ ap (λ m. is_same_type x.declared_type y.declared_type && have_same_types (drop m (v ∷ xs)) (drop m (w ∷ ys)))
+    (sym n)
 
-pub longer_here : (xs ys : List Declared) (i : ℕ) (x : Declared) → slice_get xs i ≡ Some x → slice_get ys i ≡ None → false ≡ have_same_types (drop i xs) (drop i ys)
+pub longer_here : (xs ys : List Declared) (i : ℕ) (x : Declared) → slice_get xs i ≡ Some x → slice_get ys i ≡ None →
+    false ≡ have_same_types (drop i xs) (drop i ys)
 longer_here [] ys i x h k = cc
 longer_here (v ∷ xs) [] zero x h k = refl
 longer_here (v ∷ xs) [] (suc i) x h k = longer_here xs [] i x h k ∙ ap (have_same_types (drop i xs)) (drop_none i)
 longer_here (v ∷ xs) (w ∷ ys) zero x h k = cc
 longer_here (v ∷ xs) (w ∷ ys) (suc i) x h k = longer_here xs ys i x h k
 
-pub ended_here : (xs ys : List Declared) (i : ℕ) → i ≡ length xs → is_none (slice_get ys i) ≡ have_same_types (drop i xs) (drop i ys)
+pub ended_here : (xs ys : List Declared) (i : ℕ) → i ≡ length xs →
+    is_none (slice_get ys i) ≡ have_same_types (drop i xs) (drop i ys)
 ended_here [] [] zero h = refl
 ended_here [] (w ∷ ys) zero h = refl
 ended_here (v ∷ xs) ys zero h = absurd (omega (arith, h))
 ended_here [] ys (suc i) h = absurd (omega (arith, h))
-ended_here (v ∷ xs) [] (suc i) h = let e = ended_here xs [] i (omega (arith, h)) in none_there i ∙ e ∙ ap (have_same_types (drop i xs)) (drop_none i)
+ended_here (v ∷ xs) [] (suc i) h = let e = ended_here xs [] i (omega (arith, h)) in none_there i ∙ e
+    ∙ ap (have_same_types (drop i xs)) (drop_none i)
 ended_here (v ∷ xs) (w ∷ ys) (suc i) h = ended_here xs ys i (omega (arith, h))
 
-pub same_mapped : (xs ys : List Declared) → pointwise is_same_type (map type_declared xs) (map type_declared ys) ≡ have_same_types xs ys
+pub same_mapped : (xs ys : List Declared) → pointwise is_same_type (map type_declared xs) (map type_declared ys)
+    ≡ have_same_types xs ys
 same_mapped [] [] = refl
 same_mapped [] (y ∷ ys) = refl
 same_mapped (x ∷ xs) [] = refl
 same_mapped (x ∷ xs) (y ∷ ys) = ap (λ b. is_same_type x.declared_type y.declared_type && b) (same_mapped xs ys)
 
-parameters_of_none : (o : Option DeclaredMethod) → unwrap_or (option_map (λ (m : DeclaredMethod). m.parameters) o) [] ≡ (unwrap_or o no_method).parameters
+parameters_of_none : (o : Option DeclaredMethod) → unwrap_or (option_map (λ (m : DeclaredMethod). m.parameters) o)
+    [] ≡ (unwrap_or o no_method).parameters
 parameters_of_none None = refl
 parameters_of_none (Some m) = refl
 
-pub same_declared : (nodes : List Node) (a b : ℕ) (p q : Option ℕ) (xs ys : List ℕ) → filter_map (variable_at nodes) xs ≡ parameters_at nodes p → filter_map (variable_at nodes) ys ≡ parameters_at nodes q
+pub same_declared : (nodes : List Node) (a b : ℕ) (p q : Option ℕ) (xs ys : List ℕ) →
+    filter_map (variable_at nodes) xs ≡ parameters_at nodes p →
+    filter_map (variable_at nodes) ys ≡ parameters_at nodes q
     → parameters_at nodes p ≡ unwrap_or (option_map (λ (m : DeclaredMethod). m.parameters) (method_at nodes a)) []
     → parameters_at nodes q ≡ unwrap_or (option_map (λ (m : DeclaredMethod). m.parameters) (method_at nodes b)) []
-    → pointwise is_same_type (types_among nodes xs) (types_among nodes ys) ≡ have_same_types (unwrap_or (method_at nodes a) no_method).parameters (unwrap_or (method_at nodes b) no_method).parameters
+    → pointwise is_same_type (types_among nodes xs) (types_among nodes ys) ≡ have_same_types
+    (unwrap_or (method_at nodes a) no_method).parameters (unwrap_or (method_at nodes b) no_method).parameters
 unfolding types_among
 same_declared nodes a b p q xs ys e f h k =
     same_mapped (filter_map (variable_at nodes) xs) (filter_map (variable_at nodes) ys)
     ∙ ap (λ v. have_same_types v (filter_map (variable_at nodes) ys)) (e ∙ h ∙ parameters_of_none (method_at nodes a))
-    ∙ ap (λ v. have_same_types (unwrap_or (method_at nodes a) no_method).parameters v) (f ∙ k ∙ parameters_of_none (method_at nodes b))
+    ∙ ap (λ v. have_same_types (unwrap_or (method_at nodes a) no_method).parameters v)
+    (f ∙ k ∙ parameters_of_none (method_at nodes b))
 
 pub no_more : {A : Type 0} (b : Bool) (o : Option A) → is_some o ≡ not b → b ≡ is_none o
 no_more true None h = refl
@@ -73,6 +86,7 @@ no_more false (Some x) h = refl
 no_more true (Some x) h = absurd (true≢false h)
 no_more false None h = absurd (true≢false (sym h))
 
-pub kind_is : (p : Declarations) (class : ℕ) (name : List ℕ) → narrower_kind p class name ≡ option_and_then (kind_of_row p) (framework_row_named p.classes class name)
+pub kind_is : (p : Declarations) (class : ℕ) (name : List ℕ) →
+    narrower_kind p class name ≡ option_and_then (kind_of_row p) (framework_row_named p.classes class name)
 unfolding narrower_kind kind_of_row
 kind_is p class name = refl

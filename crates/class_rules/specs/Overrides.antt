@@ -30,19 +30,26 @@ is_wrong_override p class m above = not (has_types_of p class m above && both_st
 -- a method leaves an abstract one open, in whose place it stands
 abbrev pub stays_open : Declarations → ℕ → DeclaredMethod → DeclaredMethod → Bool
 stays_open p class m instead =
-    instead.declared.modifiers.is_abstract || (is_some m.builtin && (instead.declared.modifiers.is_static || not (has_types_of p class instead m)))
+    instead.declared.modifiers.is_abstract
+    || (is_some m.builtin && (instead.declared.modifiers.is_static || not (has_types_of p class instead m)))
 
 -- the kind that a framework's method gives, where that is one of which a narrower result is allowed
 unfoldable pub kind_of_row : Declarations → FoundMethod → Option ℕ
 kind_of_row p f =
-    option_and_then (λ kind. if is_among kind (mission_sequencer ∷ mission ∷ []) then Some kind else None) (class_written p.names f.method.declared.declared_type)
+    option_and_then (λ kind. if is_among kind (mission_sequencer ∷ mission ∷ []) then Some kind else None)
+    (class_written p.names f.method.declared.declared_type)
 
 -- C6 at a method, C7 at a method and C4 at a field that one above has
 unfoldable pub override_break : Declarations → ℕ → DeclaredMethod → List Found
-override_break p class m = broken (holds (method_above p.classes class m.declared.name) (λ (f : FoundMethod). is_wrong_override p class m f.method)) C6 m.declared.place
+override_break p class m =
+    broken
+    (holds (method_above p.classes class m.declared.name) (λ (f : FoundMethod). is_wrong_override p class m f.method))
+    C6 m.declared.place
 
 unfoldable pub body_break : DeclaredMethod → List Found
-body_break m = broken (if m.declared.modifiers.is_abstract then is_some m.body else not (is_some m.body)) C7 m.declared.place
+body_break m =
+    broken (if m.declared.modifiers.is_abstract then is_some m.body else not (is_some m.body)) C7 m.declared.place
 
 unfoldable pub hiding_break : Declarations → ℕ → Declared → List Found
-hiding_break p class f = broken (holds (superclass_in p.classes class) (λ above. is_some (field_named p.classes above f.name))) C4 f.place
+hiding_break p class f =
+    broken (holds (superclass_in p.classes class) (λ above. is_some (field_named p.classes above f.name))) C4 f.place

@@ -17,7 +17,8 @@ place_of_class c = c.place
 -- the class of a number, where it is a safelet
 unfoldable pub safelet_at : Declarations → ℕ → Option WrittenClass
 safelet_at p class =
-    option_and_then (λ (c : WrittenClass). if not c.modifiers.is_abstract && is_among safelet (all_interfaces p.written class) then Some c else None) (class_written p class)
+    option_and_then (λ (c : WrittenClass). if not c.modifiers.is_abstract
+    && is_among safelet (all_interfaces p.written class) then Some c else None) (class_written p class)
 
 -- the safelets from this number on
 unfoldable pub safelets_left : Declarations → ℕ → List WrittenClass

@@ -13,11 +13,13 @@ abbrev pub name_of : Written → List ℕ
 name_of w = w.name
 
 -- a test knows the earlier names, and what is found of the others makes the whole
-pub record StillTwice (known : List ℕ → Bool) (found whole : List Found) (rule : Rule) (others : List Written) : Type 0 where
+pub record StillTwice (known : List ℕ → Bool) (found whole : List Found) (rule : Rule)
+    (others : List Written) : Type 0 where
   pub earlier : List (List ℕ)
   pub exact : (name : List ℕ) → known name ≡ is_one_of name earlier
   pub left : found ++ broken_at rule (named_twice name_of earlier others) ≡ whole
 
 -- the fields of which an earlier one has the name
 abbrev pub repeated : List Declared → List Found
-repeated fields = map (λ (f : Declared). record { pos = f.place; rule = C4 }) (named_twice (λ (f : Declared). f.name) [] fields)
+repeated fields =
+    map (λ (f : Declared). record { pos = f.place; rule = C4 }) (named_twice (λ (f : Declared). f.name) [] fields)

@@ -69,7 +69,8 @@ pub fn note_k4(
     class: ClassId,
     c: &ClassParts<'_>,
 ) -> Result<(), Memory>
-    ensures { OnOk result (found.new.items ≡ found.old.items ++ k4 (declarations_of classes.now) class (written_class classes.now.nodes c.now)) }
+    ensures { OnOk result (found.new.items ≡ found.old.items
+        ++ k4 (declarations_of classes.now) class (written_class classes.now.nodes c.now)) }
 {
     report_if(found, has_too_many(classes, class), Rule::K4, c.place)
 }

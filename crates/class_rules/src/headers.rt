@@ -26,7 +26,8 @@ pub fn note_c1(
     class: ClassId,
     c: &ClassParts<'_>,
 ) -> Result<(), Memory>
-    ensures { OnOk result (found.new.items ≡ found.old.items ++ c1 (declarations_of classes.now) class (written_class classes.now.nodes c.now)) }
+    ensures { OnOk result (found.new.items ≡ found.old.items
+        ++ c1 (declarations_of classes.now) class (written_class classes.now.nodes c.now)) }
 {
     let is_taken = match classes.class_of(&c.name) {
         Some(first) => first.number() < class.number(),
@@ -41,7 +42,8 @@ fn note_unknown(
     classes: &Classes<'_>,
     written: &Written,
 ) -> Result<(), Memory>
-    ensures { OnOk result (found.new.items ≡ found.old.items ++ broken (is_unknown (declarations_of classes.now).names written.now) C2 written.now.place) }
+    ensures { OnOk result (found.new.items ≡ found.old.items
+        ++ broken (is_unknown (declarations_of classes.now).names written.now) C2 written.now.place) }
 {
     report_if(
         found,
@@ -58,7 +60,10 @@ fn note_unknown_interfaces(
     classes: &Classes<'_>,
     interfaces: &[NodeId],
 ) -> Result<(), Memory>
-    ensures { OnOk result (found.new.items ≡ found.old.items ++ broken_at C2 (filter (is_unknown (declarations_of classes.now).names) (filter_map (read classes.now.nodes named_super) interfaces.now))) }
+    ensures { OnOk result (found.new.items ≡ found.old.items
+        ++ broken_at C2
+        (filter (is_unknown (declarations_of classes.now).names)
+        (filter_map (read classes.now.nodes named_super) interfaces.now))) }
 {
     let mut others = interfaces;
     while let [id, rest @ ..] = others {
@@ -77,7 +82,8 @@ pub fn note_c2(
     classes: &Classes<'_>,
     c: &ClassParts<'_>,
 ) -> Result<(), Memory>
-    ensures { OnOk result (found.new.items ≡ found.old.items ++ c2 (declarations_of classes.now) (written_class classes.now.nodes c.now)) }
+    ensures { OnOk result (found.new.items ≡ found.old.items
+        ++ c2 (declarations_of classes.now) (written_class classes.now.nodes c.now)) }
 {
     if let Some(written) = &c.extends {
         note_unknown(found, classes, written)?;
@@ -95,7 +101,8 @@ pub fn note_c3(
     c: &ClassParts<'_>,
 ) -> Result<(), Memory>
     requires { class < length (declarations_of classes.now).classes }
-    ensures { OnOk result (found.new.items ≡ found.old.items ++ c3 (declarations_of classes.now) class (written_class classes.now.nodes c.now)) }
+    ensures { OnOk result (found.new.items ≡ found.old.items
+        ++ c3 (declarations_of classes.now) class (written_class classes.now.nodes c.now)) }
 {
     report_if(found, classes.is_cyclic(class), Rule::C3, c.place)
 }

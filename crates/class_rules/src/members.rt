@@ -22,7 +22,8 @@ fn note_override(
     class: ClassId,
     m: &MethodRef,
 ) -> Result<(), Memory>
-    ensures { OnOk result (found.new.items ≡ found.old.items ++ override_break (declarations_of classes.now) class (found_method classes.now.nodes m.now).method) }
+    ensures { OnOk result (found.new.items ≡ found.old.items ++ override_break (declarations_of classes.now) class
+        (found_method classes.now.nodes m.now).method) }
 {
     let own = declared(classes.program(), m);
     let is_wrong = match &classes.method_above(class, &own.name) {
@@ -40,7 +41,9 @@ pub fn note_overrides(
     class: ClassId,
     members: &[NodeId],
 ) -> Result<(), Memory>
-    ensures { OnOk result (found.new.items ≡ found.old.items ++ flat_map (override_break (declarations_of classes.now) class) (filter_map (method_at classes.now.nodes) members.now)) }
+    ensures { OnOk result (found.new.items ≡ found.old.items
+        ++ flat_map (override_break (declarations_of classes.now) class)
+        (filter_map (method_at classes.now.nodes) members.now)) }
 {
     let mut others = members;
     while let [id, rest @ ..] = others {
@@ -59,7 +62,8 @@ pub fn note_overrides(
 /// Notes an abstract method with a body, and another one without.
 #[tactic(auto, unfolding(crate::specs::Overrides::body_break))]
 fn note_body(found: &mut Vec<Found>, program: &Program, m: &MethodRef) -> Result<(), Memory>
-    ensures { OnOk result (found.new.items ≡ found.old.items ++ body_break (found_method program.now.nodes m.now).method) }
+    ensures { OnOk result (found.new.items ≡ found.old.items
+        ++ body_break (found_method program.now.nodes m.now).method) }
 {
     let own = declared(program, m);
     let has_body = body(program, m).is_some();
@@ -79,7 +83,8 @@ pub fn note_bodies(
     class: ClassId,
     members: &[NodeId],
 ) -> Result<(), Memory>
-    ensures { OnOk result (found.new.items ≡ found.old.items ++ flat_map body_break (filter_map (method_at program.now.nodes) members.now)) }
+    ensures { OnOk result (found.new.items ≡ found.old.items
+        ++ flat_map body_break (filter_map (method_at program.now.nodes) members.now)) }
 {
     let mut others = members;
     while let [id, rest @ ..] = others {
@@ -103,7 +108,8 @@ fn note_hiding(
     class: ClassId,
     field: &Declared,
 ) -> Result<(), Memory>
-    ensures { OnOk result (found.new.items ≡ found.old.items ++ hiding_break (declarations_of classes.now) class field.now) }
+    ensures { OnOk result (found.new.items ≡ found.old.items
+        ++ hiding_break (declarations_of classes.now) class field.now) }
 {
     let is_above = match classes.superclass(class) {
         Some(above) => classes.field_named(above, &field.name).is_some(),
@@ -120,7 +126,9 @@ pub fn note_hidings(
     class: ClassId,
     members: &[NodeId],
 ) -> Result<(), Memory>
-    ensures { OnOk result (found.new.items ≡ found.old.items ++ flat_map (hiding_break (declarations_of classes.now) class) (filter_map (field_at classes.now.nodes) members.now)) }
+    ensures { OnOk result (found.new.items ≡ found.old.items
+        ++ flat_map (hiding_break (declarations_of classes.now) class)
+        (filter_map (field_at classes.now.nodes) members.now)) }
 {
     let mut others = members;
     while let [id, rest @ ..] = others {

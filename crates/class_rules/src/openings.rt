@@ -35,7 +35,8 @@ fn is_left_open(classes: &Classes<'_>, class: ClassId, m: &MethodRef) -> bool
 /// Whether a class leaves the method at a node open, where that one is abstract.
 #[tactic(auto, using(crate::proofs::OpeningLemmas::concrete_member, crate::proofs::OpeningLemmas::abstract_member))]
 fn leaves_member(classes: &Classes<'_>, class: ClassId, on: ClassId, id: NodeId) -> bool
-    ensures { result ≡ list_any (is_left_open (declarations_of classes.now) class) (filter is_abstract (filter_map (method_at classes.now.nodes) (id ∷ []))) }
+    ensures { result ≡ list_any (is_left_open (declarations_of classes.now) class)
+        (filter is_abstract (filter_map (method_at classes.now.nodes) (id ∷ []))) }
 {
     if !is_abstract_method(classes.program(), id) {
         return false;
@@ -50,7 +51,8 @@ fn leaves_member(classes: &Classes<'_>, class: ClassId, on: ClassId, id: NodeId)
 /// Whether a class leaves one of these members open.
 #[tactic(auto, using(crate::proofs::OpeningLemmas::any_members))]
 fn leaves_members(classes: &Classes<'_>, class: ClassId, on: ClassId, members: &[NodeId]) -> bool
-    ensures { result ≡ list_any (is_left_open (declarations_of classes.now) class) (filter is_abstract (filter_map (method_at classes.now.nodes) members.now)) }
+    ensures { result ≡ list_any (is_left_open (declarations_of classes.now) class)
+        (filter is_abstract (filter_map (method_at classes.now.nodes) members.now)) }
 {
     let mut others = members;
     while let [id, rest @ ..] = others {
@@ -65,7 +67,8 @@ fn leaves_members(classes: &Classes<'_>, class: ClassId, on: ClassId, members: &
 /// Whether a class leaves a method of the framework open.
 #[tactic(auto, unfolding(method_rows::specs::Methods::found_method, method_rows::specs::Methods::method_from))]
 fn leaves_numbered(classes: &Classes<'_>, class: ClassId, on: ClassId, number: MethodId) -> bool
-    ensures { result ≡ is_left_open (declarations_of classes.now) class (unwrap_or (framework_numbered number) no_method) }
+    ensures { result ≡ is_left_open (declarations_of classes.now) class
+        (unwrap_or (framework_numbered number) no_method) }
 {
     let m = MethodRef {
         on,
@@ -84,7 +87,8 @@ fn is_abstract_on(on: ClassId, row: &FrameworkMethod) -> bool
 /// Whether a class leaves a method of the framework open, where it is an abstract one of a framework class.
 #[tactic(auto, using(crate::proofs::OpeningLemmas::other_row, crate::proofs::OpeningLemmas::abstract_row, crate::proofs::OpeningLemmas::no_row))]
 fn leaves_builtin(classes: &Classes<'_>, class: ClassId, on: ClassId, number: MethodId) -> bool
-    ensures { result ≡ holds (slice_get framework_methods number) (is_row_left (is_left_open (declarations_of classes.now) class) on) }
+    ensures { result ≡ holds (slice_get framework_methods number)
+        (is_row_left (is_left_open (declarations_of classes.now) class) on) }
 {
     match &framework_method(number) {
         Some(row) => {
@@ -99,7 +103,8 @@ fn leaves_builtin(classes: &Classes<'_>, class: ClassId, on: ClassId, number: Me
 
 /// Whether a class leaves an abstract method of a framework class open.
 fn leaves_builtins(classes: &Classes<'_>, class: ClassId, on: ClassId) -> bool
-    ensures { result ≡ list_any (is_left_open (declarations_of classes.now) class) (filter is_abstract (framework_methods_on on)) }
+    ensures { result ≡ list_any (is_left_open (declarations_of classes.now) class)
+        (filter is_abstract (framework_methods_on on)) }
 {
     for number in 0..FRAMEWORK_METHOD_COUNT {
         if leaves_builtin(classes, class, on, MethodId::at(number)) {
@@ -112,7 +117,8 @@ fn leaves_builtins(classes: &Classes<'_>, class: ClassId, on: ClassId) -> bool
 /// Whether a class leaves an abstract method of another class open.
 #[tactic(auto, using(crate::proofs::OpeningLemmas::builtin_abstract, crate::proofs::OpeningLemmas::user_abstract))]
 fn leaves_open_on(classes: &Classes<'_>, class: ClassId, on: ClassId) -> bool
-    ensures { result ≡ list_any (is_left_open (declarations_of classes.now) class) (own_abstract (declarations_of classes.now).classes on) }
+    ensures { result ≡ list_any (is_left_open (declarations_of classes.now) class)
+        (own_abstract (declarations_of classes.now).classes on) }
 {
     if on.number() < FRAMEWORK_CLASS_COUNT {
         leaves_builtins(classes, class, on)
@@ -124,7 +130,8 @@ fn leaves_open_on(classes: &Classes<'_>, class: ClassId, on: ClassId) -> bool
 /// Whether a class leaves an abstract method open, its own or one of those above and of its interfaces.
 #[tactic(auto, unfolding(scj_rules::specs::ClassRules::abstract_methods), using(crate::proofs::OpeningLemmas::any_append))]
 pub fn leaves_open(classes: &Classes<'_>, class: ClassId) -> bool
-    ensures { result ≡ list_any (is_left_open (declarations_of classes.now) class) (abstract_methods (declarations_of classes.now).classes class) }
+    ensures { result ≡ list_any (is_left_open (declarations_of classes.now) class)
+        (abstract_methods (declarations_of classes.now).classes class) }
 {
     let mut ancestors = classes.ancestors(class);
     while let Some(on) = ancestors.next() {

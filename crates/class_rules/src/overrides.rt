@@ -80,7 +80,8 @@ fn is_result_of(
 /// Whether a method has the types of the one above.
 #[tactic(auto, unfolding(scj_rules::specs::ClassRules::has_types_of))]
 pub fn has_types_of(classes: &Classes<'_>, class: ClassId, m: &MethodRef, above: &MethodRef) -> bool
-    ensures { result ≡ has_types_of (declarations_of classes.now) class (found_method classes.now.nodes m.now).method (found_method classes.now.nodes above.now).method }
+    ensures { result ≡ has_types_of (declarations_of classes.now) class (found_method classes.now.nodes m.now).method
+        (found_method classes.now.nodes above.now).method }
 {
     let program = classes.program();
     if !have_same_types(program, m, above) {
@@ -104,7 +105,8 @@ pub fn is_wrong_override(
     m: &MethodRef,
     above: &MethodRef,
 ) -> bool
-    ensures { result ≡ is_wrong_override (declarations_of classes.now) class (found_method classes.now.nodes m.now).method (found_method classes.now.nodes above.now).method }
+    ensures { result ≡ is_wrong_override (declarations_of classes.now) class
+        (found_method classes.now.nodes m.now).method (found_method classes.now.nodes above.now).method }
 {
     let program = classes.program();
     if !is_overridable(program, above) {
@@ -120,7 +122,8 @@ pub fn is_wrong_override(
 
 /// Whether a method leaves an abstract one open, in whose place it stands in a class.
 pub fn stays_open(classes: &Classes<'_>, class: ClassId, m: &MethodRef, instead: &MethodRef) -> bool
-    ensures { result ≡ stays_open (declarations_of classes.now) class (found_method classes.now.nodes m.now).method (found_method classes.now.nodes instead.now).method }
+    ensures { result ≡ stays_open (declarations_of classes.now) class (found_method classes.now.nodes m.now).method
+        (found_method classes.now.nodes instead.now).method }
 {
     let program = classes.program();
     let own = declared(program, instead);

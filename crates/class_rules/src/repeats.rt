@@ -23,7 +23,8 @@ pub fn note_c5(
     program: &Program,
     c: &ClassParts<'_>,
 ) -> Result<(), Memory>
-    ensures { OnOk result (found.new.items ≡ found.old.items ++ c5 (declarations_of program.now) (written_class program.now.nodes c.now)) }
+    ensures { OnOk result (found.new.items ≡ found.old.items
+        ++ c5 (declarations_of program.now) (written_class program.now.nodes c.now)) }
 {
     let names = callable_names(alloc, program, c.members)?;
     note_twice(alloc, found, &names, Rule::C5)?;
@@ -37,7 +38,8 @@ pub fn note_repeated_fields(
     program: &Program,
     c: &ClassParts<'_>,
 ) -> Result<(), Memory>
-    ensures { OnOk result (found.new.items ≡ found.old.items ++ repeated (filter_map (field_at program.now.nodes) c.now.members.now)) }
+    ensures { OnOk result (found.new.items ≡ found.old.items
+        ++ repeated (filter_map (field_at program.now.nodes) c.now.members.now)) }
 {
     let names = field_names(alloc, program, c.members)?;
     note_twice(alloc, found, &names, Rule::C4)?;

@@ -27,7 +27,8 @@ pub fn note_c4(
     class: ClassId,
     c: &ClassParts<'_>,
 ) -> Result<(), Memory>
-    ensures { OnOk result (found.new.items ≡ found.old.items ++ c4 (declarations_of classes.now) class (own_row classes.now c.now)) }
+    ensures { OnOk result (found.new.items ≡ found.old.items
+        ++ c4 (declarations_of classes.now) class (own_row classes.now c.now)) }
 {
     note_repeated_fields(alloc, found, classes.program(), c)?;
     note_hidings(found, classes, class, c.members)?;
@@ -42,12 +43,14 @@ pub fn note_c6(
     class: ClassId,
     c: &ClassParts<'_>,
 ) -> Result<(), Memory>
-    ensures { OnOk result (found.new.items ≡ found.old.items ++ c6 (declarations_of classes.now) class (own_row classes.now c.now)) }
+    ensures { OnOk result (found.new.items ≡ found.old.items
+        ++ c6 (declarations_of classes.now) class (own_row classes.now c.now)) }
 {
     note_overrides(found, classes, class, c.members)
 }
 
-/// Notes a concrete class that leaves an abstract method open, and the bodies of its methods that are too many or missing.
+/// Notes a concrete class that leaves an abstract method open, and the bodies of its methods that are too many or
+/// missing.
 #[tactic(auto, unfolding(scj_rules::specs::ClassRules::c7, scj_rules::specs::Classes::user_row, crate::specs::Overrides::body_break))]
 pub fn note_c7(
     found: &mut Vec<Found>,
@@ -55,7 +58,8 @@ pub fn note_c7(
     class: ClassId,
     c: &ClassParts<'_>,
 ) -> Result<(), Memory>
-    ensures { OnOk result (found.new.items ≡ found.old.items ++ c7 (declarations_of classes.now) class (written_class classes.now.nodes c.now) (own_row classes.now c.now)) }
+    ensures { OnOk result (found.new.items ≡ found.old.items
+        ++ c7 (declarations_of classes.now) class (written_class classes.now.nodes c.now) (own_row classes.now c.now)) }
 {
     let is_open = !c.modifiers.is_abstract && leaves_open(classes, class);
     report_if(found, is_open, Rule::C7, c.place)?;
@@ -72,7 +76,11 @@ pub fn note_first(
     c: &ClassParts<'_>,
 ) -> Result<(), Memory>
     requires { class < length (declarations_of classes.now).classes }
-    ensures { OnOk result (found.new.items ≡ found.old.items ++ (c1 (declarations_of classes.now) class (written_class classes.now.nodes c.now) ++ (c2 (declarations_of classes.now) (written_class classes.now.nodes c.now) ++ (c3 (declarations_of classes.now) class (written_class classes.now.nodes c.now) ++ c4 (declarations_of classes.now) class (own_row classes.now c.now))))) }
+    ensures { OnOk result (found.new.items ≡ found.old.items
+        ++ (c1 (declarations_of classes.now) class (written_class classes.now.nodes c.now)
+        ++ (c2 (declarations_of classes.now) (written_class classes.now.nodes c.now)
+        ++ (c3 (declarations_of classes.now) class (written_class classes.now.nodes c.now)
+        ++ c4 (declarations_of classes.now) class (own_row classes.now c.now))))) }
 {
     note_c1(found, classes, class, c)?;
     note_c2(found, classes, c)?;
@@ -89,7 +97,11 @@ pub fn note_methods(
     class: ClassId,
     c: &ClassParts<'_>,
 ) -> Result<(), Memory>
-    ensures { OnOk result (found.new.items ≡ found.old.items ++ (c5 (declarations_of classes.now) (written_class classes.now.nodes c.now) ++ (c6 (declarations_of classes.now) class (own_row classes.now c.now) ++ c7 (declarations_of classes.now) class (written_class classes.now.nodes c.now) (own_row classes.now c.now)))) }
+    ensures { OnOk result (found.new.items ≡ found.old.items
+        ++ (c5 (declarations_of classes.now) (written_class classes.now.nodes c.now)
+        ++ (c6 (declarations_of classes.now) class (own_row classes.now c.now)
+        ++ c7 (declarations_of classes.now) class (written_class classes.now.nodes c.now)
+        (own_row classes.now c.now)))) }
 {
     note_c5(alloc, found, classes.program(), c)?;
     note_c6(found, classes, class, c)?;
@@ -105,7 +117,8 @@ pub fn note_limits(
     class: ClassId,
     c: &ClassParts<'_>,
 ) -> Result<(), Memory>
-    ensures { OnOk result (found.new.items ≡ found.old.items ++ class_limits (declarations_of classes.now) class (written_class classes.now.nodes c.now)) }
+    ensures { OnOk result (found.new.items ≡ found.old.items ++ class_limits (declarations_of classes.now) class
+        (written_class classes.now.nodes c.now)) }
 {
     note_k1(found, classes.program(), class, c)?;
     note_k4(found, classes, class, c)?;

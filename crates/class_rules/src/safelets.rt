@@ -47,7 +47,9 @@ fn note_safelet(
     is_seen: bool,
 ) -> Result<bool, Memory>
     requires { class < length (declarations_of classes.now).classes }
-    ensures { IfOk result (λ now. found.new.items ++ left_over now (safelets_left (declarations_of classes.now) (class + 1)) ≡ found.old.items ++ left_over is_seen (safelets_left (declarations_of classes.now) class)) }
+    ensures { IfOk result
+        (λ now. found.new.items ++ left_over now (safelets_left (declarations_of classes.now) (class + 1))
+        ≡ found.old.items ++ left_over is_seen (safelets_left (declarations_of classes.now) class)) }
 {
     match safelet_place(classes, class) {
         Some(place) => {

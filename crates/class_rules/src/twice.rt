@@ -25,7 +25,8 @@ pub fn note_twice(
     names: &[Written],
     rule: Rule,
 ) -> Result<(), Memory>
-    ensures { OnOk result (found.new.items ≡ found.old.items ++ broken_at rule (named_twice (λ (w : Named). w.name) [] names.now)) }
+    ensures { OnOk result (found.new.items ≡ found.old.items
+        ++ broken_at rule (named_twice (λ (w : Named). w.name) [] names.now)) }
 {
     let mut earlier = BTreeMap::new(alloc);
     let mut others = names;

@@ -54,7 +54,8 @@ pub fn class_written(classes: &Classes<'_>, written: &WrittenType) -> Option<Cla
 #[tactic(auto, unfolding(crate::specs::Overrides::types_among))]
 fn next_type<'a>(program: &Program, list: &'a [NodeId]) -> Option<(WrittenType, &'a [NodeId])>
     ensures none { IfNone result (types_among program.now.nodes list.now ≡ []) }
-    ensures some { IfSome result (λ r. types_among program.now.nodes list.now ≡ r.0 ∷ types_among program.now.nodes r.1.now) }
+    ensures some { IfSome result (λ r. types_among program.now.nodes list.now ≡ r.0
+        ∷ types_among program.now.nodes r.1.now) }
 {
     let mut others = list;
     while let [id, rest @ ..] = others {
@@ -69,7 +70,8 @@ fn next_type<'a>(program: &Program, list: &'a [NodeId]) -> Option<(WrittenType, 
 /// Whether the parameters among nodes have the types of those among others.
 #[tactic(auto, unfolding(crate::specs::Overrides::types_among))]
 pub fn have_same_declared(program: &Program, list: &[NodeId], other: &[NodeId]) -> bool
-    ensures { result ≡ pointwise is_same_type (types_among program.now.nodes list.now) (types_among program.now.nodes other.now) }
+    ensures { result ≡ pointwise is_same_type (types_among program.now.nodes list.now)
+        (types_among program.now.nodes other.now) }
 {
     let mut left = list;
     let mut right = other;
@@ -92,7 +94,8 @@ pub fn have_same_declared(program: &Program, list: &[NodeId], other: &[NodeId]) 
 
 /// Whether two methods have parameters of the same types. It is quick where one is the framework's, which has few.
 fn have_same_listed(program: &Program, m: &MethodRef, other: &MethodRef) -> bool
-    ensures { result ≡ have_same_types (found_method program.now.nodes m.now).method.parameters (found_method program.now.nodes other.now).method.parameters }
+    ensures { result ≡ have_same_types (found_method program.now.nodes m.now).method.parameters
+        (found_method program.now.nodes other.now).method.parameters }
 {
     let count = parameter_count(program, m);
     for i in 0..count {
@@ -112,7 +115,8 @@ fn have_same_listed(program: &Program, m: &MethodRef, other: &MethodRef) -> bool
 /// Whether two methods have parameters of the same types.
 #[tactic(auto, unfolding(crate::specs::Overrides::types_among, method_rows::specs::Methods::found_method, method_rows::specs::Methods::method_from))]
 pub fn have_same_types(program: &Program, m: &MethodRef, other: &MethodRef) -> bool
-    ensures { result ≡ have_same_types (found_method program.now.nodes m.now).method.parameters (found_method program.now.nodes other.now).method.parameters }
+    ensures { result ≡ have_same_types (found_method program.now.nodes m.now).method.parameters
+        (found_method program.now.nodes other.now).method.parameters }
 {
     match (&m.source, &other.source) {
         (MethodSource::Declared(a), MethodSource::Declared(b)) => have_same_declared(

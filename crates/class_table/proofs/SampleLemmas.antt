@@ -10,4 +10,6 @@ use Rattle.class_table.specs.Samples.{field_nodes, sample, place_at}
 
 pub sample_is_forest : IsForest (forest_of sample ((4 ∷ []) ∷ []))
 unfolding computing times all_children children_first all_below are_distinct AllClasses field_nodes sample
-sample_is_forest = forest_passes (forest_of sample ((4 ∷ []) ∷ [])) refl refl ((Class (place_at 7) (codes "A") None None (1 ∷ 3 ∷ []), refl, is_class), tt) (omega arith) (omega arith)
+sample_is_forest =
+    forest_passes (forest_of sample ((4 ∷ []) ∷ [])) refl refl
+    ((Class (place_at 7) (codes "A") None None (1 ∷ 3 ∷ []), refl, is_class), tt) (omega arith) (omega arith)

@@ -29,7 +29,8 @@ fn note_parts(
     requires same { written.now ≡ classes.now }
     requires within { class < length (declarations_of classes.now).classes }
     requires there { class_at classes.now.nodes c.now.node ≡ Some (written_class classes.now.nodes c.now) }
-    ensures { OnOk result (found.new.items ≡ found.old.items ++ class_found (declarations_of classes.now) class (own_row classes.now c.now) (written_class classes.now.nodes c.now)) }
+    ensures { OnOk result (found.new.items ≡ found.old.items ++ class_found (declarations_of classes.now) class
+        (own_row classes.now c.now) (written_class classes.now.nodes c.now)) }
 {
     note_first(alloc, found, classes, class, c)?;
     note_methods(alloc, found, classes, class, c)?;
@@ -48,7 +49,8 @@ fn note_class(
 ) -> Result<(), Memory>
     requires same { written.now ≡ classes.now }
     requires within { class < length (declarations_of classes.now).classes }
-    ensures { OnOk result (found.new.items ≡ found.old.items ++ at_class (declarations_of classes.now) (class_found (declarations_of classes.now)) class) }
+    ensures { OnOk result (found.new.items ≡ found.old.items
+        ++ at_class (declarations_of classes.now) (class_found (declarations_of classes.now)) class) }
 {
     let Some(node) = classes.class_node(class) else {
         return Ok(());
@@ -69,7 +71,8 @@ pub fn note_classes(
     written: &WrittenClasses<'_>,
 ) -> Result<(), Memory>
     requires { written.now ≡ classes.now }
-    ensures { OnOk result (found.new.items ≡ found.old.items ++ over_classes (declarations_of classes.now) (class_found (declarations_of classes.now))) }
+    ensures { OnOk result (found.new.items ≡ found.old.items
+        ++ over_classes (declarations_of classes.now) (class_found (declarations_of classes.now))) }
 {
     let count = class_count(classes)?;
     for number in 0..count {

@@ -36,7 +36,8 @@ pub fn note_c10(
     c: &ClassParts<'_>,
 ) -> Result<(), Memory>
     requires { class_at written.now.nodes c.now.node ≡ Some (written_class written.now.nodes c.now) }
-    ensures { OnOk result (found.new.items ≡ found.old.items ++ c10 (declarations_of written.now) (written_class written.now.nodes c.now)) }
+    ensures { OnOk result (found.new.items ≡ found.old.items
+        ++ c10 (declarations_of written.now) (written_class written.now.nodes c.now)) }
 {
     let forbidden = written.forbidden_supers(alloc, c.node)?;
     note_names(found, &forbidden, Rule::C10)?;

@@ -25,7 +25,8 @@ pub simple_as : (a : App) → a ≡ command → is_simple a ≡ true
 simple_as a same = ap is_simple same ∙ command_is_simple
 
 -- an error that is no want of memory is one of the kinds, so there are some
-pub refused_by_kind : (kinds : Kinds) (e : Error) (r : WordsAnswer) → HasKind kinds e → ((r ≡ Memory) ↔ (kind_of e ≡ OutOfMemory))
+pub refused_by_kind : (kinds : Kinds) (e : Error) (r : WordsAnswer) → HasKind kinds e →
+    ((r ≡ Memory) ↔ (kind_of e ≡ OutOfMemory))
     → r ≡ Usage → is_empty kinds ≡ false
 refused_by_kind [] e r (inl out) tells is = let both : Usage ≡ Memory = sym is ∙ tells.1 out in cc
 refused_by_kind [] e r (inr among) tells is = elim among [ ]

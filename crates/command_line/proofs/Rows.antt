@@ -54,9 +54,11 @@ refused =
     ∷ []
 
 job_rows : map (λ line. job_of line.0) jobs ≡ map (λ line. Some line.1) jobs
-unfolding clap_on_literals command bare_command mode_rule plan_rule size_rule source_rule job_of job_in given_in job_by_mode check_job show_job sources_alone are_sources is_file_name
+unfolding clap_on_literals command bare_command mode_rule plan_rule size_rule source_rule job_of job_in given_in
+    job_by_mode check_job show_job sources_alone are_sources is_file_name
 job_rows = refl
 
 refused_rows : map job_of refused ≡ replicate 26 None
-unfolding clap_on_literals command bare_command mode_rule plan_rule size_rule source_rule job_of job_in given_in job_by_mode check_job show_job sources_alone are_sources is_file_name
+unfolding clap_on_literals command bare_command mode_rule plan_rule size_rule source_rule job_of job_in given_in
+    job_by_mode check_job show_job sources_alone are_sources is_file_name
 refused_rows = refl

@@ -49,7 +49,8 @@ fn text_in<'w>(matches: &ArgMatches<'w>, id: &str) -> Option<&'w str>
 /// Each SOURCE.
 #[tactic(auto, using(crate::proofs::MatchLemmas::all_texts))]
 fn sources_in<'m, 'w>(matches: &'m ArgMatches<'w>) -> Option<&'m [&'w str]>
-    ensures { option_map (λ names. map (λ s. s.now) names.now) result ≡ all_of (codes "source") (rows_of (found_of matches.now)) }
+    ensures { option_map (λ names. map (λ s. s.now) names.now) result ≡ all_of (codes "source")
+        (rows_of (found_of matches.now)) }
 {
     matches.get_strs("source")
 }

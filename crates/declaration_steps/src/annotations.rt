@@ -22,7 +22,8 @@ pub fn scope_named(
     is_local: bool,
     flags: FlagSet,
 ) -> Result<Option<Mode>, Memory>
-    ensures step { let awaited = scope_named is_local flags nodes.old.all stack.old in gives result nodes.new.all stack.new awaited ≡ awaited }
+    ensures step { let awaited = scope_named is_local flags nodes.old.all stack.old in
+        gives result nodes.new.all stack.new awaited ≡ awaited }
     ensures kept { nodes.new.kept ≡ nodes.old.kept }
 {
     if let Some(_) = flags.scope {
@@ -41,7 +42,8 @@ pub fn runs_in_named(
     is_local: bool,
     flags: FlagSet,
 ) -> Result<Option<Mode>, Memory>
-    ensures step { let awaited = runs_in_named is_local flags nodes.old.all stack.old in gives result nodes.new.all stack.new awaited ≡ awaited }
+    ensures step { let awaited = runs_in_named is_local flags nodes.old.all stack.old in
+        gives result nodes.new.all stack.new awaited ≡ awaited }
     ensures kept { nodes.new.kept ≡ nodes.old.kept }
 {
     if let Some(_) = flags.runs_in {
@@ -61,7 +63,8 @@ pub fn define_scope_named(
     is_local: bool,
     flags: FlagSet,
 ) -> Result<Option<Mode>, Memory>
-    ensures step { let awaited = define_scope_named place is_local flags nodes.old.all stack.old in gives result nodes.new.all stack.new awaited ≡ awaited }
+    ensures step { let awaited = define_scope_named place is_local flags nodes.old.all stack.old in
+        gives result nodes.new.all stack.new awaited ≡ awaited }
     ensures kept { nodes.new.kept ≡ nodes.old.kept }
 {
     if let Some(_) = flags.define_scope {
@@ -81,7 +84,8 @@ pub fn annotation_named(
     is_local: bool,
     flags: FlagSet,
 ) -> Result<Option<Mode>, Memory>
-    ensures step { let awaited = annotation_named place name.now is_local flags nodes.old.all stack.old in gives result nodes.new.all stack.new awaited ≡ awaited }
+    ensures step { let awaited = annotation_named place name.now is_local flags nodes.old.all stack.old in
+        gives result nodes.new.all stack.new awaited ≡ awaited }
     ensures kept { nodes.new.kept ≡ nodes.old.kept }
 {
     if is_effectless(name) {
@@ -108,7 +112,8 @@ pub fn at_step(
     view: &View,
     place: Pos,
 ) -> Result<Option<Mode>, Memory>
-    ensures step { let awaited = at_step place nodes.old.all stack.old (seen view.now) in gives result nodes.new.all stack.new awaited ≡ awaited }
+    ensures step { let awaited = at_step place nodes.old.all stack.old (seen view.now) in
+        gives result nodes.new.all stack.new awaited ≡ awaited }
     ensures kept { nodes.new.kept ≡ nodes.old.kept }
 {
     let View::Name(name, _) = view else {
@@ -128,7 +133,8 @@ pub fn at_step(
 /// Behind the parentheses of an annotation without effect.
 #[tactic(auto, unfolding(parser_machine::specs::Declarations::plain_ended))]
 pub fn plain_ended(nodes: &mut Nodes, stack: &mut Stack) -> Result<Option<Mode>, Memory>
-    ensures step { let awaited = plain_ended nodes.old.all stack.old in gives result nodes.new.all stack.new awaited ≡ awaited }
+    ensures step { let awaited = plain_ended nodes.old.all stack.old in
+        gives result nodes.new.all stack.new awaited ≡ awaited }
     ensures kept { nodes.new.kept ≡ nodes.old.kept }
 {
     let Some(entry) = stack.pop() else {
@@ -147,7 +153,8 @@ pub fn plain_without(
     stack: &mut Stack,
     view: &View,
 ) -> Result<Option<Mode>, Memory>
-    ensures step { let awaited = plain_without nodes.old.all stack.old (seen view.now) in gives result nodes.new.all stack.new awaited ≡ awaited }
+    ensures step { let awaited = plain_without nodes.old.all stack.old (seen view.now) in
+        gives result nodes.new.all stack.new awaited ≡ awaited }
     ensures kept { nodes.new.kept ≡ nodes.old.kept }
 {
     let Some(entry) = stack.pop() else {
@@ -168,7 +175,8 @@ pub fn plain_open_step(
     stack: &mut Stack,
     view: &View,
 ) -> Result<Option<Mode>, Memory>
-    ensures step { let awaited = plain_open_step nodes.old.all stack.old (seen view.now) in gives result nodes.new.all stack.new awaited ≡ awaited }
+    ensures step { let awaited = plain_open_step nodes.old.all stack.old (seen view.now) in
+        gives result nodes.new.all stack.new awaited ≡ awaited }
     ensures kept { nodes.new.kept ≡ nodes.old.kept }
 {
     if let View::Sign(sign, _) = view {
@@ -183,7 +191,8 @@ pub fn plain_open_step(
 /// Behind a pair.
 #[tactic(auto, unfolding(parser_machine::specs::Declarations::pair_ended))]
 pub fn pair_ended(nodes: &mut Nodes, stack: &mut Stack, sign: u8) -> Result<Option<Mode>, Memory>
-    ensures step { let awaited = pair_ended nodes.old.all stack.old sign in gives result nodes.new.all stack.new awaited ≡ awaited }
+    ensures step { let awaited = pair_ended nodes.old.all stack.old sign in
+        gives result nodes.new.all stack.new awaited ≡ awaited }
     ensures kept { nodes.new.kept ≡ nodes.old.kept }
 {
     if sign == COMMA {
@@ -202,7 +211,8 @@ pub fn plain_value_step(
     stack: &mut Stack,
     view: &View,
 ) -> Result<Option<Mode>, Memory>
-    ensures step { let awaited = plain_value_step nodes.old.all stack.old (seen view.now) in gives result nodes.new.all stack.new awaited ≡ awaited }
+    ensures step { let awaited = plain_value_step nodes.old.all stack.old (seen view.now) in
+        gives result nodes.new.all stack.new awaited ≡ awaited }
     ensures kept { nodes.new.kept ≡ nodes.old.kept }
 {
     match view {
@@ -225,7 +235,8 @@ pub fn plain_next_step(
     stack: &mut Stack,
     view: &View,
 ) -> Result<Option<Mode>, Memory>
-    ensures step { let awaited = plain_next_step nodes.old.all stack.old (seen view.now) in gives result nodes.new.all stack.new awaited ≡ awaited }
+    ensures step { let awaited = plain_next_step nodes.old.all stack.old (seen view.now) in
+        gives result nodes.new.all stack.new awaited ≡ awaited }
     ensures kept { nodes.new.kept ≡ nodes.old.kept }
 {
     if let View::Name(_, _) = view {
@@ -241,7 +252,8 @@ pub fn plain_first_step(
     stack: &mut Stack,
     view: &View,
 ) -> Result<Option<Mode>, Memory>
-    ensures step { let awaited = plain_first_step nodes.old.all stack.old (seen view.now) in gives result nodes.new.all stack.new awaited ≡ awaited }
+    ensures step { let awaited = plain_first_step nodes.old.all stack.old (seen view.now) in
+        gives result nodes.new.all stack.new awaited ≡ awaited }
     ensures kept { nodes.new.kept ≡ nodes.old.kept }
 {
     if let View::Sign(sign, _) = view {
@@ -260,7 +272,8 @@ pub fn plain_path_step(
     stack: &mut Stack,
     view: &View,
 ) -> Result<Option<Mode>, Memory>
-    ensures step { let awaited = plain_path_step nodes.old.all stack.old (seen view.now) in gives result nodes.new.all stack.new awaited ≡ awaited }
+    ensures step { let awaited = plain_path_step nodes.old.all stack.old (seen view.now) in
+        gives result nodes.new.all stack.new awaited ≡ awaited }
     ensures kept { nodes.new.kept ≡ nodes.old.kept }
 {
     let View::Sign(sign, _) = view else {
@@ -279,7 +292,8 @@ pub fn plain_name_step(
     stack: &mut Stack,
     view: &View,
 ) -> Result<Option<Mode>, Memory>
-    ensures step { let awaited = plain_name_step nodes.old.all stack.old (seen view.now) in gives result nodes.new.all stack.new awaited ≡ awaited }
+    ensures step { let awaited = plain_name_step nodes.old.all stack.old (seen view.now) in
+        gives result nodes.new.all stack.new awaited ≡ awaited }
     ensures kept { nodes.new.kept ≡ nodes.old.kept }
 {
     let View::Sign(sign, _) = view else {
@@ -298,7 +312,8 @@ pub fn plain_assigned_step(
     stack: &mut Stack,
     view: &View,
 ) -> Result<Option<Mode>, Memory>
-    ensures step { let awaited = plain_assigned_step nodes.old.all stack.old (seen view.now) in gives result nodes.new.all stack.new awaited ≡ awaited }
+    ensures step { let awaited = plain_assigned_step nodes.old.all stack.old (seen view.now) in
+        gives result nodes.new.all stack.new awaited ≡ awaited }
     ensures kept { nodes.new.kept ≡ nodes.old.kept }
 {
     if let View::Name(_, _) = view {
@@ -314,7 +329,8 @@ pub fn plain_dot_step(
     stack: &mut Stack,
     view: &View,
 ) -> Result<Option<Mode>, Memory>
-    ensures step { let awaited = plain_dot_step nodes.old.all stack.old (seen view.now) in gives result nodes.new.all stack.new awaited ≡ awaited }
+    ensures step { let awaited = plain_dot_step nodes.old.all stack.old (seen view.now) in
+        gives result nodes.new.all stack.new awaited ≡ awaited }
     ensures kept { nodes.new.kept ≡ nodes.old.kept }
 {
     if let View::Name(_, _) = view {
@@ -330,7 +346,8 @@ pub fn plain_end_step(
     stack: &mut Stack,
     view: &View,
 ) -> Result<Option<Mode>, Memory>
-    ensures step { let awaited = plain_end_step nodes.old.all stack.old (seen view.now) in gives result nodes.new.all stack.new awaited ≡ awaited }
+    ensures step { let awaited = plain_end_step nodes.old.all stack.old (seen view.now) in
+        gives result nodes.new.all stack.new awaited ≡ awaited }
     ensures kept { nodes.new.kept ≡ nodes.old.kept }
 {
     let View::Sign(sign, _) = view else {

@@ -27,7 +27,8 @@ pub fn class_name_step(
     view: &View,
     flags: Option<NodeId>,
 ) -> Result<Option<Mode>, Memory>
-    ensures step { let awaited = class_name_step flags nodes.old.all stack.old (seen view.now) in gives result nodes.new.all stack.new awaited ≡ awaited }
+    ensures step { let awaited = class_name_step flags nodes.old.all stack.old (seen view.now) in
+        gives result nodes.new.all stack.new awaited ≡ awaited }
     ensures kept { nodes.new.kept ≡ nodes.old.kept }
 {
     let View::Name(name, place) = view else {
@@ -48,7 +49,8 @@ pub fn class_opened(
     stack: &mut Stack,
     header: Option<NodeId>,
 ) -> Result<Option<Mode>, Memory>
-    ensures step { let awaited = class_opened header nodes.old.all stack.old in gives result nodes.new.all stack.new awaited ≡ awaited }
+    ensures step { let awaited = class_opened header nodes.old.all stack.old in
+        gives result nodes.new.all stack.new awaited ≡ awaited }
     ensures kept { nodes.new.kept ≡ nodes.old.kept }
 {
     let Some(entry) = stack.pop() else {
@@ -77,7 +79,8 @@ pub fn class_named_word(
     word: u8,
     place: Pos,
 ) -> Result<Option<Mode>, Memory>
-    ensures step { let awaited = class_named_step nodes.old.all stack.old (a_word word place) in gives result nodes.new.all stack.new awaited ≡ awaited }
+    ensures step { let awaited = class_named_step nodes.old.all stack.old (a_word word place) in
+        gives result nodes.new.all stack.new awaited ≡ awaited }
     ensures kept { nodes.new.kept ≡ nodes.old.kept }
 {
     let is_extends = match word {
@@ -101,7 +104,8 @@ pub fn class_named_step(
     stack: &mut Stack,
     view: &View,
 ) -> Result<Option<Mode>, Memory>
-    ensures step { let awaited = class_named_step nodes.old.all stack.old (seen view.now) in gives result nodes.new.all stack.new awaited ≡ awaited }
+    ensures step { let awaited = class_named_step nodes.old.all stack.old (seen view.now) in
+        gives result nodes.new.all stack.new awaited ≡ awaited }
     ensures kept { nodes.new.kept ≡ nodes.old.kept }
 {
     match view {
@@ -123,7 +127,8 @@ pub fn super_name_step(
     stack: &mut Stack,
     view: &View,
 ) -> Result<Option<Mode>, Memory>
-    ensures step { let awaited = super_name_step nodes.old.all stack.old (seen view.now) in gives result nodes.new.all stack.new awaited ≡ awaited }
+    ensures step { let awaited = super_name_step nodes.old.all stack.old (seen view.now) in
+        gives result nodes.new.all stack.new awaited ≡ awaited }
     ensures kept { nodes.new.kept ≡ nodes.old.kept }
 {
     let View::Name(name, place) = view else {
@@ -144,7 +149,8 @@ pub fn superclass_sign(
     place: Pos,
     sign: u8,
 ) -> Result<Option<Mode>, Memory>
-    ensures step { let awaited = superclass_sign id place nodes.old.all stack.old sign in gives result nodes.new.all stack.new awaited ≡ awaited }
+    ensures step { let awaited = superclass_sign id place nodes.old.all stack.old sign in
+        gives result nodes.new.all stack.new awaited ≡ awaited }
     ensures kept { nodes.new.kept ≡ nodes.old.kept }
 {
     if sign != LEFT_BRACE {
@@ -170,7 +176,8 @@ pub fn interface_sign(
     interfaces: NodeList,
     sign: u8,
 ) -> Result<Option<Mode>, Memory>
-    ensures step { let awaited = interface_sign id place superclass interfaces nodes.old.all stack.old sign in gives result nodes.new.all stack.new awaited ≡ awaited }
+    ensures step { let awaited = interface_sign id place superclass interfaces nodes.old.all stack.old sign in
+        gives result nodes.new.all stack.new awaited ≡ awaited }
     ensures kept { nodes.new.kept ≡ nodes.old.kept }
 {
     let interfaces = with_item(interfaces, id)?;
@@ -205,7 +212,8 @@ pub fn superclass_ended(
     superclass: Option<NodeId>,
     interfaces: NodeList,
 ) -> Result<Option<Mode>, Memory>
-    ensures step { let awaited = super_ended id nodes.old.all (SupersOpen place true superclass interfaces ∷ stack.old) (seen view.now) in gives result nodes.new.all stack.new awaited ≡ awaited }
+    ensures step { let awaited = super_ended id nodes.old.all (SupersOpen place true superclass interfaces ∷ stack.old)
+        (seen view.now) in gives result nodes.new.all stack.new awaited ≡ awaited }
     ensures kept { nodes.new.kept ≡ nodes.old.kept }
 {
     match view {
@@ -237,7 +245,8 @@ pub fn interface_ended(
     superclass: Option<NodeId>,
     interfaces: NodeList,
 ) -> Result<Option<Mode>, Memory>
-    ensures step { let awaited = super_ended id nodes.old.all (SupersOpen place false superclass interfaces ∷ stack.old) (seen view.now) in gives result nodes.new.all stack.new awaited ≡ awaited }
+    ensures step { let awaited = super_ended id nodes.old.all (SupersOpen place false superclass interfaces ∷ stack.old)
+        (seen view.now) in gives result nodes.new.all stack.new awaited ≡ awaited }
     ensures kept { nodes.new.kept ≡ nodes.old.kept }
 {
     let View::Sign(sign, _) = view else {
@@ -254,7 +263,8 @@ pub fn super_ended(
     view: &View,
     id: NodeId,
 ) -> Result<Option<Mode>, Memory>
-    ensures step { let awaited = super_ended id nodes.old.all stack.old (seen view.now) in gives result nodes.new.all stack.new awaited ≡ awaited }
+    ensures step { let awaited = super_ended id nodes.old.all stack.old (seen view.now) in
+        gives result nodes.new.all stack.new awaited ≡ awaited }
     ensures kept { nodes.new.kept ≡ nodes.old.kept }
 {
     let Some(entry) = stack.pop() else {
@@ -286,7 +296,8 @@ pub fn super_named_step(
     place: Pos,
     name: &SharedName,
 ) -> Result<Option<Mode>, Memory>
-    ensures step { let awaited = super_named_step place name.now nodes.old.all stack.old (seen view.now) in gives result nodes.new.all stack.new awaited ≡ awaited }
+    ensures step { let awaited = super_named_step place name.now nodes.old.all stack.old (seen view.now) in
+        gives result nodes.new.all stack.new awaited ≡ awaited }
     ensures kept { nodes.new.kept ≡ nodes.old.kept }
 {
     if let View::Sign(sign, _) = view {
@@ -313,7 +324,8 @@ pub fn super_type_ended(
     place: Pos,
     name: &SharedName,
 ) -> Result<Option<Mode>, Memory>
-    ensures step { let awaited = super_ended (length nodes.old.all) (put nodes.old.all (SuperType place name.now None)) stack.old (seen view.now) in gives result nodes.new.all stack.new awaited ≡ awaited }
+    ensures step { let awaited = super_ended (length nodes.old.all) (put nodes.old.all (SuperType place name.now None))
+        stack.old (seen view.now) in gives result nodes.new.all stack.new awaited ≡ awaited }
     ensures kept { nodes.new.kept ≡ nodes.old.kept }
 {
     let id = nodes.put(Node::SuperType {
@@ -333,7 +345,8 @@ pub fn super_argument_name_step(
     place: Pos,
     name: &SharedName,
 ) -> Result<Option<Mode>, Memory>
-    ensures step { let awaited = super_argument_name_step place name.now nodes.old.all stack.old (seen view.now) in gives result nodes.new.all stack.new awaited ≡ awaited }
+    ensures step { let awaited = super_argument_name_step place name.now nodes.old.all stack.old (seen view.now) in
+        gives result nodes.new.all stack.new awaited ≡ awaited }
     ensures kept { nodes.new.kept ≡ nodes.old.kept }
 {
     let View::Name(argument, argument_place) = view else {
@@ -360,7 +373,8 @@ pub fn super_argument_end_step(
     name: &SharedName,
     argument: NodeId,
 ) -> Result<Option<Mode>, Memory>
-    ensures step { let awaited = super_argument_end_step place name.now argument nodes.old.all stack.old (seen view.now) in gives result nodes.new.all stack.new awaited ≡ awaited }
+    ensures step { let awaited = super_argument_end_step place name.now argument nodes.old.all stack.old (seen view.now)
+        in gives result nodes.new.all stack.new awaited ≡ awaited }
     ensures kept { nodes.new.kept ≡ nodes.old.kept }
 {
     let View::Sign(sign, _) = view else {

@@ -24,7 +24,8 @@ pub fn scope_valued(
     id: NodeId,
     sign: u8,
 ) -> Result<Option<Mode>, Memory>
-    ensures step { let awaited = valued id nodes.old.all (ScopeOpen ∷ stack.old) sign in gives result nodes.new.all stack.new awaited ≡ awaited }
+    ensures step { let awaited = valued id nodes.old.all (ScopeOpen ∷ stack.old) sign in
+        gives result nodes.new.all stack.new awaited ≡ awaited }
     ensures kept { nodes.new.kept ≡ nodes.old.kept }
 {
     let Some(entry) = stack.pop() else {
@@ -53,7 +54,8 @@ pub fn runs_in_valued(
     id: NodeId,
     sign: u8,
 ) -> Result<Option<Mode>, Memory>
-    ensures step { let awaited = valued id nodes.old.all (RunsInOpen ∷ stack.old) sign in gives result nodes.new.all stack.new awaited ≡ awaited }
+    ensures step { let awaited = valued id nodes.old.all (RunsInOpen ∷ stack.old) sign in
+        gives result nodes.new.all stack.new awaited ≡ awaited }
     ensures kept { nodes.new.kept ≡ nodes.old.kept }
 {
     let Some(entry) = stack.pop() else {
@@ -85,7 +87,8 @@ pub fn define_valued(
     parent_first: bool,
     first: NodeId,
 ) -> Result<Option<Mode>, Memory>
-    ensures step { let awaited = valued id nodes.old.all (DefineSecond place parent_first first ∷ stack.old) sign in gives result nodes.new.all stack.new awaited ≡ awaited }
+    ensures step { let awaited = valued id nodes.old.all (DefineSecond place parent_first first ∷ stack.old) sign in
+        gives result nodes.new.all stack.new awaited ≡ awaited }
     ensures kept { nodes.new.kept ≡ nodes.old.kept }
 {
     let Some(entry) = stack.pop() else {
@@ -120,7 +123,8 @@ pub fn valued(
     id: NodeId,
     sign: u8,
 ) -> Result<Option<Mode>, Memory>
-    ensures step { let awaited = valued id nodes.old.all stack.old sign in gives result nodes.new.all stack.new awaited ≡ awaited }
+    ensures step { let awaited = valued id nodes.old.all stack.old sign in
+        gives result nodes.new.all stack.new awaited ≡ awaited }
     ensures kept { nodes.new.kept ≡ nodes.old.kept }
 {
     let Some(entry) = stack.pop() else {
@@ -160,7 +164,8 @@ pub fn value_end_step(
     view: &View,
     id: NodeId,
 ) -> Result<Option<Mode>, Memory>
-    ensures step { let awaited = value_end_step id nodes.old.all stack.old (seen view.now) in gives result nodes.new.all stack.new awaited ≡ awaited }
+    ensures step { let awaited = value_end_step id nodes.old.all stack.old (seen view.now) in
+        gives result nodes.new.all stack.new awaited ≡ awaited }
     ensures kept { nodes.new.kept ≡ nodes.old.kept }
 {
     let View::Sign(sign, _) = view else {
@@ -176,7 +181,8 @@ pub fn value_open_step(
     stack: &mut Stack,
     view: &View,
 ) -> Result<Option<Mode>, Memory>
-    ensures step { let awaited = value_open_step nodes.old.all stack.old (seen view.now) in gives result nodes.new.all stack.new awaited ≡ awaited }
+    ensures step { let awaited = value_open_step nodes.old.all stack.old (seen view.now) in
+        gives result nodes.new.all stack.new awaited ≡ awaited }
     ensures kept { nodes.new.kept ≡ nodes.old.kept }
 {
     let View::Sign(sign, _) = view else {
@@ -195,7 +201,8 @@ pub fn value_start_step(
     stack: &mut Stack,
     view: &View,
 ) -> Result<Option<Mode>, Memory>
-    ensures step { let awaited = value_start_step nodes.old.all stack.old (seen view.now) in gives result nodes.new.all stack.new awaited ≡ awaited }
+    ensures step { let awaited = value_start_step nodes.old.all stack.old (seen view.now) in
+        gives result nodes.new.all stack.new awaited ≡ awaited }
     ensures kept { nodes.new.kept ≡ nodes.old.kept }
 {
     match view {
@@ -232,7 +239,8 @@ pub fn value_scope_step(
     view: &View,
     place: Pos,
 ) -> Result<Option<Mode>, Memory>
-    ensures step { let awaited = value_scope_step place nodes.old.all stack.old (seen view.now) in gives result nodes.new.all stack.new awaited ≡ awaited }
+    ensures step { let awaited = value_scope_step place nodes.old.all stack.old (seen view.now) in
+        gives result nodes.new.all stack.new awaited ≡ awaited }
     ensures kept { nodes.new.kept ≡ nodes.old.kept }
 {
     let View::Sign(sign, _) = view else {
@@ -254,7 +262,8 @@ pub fn value_dot_step(
     view: &View,
     place: Pos,
 ) -> Result<Option<Mode>, Memory>
-    ensures step { let awaited = value_dot_step place nodes.old.all stack.old (seen view.now) in gives result nodes.new.all stack.new awaited ≡ awaited }
+    ensures step { let awaited = value_dot_step place nodes.old.all stack.old (seen view.now) in
+        gives result nodes.new.all stack.new awaited ≡ awaited }
     ensures kept { nodes.new.kept ≡ nodes.old.kept }
 {
     let View::Name(name, _) = view else {
@@ -275,7 +284,8 @@ pub fn define_open_step(
     view: &View,
     place: Pos,
 ) -> Result<Option<Mode>, Memory>
-    ensures step { let awaited = define_open_step place nodes.old.all stack.old (seen view.now) in gives result nodes.new.all stack.new awaited ≡ awaited }
+    ensures step { let awaited = define_open_step place nodes.old.all stack.old (seen view.now) in
+        gives result nodes.new.all stack.new awaited ≡ awaited }
     ensures kept { nodes.new.kept ≡ nodes.old.kept }
 {
     let View::Sign(sign, _) = view else {
@@ -295,7 +305,8 @@ pub fn define_name_step(
     view: &View,
     place: Pos,
 ) -> Result<Option<Mode>, Memory>
-    ensures step { let awaited = define_name_step place nodes.old.all stack.old (seen view.now) in gives result nodes.new.all stack.new awaited ≡ awaited }
+    ensures step { let awaited = define_name_step place nodes.old.all stack.old (seen view.now) in
+        gives result nodes.new.all stack.new awaited ≡ awaited }
     ensures kept { nodes.new.kept ≡ nodes.old.kept }
 {
     let View::Name(name, _) = view else {
@@ -325,7 +336,8 @@ pub fn define_assign_step(
     place: Pos,
     parent_first: bool,
 ) -> Result<Option<Mode>, Memory>
-    ensures step { let awaited = define_assign_step place parent_first nodes.old.all stack.old (seen view.now) in gives result nodes.new.all stack.new awaited ≡ awaited }
+    ensures step { let awaited = define_assign_step place parent_first nodes.old.all stack.old (seen view.now) in
+        gives result nodes.new.all stack.new awaited ≡ awaited }
     ensures kept { nodes.new.kept ≡ nodes.old.kept }
 {
     let View::Sign(sign, _) = view else {
@@ -351,7 +363,8 @@ pub fn define_other_step(
     parent_first: bool,
     first: NodeId,
 ) -> Result<Option<Mode>, Memory>
-    ensures step { let awaited = define_other_step place parent_first first nodes.old.all stack.old (seen view.now) in gives result nodes.new.all stack.new awaited ≡ awaited }
+    ensures step { let awaited = define_other_step place parent_first first nodes.old.all stack.old (seen view.now) in
+        gives result nodes.new.all stack.new awaited ≡ awaited }
     ensures kept { nodes.new.kept ≡ nodes.old.kept }
 {
     let View::Name(name, _) = view else {
@@ -382,7 +395,8 @@ pub fn define_other_assign_step(
     parent_first: bool,
     first: NodeId,
 ) -> Result<Option<Mode>, Memory>
-    ensures step { let awaited = define_other_assign_step place parent_first first nodes.old.all stack.old (seen view.now) in gives result nodes.new.all stack.new awaited ≡ awaited }
+    ensures step { let awaited = define_other_assign_step place parent_first first nodes.old.all stack.old
+        (seen view.now) in gives result nodes.new.all stack.new awaited ≡ awaited }
     ensures kept { nodes.new.kept ≡ nodes.old.kept }
 {
     let View::Sign(sign, _) = view else {

@@ -12,13 +12,16 @@ use Rattle.scj_tree.specs.declared.nodes.Node.TheVariants.{SimpleName}
 use Rattle.scj_tree.specs.declared.readings.PostKind.{PostKind}
 use Rattle.scj_tree.specs.declared.readings.PostKind.TheVariants.{Variable}
 
-pub not_due_behind : (kind : PostKind) (p : Pos) (id : ℕ) (N : List Node) (s : List Entry) (t : Lexeme) → awaits_target s ≡ false → post_ended kind p id N s t ≡ closed id N s t
+pub not_due_behind : (kind : PostKind) (p : Pos) (id : ℕ) (N : List Node) (s : List Entry) (t : Lexeme) →
+    awaits_target s ≡ false → post_ended kind p id N s t ≡ closed id N s t
 unfolding awaits_target post_ended
 not_due_behind kind p id N [] t h = refl
 not_due_behind kind p id N (Target ∷ s) t h = cc
 not_due_behind kind p id N (_ ∷ s) t h = refl
 
-pub not_due_at_name : (p : Pos) (w : List ℕ) (N : List Node) (s : List Entry) (n : ℕ) (q : Pos) → awaits_target s ≡ false → name_sign_step p w N s n q ≡ post_step Variable p (length N) (put N (SimpleName p w)) s (a_sign n q)
+pub not_due_at_name : (p : Pos) (w : List ℕ) (N : List Node) (s : List Entry) (n : ℕ) (q : Pos) →
+    awaits_target s ≡ false → name_sign_step p w N s n q ≡ post_step Variable p (length N) (put N (SimpleName p w)) s
+    (a_sign n q)
 unfolding awaits_target name_sign_step
 not_due_at_name p w N [] n q h = refl
 not_due_at_name p w N (Target ∷ s) n q h = cc

@@ -24,7 +24,8 @@ pub fn new_word(
     place: Pos,
     word_place: Pos,
 ) -> Result<Option<Mode>, Memory>
-    ensures step { let awaited = new_step place nodes.old.all stack.old (a_word word word_place) in gives result nodes.new.all stack.new awaited ≡ awaited }
+    ensures step { let awaited = new_step place nodes.old.all stack.old (a_word word word_place) in
+        gives result nodes.new.all stack.new awaited ≡ awaited }
     ensures kept { nodes.new.kept ≡ nodes.old.kept }
 {
     let node = match word {
@@ -50,7 +51,8 @@ pub fn new_step(
     view: &View,
     place: Pos,
 ) -> Result<Option<Mode>, Memory>
-    ensures step { let awaited = new_step place nodes.old.all stack.old (seen view.now) in gives result nodes.new.all stack.new awaited ≡ awaited }
+    ensures step { let awaited = new_step place nodes.old.all stack.old (seen view.now) in
+        gives result nodes.new.all stack.new awaited ≡ awaited }
     ensures kept { nodes.new.kept ≡ nodes.old.kept }
 {
     match view {
@@ -74,7 +76,8 @@ pub fn new_name_step(
     name_place: Pos,
     name: &SharedName,
 ) -> Result<Option<Mode>, Memory>
-    ensures step { let awaited = new_name_step place name_place name.now nodes.old.all stack.old (seen view.now) in gives result nodes.new.all stack.new awaited ≡ awaited }
+    ensures step { let awaited = new_name_step place name_place name.now nodes.old.all stack.old (seen view.now) in
+        gives result nodes.new.all stack.new awaited ≡ awaited }
     ensures kept { nodes.new.kept ≡ nodes.old.kept }
 {
     let View::Sign(sign, _) = view else {
@@ -113,7 +116,8 @@ pub fn new_element_step(
     place: Pos,
     element: NodeId,
 ) -> Result<Option<Mode>, Memory>
-    ensures step { let awaited = new_element_step place element nodes.old.all stack.old (seen view.now) in gives result nodes.new.all stack.new awaited ≡ awaited }
+    ensures step { let awaited = new_element_step place element nodes.old.all stack.old (seen view.now) in
+        gives result nodes.new.all stack.new awaited ≡ awaited }
     ensures kept { nodes.new.kept ≡ nodes.old.kept }
 {
     if let View::Sign(LEFT_BRACKET, _) = view {
@@ -130,7 +134,8 @@ pub fn argument_start(
     stack: &mut Stack,
     view: &View,
 ) -> Result<Option<Mode>, Memory>
-    ensures step { let awaited = argument_start nodes.old.all stack.old (seen view.now) in gives result nodes.new.all stack.new awaited ≡ awaited }
+    ensures step { let awaited = argument_start nodes.old.all stack.old (seen view.now) in
+        gives result nodes.new.all stack.new awaited ≡ awaited }
     ensures kept { nodes.new.kept ≡ nodes.old.kept }
 {
     if let View::Text(bytes, place) = view {
@@ -147,7 +152,8 @@ pub fn argument_start(
 /// Behind the parentheses of a call without arguments.
 #[tactic(auto, unfolding(parser_machine::specs::Operands::no_arguments_step))]
 pub fn no_arguments_step(nodes: &mut Nodes, stack: &mut Stack) -> Result<Option<Mode>, Memory>
-    ensures step { let awaited = no_arguments_step nodes.old.all stack.old in gives result nodes.new.all stack.new awaited ≡ awaited }
+    ensures step { let awaited = no_arguments_step nodes.old.all stack.old in
+        gives result nodes.new.all stack.new awaited ≡ awaited }
     ensures kept { nodes.new.kept ≡ nodes.old.kept }
 {
     let Some(entry) = stack.pop() else {
@@ -169,7 +175,8 @@ pub fn argument_first_step(
     stack: &mut Stack,
     view: &View,
 ) -> Result<Option<Mode>, Memory>
-    ensures step { let awaited = argument_first_step nodes.old.all stack.old (seen view.now) in gives result nodes.new.all stack.new awaited ≡ awaited }
+    ensures step { let awaited = argument_first_step nodes.old.all stack.old (seen view.now) in
+        gives result nodes.new.all stack.new awaited ≡ awaited }
     ensures kept { nodes.new.kept ≡ nodes.old.kept }
 {
     if let View::Sign(RIGHT_PARENTHESIS, _) = view {
@@ -186,7 +193,8 @@ pub fn text_step(
     view: &View,
     id: NodeId,
 ) -> Result<Option<Mode>, Memory>
-    ensures step { let awaited = text_step id nodes.old.all stack.old (seen view.now) in gives result nodes.new.all stack.new awaited ≡ awaited }
+    ensures step { let awaited = text_step id nodes.old.all stack.old (seen view.now) in
+        gives result nodes.new.all stack.new awaited ≡ awaited }
     ensures kept { nodes.new.kept ≡ nodes.old.kept }
 {
     let Some(entry) = stack.pop() else {

@@ -23,7 +23,8 @@ pub fn assigned(
     view: &View,
     id: NodeId,
 ) -> Result<Option<Mode>, Memory>
-    ensures step { let awaited = assigned id nodes.old.all stack.old (seen view.now) in gives result nodes.new.all stack.new awaited ≡ awaited }
+    ensures step { let awaited = assigned id nodes.old.all stack.old (seen view.now) in
+        gives result nodes.new.all stack.new awaited ≡ awaited }
     ensures kept { nodes.new.kept ≡ nodes.old.kept }
 {
     let View::Sign(sign, _) = view else {
@@ -76,7 +77,8 @@ pub fn arguments_ended(
     stack: &mut Stack,
     list: NodeList,
 ) -> Result<Option<Mode>, Memory>
-    ensures step { let awaited = arguments_ended list nodes.old.all stack.old in gives result nodes.new.all stack.new awaited ≡ awaited }
+    ensures step { let awaited = arguments_ended list nodes.old.all stack.old in
+        gives result nodes.new.all stack.new awaited ≡ awaited }
     ensures kept { nodes.new.kept ≡ nodes.old.kept }
 {
     let Some(entry) = stack.pop() else {
@@ -137,7 +139,8 @@ pub fn super_call_ended(
     block_place: Pos,
     place: Pos,
 ) -> Result<Option<Mode>, Memory>
-    ensures step { let awaited = arguments_ended list nodes.old.all (SuperCallOpen block_place place ∷ stack.old) in gives result nodes.new.all stack.new awaited ≡ awaited }
+    ensures step { let awaited = arguments_ended list nodes.old.all (SuperCallOpen block_place place ∷ stack.old) in
+        gives result nodes.new.all stack.new awaited ≡ awaited }
     ensures kept { nodes.new.kept ≡ nodes.old.kept }
 {
     let Some(entry) = stack.pop() else {
@@ -177,7 +180,8 @@ pub fn argument_ended(
     id: NodeId,
     list: NodeList,
 ) -> Result<Option<Mode>, Memory>
-    ensures step { let awaited = argument_ended id list nodes.old.all stack.old (seen view.now) in gives result nodes.new.all stack.new awaited ≡ awaited }
+    ensures step { let awaited = argument_ended id list nodes.old.all stack.old (seen view.now) in
+        gives result nodes.new.all stack.new awaited ≡ awaited }
     ensures kept { nodes.new.kept ≡ nodes.old.kept }
 {
     let View::Sign(sign, _) = view else {
@@ -204,7 +208,8 @@ pub fn target_assigned(
     id: NodeId,
     place: Pos,
 ) -> Result<Option<Mode>, Memory>
-    ensures step { let awaited = target_assigned kind id place nodes.old.all stack.old in gives result nodes.new.all stack.new awaited ≡ awaited }
+    ensures step { let awaited = target_assigned kind id place nodes.old.all stack.old in
+        gives result nodes.new.all stack.new awaited ≡ awaited }
     ensures kept { nodes.new.kept ≡ nodes.old.kept }
 {
     match kind {
@@ -225,7 +230,8 @@ pub fn target_alone(
     place: Pos,
     id: NodeId,
 ) -> Result<Option<Mode>, Memory>
-    ensures step { let awaited = target_alone kind place id nodes.old.all stack.old in gives result nodes.new.all stack.new awaited ≡ awaited }
+    ensures step { let awaited = target_alone kind place id nodes.old.all stack.old in
+        gives result nodes.new.all stack.new awaited ≡ awaited }
     ensures kept { nodes.new.kept ≡ nodes.old.kept }
 {
     let PostKind::Invocation = kind else {
@@ -256,7 +262,8 @@ pub fn target_ended(
     place: Pos,
     id: NodeId,
 ) -> Result<Option<Mode>, Memory>
-    ensures step { let awaited = target_ended kind place id nodes.old.all stack.old (seen view.now) in gives result nodes.new.all stack.new awaited ≡ awaited }
+    ensures step { let awaited = target_ended kind place id nodes.old.all stack.old (seen view.now) in
+        gives result nodes.new.all stack.new awaited ≡ awaited }
     ensures kept { nodes.new.kept ≡ nodes.old.kept }
 {
     let View::Sign(sign, sign_place) = view else {
@@ -283,7 +290,8 @@ pub fn compound_ended(
     left: NodeId,
     id: NodeId,
 ) -> Result<Option<Mode>, Memory>
-    ensures step { let awaited = ended (CompoundValue place operator target left) id nodes.old.all stack.old (seen view.now) in gives result nodes.new.all stack.new awaited ≡ awaited }
+    ensures step { let awaited = ended (CompoundValue place operator target left) id nodes.old.all stack.old
+        (seen view.now) in gives result nodes.new.all stack.new awaited ≡ awaited }
     ensures kept { nodes.new.kept ≡ nodes.old.kept }
 {
     let inner = nodes.put(Node::Parenthesized { place, inner: id })?;
@@ -310,7 +318,8 @@ pub fn group_ended(
     place: Pos,
     id: NodeId,
 ) -> Result<Option<Mode>, Memory>
-    ensures step { let awaited = ended (GroupOpen place) id nodes.old.all stack.old (seen view.now) in gives result nodes.new.all stack.new awaited ≡ awaited }
+    ensures step { let awaited = ended (GroupOpen place) id nodes.old.all stack.old (seen view.now) in
+        gives result nodes.new.all stack.new awaited ≡ awaited }
     ensures kept { nodes.new.kept ≡ nodes.old.kept }
 {
     let View::Sign(sign, _) = view else {
@@ -337,7 +346,8 @@ pub fn index_ended(
     array: NodeId,
     id: NodeId,
 ) -> Result<Option<Mode>, Memory>
-    ensures step { let awaited = ended (IndexOpen place array) id nodes.old.all stack.old (seen view.now) in gives result nodes.new.all stack.new awaited ≡ awaited }
+    ensures step { let awaited = ended (IndexOpen place array) id nodes.old.all stack.old (seen view.now) in
+        gives result nodes.new.all stack.new awaited ≡ awaited }
     ensures kept { nodes.new.kept ≡ nodes.old.kept }
 {
     let View::Sign(sign, _) = view else {
@@ -368,7 +378,8 @@ pub fn length_ended(
     element: NodeId,
     id: NodeId,
 ) -> Result<Option<Mode>, Memory>
-    ensures step { let awaited = ended (LengthOpen place element) id nodes.old.all stack.old (seen view.now) in gives result nodes.new.all stack.new awaited ≡ awaited }
+    ensures step { let awaited = ended (LengthOpen place element) id nodes.old.all stack.old (seen view.now) in
+        gives result nodes.new.all stack.new awaited ≡ awaited }
     ensures kept { nodes.new.kept ≡ nodes.old.kept }
 {
     let View::Sign(sign, _) = view else {
@@ -399,7 +410,8 @@ pub fn for_test_ended(
     first: NodeId,
     id: NodeId,
 ) -> Result<Option<Mode>, Memory>
-    ensures step { let awaited = ended (ForTest place first) id nodes.old.all stack.old (seen view.now) in gives result nodes.new.all stack.new awaited ≡ awaited }
+    ensures step { let awaited = ended (ForTest place first) id nodes.old.all stack.old (seen view.now) in
+        gives result nodes.new.all stack.new awaited ≡ awaited }
     ensures kept { nodes.new.kept ≡ nodes.old.kept }
 {
     let View::Sign(sign, _) = view else {
@@ -425,7 +437,8 @@ pub fn if_test_ended(
     place: Pos,
     id: NodeId,
 ) -> Result<Option<Mode>, Memory>
-    ensures step { let awaited = ended (IfTest place) id nodes.old.all stack.old (seen view.now) in gives result nodes.new.all stack.new awaited ≡ awaited }
+    ensures step { let awaited = ended (IfTest place) id nodes.old.all stack.old (seen view.now) in
+        gives result nodes.new.all stack.new awaited ≡ awaited }
     ensures kept { nodes.new.kept ≡ nodes.old.kept }
 {
     let View::Sign(sign, _) = view else {
@@ -450,7 +463,8 @@ pub fn while_test_ended(
     place: Pos,
     id: NodeId,
 ) -> Result<Option<Mode>, Memory>
-    ensures step { let awaited = ended (WhileTest place) id nodes.old.all stack.old (seen view.now) in gives result nodes.new.all stack.new awaited ≡ awaited }
+    ensures step { let awaited = ended (WhileTest place) id nodes.old.all stack.old (seen view.now) in
+        gives result nodes.new.all stack.new awaited ≡ awaited }
     ensures kept { nodes.new.kept ≡ nodes.old.kept }
 {
     let View::Sign(sign, _) = view else {
@@ -475,7 +489,8 @@ pub fn return_ended(
     place: Pos,
     id: NodeId,
 ) -> Result<Option<Mode>, Memory>
-    ensures step { let awaited = ended (ReturnValue place) id nodes.old.all stack.old (seen view.now) in gives result nodes.new.all stack.new awaited ≡ awaited }
+    ensures step { let awaited = ended (ReturnValue place) id nodes.old.all stack.old (seen view.now) in
+        gives result nodes.new.all stack.new awaited ≡ awaited }
     ensures kept { nodes.new.kept ≡ nodes.old.kept }
 {
     let View::Sign(sign, _) = view else {
@@ -501,7 +516,8 @@ pub fn value_ended(
     target: NodeId,
     id: NodeId,
 ) -> Result<Option<Mode>, Memory>
-    ensures step { let awaited = ended (AssignValue place target) id nodes.old.all stack.old (seen view.now) in gives result nodes.new.all stack.new awaited ≡ awaited }
+    ensures step { let awaited = ended (AssignValue place target) id nodes.old.all stack.old (seen view.now) in
+        gives result nodes.new.all stack.new awaited ≡ awaited }
     ensures kept { nodes.new.kept ≡ nodes.old.kept }
 {
     let id = nodes.put(Node::Assign {
@@ -525,7 +541,8 @@ pub fn local_value_ended(
     declared_type: NodeId,
     id: NodeId,
 ) -> Result<Option<Mode>, Memory>
-    ensures step { let awaited = ended (LocalValue place name_place name flags declared_type) id nodes.old.all stack.old (seen view.now) in gives result nodes.new.all stack.new awaited ≡ awaited }
+    ensures step { let awaited = ended (LocalValue place name_place name flags declared_type) id nodes.old.all stack.old
+        (seen view.now) in gives result nodes.new.all stack.new awaited ≡ awaited }
     ensures kept { nodes.new.kept ≡ nodes.old.kept }
 {
     let id = nodes.put(Node::LocalWithValue {
@@ -548,7 +565,8 @@ pub fn ended(
     entry: Entry,
     id: NodeId,
 ) -> Result<Option<Mode>, Memory>
-    ensures step { let awaited = ended entry id nodes.old.all stack.old (seen view.now) in gives result nodes.new.all stack.new awaited ≡ awaited }
+    ensures step { let awaited = ended entry id nodes.old.all stack.old (seen view.now) in
+        gives result nodes.new.all stack.new awaited ≡ awaited }
     ensures kept { nodes.new.kept ≡ nodes.old.kept }
 {
     match entry {
@@ -598,7 +616,8 @@ pub fn shifted(
     view: &View,
     id: NodeId,
 ) -> Result<Option<Mode>, Memory>
-    ensures step { let awaited = shifted id nodes.old.all stack.old (seen view.now) in gives result nodes.new.all stack.new awaited ≡ awaited }
+    ensures step { let awaited = shifted id nodes.old.all stack.old (seen view.now) in
+        gives result nodes.new.all stack.new awaited ≡ awaited }
     ensures kept { nodes.new.kept ≡ nodes.old.kept }
 {
     let View::Sign(operator, place) = view else {
@@ -620,7 +639,8 @@ pub fn closed(
     view: &View,
     id: NodeId,
 ) -> Result<Option<Mode>, Memory>
-    ensures step { let awaited = closed id nodes.old.all stack.old (seen view.now) in gives result nodes.new.all stack.new awaited ≡ awaited }
+    ensures step { let awaited = closed id nodes.old.all stack.old (seen view.now) in
+        gives result nodes.new.all stack.new awaited ≡ awaited }
     ensures kept { nodes.new.kept ≡ nodes.old.kept }
 {
     let level = level_of(view);

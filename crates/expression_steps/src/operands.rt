@@ -28,7 +28,8 @@ pub fn post_ended(
     place: Pos,
     id: NodeId,
 ) -> Result<Option<Mode>, Memory>
-    ensures step { let awaited = post_ended kind place id nodes.old.all stack.old (seen view.now) in gives result nodes.new.all stack.new awaited ≡ awaited }
+    ensures step { let awaited = post_ended kind place id nodes.old.all stack.old (seen view.now) in
+        gives result nodes.new.all stack.new awaited ≡ awaited }
     ensures kept { nodes.new.kept ≡ nodes.old.kept }
 {
     if stack.pop_target() {
@@ -47,7 +48,8 @@ pub fn post_step(
     place: Pos,
     id: NodeId,
 ) -> Result<Option<Mode>, Memory>
-    ensures step { let awaited = post_step kind place id nodes.old.all stack.old (seen view.now) in gives result nodes.new.all stack.new awaited ≡ awaited }
+    ensures step { let awaited = post_step kind place id nodes.old.all stack.old (seen view.now) in
+        gives result nodes.new.all stack.new awaited ≡ awaited }
     ensures kept { nodes.new.kept ≡ nodes.old.kept }
 {
     if let View::Sign(sign, sign_place) = view {
@@ -74,7 +76,8 @@ pub fn dot_step(
     view: &View,
     object: NodeId,
 ) -> Result<Option<Mode>, Memory>
-    ensures step { let awaited = dot_step object nodes.old.all stack.old (seen view.now) in gives result nodes.new.all stack.new awaited ≡ awaited }
+    ensures step { let awaited = dot_step object nodes.old.all stack.old (seen view.now) in
+        gives result nodes.new.all stack.new awaited ≡ awaited }
     ensures kept { nodes.new.kept ≡ nodes.old.kept }
 {
     let View::Name(name, place) = view else {
@@ -97,7 +100,8 @@ pub fn dot_name_step(
     place: Pos,
     name: &SharedName,
 ) -> Result<Option<Mode>, Memory>
-    ensures step { let awaited = dot_name_step object place name.now nodes.old.all stack.old (seen view.now) in gives result nodes.new.all stack.new awaited ≡ awaited }
+    ensures step { let awaited = dot_name_step object place name.now nodes.old.all stack.old (seen view.now) in
+        gives result nodes.new.all stack.new awaited ≡ awaited }
     ensures kept { nodes.new.kept ≡ nodes.old.kept }
 {
     if let View::Sign(LEFT_PARENTHESIS, _) = view {
@@ -129,7 +133,8 @@ pub fn compound_step(
     sign_place: Pos,
     operator: u8,
 ) -> Result<Option<Mode>, Memory>
-    ensures step { let awaited = compound_step place name.now sign_place operator nodes.old.all stack.old in gives result nodes.new.all stack.new awaited ≡ awaited }
+    ensures step { let awaited = compound_step place name.now sign_place operator nodes.old.all stack.old in
+        gives result nodes.new.all stack.new awaited ≡ awaited }
     ensures kept { nodes.new.kept ≡ nodes.old.kept }
 {
     let target = nodes.put(Node::SimpleName {
@@ -159,7 +164,8 @@ pub fn stepping_step(
     sign_place: Pos,
     operator: u8,
 ) -> Result<Option<Mode>, Memory>
-    ensures step { let awaited = stepping_step place name.now sign_place operator nodes.old.all stack.old in gives result nodes.new.all stack.new awaited ≡ awaited }
+    ensures step { let awaited = stepping_step place name.now sign_place operator nodes.old.all stack.old in
+        gives result nodes.new.all stack.new awaited ≡ awaited }
     ensures kept { nodes.new.kept ≡ nodes.old.kept }
 {
     let target = nodes.put(Node::SimpleName {
@@ -199,7 +205,8 @@ pub fn target_name_step(
     sign: u8,
     sign_place: Pos,
 ) -> Result<Option<Mode>, Memory>
-    ensures step { let awaited = target_name_step place name.now nodes.old.all stack.old sign sign_place in gives result nodes.new.all stack.new awaited ≡ awaited }
+    ensures step { let awaited = target_name_step place name.now nodes.old.all stack.old sign sign_place in
+        gives result nodes.new.all stack.new awaited ≡ awaited }
     ensures kept { nodes.new.kept ≡ nodes.old.kept }
 {
     if let Some(operator) = compound(sign) {
@@ -227,7 +234,8 @@ pub fn name_sign_step(
     sign: u8,
     sign_place: Pos,
 ) -> Result<Option<Mode>, Memory>
-    ensures step { let awaited = name_sign_step place name.now nodes.old.all stack.old sign sign_place in gives result nodes.new.all stack.new awaited ≡ awaited }
+    ensures step { let awaited = name_sign_step place name.now nodes.old.all stack.old sign sign_place in
+        gives result nodes.new.all stack.new awaited ≡ awaited }
     ensures kept { nodes.new.kept ≡ nodes.old.kept }
 {
     if stack.pop_target() {
@@ -250,7 +258,8 @@ pub fn name_step(
     place: Pos,
     name: &SharedName,
 ) -> Result<Option<Mode>, Memory>
-    ensures step { let awaited = name_step place name.now nodes.old.all stack.old (seen view.now) in gives result nodes.new.all stack.new awaited ≡ awaited }
+    ensures step { let awaited = name_step place name.now nodes.old.all stack.old (seen view.now) in
+        gives result nodes.new.all stack.new awaited ≡ awaited }
     ensures kept { nodes.new.kept ≡ nodes.old.kept }
 {
     if let View::Sign(sign, sign_place) = view {
@@ -282,7 +291,8 @@ pub fn operand_word(
     word: u8,
     place: Pos,
 ) -> Result<Option<Mode>, Memory>
-    ensures step { let awaited = operand_word word place nodes.old.all stack.old in gives result nodes.new.all stack.new awaited ≡ awaited }
+    ensures step { let awaited = operand_word word place nodes.old.all stack.old in
+        gives result nodes.new.all stack.new awaited ≡ awaited }
     ensures kept { nodes.new.kept ≡ nodes.old.kept }
 {
     if word == NEW {
@@ -311,7 +321,8 @@ pub fn operand_sign(
     sign: u8,
     place: Pos,
 ) -> Result<Option<Mode>, Memory>
-    ensures step { let awaited = operand_sign sign place nodes.old.all stack.old in gives result nodes.new.all stack.new awaited ≡ awaited }
+    ensures step { let awaited = operand_sign sign place nodes.old.all stack.old in
+        gives result nodes.new.all stack.new awaited ≡ awaited }
     ensures kept { nodes.new.kept ≡ nodes.old.kept }
 {
     if sign == LEFT_PARENTHESIS {
@@ -337,7 +348,8 @@ pub fn operand_start(
     stack: &mut Stack,
     view: &View,
 ) -> Result<Option<Mode>, Memory>
-    ensures step { let awaited = operand_start nodes.old.all stack.old (seen view.now) in gives result nodes.new.all stack.new awaited ≡ awaited }
+    ensures step { let awaited = operand_start nodes.old.all stack.old (seen view.now) in
+        gives result nodes.new.all stack.new awaited ≡ awaited }
     ensures kept { nodes.new.kept ≡ nodes.old.kept }
 {
     match view {
@@ -374,7 +386,8 @@ pub fn minus_step(
     view: &View,
     place: Pos,
 ) -> Result<Option<Mode>, Memory>
-    ensures step { let awaited = minus_step place nodes.old.all stack.old (seen view.now) in gives result nodes.new.all stack.new awaited ≡ awaited }
+    ensures step { let awaited = minus_step place nodes.old.all stack.old (seen view.now) in
+        gives result nodes.new.all stack.new awaited ≡ awaited }
     ensures kept { nodes.new.kept ≡ nodes.old.kept }
 {
     if let View::Number(MINIMUM, _) = view {
@@ -404,7 +417,8 @@ pub fn opened_step(
     view: &View,
     place: Pos,
 ) -> Result<Option<Mode>, Memory>
-    ensures step { let awaited = opened_step place nodes.old.all stack.old (seen view.now) in gives result nodes.new.all stack.new awaited ≡ awaited }
+    ensures step { let awaited = opened_step place nodes.old.all stack.old (seen view.now) in
+        gives result nodes.new.all stack.new awaited ≡ awaited }
     ensures kept { nodes.new.kept ≡ nodes.old.kept }
 {
     if let View::Name(name, name_place) = view {
@@ -428,7 +442,8 @@ pub fn opened_name_step(
     name_place: Pos,
     name: &SharedName,
 ) -> Result<Option<Mode>, Memory>
-    ensures step { let awaited = opened_name_step place name_place name.now nodes.old.all stack.old (seen view.now) in gives result nodes.new.all stack.new awaited ≡ awaited }
+    ensures step { let awaited = opened_name_step place name_place name.now nodes.old.all stack.old (seen view.now) in
+        gives result nodes.new.all stack.new awaited ≡ awaited }
     ensures kept { nodes.new.kept ≡ nodes.old.kept }
 {
     if let View::Sign(RIGHT_PARENTHESIS, _) = view {
@@ -452,7 +467,8 @@ pub fn closed_name_step(
     name_place: Pos,
     name: &SharedName,
 ) -> Result<Option<Mode>, Memory>
-    ensures step { let awaited = closed_name_step place name_place name.now nodes.old.all stack.old (seen view.now) in gives result nodes.new.all stack.new awaited ≡ awaited }
+    ensures step { let awaited = closed_name_step place name_place name.now nodes.old.all stack.old (seen view.now) in
+        gives result nodes.new.all stack.new awaited ≡ awaited }
     ensures kept { nodes.new.kept ≡ nodes.old.kept }
 {
     if is_unary1_start(view) && !stack.is_target() {

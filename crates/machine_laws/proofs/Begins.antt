@@ -83,7 +83,9 @@ follows_of n (a_name w p ∷ o) e = refl
 follows_of n (a_word w p ∷ o) e = refl
 follows_of n (a_number w p ∷ o) e = refl
 follows_of n (a_text w p ∷ o) e = refl
-follows_of n (a_sign m p ∷ o) e = not_false _ (or_right (m == sign_left_bracket) (calls_on m) (or_right (m == sign_dot) _ (not_true _ (and_right _ _ e))))
+follows_of n (a_sign m p ∷ o) e =
+    not_false _
+    (or_right (m == sign_left_bracket) (calls_on m) (or_right (m == sign_dot) _ (not_true _ (and_right _ _ e))))
 follows_of n (the_end p ∷ o) e = refl
 
 pub ends_up : (n : ℕ) (o : List Lexeme) → ends n o ≡ true → ends (suc n) o ≡ true
@@ -93,7 +95,8 @@ ends_up n (a_name w p ∷ o) e = refl
 ends_up n (a_word w p ∷ o) e = refl
 ends_up n (a_number w p ∷ o) e = refl
 ends_up n (a_text w p ∷ o) e = refl
-ends_up n (a_sign m p ∷ o) e = let h : level m ≤ n = leb-true _ _ (and_left _ _ e) in both _ _ (le-leb (level m) (suc n) (omega (arith, h))) (and_right _ _ e)
+ends_up n (a_sign m p ∷ o) e = let h : level m ≤ n = leb-true _ _ (and_left _ _ e) in
+    both _ _ (le-leb (level m) (suc n) (omega (arith, h))) (and_right _ _ e)
 ends_up n (the_end p ∷ o) e = refl
 
 -- an operator is no such sign
@@ -102,7 +105,13 @@ operates n = nat_le 1 (level n)
 
 no_compound : (n : ℕ) → operates n ≡ true → compound n ≡ None
 unfolding operates level compound
-no_compound n e = rw (d 36 refl) (rw (d 37 refl) (rw (d 38 refl) (rw (d 39 refl) (rw (d 40 refl) (rw (d 41 refl) (rw (d 42 refl) (rw (d 43 refl) (rw (d 44 refl) (rw (d 45 refl) (rw (d 46 refl) refl))))))))))
+no_compound n e =
+    rw (d 36 refl)
+    (rw (d 37 refl)
+    (rw (d 38 refl)
+    (rw (d 39 refl)
+    (rw (d 40 refl)
+    (rw (d 41 refl) (rw (d 42 refl) (rw (d 43 refl) (rw (d 44 refl) (rw (d 45 refl) (rw (d 46 refl) refl))))))))))
   where
     d : (k : ℕ) → operates k ≡ false → (n == k) ≡ false
     d k = differs operates n k e
@@ -113,9 +122,13 @@ no_stepping n e = rw (differs operates n 34 e refl) (rw (differs operates n 35 e
 
 pub operator_ends : (n : ℕ) → nat_le 1 (level n) ≡ true → continues n ≡ false
 unfolding operates level continues calls_on
-operator_ends n e = rw (differs operates n sign_dot e refl) (rw (differs operates n sign_left_bracket e refl) (rw (differs operates n sign_left_parenthesis e refl) (rw (no_compound n e) (rw (no_stepping n e) refl))))
+operator_ends n e =
+    rw (differs operates n sign_dot e refl)
+    (rw (differs operates n sign_left_bracket e refl)
+    (rw (differs operates n sign_left_parenthesis e refl) (rw (no_compound n e) (rw (no_stepping n e) refl))))
 
-pub operator_rest : (n : ℕ) (p : Pos) (o : List Lexeme) → nat_le 1 (level n) ≡ true → ends (level n) (a_sign n p ∷ o) ≡ true
+pub operator_rest : (n : ℕ) (p : Pos) (o : List Lexeme) → nat_le 1 (level n) ≡ true →
+    ends (level n) (a_sign n p ∷ o) ≡ true
 unfolding ends
 operator_rest n p o e = both _ _ (le-leb (level n) (level n) (omega arith)) (not_false _ (operator_ends n e))
 
@@ -128,7 +141,8 @@ begins_operand (t ∷ o) = is_operand_start t
 mutual
   unfolding begins_operand is_operand_start is_unary1_start
 
-  pub level_begins : {n : ℕ} {N N1 : List Node} {i o : List Lexeme} {e : ℕ} → Level n N i N1 o e → begins_operand i ≡ true
+  pub level_begins : {n : ℕ} {N N1 : List Node} {i o : List Lexeme} {e : ℕ} → Level n N i N1 o e →
+      begins_operand i ≡ true
   level_begins (operand d) = unary_begins d
   level_begins (tighter d) = level_begins d
   level_begins (binary h l r) = level_begins l
@@ -144,7 +158,8 @@ mutual
   unary1_begins (cast h d) = refl
   unary1_begins (post_unary d) = post_begins d
 
-  pub post_begins : {m : Bool} {k : PostKind} {p : Pos} {N N1 : List Node} {i o : List Lexeme} {e : ℕ} → PostRead m k p N i N1 o e → begins_operand i ≡ true
+  pub post_begins : {m : Bool} {k : PostKind} {p : Pos} {N N1 : List Node} {i o : List Lexeme} {e : ℕ} →
+      PostRead m k p N i N1 o e → begins_operand i ≡ true
   post_begins simple_name = refl
   post_begins (simple_call a) = refl
   post_begins (field_of d) = post_begins d

@@ -25,8 +25,23 @@ left_none : {o : Option State} (r : Lexeme) → o ≡ None → then_step o r ≡
 unfolding then_step
 left_none r e = ap (λ o. then_step o r) e
 
-behind_end : (mode : Mode) (N : List Node) (s : List Entry) (p : Pos) (r : Lexeme) → then_step (step_mode mode N s (the_end p)) r ≡ None
-unfolding then_step step step_mode is_unary1_start target_start first_start name_first_step name_bracket_step local_named_step test_open_step return_step statement_word statement_sign statement_start statements_step element_node type_end_step type_bracket_step type_name_step type_argument_name_step type_argument_end_step type_start member_word member_start class_start scope_named runs_in_named define_scope_named annotation_named plain_open_step pair_ended plain_value_step plain_next_step plain_first_step plain_path_step plain_name_step plain_assigned_step plain_dot_step plain_end_step value_end_step value_open_step value_start_step value_scope_step value_dot_step define_open_step define_name_step define_assign_step other_word define_other_step define_other_assign_step package_name_step package_end_step import_name_step import_start_step import_dot_step import_end_step import_star_step classes_step imports_step file_start_step class_name_step class_named_step super_name_step superclass_sign interface_sign super_named_step super_argument_name_step super_argument_end_step member_named_step literal_word literal_step literal_minus_step literal_end_step result_step method_named_step parameters_first_step parameter_end_step parameters_end_step constructor_start_step super_open_step super_end_step members_step is_else dot_step dot_name_step compound_step stepping_step target_name_step name_step operand_word operand_sign operand_start is_operand_start minus_step opened_step opened_name_step closed_name_step new_step new_name_step new_element_step argument_start argument_first_step
+behind_end : (mode : Mode) (N : List Node) (s : List Entry) (p : Pos) (r : Lexeme) →
+    then_step (step_mode mode N s (the_end p)) r ≡ None
+unfolding then_step step step_mode is_unary1_start target_start first_start name_first_step name_bracket_step
+    local_named_step test_open_step return_step statement_word statement_sign statement_start statements_step
+    element_node type_end_step type_bracket_step type_name_step type_argument_name_step type_argument_end_step
+    type_start member_word member_start class_start scope_named runs_in_named define_scope_named annotation_named
+    plain_open_step pair_ended plain_value_step plain_next_step plain_first_step plain_path_step plain_name_step
+    plain_assigned_step plain_dot_step plain_end_step value_end_step value_open_step value_start_step value_scope_step
+    value_dot_step define_open_step define_name_step define_assign_step other_word define_other_step
+    define_other_assign_step package_name_step package_end_step import_name_step import_start_step import_dot_step
+    import_end_step import_star_step classes_step imports_step file_start_step class_name_step class_named_step
+    super_name_step superclass_sign interface_sign super_named_step super_argument_name_step super_argument_end_step
+    member_named_step literal_word literal_step literal_minus_step literal_end_step result_step method_named_step
+    parameters_first_step parameter_end_step parameters_end_step constructor_start_step super_open_step super_end_step
+    members_step is_else dot_step dot_name_step compound_step stepping_step target_name_step name_step operand_word
+    operand_sign operand_start is_operand_start minus_step opened_step opened_name_step closed_name_step new_step
+    new_name_step new_element_step argument_start argument_first_step
 behind_end FileStart N s p r = refl
 behind_end PackageName N s p r = refl
 behind_end PackageEnd N s p r = refl
@@ -114,16 +129,20 @@ behind_end ArgumentNext N s p r = refl
 behind_end (TextRead id) N s p r = left_none r (end_text _ _ _ p)
 
 -- behind the last of these lexemes, which is the end of a file, no lexeme may stand
-run_last : (o : Option State) (last : State) (r : Lexeme) → then_step o r ≡ None → elim o [ Some next ↦ run next [] | None ↦ None ] ≡ Some last → step last r ≡ None
+run_last : (o : Option State) (last : State) (r : Lexeme) → then_step o r ≡ None →
+    elim o [ Some next ↦ run next [] | None ↦ None ] ≡ Some last → step last r ≡ None
 unfolding then_step run
 run_last None last r h e = cc
 run_last (Some next) last r h e = let same : next ≡ last = cc in rw (← same) h
 
-pub nothing_behind : (st last : State) (before : List Lexeme) (p : Pos) (r : Lexeme) → run st (before ++ the_end p ∷ []) ≡ Some last → step last r ≡ None
+pub nothing_behind : (st last : State) (before : List Lexeme) (p : Pos) (r : Lexeme) →
+    run st (before ++ the_end p ∷ []) ≡ Some last → step last r ≡ None
 unfolding run step
-nothing_behind (at mode s N) last [] p r e = run_last (step_mode mode N s (the_end p)) last r (behind_end mode N s p r) e
+nothing_behind (at mode s N) last [] p r e =
+    run_last (step_mode mode N s (the_end p)) last r (behind_end mode N s p r) e
 nothing_behind st last (t ∷ before) p r e = go (λ next h. nothing_behind next last before p r h) (step st t) e
   where
-    go : ((next : State) → run next (before ++ the_end p ∷ []) ≡ Some last → step last r ≡ None) → (o : Option State) → elim o [ Some next ↦ run next (before ++ the_end p ∷ []) | None ↦ None ] ≡ Some last → step last r ≡ None
+    go : ((next : State) → run next (before ++ the_end p ∷ []) ≡ Some last → step last r ≡ None) → (o : Option State) →
+        elim o [ Some next ↦ run next (before ++ the_end p ∷ []) | None ↦ None ] ≡ Some last → step last r ≡ None
     go f None e = cc
     go f (Some next) e = f next e

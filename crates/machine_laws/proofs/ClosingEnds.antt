@@ -37,22 +37,26 @@ either_final false h k = k
 file_final : {s : List Entry} → Awaits a_file s → (N : List Node) → Final (Some (at Finished s N))
 file_final file_open N = read_whole
 
-flags_final : {s : List Entry} → Awaits flagged_thing s → (l : Bool) (f : FlagSet) (N : List Node) (p : Pos) → Final (flags_step l f N s (the_end p))
+flags_final : {s : List Entry} → Awaits flagged_thing s → (l : Bool) (f : FlagSet) (N : List Node) (p : Pos) →
+    Final (flags_step l f N s (the_end p))
 unfolding machine
 flags_final (flags_of_class file_open) l f N p = stopped
 flags_final (flags_of_member (class_body a)) l f N p = stopped
 flags_final (flags_of_parameter (parameters_open a)) l f N p = stopped
 flags_final (flags_of_local (simple_open a)) l f N p = stopped
 
-plain_final : {s : List Entry} → Awaits an_annotation s → (N : List Node) (p : Pos) → Final (plain_without N s (the_end p))
+plain_final : {s : List Entry} → Awaits an_annotation s → (N : List Node) (p : Pos) →
+    Final (plain_without N s (the_end p))
 unfolding plain_without
 plain_final (annotation_open a) N p = flags_final a _ _ N p
 
-at_final : {s : List Entry} → Awaits an_annotation s → (q : Pos) (N : List Node) (p : Pos) → Final (at_step q N s (the_end p))
+at_final : {s : List Entry} → Awaits an_annotation s → (q : Pos) (N : List Node) (p : Pos) →
+    Final (at_step q N s (the_end p))
 unfolding at_step
 at_final (annotation_open a) q N p = stopped
 
-super_final : {s : List Entry} → Awaits a_super s → (id : ℕ) (N : List Node) (p : Pos) → Final (super_ended id N s (the_end p))
+super_final : {s : List Entry} → Awaits a_super s → (id : ℕ) (N : List Node) (p : Pos) →
+    Final (super_ended id N s (the_end p))
 unfolding machine
 super_final (supers_open true a) id N p = stopped
 super_final (supers_open false a) id N p = stopped
@@ -63,17 +67,20 @@ typed_final (member_open a) id N p = stopped
 typed_final (parameter_open a) id N p = stopped
 typed_final (local_open a) id N p = stopped
 
-text_final : {s : List Entry} → Awaits an_argument s → (id : ℕ) (N : List Node) (p : Pos) → Final (text_step id N s (the_end p))
+text_final : {s : List Entry} → Awaits an_argument s → (id : ℕ) (N : List Node) (p : Pos) →
+    Final (text_step id N s (the_end p))
 unfolding machine
 text_final (argument_here a) id N p = stopped
 
-assigned_final : {s : List Entry} → Awaits an_assignment s → (id : ℕ) (N : List Node) (p : Pos) → Final (assigned id N s (the_end p))
+assigned_final : {s : List Entry} → Awaits an_assignment s → (id : ℕ) (N : List Node) (p : Pos) →
+    Final (assigned id N s (the_end p))
 unfolding machine
 assigned_final (of_first (of_simple (simple_open a))) id N p = stopped
 assigned_final (of_first (for_head a)) id N p = stopped
 assigned_final (for_step a) id N p = stopped
 
-closed_final : {s : List Entry} → Awaits a_value s → (id : ℕ) (N : List Node) (p : Pos) → Final (closed id N s (the_end p))
+closed_final : {s : List Entry} → Awaits a_value s → (id : ℕ) (N : List Node) (p : Pos) →
+    Final (closed id N s (the_end p))
 unfolding closed admits operation shifted level_of ended argument_ended
 closed_final (binary_left {o = o} a) id N p = either_final (nat_lt (level o) 0) stopped (closed_final a _ _ p)
 closed_final (unary_open a) id N p = closed_final a _ _ p
@@ -83,29 +90,35 @@ closed_final (compound_value a) id N p = assigned_final a _ _ p
 closed_final (local_value a) id N p = assigned_final (of_first a) _ _ p
 closed_final a id N p = stopped
 
-post_final : {s : List Entry} → Awaits an_operand s → (kind : PostKind) (q : Pos) (id : ℕ) (N : List Node) (p : Pos) → Final (post_ended kind q id N s (the_end p))
+post_final : {s : List Entry} → Awaits an_operand s → (kind : PostKind) (q : Pos) (id : ℕ) (N : List Node) (p : Pos) →
+    Final (post_ended kind q id N s (the_end p))
 unfolding post_ended target_ended
 post_final (target_open a) kind q id N p = stopped
 post_final (of_value (for_test a)) kind q id N p = closed_final (for_test a) id N p
 post_final (of_value a) kind q id N p = closed_final a id N p
 
-group_final : {s : List Entry} → Awaits an_operand s → (q r : Pos) (w : List ℕ) (N : List Node) (p : Pos) → Final (opened_name_step q r w N s (the_end p))
+group_final : {s : List Entry} → Awaits an_operand s → (q r : Pos) (w : List ℕ) (N : List Node) (p : Pos) →
+    Final (opened_name_step q r w N s (the_end p))
 unfolding machine
 group_final a q r w N p = stopped
 
-name_final : {s : List Entry} → Awaits an_operand s → (q : Pos) (w : List ℕ) (N : List Node) (p : Pos) → Final (name_step q w N s (the_end p))
+name_final : {s : List Entry} → Awaits an_operand s → (q : Pos) (w : List ℕ) (N : List Node) (p : Pos) →
+    Final (name_step q w N s (the_end p))
 unfolding name_step post_step
 name_final a q w N p = post_final a _ _ _ _ p
 
-dot_name_final : {s : List Entry} → Awaits an_operand s → (id : ℕ) (q : Pos) (w : List ℕ) (N : List Node) (p : Pos) → Final (dot_name_step id q w N s (the_end p))
+dot_name_final : {s : List Entry} → Awaits an_operand s → (id : ℕ) (q : Pos) (w : List ℕ) (N : List Node) (p : Pos) →
+    Final (dot_name_step id q w N s (the_end p))
 unfolding dot_name_step post_step
 dot_name_final a id q w N p = post_final a _ _ _ _ p
 
-closed_name_final : {s : List Entry} → Awaits an_operand s → (q r : Pos) (w : List ℕ) (N : List Node) (p : Pos) → Final (closed_name_step q r w N s (the_end p))
+closed_name_final : {s : List Entry} → Awaits an_operand s → (q r : Pos) (w : List ℕ) (N : List Node) (p : Pos) →
+    Final (closed_name_step q r w N s (the_end p))
 unfolding closed_name_step is_unary1_start post_step
 closed_name_final a q r w N p = post_final a _ _ _ _ p
 
-statement_final : {s : List Entry} → Awaits a_statement s → (id : ℕ) (N : List Node) (p : Pos) → Final (statement_ended id N s (the_end p))
+statement_final : {s : List Entry} → Awaits a_statement s → (id : ℕ) (N : List Node) (p : Pos) →
+    Final (statement_ended id N s (the_end p))
 unfolding machine
 statement_final (of_block (block_open a)) id N p = stopped
 statement_final (if_then a) id N p = statement_final a _ _ p
@@ -115,7 +128,8 @@ statement_final (for_body a) id N p = statement_final a _ _ p
 statement_final (method_body (class_body a)) id N p = stopped
 statement_final (of_constructor (constructor_body (class_body a))) id N p = stopped
 
-mode_final : (m : Mode) {s : List Entry} → Awaits (due m) s → (N : List Node) (p : Pos) → Final (step_mode m N s (the_end p))
+mode_final : (m : Mode) {s : List Entry} → Awaits (due m) s → (N : List Node) (p : Pos) →
+    Final (step_mode m N s (the_end p))
 unfolding machine due
 mode_final FileStart a N p = file_final a N
 mode_final InImports a N p = file_final a N
@@ -152,11 +166,22 @@ end_behind refused p = stopped
 end_behind (kept {m = m} {s = s} {N = N} a) p = nothing_more (step_mode m N s (the_end p)) (mode_final m a N p)
 
 end_of_run : (N : List Node) (i : List Lexeme) (p : Pos) → Final (run (start N) (i ++ the_end p ∷ []))
-end_of_run N i p = subst Final (sym (run_over i (start N) (the_end p ∷ []))) (end_behind (run_kept i (start N) (start_kept N)) p)
+end_of_run N i p =
+    subst Final (sym (run_over i (start N) (the_end p ∷ []))) (end_behind (run_kept i (start N) (start_kept N)) p)
 
-given : (N : List Node) (i : List Lexeme) (last : State) → run (start N) i ≡ Some last → Final (Some last) → ReadWhole N i last
+given : (N : List Node) (i : List Lexeme) (last : State) → run (start N) i ≡ Some last → Final (Some last) →
+    ReadWhole N i last
 unfolding after answer finished
-given N i last e (read_whole {ids = ids} {N = N1}) = record { nodes = N1; classes = ids; state = refl; tree = answer_is_tree N i (ap (λ j. answer (start N) j) (sym (append-nil i)) ∙ (sym (answer_over i (start N) []) ∙ ap (λ r. after r []) e)) }
+given N i last e (read_whole {ids = ids} {N = N1}) =
+    record {
+      nodes = N1;
+      classes = ids;
+      state = refl;
+      tree = answer_is_tree N i
+          (ap (λ j. answer (start N) j) (sym (append-nil i))
+          ∙ (sym (answer_over i (start N) []) ∙ ap (λ r. after r []) e));
+    }
 
-pub end_read : (N : List Node) (i : List Lexeme) (p : Pos) (last : State) → run (start N) (i ++ the_end p ∷ []) ≡ Some last → ReadWhole N (i ++ the_end p ∷ []) last
+pub end_read : (N : List Node) (i : List Lexeme) (p : Pos) (last : State) →
+    run (start N) (i ++ the_end p ∷ []) ≡ Some last → ReadWhole N (i ++ the_end p ∷ []) last
 end_read N i p last e = given N (i ++ the_end p ∷ []) last e (subst Final e (end_of_run N i p))

@@ -26,53 +26,65 @@ named_closes : {s : List Entry} → Awaits a_head s → (N : List Node) → Clos
 unfolding machine
 named_closes a N = more (sign sign_left_brace) (opened_closes a _ _)
 
-class_name_closes : {s : List Entry} → Awaits a_file s → (f : Option ℕ) (N : List Node) → Closes (Some (at (ClassName f) s N))
+class_name_closes : {s : List Entry} → Awaits a_file s → (f : Option ℕ) (N : List Node) →
+    Closes (Some (at (ClassName f) s N))
 unfolding machine
 class_name_closes a f N = more name_a (named_closes (class_open a) _)
 
-super_closes : {s : List Entry} → Awaits a_super s → (id : ℕ) (N : List Node) → Closes (super_ended id N s (sign sign_left_brace))
+super_closes : {s : List Entry} → Awaits a_super s → (id : ℕ) (N : List Node) →
+    Closes (super_ended id N s (sign sign_left_brace))
 unfolding machine
 super_closes (supers_open true a) id N = opened_closes a _ _
 super_closes (supers_open false a) id N = opened_closes a _ _
 
-super_named_closes : {s : List Entry} → Awaits a_super s → (p : Pos) (w : List ℕ) (N : List Node) → Closes (Some (at (SuperNamed p w) s N))
+super_named_closes : {s : List Entry} → Awaits a_super s → (p : Pos) (w : List ℕ) (N : List Node) →
+    Closes (Some (at (SuperNamed p w) s N))
 unfolding machine
 super_named_closes a p w N = more (sign sign_left_brace) (super_closes a _ _)
 
-super_argument_end_closes : {s : List Entry} → Awaits a_super s → (p : Pos) (w : List ℕ) (id : ℕ) (N : List Node) → Closes (Some (at (SuperArgumentEnd p w id) s N))
+super_argument_end_closes : {s : List Entry} → Awaits a_super s → (p : Pos) (w : List ℕ) (id : ℕ) (N : List Node) →
+    Closes (Some (at (SuperArgumentEnd p w id) s N))
 unfolding machine
 super_argument_end_closes a p w id N = more (sign sign_greater) (more (sign sign_left_brace) (super_closes a _ _))
 
 -- ---- members, parameters and locals
 
-owner_closes : {s : List Entry} → Awaits a_body_owner s → (ps : Option ℕ) (N : List Node) → Closes (Some (at (ParametersDone ps) s N))
+owner_closes : {s : List Entry} → Awaits a_body_owner s → (ps : Option ℕ) (N : List Node) →
+    Closes (Some (at (ParametersDone ps) s N))
 unfolding machine
 owner_closes (method_open a) ps N = more (sign sign_semicolon) (member_closes a _ _)
 owner_closes (constructor_open a) ps N = more (sign sign_left_brace) (constructor_closes (constructor_body a) _ _)
 
-first_owner_closes : {s : List Entry} → Awaits a_body_owner s → (p : Pos) (N : List Node) → Closes (Some (at (ParametersFirst p) s N))
+first_owner_closes : {s : List Entry} → Awaits a_body_owner s → (p : Pos) (N : List Node) →
+    Closes (Some (at (ParametersFirst p) s N))
 unfolding machine
 first_owner_closes a p N = more (sign sign_right_parenthesis) (owner_closes a _ _)
 
-parameter_closes : {s : List Entry} → Awaits a_parameter s → (id : ℕ) (N : List Node) → Closes (Some (at (ParameterDone id) s N))
+parameter_closes : {s : List Entry} → Awaits a_parameter s → (id : ℕ) (N : List Node) →
+    Closes (Some (at (ParameterDone id) s N))
 unfolding machine
 parameter_closes (parameters_open a) id N = more (sign sign_right_parenthesis) (owner_closes a _ _)
 
-literal_closes : {s : List Entry} → Awaits a_literal s → (id : ℕ) (N : List Node) → Closes (Some (at (LiteralDone id) s N))
+literal_closes : {s : List Entry} → Awaits a_literal s → (id : ℕ) (N : List Node) →
+    Closes (Some (at (LiteralDone id) s N))
 unfolding machine
 literal_closes (field_open a) id N = more (sign sign_semicolon) (member_closes a _ _)
 
-method_named_closes : {s : List Entry} → Awaits a_member s → (f : Option ℕ) (t : ℕ) (p : Pos) (w : List ℕ) (N : List Node) → Closes (Some (at (MethodNamed f t p w) s N))
+method_named_closes : {s : List Entry} → Awaits a_member s →
+    (f : Option ℕ) (t : ℕ) (p : Pos) (w : List ℕ) (N : List Node) → Closes (Some (at (MethodNamed f t p w) s N))
 unfolding machine
 method_named_closes a f t p w N = more (sign sign_left_parenthesis) (first_owner_closes (method_open a) _ _)
 
-member_named_closes : {s : List Entry} → Awaits a_member s → (f : Option ℕ) (t : ℕ) (p : Pos) (w : List ℕ) (N : List Node) → Closes (Some (at (MemberNamed f t p w) s N))
+member_named_closes : {s : List Entry} → Awaits a_member s →
+    (f : Option ℕ) (t : ℕ) (p : Pos) (w : List ℕ) (N : List Node) → Closes (Some (at (MemberNamed f t p w) s N))
 unfolding machine
 member_named_closes a f t p w N = more (sign sign_semicolon) (member_closes a _ _)
 
-local_named_closes : {s : List Entry} → Awaits a_first s → (f : Option ℕ) (t : ℕ) (p : Pos) (w : List ℕ) (N : List Node) → Closes (Some (at (LocalNamed f t p w) s N))
+local_named_closes : {s : List Entry} → Awaits a_first s →
+    (f : Option ℕ) (t : ℕ) (p : Pos) (w : List ℕ) (N : List Node) → Closes (Some (at (LocalNamed f t p w) s N))
 unfolding machine
-local_named_closes a f t p w N = more (sign sign_assign) (more zero_read (value_closes (local_value a) (value_ends (local_value a)) _ _ _ _))
+local_named_closes a f t p w N =
+    more (sign sign_assign) (more zero_read (value_closes (local_value a) (value_ends (local_value a)) _ _ _ _))
 
 type_closes : {s : List Entry} → Awaits a_type s → (t : ℕ) (N : List Node) → Closes (typed t N s name_a)
 unfolding machine
@@ -80,11 +92,13 @@ type_closes (member_open a) t N = member_named_closes a _ _ _ _ _
 type_closes (parameter_open a) t N = parameter_closes a _ _
 type_closes (local_open a) t N = local_named_closes a _ _ _ _ _
 
-type_name_closes : {s : List Entry} → Awaits a_type s → (p : Pos) (w : List ℕ) (N : List Node) → Closes (Some (at (TypeName p w) s N))
+type_name_closes : {s : List Entry} → Awaits a_type s → (p : Pos) (w : List ℕ) (N : List Node) →
+    Closes (Some (at (TypeName p w) s N))
 unfolding machine
 type_name_closes a p w N = more name_a (type_closes a _ _)
 
-type_end_closes : {s : List Entry} → Awaits a_type s → (p : Pos) (e : ElementType) (N : List Node) → Closes (Some (at (TypeEnd p e) s N))
+type_end_closes : {s : List Entry} → Awaits a_type s → (p : Pos) (e : ElementType) (N : List Node) →
+    Closes (Some (at (TypeEnd p e) s N))
 unfolding machine
 type_end_closes a p e N = more name_a (type_closes a _ _)
 
@@ -92,19 +106,23 @@ type_done_closes : {s : List Entry} → Awaits a_type s → (id : ℕ) (N : List
 unfolding machine
 type_done_closes a id N = more name_a (type_closes a _ _)
 
-type_argument_end_closes : {s : List Entry} → Awaits a_type s → (p : Pos) (w : List ℕ) (id : ℕ) (N : List Node) → Closes (Some (at (TypeArgumentEnd p w id) s N))
+type_argument_end_closes : {s : List Entry} → Awaits a_type s → (p : Pos) (w : List ℕ) (id : ℕ) (N : List Node) →
+    Closes (Some (at (TypeArgumentEnd p w id) s N))
 unfolding machine
 type_argument_end_closes a p w id N = more (sign sign_greater) (type_end_closes a _ _ _)
 
 -- ---- annotations and modifiers
 
-flags_close : {s : List Entry} → Awaits flagged_thing s → (l : Bool) (f : FlagSet) (N : List Node) → Closes (Some (at (FlagsRead l f) s N))
+flags_close : {s : List Entry} → Awaits flagged_thing s → (l : Bool) (f : FlagSet) (N : List Node) →
+    Closes (Some (at (FlagsRead l f) s N))
 unfolding machine
 flags_close (flags_of_class file_open) true f N = more (a_word word_class here) (class_name_closes file_open _ _)
 flags_close (flags_of_class file_open) false f N = more (a_word word_class here) (class_name_closes file_open _ _)
 flags_close (flags_of_member (class_body a)) l f N = more name_a (type_name_closes (member_open (class_body a)) _ _ _)
-flags_close (flags_of_parameter (parameters_open a)) l f N = more name_a (type_name_closes (parameter_open (parameters_open a)) _ _ _)
-flags_close (flags_of_local (simple_open a)) l f N = more name_a (type_name_closes (local_open (of_simple (simple_open a))) _ _ _)
+flags_close (flags_of_parameter (parameters_open a)) l f N =
+    more name_a (type_name_closes (parameter_open (parameters_open a)) _ _ _)
+flags_close (flags_of_local (simple_open a)) l f N =
+    more name_a (type_name_closes (local_open (of_simple (simple_open a))) _ _ _)
 
 plain_ended_closes : {s : List Entry} → Awaits an_annotation s → (N : List Node) → Closes (plain_ended N s)
 unfolding machine
@@ -124,26 +142,33 @@ plain_open_closes a N = more (sign sign_left_parenthesis) (more (sign sign_right
 
 at_closes : {s : List Entry} → Awaits an_annotation s → (p : Pos) (N : List Node) → Closes (Some (at (At p) s N))
 unfolding machine
-at_closes (annotation_open {l = l} {f = f} a) p N = more (a_name (codes "Override") here) (plain_open_closes (annotation_open {l = l} {f = f} a) N)
+at_closes (annotation_open {l = l} {f = f} a) p N =
+    more (a_name (codes "Override") here) (plain_open_closes (annotation_open {l = l} {f = f} a) N)
 
-second_closes : {s : List Entry} → Awaits an_annotation s → (p : Pos) (b : Bool) (id : ℕ) (N : List Node) → Closes (Some (at (DefineOtherAssign p b id) s N))
+second_closes : {s : List Entry} → Awaits an_annotation s → (p : Pos) (b : Bool) (id : ℕ) (N : List Node) →
+    Closes (Some (at (DefineOtherAssign p b id) s N))
 unfolding machine
-second_closes (annotation_open a) p b id N = more (sign sign_assign) (more name_a (more (sign sign_right_parenthesis) (flags_close a _ _ _)))
+second_closes (annotation_open a) p b id N =
+    more (sign sign_assign) (more name_a (more (sign sign_right_parenthesis) (flags_close a _ _ _)))
 
-other_closes : {s : List Entry} → Awaits an_annotation s → (p : Pos) (b : Bool) (id : ℕ) (N : List Node) → Closes (Some (at (DefineOther p b id) s N))
+other_closes : {s : List Entry} → Awaits an_annotation s → (p : Pos) (b : Bool) (id : ℕ) (N : List Node) →
+    Closes (Some (at (DefineOther p b id) s N))
 unfolding machine
 other_closes a p true id N = more (a_name (codes "name") here) (second_closes a _ _ _ _)
 other_closes a p false id N = more (a_name (codes "parent") here) (second_closes a _ _ _ _)
 
-define_assign_closes : {s : List Entry} → Awaits an_annotation s → (p : Pos) (b : Bool) (N : List Node) → Closes (Some (at (DefineAssign p b) s N))
+define_assign_closes : {s : List Entry} → Awaits an_annotation s → (p : Pos) (b : Bool) (N : List Node) →
+    Closes (Some (at (DefineAssign p b) s N))
 unfolding machine
 define_assign_closes a p b N = more (sign sign_assign) (more name_a (more (sign sign_comma) (other_closes a _ _ _ _)))
 
-define_name_closes : {s : List Entry} → Awaits an_annotation s → (p : Pos) (N : List Node) → Closes (Some (at (DefineName p) s N))
+define_name_closes : {s : List Entry} → Awaits an_annotation s → (p : Pos) (N : List Node) →
+    Closes (Some (at (DefineName p) s N))
 unfolding machine
 define_name_closes a p N = more (a_name (codes "name") here) (define_assign_closes a _ _ _)
 
-value_read_closes : {s : List Entry} → Awaits a_scope s → (id : ℕ) (N : List Node) → Closes (Some (at (ValueRead id) s N))
+value_read_closes : {s : List Entry} → Awaits a_scope s → (id : ℕ) (N : List Node) →
+    Closes (Some (at (ValueRead id) s N))
 unfolding machine
 value_read_closes (scope_open (annotation_open a)) id N = more (sign sign_right_parenthesis) (flags_close a _ _ _)
 value_read_closes (runs_in_open (annotation_open a)) id N = more (sign sign_right_parenthesis) (flags_close a _ _ _)
@@ -160,7 +185,8 @@ value_dot_closes a p N = more name_a (value_read_closes a _ _)
 
 -- ---- the begins of statements
 
-name_first_closes : {s : List Entry} → Awaits a_first s → (p : Pos) (w : List ℕ) (N : List Node) → Closes (Some (at (NameFirst p w) s N))
+name_first_closes : {s : List Entry} → Awaits a_first s → (p : Pos) (w : List ℕ) (N : List Node) →
+    Closes (Some (at (NameFirst p w) s N))
 unfolding machine
 name_first_closes a p w N = more (sign 34) (assigned_closes (of_first a) _ _)
 
@@ -170,7 +196,8 @@ called_closes : {s : List Entry} → Awaits an_argument s → (N : List Node) �
 unfolding machine
 called_closes (argument_here a) N = more (sign sign_right_parenthesis) (call_closes a _ _)
 
-dot_name_closes : {s : List Entry} → Awaits an_operand s → (id : ℕ) (p : Pos) (w : List ℕ) (N : List Node) → Closes (Some (at (DotName id p w) s N))
+dot_name_closes : {s : List Entry} → Awaits an_operand s → (id : ℕ) (p : Pos) (w : List ℕ) (N : List Node) →
+    Closes (Some (at (DotName id p w) s N))
 unfolding machine
 dot_name_closes a id p w N = more (sign sign_left_parenthesis) (called_closes (argument_here (call_open a)) _)
 
@@ -178,7 +205,8 @@ dot_closes : {s : List Entry} → Awaits an_operand s → (id : ℕ) (N : List N
 unfolding machine
 dot_closes a id N = more name_a (dot_name_closes a _ _ _ _)
 
-new_name_closes : {s : List Entry} → Awaits an_operand s → (p q : Pos) (w : List ℕ) (N : List Node) → Closes (Some (at (NewName p q w) s N))
+new_name_closes : {s : List Entry} → Awaits an_operand s → (p q : Pos) (w : List ℕ) (N : List Node) →
+    Closes (Some (at (NewName p q w) s N))
 unfolding machine
 new_name_closes a p q w N = more (sign sign_left_parenthesis) (called_closes (argument_here (new_open a)) _)
 
@@ -252,7 +280,8 @@ mode_closes (ParametersFirst p) a N = first_owner_closes a p N
 mode_closes (ParameterDone id) a N = parameter_closes a id N
 mode_closes (ParametersDone ps) a N = owner_closes a ps N
 mode_closes (ConstructorStart b) a N = constructor_closes a b N
-mode_closes (SuperOpen b p) a N = more (sign sign_left_parenthesis) (called_closes (argument_here (super_call_open a)) N)
+mode_closes (SuperOpen b p) a N =
+    more (sign sign_left_parenthesis) (called_closes (argument_here (super_call_open a)) N)
 mode_closes (SuperEnd b) a N = more (sign sign_semicolon) (block_closes (block_open (of_constructor a)) N)
 mode_closes InStatements a N = block_closes a N
 mode_closes StatementStart a N = statement_start_closes a N
@@ -270,7 +299,8 @@ mode_closes (Assigned id) a N = assigned_closes a id N
 mode_closes Operand a N = operand_start_closes a N
 mode_closes (NameRead p w) a N = more (sign sign_left_parenthesis) (called_closes (argument_here (call_open a)) N)
 mode_closes (Opened p) a N = more zero_read (operand_closes (of_value (group_open a)) _ _ _ _)
-mode_closes (OpenedName p q w) a N = more (sign sign_left_parenthesis) (called_closes (argument_here (call_open (of_value (group_open a)))) N)
+mode_closes (OpenedName p q w) a N =
+    more (sign sign_left_parenthesis) (called_closes (argument_here (call_open (of_value (group_open a)))) N)
 mode_closes (ClosedName p q w) a N = more (sign sign_dot) (dot_closes a _ _)
 mode_closes (Minus p) a N = more zero_read (operand_closes (of_value (unary_open a)) _ _ _ _)
 mode_closes (NewStart p) a N = more name_a (new_name_closes a _ _ _ N)

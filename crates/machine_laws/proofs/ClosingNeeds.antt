@@ -35,8 +35,10 @@ pub data Need : Type 0 where
 pub data Awaits : Need → List Entry → Type 0 where
   file_open : {ids : _} → Awaits a_file (FileOpen ids ∷ [])
   class_open : {f : _} {p : _} {w : _} {s : _} → Awaits a_file s → Awaits a_head (ClassOpen f p w ∷ s)
-  supers_open : {p : _} {c : _} {ids : _} {s : _} (e : Bool) → Awaits a_head s → Awaits a_super (SupersOpen p e c ids ∷ s)
-  class_body : {f : _} {p : _} {w : _} {h : _} {ids : _} {s : _} → Awaits a_file s → Awaits a_member (ClassBody f p w h ids ∷ s)
+  supers_open : {p : _} {c : _} {ids : _} {s : _} (e : Bool) → Awaits a_head s →
+      Awaits a_super (SupersOpen p e c ids ∷ s)
+  class_body : {f : _} {p : _} {w : _} {h : _} {ids : _} {s : _} → Awaits a_file s →
+      Awaits a_member (ClassBody f p w h ids ∷ s)
   flags_of_class : {s : _} → Awaits a_file s → Awaits flagged_thing s
   flags_of_member : {s : _} → Awaits a_member s → Awaits flagged_thing s
   flags_of_parameter : {s : _} → Awaits a_parameter s → Awaits flagged_thing s
@@ -49,15 +51,20 @@ pub data Awaits : Need → List Entry → Type 0 where
   member_open : {f : _} {s : _} → Awaits a_member s → Awaits a_type (MemberOpen f ∷ s)
   parameter_open : {f : _} {s : _} → Awaits a_parameter s → Awaits a_type (ParameterOpen f ∷ s)
   local_open : {f : _} {s : _} → Awaits a_first s → Awaits a_type (LocalOpen f ∷ s)
-  field_open : {f : _} {t : _} {p : _} {w : _} {q : _} {s : _} → Awaits a_member s → Awaits a_literal (FieldOpen f t p w q ∷ s)
-  method_open : {f : _} {t : _} {p : _} {w : _} {s : _} → Awaits a_member s → Awaits a_body_owner (MethodOpen f t p w ∷ s)
-  constructor_open : {f : _} {p : _} {w : _} {s : _} → Awaits a_member s → Awaits a_body_owner (ConstructorOpen f p w ∷ s)
+  field_open : {f : _} {t : _} {p : _} {w : _} {q : _} {s : _} → Awaits a_member s →
+      Awaits a_literal (FieldOpen f t p w q ∷ s)
+  method_open : {f : _} {t : _} {p : _} {w : _} {s : _} → Awaits a_member s →
+      Awaits a_body_owner (MethodOpen f t p w ∷ s)
+  constructor_open : {f : _} {p : _} {w : _} {s : _} → Awaits a_member s →
+      Awaits a_body_owner (ConstructorOpen f p w ∷ s)
   parameters_open : {p : _} {ids : _} {s : _} → Awaits a_body_owner s → Awaits a_parameter (ParametersOpen p ids ∷ s)
-  constructor_body : {f : _} {p : _} {w : _} {ps : _} {c : _} {s : _} → Awaits a_member s → Awaits a_constructor_body (ConstructorBody f p w ps c ∷ s)
+  constructor_body : {f : _} {p : _} {w : _} {ps : _} {c : _} {s : _} → Awaits a_member s →
+      Awaits a_constructor_body (ConstructorBody f p w ps c ∷ s)
   block_open : {p : _} {ids : _} {s : _} → Awaits a_statement s → Awaits a_statement_of_block (BlockOpen p ids ∷ s)
   of_constructor : {s : _} → Awaits a_constructor_body s → Awaits a_statement s
   of_block : {s : _} → Awaits a_statement_of_block s → Awaits a_statement s
-  method_body : {f : _} {t : _} {p : _} {w : _} {ps : _} {s : _} → Awaits a_member s → Awaits a_statement (MethodBody f t p w ps ∷ s)
+  method_body : {f : _} {t : _} {p : _} {w : _} {ps : _} {s : _} → Awaits a_member s →
+      Awaits a_statement (MethodBody f t p w ps ∷ s)
   if_then : {p : _} {c : _} {s : _} → Awaits a_statement s → Awaits a_statement (IfThen p c ∷ s)
   if_other : {p : _} {c : _} {a : _} {s : _} → Awaits a_statement s → Awaits a_statement (IfElse p c a ∷ s)
   while_body : {p : _} {c : _} {s : _} → Awaits a_statement s → Awaits a_statement (WhileBody p c ∷ s)
@@ -72,8 +79,10 @@ pub data Awaits : Need → List Entry → Type 0 where
   while_test : {p : _} {s : _} → Awaits a_statement s → Awaits a_value (WhileTest p ∷ s)
   return_open : {p : _} {s : _} → Awaits a_statement s → Awaits a_value (ReturnValue p ∷ s)
   assign_value : {p : _} {t : _} {s : _} → Awaits an_assignment s → Awaits a_value (AssignValue p t ∷ s)
-  compound_value : {p : _} {o : _} {t : _} {l : _} {s : _} → Awaits an_assignment s → Awaits a_value (CompoundValue p o t l ∷ s)
-  local_value : {p : _} {q : _} {w : _} {f : _} {t : _} {s : _} → Awaits a_first s → Awaits a_value (LocalValue p q w f t ∷ s)
+  compound_value : {p : _} {o : _} {t : _} {l : _} {s : _} → Awaits an_assignment s →
+      Awaits a_value (CompoundValue p o t l ∷ s)
+  local_value : {p : _} {q : _} {w : _} {f : _} {t : _} {s : _} → Awaits a_first s →
+      Awaits a_value (LocalValue p q w f t ∷ s)
   binary_left : {p : _} {o : _} {l : _} {s : _} → Awaits a_value s → Awaits a_value (BinaryLeft p o l ∷ s)
   unary_open : {p : _} {o : _} {s : _} → Awaits a_value s → Awaits a_value (UnaryOpen p o ∷ s)
   cast_open : {p : _} {q : _} {w : _} {s : _} → Awaits a_value s → Awaits a_value (CastOpen p q w ∷ s)
@@ -190,6 +199,7 @@ pub never_both : (b : Bool) (x y : Option State) → Kept y → Kept (if b && fa
 never_both true x y k = k
 never_both false x y k = k
 
-pub chosen : {A : Type 0} (r : Option A) (f : A → Option State) (y : Option State) → ((a : A) → Kept (f a)) → Kept y → Kept (elim r [ Some x ↦ f x | None ↦ y ])
+pub chosen : {A : Type 0} (r : Option A) (f : A → Option State) (y : Option State) → ((a : A) → Kept (f a)) → Kept y →
+    Kept (elim r [ Some x ↦ f x | None ↦ y ])
 chosen None f y h k = k
 chosen (Some a) f y h k = h a

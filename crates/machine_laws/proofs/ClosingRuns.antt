@@ -44,7 +44,8 @@ abbrev pub text_a : Lexeme
 text_a = a_text (97 ∷ []) here
 
 -- one lexeme more
-pub more : {m : Mode} {s : List Entry} {N : List Node} (t : Lexeme) → Closes (step_mode m N s t) → Closes (Some (at m s N))
+pub more : {m : Mode} {s : List Entry} {N : List Node} (t : Lexeme) → Closes (step_mode m N s t) →
+    Closes (Some (at m s N))
 unfolding machine
 more t c = record { rest = t ∷ c.rest; nodes = c.nodes; classes = c.classes; reached = c.reached }
 
@@ -82,7 +83,8 @@ unfolding machine
 member_closes (class_body a) id N = in_members (class_body a) N
 
 -- a `}` behind a statement
-statement_closes : {s : List Entry} → Awaits a_statement s → (id : ℕ) (N : List Node) → Closes (statement_ended id N s (sign sign_right_brace))
+statement_closes : {s : List Entry} → Awaits a_statement s → (id : ℕ) (N : List Node) →
+    Closes (statement_ended id N s (sign sign_right_brace))
 unfolding machine
 statement_closes (of_block (block_open a)) id N = more (sign sign_right_brace) (statement_closes a _ _)
 statement_closes (if_then a) id N = statement_closes a _ _
@@ -92,19 +94,23 @@ statement_closes (for_body a) id N = statement_closes a _ _
 statement_closes (method_body (class_body file_open)) id N = in_classes file_open _
 statement_closes (of_constructor (constructor_body (class_body file_open))) id N = in_classes file_open _
 
-pub statement_end : {s : List Entry} → Awaits a_statement s → (id : ℕ) (N : List Node) → Closes (Some (at (StatementEnd id) s N))
+pub statement_end : {s : List Entry} → Awaits a_statement s → (id : ℕ) (N : List Node) →
+    Closes (Some (at (StatementEnd id) s N))
 unfolding machine
 statement_end a id N = more (sign sign_right_brace) (statement_closes a id N)
 
-pub statement_start_closes : {s : List Entry} → Awaits a_statement s → (N : List Node) → Closes (Some (at StatementStart s N))
+pub statement_start_closes : {s : List Entry} → Awaits a_statement s → (N : List Node) →
+    Closes (Some (at StatementStart s N))
 unfolding machine
 statement_start_closes a N = more (sign sign_semicolon) (statement_end a _ _)
 
-pub block_closes : {s : List Entry} → Awaits a_statement_of_block s → (N : List Node) → Closes (Some (at InStatements s N))
+pub block_closes : {s : List Entry} → Awaits a_statement_of_block s → (N : List Node) →
+    Closes (Some (at InStatements s N))
 unfolding machine
 block_closes (block_open a) N = more (sign sign_right_brace) (statement_end a _ _)
 
-pub constructor_closes : {s : List Entry} → Awaits a_constructor_body s → (b : Pos) (N : List Node) → Closes (Some (at (ConstructorStart b) s N))
+pub constructor_closes : {s : List Entry} → Awaits a_constructor_body s → (b : Pos) (N : List Node) →
+    Closes (Some (at (ConstructorStart b) s N))
 unfolding machine
 constructor_closes a b N = more (sign sign_right_brace) (statement_end (of_constructor a) _ _)
 
@@ -114,17 +120,26 @@ pub record AssignmentEnds (s : List Entry) : Type 0 where
   pub mark : Ender
   pub closes : (id : ℕ) (N : List Node) → Closes (assigned id N s (ender mark))
 
-for_step_closes : {s : List Entry} → Awaits a_statement s → (p : Pos) (f c : ℕ) (N : List Node) → Closes (Some (at ForStepStart (ForStep p f c ∷ s) N))
+for_step_closes : {s : List Entry} → Awaits a_statement s → (p : Pos) (f c : ℕ) (N : List Node) →
+    Closes (Some (at ForStepStart (ForStep p f c ∷ s) N))
 unfolding machine
-for_step_closes a p f c N = more name_a (more (sign 34) (more (sign sign_right_parenthesis) (statement_start_closes (for_body a) _)))
+for_step_closes a p f c N =
+    more name_a (more (sign 34) (more (sign sign_right_parenthesis) (statement_start_closes (for_body a) _)))
 
 assignment_ends : {s : List Entry} → Awaits an_assignment s → AssignmentEnds s
 unfolding machine ender
-assignment_ends (of_first (of_simple (simple_open a))) = record { mark = semicolon; closes = λ id N. statement_end a id N }
-assignment_ends (of_first (for_head {p = p} a)) = record { mark = semicolon; closes = λ id N. more zero_read (more (sign sign_semicolon) (for_step_closes a p id _ _)) }
+assignment_ends (of_first (of_simple (simple_open a))) =
+    record { mark = semicolon; closes = λ id N. statement_end a id N }
+assignment_ends (of_first (for_head {p = p} a)) =
+    record {
+      mark = semicolon;
+      closes = λ id N. more zero_read
+          (more (sign sign_semicolon) (for_step_closes a p id _ _));
+    }
 assignment_ends (for_step a) = record { mark = parenthesis; closes = λ id N. statement_start_closes (for_body a) N }
 
-pub assigned_closes : {s : List Entry} → Awaits an_assignment s → (id : ℕ) (N : List Node) → Closes (Some (at (Assigned id) s N))
+pub assigned_closes : {s : List Entry} → Awaits an_assignment s → (id : ℕ) (N : List Node) →
+    Closes (Some (at (Assigned id) s N))
 unfolding machine
 assigned_closes a id N = let e = assignment_ends a in more (ender e.mark) (e.closes id N)
 
@@ -135,19 +150,25 @@ pub record ValueEnds (s : List Entry) : Type 0 where
   pub mark : Ender
   pub closes : (id : ℕ) (N : List Node) → Closes (closed id N s (ender mark))
 
-through_assign : (e : Ender) (p : Pos) (t : ℕ) (s : List Entry) → ((id : ℕ) (N : List Node) → Closes (assigned id N s (ender e))) → (id : ℕ) (N : List Node) → Closes (closed id N (AssignValue p t ∷ s) (ender e))
+through_assign : (e : Ender) (p : Pos) (t : ℕ) (s : List Entry) →
+    ((id : ℕ) (N : List Node) → Closes (assigned id N s (ender e))) → (id : ℕ) (N : List Node) →
+    Closes (closed id N (AssignValue p t ∷ s) (ender e))
 unfolding machine ender
 through_assign semicolon p t s f id N = f _ _
 through_assign parenthesis p t s f id N = f _ _
 through_assign bracket p t s f id N = f _ _
 
-through_compound : (e : Ender) (p : Pos) (o t l : ℕ) (s : List Entry) → ((id : ℕ) (N : List Node) → Closes (assigned id N s (ender e))) → (id : ℕ) (N : List Node) → Closes (closed id N (CompoundValue p o t l ∷ s) (ender e))
+through_compound : (e : Ender) (p : Pos) (o t l : ℕ) (s : List Entry) →
+    ((id : ℕ) (N : List Node) → Closes (assigned id N s (ender e))) → (id : ℕ) (N : List Node) →
+    Closes (closed id N (CompoundValue p o t l ∷ s) (ender e))
 unfolding machine ender
 through_compound semicolon p o t l s f id N = f _ _
 through_compound parenthesis p o t l s f id N = f _ _
 through_compound bracket p o t l s f id N = f _ _
 
-through_local : (e : Ender) (p q : Pos) (w : List ℕ) (g : Option ℕ) (t : ℕ) (s : List Entry) → ((id : ℕ) (N : List Node) → Closes (assigned id N s (ender e))) → (id : ℕ) (N : List Node) → Closes (closed id N (LocalValue p q w g t ∷ s) (ender e))
+through_local : (e : Ender) (p q : Pos) (w : List ℕ) (g : Option ℕ) (t : ℕ) (s : List Entry) →
+    ((id : ℕ) (N : List Node) → Closes (assigned id N s (ender e))) → (id : ℕ) (N : List Node) →
+    Closes (closed id N (LocalValue p q w g t ∷ s) (ender e))
 unfolding machine ender
 through_local semicolon p q w g t s f id N = f _ _
 through_local parenthesis p q w g t s f id N = f _ _
@@ -163,31 +184,44 @@ not_below n = decide (nat_lt n 0) (λ h. let k : n < 0 = ltb-true n 0 h in absur
 passed : (b : Bool) (x y : Option State) → b ≡ false → Closes y → Closes (if b then x else y)
 passed b x y e c = subst (λ v. Closes (if v then x else y)) (sym e) c
 
-through_binary : (e : Ender) (p : Pos) (o l : ℕ) (s : List Entry) → ((id : ℕ) (N : List Node) → Closes (closed id N s (ender e))) → (id : ℕ) (N : List Node) → Closes (closed id N (BinaryLeft p o l ∷ s) (ender e))
+through_binary : (e : Ender) (p : Pos) (o l : ℕ) (s : List Entry) →
+    ((id : ℕ) (N : List Node) → Closes (closed id N s (ender e))) → (id : ℕ) (N : List Node) →
+    Closes (closed id N (BinaryLeft p o l ∷ s) (ender e))
 unfolding closed admits operation level_of level ender
 through_binary semicolon p o l s f id N = passed (nat_lt (level o) 0) _ _ (not_below (level o)) (f _ _)
 through_binary parenthesis p o l s f id N = passed (nat_lt (level o) 0) _ _ (not_below (level o)) (f _ _)
 through_binary bracket p o l s f id N = passed (nat_lt (level o) 0) _ _ (not_below (level o)) (f _ _)
 
-no_target : {s : List Entry} → Awaits a_value s → (kind : PostKind) (p : Pos) (id : ℕ) (N : List Node) (t : Lexeme) → post_ended kind p id N s t ≡ closed id N s t
+no_target : {s : List Entry} → Awaits a_value s → (kind : PostKind) (p : Pos) (id : ℕ) (N : List Node) (t : Lexeme) →
+    post_ended kind p id N s t ≡ closed id N s t
 unfolding post_ended
 no_target (for_test a) kind p id N t = refl
 no_target a kind p id N t = refl
 
-post_closes : (e : Ender) {s : List Entry} → Awaits a_value s → (kind : PostKind) (p : Pos) (id : ℕ) (N : List Node) → Closes (closed id N s (ender e)) → Closes (post_step kind p id N s (ender e))
+post_closes : (e : Ender) {s : List Entry} → Awaits a_value s → (kind : PostKind) (p : Pos) (id : ℕ) (N : List Node) →
+    Closes (closed id N s (ender e)) → Closes (post_step kind p id N s (ender e))
 unfolding post_step ender
 post_closes semicolon a kind p id N c = subst Closes (sym (no_target a kind p id N _)) c
 post_closes parenthesis a kind p id N c = subst Closes (sym (no_target a kind p id N _)) c
 post_closes bracket a kind p id N c = subst Closes (sym (no_target a kind p id N _)) c
 
-pub value_closes : {s : List Entry} → Awaits a_value s → ValueEnds s → (kind : PostKind) (p : Pos) (id : ℕ) (N : List Node) → Closes (Some (at (PostDone kind p id) s N))
+pub value_closes : {s : List Entry} → Awaits a_value s → ValueEnds s →
+    (kind : PostKind) (p : Pos) (id : ℕ) (N : List Node) → Closes (Some (at (PostDone kind p id) s N))
 unfolding step_mode
 value_closes a e kind p id N = more (ender e.mark) (post_closes e.mark a kind p id N (e.closes id N))
 
 -- a target that is no variable goes on with a field's name
-target_closes : {s : List Entry} → Awaits an_assignment s → (kind : PostKind) (p : Pos) (id : ℕ) (N : List Node) → Closes (Some (at (PostDone kind p id) (Target ∷ s) N))
+target_closes : {s : List Entry} → Awaits an_assignment s → (kind : PostKind) (p : Pos) (id : ℕ) (N : List Node) →
+    Closes (Some (at (PostDone kind p id) (Target ∷ s) N))
 unfolding machine
-target_closes {s = s} a kind p id N = more (sign sign_dot) (more name_a (more (sign sign_assign) (more zero_read (value_closes (assign_value a) (let e = assignment_ends a in record { mark = e.mark; closes = through_assign e.mark here _ s e.closes }) _ _ _ _))))
+target_closes {s = s} a kind p id N =
+    more (sign sign_dot)
+    (more name_a
+    (more (sign sign_assign)
+    (more zero_read
+    (value_closes (assign_value a)
+    (let e = assignment_ends a in record { mark = e.mark; closes = through_assign e.mark here _ s e.closes }) _ _ _
+    _))))
 
 mutual
   unfolding machine ender
@@ -197,10 +231,14 @@ mutual
   value_ends (if_test a) = record { mark = parenthesis; closes = λ id N. statement_start_closes (if_then a) N }
   value_ends (while_test a) = record { mark = parenthesis; closes = λ id N. statement_start_closes (while_body a) N }
   value_ends (return_open a) = record { mark = semicolon; closes = λ id N. statement_end a _ _ }
-  value_ends (assign_value {s = s} a) = let e = assignment_ends a in record { mark = e.mark; closes = through_assign e.mark _ _ s e.closes }
-  value_ends (compound_value {s = s} a) = let e = assignment_ends a in record { mark = e.mark; closes = through_compound e.mark _ _ _ _ s e.closes }
-  value_ends (local_value {s = s} a) = let e = assignment_ends (of_first a) in record { mark = e.mark; closes = through_local e.mark _ _ _ _ _ s e.closes }
-  value_ends (binary_left {p = p} {o = o} {l = l} {s = s} a) = let e = value_ends a in record { mark = e.mark; closes = through_binary e.mark p o l s e.closes }
+  value_ends (assign_value {s = s} a) = let e = assignment_ends a in
+      record { mark = e.mark; closes = through_assign e.mark _ _ s e.closes }
+  value_ends (compound_value {s = s} a) = let e = assignment_ends a in
+      record { mark = e.mark; closes = through_compound e.mark _ _ _ _ s e.closes }
+  value_ends (local_value {s = s} a) = let e = assignment_ends (of_first a) in
+      record { mark = e.mark; closes = through_local e.mark _ _ _ _ _ s e.closes }
+  value_ends (binary_left {p = p} {o = o} {l = l} {s = s} a) = let e =
+      value_ends a in record { mark = e.mark; closes = through_binary e.mark p o l s e.closes }
   value_ends (unary_open a) = let e = value_ends a in record { mark = e.mark; closes = λ id N. e.closes _ _ }
   value_ends (cast_open a) = let e = value_ends a in record { mark = e.mark; closes = λ id N. e.closes _ _ }
   value_ends (group_open a) = record { mark = parenthesis; closes = λ id N. operand_closes a _ _ _ _ }
@@ -208,11 +246,14 @@ mutual
   value_ends (length_open a) = record { mark = bracket; closes = λ id N. operand_closes a _ _ _ _ }
   value_ends (argument_value a) = record { mark = parenthesis; closes = λ id N. call_closes a _ _ }
 
-  pub operand_closes : {s : List Entry} → Awaits an_operand s → (kind : PostKind) (p : Pos) (id : ℕ) (N : List Node) → Closes (Some (at (PostDone kind p id) s N))
+  pub operand_closes : {s : List Entry} → Awaits an_operand s → (kind : PostKind) (p : Pos) (id : ℕ) (N : List Node) →
+      Closes (Some (at (PostDone kind p id) s N))
   operand_closes (of_value a) kind p id N = value_closes a (value_ends a) kind p id N
   operand_closes (target_open a) kind p id N = target_closes a kind p id N
 
-  pub call_closes : {s : List Entry} → Awaits arguments_of s → (ids : List ℕ) (N : List Node) → Closes (arguments_ended ids N s)
+  pub call_closes : {s : List Entry} → Awaits arguments_of s → (ids : List ℕ) (N : List Node) →
+      Closes (arguments_ended ids N s)
   call_closes (call_open a) ids N = operand_closes a _ _ _ _
   call_closes (new_open a) ids N = operand_closes a _ _ _ _
-  call_closes (super_call_open (constructor_body a)) ids N = more (sign sign_semicolon) (block_closes (block_open (of_constructor (constructor_body a))) _)
+  call_closes (super_call_open (constructor_body a)) ids N =
+      more (sign sign_semicolon) (block_closes (block_open (of_constructor (constructor_body a))) _)

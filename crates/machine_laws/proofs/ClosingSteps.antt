@@ -26,44 +26,53 @@ use Rattle.scj_tree.specs.declared.readings.PostKind.TheVariants.{Invocation, Va
 
 -- ---- where statements, assignments, arguments and targets end
 
-assigned_kept : {s : List Entry} → Awaits an_assignment s → (id : ℕ) (N : List Node) (t : Lexeme) → Kept (assigned id N s t)
+assigned_kept : {s : List Entry} → Awaits an_assignment s → (id : ℕ) (N : List Node) (t : Lexeme) →
+    Kept (assigned id N s t)
 unfolding assigned due
 assigned_kept (of_first (of_simple (simple_open a))) id N (a_sign n p) = either _ (kept a) refused
 assigned_kept (of_first (for_head a)) id N (a_sign n p) = either _ (kept (for_test a)) refused
 assigned_kept (for_step a) id N (a_sign n p) = either _ (kept (for_body a)) refused
 assigned_kept a id N t = refused
 
-arguments_ended_kept : {s : List Entry} → Awaits arguments_of s → (ids : List ℕ) (N : List Node) → Kept (arguments_ended ids N s)
+arguments_ended_kept : {s : List Entry} → Awaits arguments_of s → (ids : List ℕ) (N : List Node) →
+    Kept (arguments_ended ids N s)
 unfolding arguments_ended due
 arguments_ended_kept (call_open a) ids N = kept a
 arguments_ended_kept (new_open a) ids N = kept a
 arguments_ended_kept (super_call_open (constructor_body a)) ids N = kept (constructor_body a)
 
-argument_ended_kept : {s : List Entry} → Awaits arguments_of s → (id : ℕ) (ids : List ℕ) (N : List Node) (t : Lexeme) → Kept (argument_ended id ids N s t)
+argument_ended_kept : {s : List Entry} → Awaits arguments_of s → (id : ℕ) (ids : List ℕ) (N : List Node) (t : Lexeme) →
+    Kept (argument_ended id ids N s t)
 unfolding argument_ended due
-argument_ended_kept a id ids N (a_sign n p) = either _ (kept (argument_here a)) (either _ (arguments_ended_kept a _ _) refused)
+argument_ended_kept a id ids N (a_sign n p) =
+    either _ (kept (argument_here a)) (either _ (arguments_ended_kept a _ _) refused)
 argument_ended_kept a id ids N t = refused
 
-target_assigned_kept : {s : List Entry} → Awaits an_assignment s → (kind : PostKind) (id : ℕ) (q : Pos) (N : List Node) → Kept (target_assigned kind id q N s)
+target_assigned_kept : {s : List Entry} → Awaits an_assignment s →
+    (kind : PostKind) (id : ℕ) (q : Pos) (N : List Node) → Kept (target_assigned kind id q N s)
 unfolding target_assigned due
 target_assigned_kept a Variable id q N = kept (assign_value a)
 target_assigned_kept a kind id q N = refused
 
-target_alone_kept : {s : List Entry} → Awaits an_assignment s → (kind : PostKind) (p : Pos) (id : ℕ) (N : List Node) → Kept (target_alone kind p id N s)
+target_alone_kept : {s : List Entry} → Awaits an_assignment s → (kind : PostKind) (p : Pos) (id : ℕ) (N : List Node) →
+    Kept (target_alone kind p id N s)
 unfolding target_alone due
 target_alone_kept (of_first (of_simple (simple_open a))) Invocation p id N = kept a
 target_alone_kept (of_first (for_head a)) Invocation p id N = refused
 target_alone_kept (for_step a) Invocation p id N = refused
 target_alone_kept a kind p id N = refused
 
-target_ended_kept : {s : List Entry} → Awaits an_assignment s → (kind : PostKind) (p : Pos) (id : ℕ) (N : List Node) (t : Lexeme) → Kept (target_ended kind p id N s t)
+target_ended_kept : {s : List Entry} → Awaits an_assignment s → (kind : PostKind) (p : Pos) (id : ℕ) (N : List Node)
+    (t : Lexeme) → Kept (target_ended kind p id N s t)
 unfolding target_ended due
-target_ended_kept a kind p id N (a_sign n q) = either _ (target_assigned_kept a kind id q N) (either _ (target_alone_kept a kind p id N) refused)
+target_ended_kept a kind p id N (a_sign n q) =
+    either _ (target_assigned_kept a kind id q N) (either _ (target_alone_kept a kind p id N) refused)
 target_ended_kept a kind p id N t = refused
 
 -- ---- where an expression ends
 
-ended_kept : {e : Entry} {s : List Entry} → Awaits a_value (e ∷ s) → (id : ℕ) (N : List Node) (t : Lexeme) → Kept (ended e id N s t)
+ended_kept : {e : Entry} {s : List Entry} → Awaits a_value (e ∷ s) → (id : ℕ) (N : List Node) (t : Lexeme) →
+    Kept (ended e id N s t)
 unfolding ended due
 ended_kept (for_test a) id N (a_sign n q) = either _ (kept (for_step a)) refused
 ended_kept (if_test a) id N (a_sign n q) = either _ (kept (if_then a)) refused
@@ -90,15 +99,20 @@ closed_kept (unary_open a) id N t = closed_kept a _ _ t
 closed_kept (cast_open a) id N t = closed_kept a _ _ t
 closed_kept a id N t = either _ (shifted_kept a id N t) (ended_kept a id N t)
 
-post_ended_kept : {s : List Entry} → Awaits an_operand s → (kind : PostKind) (p : Pos) (id : ℕ) (N : List Node) (t : Lexeme) → Kept (post_ended kind p id N s t)
+post_ended_kept : {s : List Entry} → Awaits an_operand s → (kind : PostKind) (p : Pos) (id : ℕ) (N : List Node)
+    (t : Lexeme) → Kept (post_ended kind p id N s t)
 unfolding post_ended
 post_ended_kept (target_open a) kind p id N t = target_ended_kept a kind p id N t
 post_ended_kept (of_value (for_test a)) kind p id N t = closed_kept (for_test a) id N t
 post_ended_kept (of_value a) kind p id N t = closed_kept a id N t
 
-post_kept : {s : List Entry} → Awaits an_operand s → (kind : PostKind) (p : Pos) (id : ℕ) (N : List Node) (t : Lexeme) → Kept (post_step kind p id N s t)
+post_kept : {s : List Entry} → Awaits an_operand s → (kind : PostKind) (p : Pos) (id : ℕ) (N : List Node) (t : Lexeme) →
+    Kept (post_step kind p id N s t)
 unfolding post_step due
-post_kept a kind p id N (a_sign n q) = either (n == sign_dot) (kept a) (either (n == sign_left_bracket && indexable kind) (kept (index_open a)) (post_ended_kept a kind p id N (a_sign n q)))
+post_kept a kind p id N (a_sign n q) =
+    either (n == sign_dot) (kept a)
+    (either (n == sign_left_bracket && indexable kind) (kept (index_open a))
+    (post_ended_kept a kind p id N (a_sign n q)))
 post_kept a kind p id N t = post_ended_kept a kind p id N t
 
 dot_kept : {s : List Entry} → Awaits an_operand s → (id : ℕ) (N : List Node) (t : Lexeme) → Kept (dot_step id N s t)
@@ -106,37 +120,50 @@ unfolding dot_step due
 dot_kept a id N (a_name w p) = kept a
 dot_kept a id N t = refused
 
-dot_name_kept : {s : List Entry} → Awaits an_operand s → (id : ℕ) (p : Pos) (w : List ℕ) (N : List Node) (t : Lexeme) → Kept (dot_name_step id p w N s t)
+dot_name_kept : {s : List Entry} → Awaits an_operand s → (id : ℕ) (p : Pos) (w : List ℕ) (N : List Node) (t : Lexeme) →
+    Kept (dot_name_step id p w N s t)
 unfolding dot_name_step due
 dot_name_kept a id p w N (a_sign n q) = either _ (kept (argument_here (call_open a))) (post_kept a _ _ _ _ _)
 dot_name_kept a id p w N t = post_kept a _ _ _ _ t
 
 -- ---- names
 
-target_name_kept : {s : List Entry} → Awaits an_assignment s → (p : Pos) (w : List ℕ) (N : List Node) (n : ℕ) (q : Pos) → Kept (target_name_step p w N s n q)
+target_name_kept : {s : List Entry} → Awaits an_assignment s →
+    (p : Pos) (w : List ℕ) (N : List Node) (n : ℕ) (q : Pos) → Kept (target_name_step p w N s n q)
 unfolding target_name_step compound_step stepping_step due
-target_name_kept a p w N n q = chosen (compound n) _ _ (λ op. kept (compound_value a)) (chosen (stepping n) _ _ (λ op. kept a) (post_kept (target_open a) _ _ _ _ _))
+target_name_kept a p w N n q =
+    chosen (compound n) _ _ (λ op. kept (compound_value a))
+    (chosen (stepping n) _ _ (λ op. kept a) (post_kept (target_open a) _ _ _ _ _))
 
-name_sign_kept : {s : List Entry} → Awaits an_operand s → (p : Pos) (w : List ℕ) (N : List Node) (n : ℕ) (q : Pos) → Kept (name_sign_step p w N s n q)
+name_sign_kept : {s : List Entry} → Awaits an_operand s → (p : Pos) (w : List ℕ) (N : List Node) (n : ℕ) (q : Pos) →
+    Kept (name_sign_step p w N s n q)
 unfolding name_sign_step
 name_sign_kept (target_open a) p w N n q = target_name_kept a p w N n q
 name_sign_kept (of_value (for_test a)) p w N n q = post_kept (of_value (for_test a)) _ _ _ _ _
 name_sign_kept (of_value a) p w N n q = post_kept (of_value a) _ _ _ _ _
 
-name_kept : {s : List Entry} → Awaits an_operand s → (p : Pos) (w : List ℕ) (N : List Node) (t : Lexeme) → Kept (name_step p w N s t)
+name_kept : {s : List Entry} → Awaits an_operand s → (p : Pos) (w : List ℕ) (N : List Node) (t : Lexeme) →
+    Kept (name_step p w N s t)
 unfolding name_step due
 name_kept a p w N (a_sign n q) = either _ (kept (argument_here (call_open a))) (name_sign_kept a p w N n q)
 name_kept a p w N t = post_kept a _ _ _ _ t
 
 -- ---- where an operand is due
 
-operand_word_kept : {s : List Entry} → Awaits an_operand s → (n : ℕ) (p : Pos) (N : List Node) → Kept (operand_word n p N s)
+operand_word_kept : {s : List Entry} → Awaits an_operand s → (n : ℕ) (p : Pos) (N : List Node) →
+    Kept (operand_word n p N s)
 unfolding operand_word due
-operand_word_kept a n p N = either (n == word_true) (kept a) (either (n == word_false) (kept a) (either (n == word_null) (kept a) (either (n == word_this) (kept a) (either (n == word_new) (kept a) refused))))
+operand_word_kept a n p N =
+    either (n == word_true) (kept a)
+    (either (n == word_false) (kept a)
+    (either (n == word_null) (kept a) (either (n == word_this) (kept a) (either (n == word_new) (kept a) refused))))
 
-operand_sign_kept : {s : List Entry} → Awaits a_value s → (n : ℕ) (p : Pos) (N : List Node) → Kept (operand_sign n p N s)
+operand_sign_kept : {s : List Entry} → Awaits a_value s → (n : ℕ) (p : Pos) (N : List Node) →
+    Kept (operand_sign n p N s)
 unfolding operand_sign due
-operand_sign_kept a n p N = either (n == sign_left_parenthesis) (kept (of_value a)) (either (n == sign_minus) (kept a) (either (n == sign_not || n == sign_tilde) (kept (unary_open a)) refused))
+operand_sign_kept a n p N =
+    either (n == sign_left_parenthesis) (kept (of_value a))
+    (either (n == sign_minus) (kept a) (either (n == sign_not || n == sign_tilde) (kept (unary_open a)) refused))
 
 operand_start_kept : {s : List Entry} → Awaits a_value s → (N : List Node) (t : Lexeme) → Kept (operand_start N s t)
 unfolding operand_start due
@@ -152,20 +179,25 @@ unfolding minus_step due
 minus_kept a p N (a_number n q) = either _ (kept (of_value a)) (operand_start_kept (unary_open a) N (a_number n q))
 minus_kept a p N t = operand_start_kept (unary_open a) N t
 
-opened_kept : {s : List Entry} → Awaits an_operand s → (p : Pos) (N : List Node) (t : Lexeme) → Kept (opened_step p N s t)
+opened_kept : {s : List Entry} → Awaits an_operand s → (p : Pos) (N : List Node) (t : Lexeme) →
+    Kept (opened_step p N s t)
 unfolding opened_step due
 opened_kept a p N (a_name w q) = kept a
 opened_kept a p N t = operand_start_kept (group_open a) N t
 
-opened_name_kept : {s : List Entry} → Awaits an_operand s → (p q : Pos) (w : List ℕ) (N : List Node) (t : Lexeme) → Kept (opened_name_step p q w N s t)
+opened_name_kept : {s : List Entry} → Awaits an_operand s → (p q : Pos) (w : List ℕ) (N : List Node) (t : Lexeme) →
+    Kept (opened_name_step p q w N s t)
 unfolding opened_name_step due
 opened_name_kept a p q w N (a_sign n r) = either _ (kept a) (name_kept (of_value (group_open a)) q w N (a_sign n r))
 opened_name_kept a p q w N t = name_kept (of_value (group_open a)) q w N t
 
-closed_name_kept : {s : List Entry} → Awaits an_operand s → (p q : Pos) (w : List ℕ) (N : List Node) (t : Lexeme) → Kept (closed_name_step p q w N s t)
+closed_name_kept : {s : List Entry} → Awaits an_operand s → (p q : Pos) (w : List ℕ) (N : List Node) (t : Lexeme) →
+    Kept (closed_name_step p q w N s t)
 unfolding closed_name_step awaits_target
 closed_name_kept (target_open a) p q w N t = never_both (is_unary1_start t) _ _ (post_kept (target_open a) _ _ _ _ _)
-closed_name_kept (of_value a) p q w N t = either (is_unary1_start t && not (awaits_target _)) (operand_start_kept (cast_open a) N t) (post_kept (of_value a) _ _ _ _ _)
+closed_name_kept (of_value a) p q w N t =
+    either (is_unary1_start t && not (awaits_target _)) (operand_start_kept (cast_open a) N t)
+    (post_kept (of_value a) _ _ _ _ _)
 
 new_kept : {s : List Entry} → Awaits an_operand s → (p : Pos) (N : List Node) (t : Lexeme) → Kept (new_step p N s t)
 unfolding new_step due
@@ -173,12 +205,15 @@ new_kept a p N (a_name w q) = kept a
 new_kept a p N (a_word n q) = either (n == word_int) (kept a) (either (n == word_boolean) (kept a) refused)
 new_kept a p N t = refused
 
-new_name_kept : {s : List Entry} → Awaits an_operand s → (p q : Pos) (w : List ℕ) (N : List Node) (t : Lexeme) → Kept (new_name_step p q w N s t)
+new_name_kept : {s : List Entry} → Awaits an_operand s → (p q : Pos) (w : List ℕ) (N : List Node) (t : Lexeme) →
+    Kept (new_name_step p q w N s t)
 unfolding new_name_step due
-new_name_kept a p q w N (a_sign n r) = either (n == sign_left_parenthesis) (kept (argument_here (new_open a))) (either (n == sign_left_bracket) (kept (length_open a)) refused)
+new_name_kept a p q w N (a_sign n r) = either (n == sign_left_parenthesis) (kept (argument_here (new_open a)))
+    (either (n == sign_left_bracket) (kept (length_open a)) refused)
 new_name_kept a p q w N t = refused
 
-new_element_kept : {s : List Entry} → Awaits an_operand s → (p : Pos) (e : ℕ) (N : List Node) (t : Lexeme) → Kept (new_element_step p e N s t)
+new_element_kept : {s : List Entry} → Awaits an_operand s → (p : Pos) (e : ℕ) (N : List Node) (t : Lexeme) →
+    Kept (new_element_step p e N s t)
 unfolding new_element_step due
 new_element_kept a p e N (a_sign n r) = either _ (kept (length_open a)) refused
 new_element_kept a p e N t = refused
@@ -188,7 +223,8 @@ new_element_kept a p e N t = refused
 value_of : {s : List Entry} → Awaits an_argument s → Awaits a_value s
 value_of (argument_here a) = argument_value a
 
-argument_start_kept : {s : List Entry} → Awaits an_argument s → (N : List Node) (t : Lexeme) → Kept (argument_start N s t)
+argument_start_kept : {s : List Entry} → Awaits an_argument s → (N : List Node) (t : Lexeme) →
+    Kept (argument_start N s t)
 unfolding argument_start due
 argument_start_kept a N (a_text w p) = kept a
 argument_start_kept a N t = operand_start_kept (value_of a) N t
@@ -197,7 +233,8 @@ no_arguments_kept : {s : List Entry} → Awaits an_argument s → (N : List Node
 unfolding no_arguments_step
 no_arguments_kept (argument_here a) N = arguments_ended_kept a [] N
 
-argument_first_kept : {s : List Entry} → Awaits an_argument s → (N : List Node) (t : Lexeme) → Kept (argument_first_step N s t)
+argument_first_kept : {s : List Entry} → Awaits an_argument s → (N : List Node) (t : Lexeme) →
+    Kept (argument_first_step N s t)
 unfolding argument_first_step
 argument_first_kept a N (a_sign n p) = either _ (no_arguments_kept a N) (argument_start_kept a N (a_sign n p))
 argument_first_kept a N t = argument_start_kept a N t
@@ -215,32 +252,39 @@ typed_kept (parameter_open a) id N (a_name w p) = kept a
 typed_kept (local_open a) id N (a_name w p) = kept a
 typed_kept a id N t = refused
 
-type_end_kept : {s : List Entry} → Awaits a_type s → (p : Pos) (e : ElementType) (N : List Node) (t : Lexeme) → Kept (type_end_step p e N s t)
+type_end_kept : {s : List Entry} → Awaits a_type s → (p : Pos) (e : ElementType) (N : List Node) (t : Lexeme) →
+    Kept (type_end_step p e N s t)
 unfolding type_end_step due
 type_end_kept a p e N (a_sign n q) = either _ (kept a) refused
 type_end_kept a p e N t = typed_kept a _ _ t
 
-type_bracket_kept : {s : List Entry} → Awaits a_type s → (p : Pos) (e : ElementType) (N : List Node) (t : Lexeme) → Kept (type_bracket_step p e N s t)
+type_bracket_kept : {s : List Entry} → Awaits a_type s → (p : Pos) (e : ElementType) (N : List Node) (t : Lexeme) →
+    Kept (type_bracket_step p e N s t)
 unfolding type_bracket_step due
 type_bracket_kept a p e N (a_sign n q) = either _ (kept a) refused
 type_bracket_kept a p e N t = refused
 
-constructor_kept : {s : List Entry} → Awaits a_type s → (p : Pos) (w : List ℕ) (q : Pos) (N : List Node) → Kept (constructor_step p w q N s)
+constructor_kept : {s : List Entry} → Awaits a_type s → (p : Pos) (w : List ℕ) (q : Pos) (N : List Node) →
+    Kept (constructor_step p w q N s)
 unfolding constructor_step due
 constructor_kept (member_open a) p w q N = kept (constructor_open a)
 constructor_kept a p w q N = refused
 
-type_name_kept : {s : List Entry} → Awaits a_type s → (p : Pos) (w : List ℕ) (N : List Node) (t : Lexeme) → Kept (type_name_step p w N s t)
+type_name_kept : {s : List Entry} → Awaits a_type s → (p : Pos) (w : List ℕ) (N : List Node) (t : Lexeme) →
+    Kept (type_name_step p w N s t)
 unfolding type_name_step due
-type_name_kept a p w N (a_sign n q) = either _ (either _ (kept a) refused) (either _ (kept a) (either _ (constructor_kept a p w q N) refused))
+type_name_kept a p w N (a_sign n q) =
+    either _ (either _ (kept a) refused) (either _ (kept a) (either _ (constructor_kept a p w q N) refused))
 type_name_kept a p w N t = typed_kept a _ _ t
 
-type_argument_name_kept : {s : List Entry} → Awaits a_type s → (p : Pos) (w : List ℕ) (N : List Node) (t : Lexeme) → Kept (type_argument_name_step p w N s t)
+type_argument_name_kept : {s : List Entry} → Awaits a_type s → (p : Pos) (w : List ℕ) (N : List Node) (t : Lexeme) →
+    Kept (type_argument_name_step p w N s t)
 unfolding type_argument_name_step due
 type_argument_name_kept a p w N (a_name v q) = kept a
 type_argument_name_kept a p w N t = refused
 
-type_argument_end_kept : {s : List Entry} → Awaits a_type s → (p : Pos) (w : List ℕ) (id : ℕ) (N : List Node) (t : Lexeme) → Kept (type_argument_end_step p w id N s t)
+type_argument_end_kept : {s : List Entry} → Awaits a_type s →
+    (p : Pos) (w : List ℕ) (id : ℕ) (N : List Node) (t : Lexeme) → Kept (type_argument_end_step p w id N s t)
 unfolding type_argument_end_step due
 type_argument_end_kept a p w id N (a_sign n q) = either _ (kept a) refused
 type_argument_end_kept a p w id N t = refused
@@ -253,32 +297,40 @@ type_start_kept a N t = refused
 
 -- ---- what stands behind annotations and modifiers
 
-member_word_kept : {s : List Entry} → Awaits a_member s → (f : Option ℕ) (n : ℕ) (p : Pos) (N : List Node) → Kept (member_word f n p N s)
+member_word_kept : {s : List Entry} → Awaits a_member s → (f : Option ℕ) (n : ℕ) (p : Pos) (N : List Node) →
+    Kept (member_word f n p N s)
 unfolding member_word due
-member_word_kept a f n p N = either (n == word_void) (kept a) (either (n == word_long) (kept a) (type_start_kept (member_open a) N (a_word n p)))
+member_word_kept a f n p N =
+    either (n == word_void) (kept a) (either (n == word_long) (kept a) (type_start_kept (member_open a) N (a_word n p)))
 
-member_start_kept : {s : List Entry} → Awaits a_member s → (f : Option ℕ) (N : List Node) (t : Lexeme) → Kept (member_start f N s t)
+member_start_kept : {s : List Entry} → Awaits a_member s → (f : Option ℕ) (N : List Node) (t : Lexeme) →
+    Kept (member_start f N s t)
 unfolding member_start
 member_start_kept a f N (a_word n p) = member_word_kept a f n p N
 member_start_kept a f N t = type_start_kept (member_open a) N t
 
-class_start_kept : {s : List Entry} → Awaits a_file s → (f : Option ℕ) (N : List Node) (t : Lexeme) → Kept (class_start f N s t)
+class_start_kept : {s : List Entry} → Awaits a_file s → (f : Option ℕ) (N : List Node) (t : Lexeme) →
+    Kept (class_start f N s t)
 unfolding class_start due
 class_start_kept a f N (a_word n p) = either _ (kept a) refused
 class_start_kept a f N t = refused
 
-declaration_kept : {s : List Entry} → Awaits flagged_thing s → (f : Option ℕ) (N : List Node) (t : Lexeme) → Kept (declaration_start f N s t)
+declaration_kept : {s : List Entry} → Awaits flagged_thing s → (f : Option ℕ) (N : List Node) (t : Lexeme) →
+    Kept (declaration_start f N s t)
 unfolding declaration_start
 declaration_kept (flags_of_class file_open) f N t = class_start_kept file_open f N t
 declaration_kept (flags_of_member (class_body a)) f N t = member_start_kept (class_body a) f N t
-declaration_kept (flags_of_parameter (parameters_open a)) f N t = type_start_kept (parameter_open (parameters_open a)) N t
+declaration_kept (flags_of_parameter (parameters_open a)) f N t =
+    type_start_kept (parameter_open (parameters_open a)) N t
 declaration_kept (flags_of_local (simple_open a)) f N t = type_start_kept (local_open (of_simple (simple_open a))) N t
 
-flags_ended_kept : {s : List Entry} → Awaits flagged_thing s → (f : FlagSet) (N : List Node) (t : Lexeme) → Kept (flags_ended f N s t)
+flags_ended_kept : {s : List Entry} → Awaits flagged_thing s → (f : FlagSet) (N : List Node) (t : Lexeme) →
+    Kept (flags_ended f N s t)
 unfolding flags_ended
 flags_ended_kept a f N t = declaration_kept a _ _ t
 
-flags_kept : {s : List Entry} → Awaits flagged_thing s → (l : Bool) (f : FlagSet) (N : List Node) (t : Lexeme) → Kept (flags_step l f N s t)
+flags_kept : {s : List Entry} → Awaits flagged_thing s → (l : Bool) (f : FlagSet) (N : List Node) (t : Lexeme) →
+    Kept (flags_step l f N s t)
 unfolding flags_step due
 flags_kept a l f N (a_word w p) = chosen _ _ _ (λ more. kept a) (flags_ended_kept a f N (a_word w p))
 flags_kept a l f N (a_sign n p) = either _ (kept (annotation_open a)) (flags_ended_kept a f N (a_sign n p))
@@ -286,21 +338,29 @@ flags_kept a l f N t = flags_ended_kept a f N t
 
 -- ---- annotations
 
-scope_named_kept : {s : List Entry} → Awaits flagged_thing s → (l : Bool) (f : FlagSet) (N : List Node) → Kept (scope_named l f N s)
+scope_named_kept : {s : List Entry} → Awaits flagged_thing s → (l : Bool) (f : FlagSet) (N : List Node) →
+    Kept (scope_named l f N s)
 unfolding scope_named due
 scope_named_kept a l f N = chosen f.scope _ _ (λ id. refused) (kept (scope_open (annotation_open a)))
 
-runs_in_named_kept : {s : List Entry} → Awaits flagged_thing s → (l : Bool) (f : FlagSet) (N : List Node) → Kept (runs_in_named l f N s)
+runs_in_named_kept : {s : List Entry} → Awaits flagged_thing s → (l : Bool) (f : FlagSet) (N : List Node) →
+    Kept (runs_in_named l f N s)
 unfolding runs_in_named due
 runs_in_named_kept a l f N = chosen f.runs_in _ _ (λ id. refused) (kept (runs_in_open (annotation_open a)))
 
-define_scope_named_kept : {s : List Entry} → Awaits flagged_thing s → (p : Pos) (l : Bool) (f : FlagSet) (N : List Node) → Kept (define_scope_named p l f N s)
+define_scope_named_kept : {s : List Entry} → Awaits flagged_thing s →
+    (p : Pos) (l : Bool) (f : FlagSet) (N : List Node) → Kept (define_scope_named p l f N s)
 unfolding define_scope_named due
 define_scope_named_kept a p l f N = chosen f.define_scope _ _ (λ id. refused) (kept (annotation_open a))
 
-annotation_named_kept : {s : List Entry} → Awaits flagged_thing s → (p : Pos) (w : List ℕ) (l : Bool) (f : FlagSet) (N : List Node) → Kept (annotation_named p w l f N s)
+annotation_named_kept : {s : List Entry} → Awaits flagged_thing s →
+    (p : Pos) (w : List ℕ) (l : Bool) (f : FlagSet) (N : List Node) → Kept (annotation_named p w l f N s)
 unfolding annotation_named due
-annotation_named_kept a p w l f N = either (is_effectless w) (kept (annotation_open a)) (either (is_same w (codes "Scope")) (scope_named_kept a l f N) (either (is_same w (codes "RunsIn")) (runs_in_named_kept a l f N) (either (is_same w (codes "DefineScope")) (define_scope_named_kept a p l f N) refused)))
+annotation_named_kept a p w l f N =
+    either (is_effectless w) (kept (annotation_open a))
+    (either (is_same w (codes "Scope")) (scope_named_kept a l f N)
+    (either (is_same w (codes "RunsIn")) (runs_in_named_kept a l f N)
+    (either (is_same w (codes "DefineScope")) (define_scope_named_kept a p l f N) refused)))
 
 at_kept : {s : List Entry} → Awaits an_annotation s → (p : Pos) (N : List Node) (t : Lexeme) → Kept (at_step p N s t)
 unfolding at_step
@@ -311,46 +371,55 @@ plain_ended_kept : {s : List Entry} → Awaits an_annotation s → (N : List Nod
 unfolding plain_ended due
 plain_ended_kept (annotation_open a) N = kept a
 
-plain_without_kept : {s : List Entry} → Awaits an_annotation s → (N : List Node) (t : Lexeme) → Kept (plain_without N s t)
+plain_without_kept : {s : List Entry} → Awaits an_annotation s → (N : List Node) (t : Lexeme) →
+    Kept (plain_without N s t)
 unfolding plain_without
 plain_without_kept (annotation_open a) N t = flags_kept a _ _ N t
 
-plain_open_kept : {s : List Entry} → Awaits an_annotation s → (N : List Node) (t : Lexeme) → Kept (plain_open_step N s t)
+plain_open_kept : {s : List Entry} → Awaits an_annotation s → (N : List Node) (t : Lexeme) →
+    Kept (plain_open_step N s t)
 unfolding plain_open_step due
 plain_open_kept a N (a_sign n p) = either _ (kept a) (plain_without_kept a N (a_sign n p))
 plain_open_kept a N t = plain_without_kept a N t
 
 pair_ended_kept : {s : List Entry} → Awaits an_annotation s → (N : List Node) (n : ℕ) → Kept (pair_ended N s n)
 unfolding pair_ended due
-pair_ended_kept a N n = either (n == sign_comma) (kept a) (either (n == sign_right_parenthesis) (plain_ended_kept a N) refused)
+pair_ended_kept a N n =
+    either (n == sign_comma) (kept a) (either (n == sign_right_parenthesis) (plain_ended_kept a N) refused)
 
-plain_value_kept : {s : List Entry} → Awaits an_annotation s → (N : List Node) (t : Lexeme) → Kept (plain_value_step N s t)
+plain_value_kept : {s : List Entry} → Awaits an_annotation s → (N : List Node) (t : Lexeme) →
+    Kept (plain_value_step N s t)
 unfolding plain_value_step due
 plain_value_kept a N (a_text w p) = kept a
 plain_value_kept a N (a_word n p) = either _ (kept a) refused
 plain_value_kept a N t = refused
 
-plain_next_kept : {s : List Entry} → Awaits an_annotation s → (N : List Node) (t : Lexeme) → Kept (plain_next_step N s t)
+plain_next_kept : {s : List Entry} → Awaits an_annotation s → (N : List Node) (t : Lexeme) →
+    Kept (plain_next_step N s t)
 unfolding plain_next_step due
 plain_next_kept a N (a_name w p) = kept a
 plain_next_kept a N t = plain_value_kept a N t
 
-plain_first_kept : {s : List Entry} → Awaits an_annotation s → (N : List Node) (t : Lexeme) → Kept (plain_first_step N s t)
+plain_first_kept : {s : List Entry} → Awaits an_annotation s → (N : List Node) (t : Lexeme) →
+    Kept (plain_first_step N s t)
 unfolding plain_first_step
 plain_first_kept a N (a_sign n p) = either _ (plain_ended_kept a N) refused
 plain_first_kept a N t = plain_next_kept a N t
 
-plain_path_kept : {s : List Entry} → Awaits an_annotation s → (N : List Node) (t : Lexeme) → Kept (plain_path_step N s t)
+plain_path_kept : {s : List Entry} → Awaits an_annotation s → (N : List Node) (t : Lexeme) →
+    Kept (plain_path_step N s t)
 unfolding plain_path_step due
 plain_path_kept a N (a_sign n p) = either _ (kept a) (pair_ended_kept a N n)
 plain_path_kept a N t = refused
 
-plain_name_kept : {s : List Entry} → Awaits an_annotation s → (N : List Node) (t : Lexeme) → Kept (plain_name_step N s t)
+plain_name_kept : {s : List Entry} → Awaits an_annotation s → (N : List Node) (t : Lexeme) →
+    Kept (plain_name_step N s t)
 unfolding plain_name_step due
 plain_name_kept a N (a_sign n p) = either _ (kept a) (plain_path_kept a N (a_sign n p))
 plain_name_kept a N t = refused
 
-plain_assigned_kept : {s : List Entry} → Awaits an_annotation s → (N : List Node) (t : Lexeme) → Kept (plain_assigned_step N s t)
+plain_assigned_kept : {s : List Entry} → Awaits an_annotation s → (N : List Node) (t : Lexeme) →
+    Kept (plain_assigned_step N s t)
 unfolding plain_assigned_step due
 plain_assigned_kept a N (a_name w p) = kept a
 plain_assigned_kept a N t = plain_value_kept a N t
@@ -374,7 +443,8 @@ valued_kept (runs_in_open (annotation_open a)) id N n = either _ (kept a) refuse
 valued_kept (define_first a) id N n = either _ (kept a) refused
 valued_kept (define_second (annotation_open a)) id N n = either _ (kept a) refused
 
-value_end_kept : {s : List Entry} → Awaits a_scope s → (id : ℕ) (N : List Node) (t : Lexeme) → Kept (value_end_step id N s t)
+value_end_kept : {s : List Entry} → Awaits a_scope s → (id : ℕ) (N : List Node) (t : Lexeme) →
+    Kept (value_end_step id N s t)
 unfolding value_end_step
 value_end_kept a id N (a_sign n p) = valued_kept a id N n
 value_end_kept a id N t = refused
@@ -390,37 +460,45 @@ value_start_kept a N (a_text w p) = either _ (kept a) refused
 value_start_kept a N (a_name w p) = either _ (kept a) (kept a)
 value_start_kept a N t = refused
 
-value_scope_kept : {s : List Entry} → Awaits a_scope s → (p : Pos) (N : List Node) (t : Lexeme) → Kept (value_scope_step p N s t)
+value_scope_kept : {s : List Entry} → Awaits a_scope s → (p : Pos) (N : List Node) (t : Lexeme) →
+    Kept (value_scope_step p N s t)
 unfolding value_scope_step due
 value_scope_kept a p N (a_sign n q) = either _ (kept a) (valued_kept a _ _ n)
 value_scope_kept a p N t = refused
 
-value_dot_kept : {s : List Entry} → Awaits a_scope s → (p : Pos) (N : List Node) (t : Lexeme) → Kept (value_dot_step p N s t)
+value_dot_kept : {s : List Entry} → Awaits a_scope s → (p : Pos) (N : List Node) (t : Lexeme) →
+    Kept (value_dot_step p N s t)
 unfolding value_dot_step due
 value_dot_kept a p N (a_name w q) = kept a
 value_dot_kept a p N t = refused
 
-define_open_kept : {s : List Entry} → Awaits an_annotation s → (p : Pos) (N : List Node) (t : Lexeme) → Kept (define_open_step p N s t)
+define_open_kept : {s : List Entry} → Awaits an_annotation s → (p : Pos) (N : List Node) (t : Lexeme) →
+    Kept (define_open_step p N s t)
 unfolding define_open_step due
 define_open_kept a p N (a_sign n q) = either _ (kept a) refused
 define_open_kept a p N t = refused
 
-define_name_kept : {s : List Entry} → Awaits an_annotation s → (p : Pos) (N : List Node) (t : Lexeme) → Kept (define_name_step p N s t)
+define_name_kept : {s : List Entry} → Awaits an_annotation s → (p : Pos) (N : List Node) (t : Lexeme) →
+    Kept (define_name_step p N s t)
 unfolding define_name_step due
-define_name_kept a p N (a_name w q) = either (is_same w (codes "name")) (kept a) (either (is_same w (codes "parent")) (kept a) refused)
+define_name_kept a p N (a_name w q) =
+    either (is_same w (codes "name")) (kept a) (either (is_same w (codes "parent")) (kept a) refused)
 define_name_kept a p N t = refused
 
-define_assign_kept : {s : List Entry} → Awaits an_annotation s → (p : Pos) (b : Bool) (N : List Node) (t : Lexeme) → Kept (define_assign_step p b N s t)
+define_assign_kept : {s : List Entry} → Awaits an_annotation s → (p : Pos) (b : Bool) (N : List Node) (t : Lexeme) →
+    Kept (define_assign_step p b N s t)
 unfolding define_assign_step due
 define_assign_kept a p b N (a_sign n q) = either _ (kept (define_first a)) refused
 define_assign_kept a p b N t = refused
 
-define_other_kept : {s : List Entry} → Awaits an_annotation s → (p : Pos) (b : Bool) (id : ℕ) (N : List Node) (t : Lexeme) → Kept (define_other_step p b id N s t)
+define_other_kept : {s : List Entry} → Awaits an_annotation s →
+    (p : Pos) (b : Bool) (id : ℕ) (N : List Node) (t : Lexeme) → Kept (define_other_step p b id N s t)
 unfolding define_other_step due
 define_other_kept a p b id N (a_name w q) = either _ (kept a) refused
 define_other_kept a p b id N t = refused
 
-define_other_assign_kept : {s : List Entry} → Awaits an_annotation s → (p : Pos) (b : Bool) (id : ℕ) (N : List Node) (t : Lexeme) → Kept (define_other_assign_step p b id N s t)
+define_other_assign_kept : {s : List Entry} → Awaits an_annotation s →
+    (p : Pos) (b : Bool) (id : ℕ) (N : List Node) (t : Lexeme) → Kept (define_other_assign_step p b id N s t)
 unfolding define_other_assign_step due
 define_other_assign_kept a p b id N (a_sign n q) = either _ (kept (define_second a)) refused
 define_other_assign_kept a p b id N t = refused
@@ -439,49 +517,74 @@ target_start_kept a N (the_end p) = refused
 first_start_kept : {s : List Entry} → Awaits a_first s → (N : List Node) (t : Lexeme) → Kept (first_start N s t)
 unfolding first_start due
 first_start_kept a N (a_name w p) = kept a
-first_start_kept a N (a_word n p) = either (n == word_int) (kept (local_open a)) (either (n == word_boolean) (kept (local_open a)) (target_start_kept (of_first a) N (a_word n p)))
+first_start_kept a N (a_word n p) =
+    either (n == word_int) (kept (local_open a))
+    (either (n == word_boolean) (kept (local_open a)) (target_start_kept (of_first a) N (a_word n p)))
 first_start_kept a N t = target_start_kept (of_first a) N t
 
-name_first_kept : {s : List Entry} → Awaits a_first s → (p : Pos) (w : List ℕ) (N : List Node) (t : Lexeme) → Kept (name_first_step p w N s t)
+name_first_kept : {s : List Entry} → Awaits a_first s → (p : Pos) (w : List ℕ) (N : List Node) (t : Lexeme) →
+    Kept (name_first_step p w N s t)
 unfolding name_first_step due
 name_first_kept a p w N (a_name v q) = typed_kept (local_open a) _ _ _
-name_first_kept a p w N (a_sign n q) = either (n == sign_less) (either (has_type_argument w) (kept (local_open a)) refused) (either (n == sign_left_bracket) (kept a) (name_kept (target_open (of_first a)) p w N (a_sign n q)))
+name_first_kept a p w N (a_sign n q) =
+    either (n == sign_less) (either (has_type_argument w) (kept (local_open a)) refused)
+    (either (n == sign_left_bracket) (kept a) (name_kept (target_open (of_first a)) p w N (a_sign n q)))
 name_first_kept a p w N t = refused
 
-name_bracket_kept : {s : List Entry} → Awaits a_first s → (p : Pos) (w : List ℕ) (b : Pos) (N : List Node) (t : Lexeme) → Kept (name_bracket_step p w b N s t)
+name_bracket_kept : {s : List Entry} → Awaits a_first s →
+    (p : Pos) (w : List ℕ) (b : Pos) (N : List Node) (t : Lexeme) → Kept (name_bracket_step p w b N s t)
 unfolding name_bracket_step due
-name_bracket_kept a p w b N (a_sign n q) = either _ (kept (local_open a)) (operand_start_kept (index_open (target_open (of_first a))) _ (a_sign n q))
+name_bracket_kept a p w b N (a_sign n q) =
+    either _ (kept (local_open a)) (operand_start_kept (index_open (target_open (of_first a))) _ (a_sign n q))
 name_bracket_kept a p w b N t = operand_start_kept (index_open (target_open (of_first a))) _ t
 
-local_ended_kept : {s : List Entry} → Awaits a_first s → (f : Option ℕ) (id : ℕ) (p : Pos) (w : List ℕ) (N : List Node) → Kept (local_ended f id p w N s)
+local_ended_kept : {s : List Entry} → Awaits a_first s →
+    (f : Option ℕ) (id : ℕ) (p : Pos) (w : List ℕ) (N : List Node) → Kept (local_ended f id p w N s)
 unfolding local_ended due
 local_ended_kept (of_simple (simple_open a)) f id p w N = kept a
 local_ended_kept (for_head a) f id p w N = refused
 
-local_named_kept : {s : List Entry} → Awaits a_first s → (f : Option ℕ) (id : ℕ) (p : Pos) (w : List ℕ) (N : List Node) (t : Lexeme) → Kept (local_named_step f id p w N s t)
+local_named_kept : {s : List Entry} → Awaits a_first s → (f : Option ℕ) (id : ℕ) (p : Pos) (w : List ℕ) (N : List Node)
+    (t : Lexeme) → Kept (local_named_step f id p w N s t)
 unfolding local_named_step due
-local_named_kept a f id p w N (a_sign n q) = either _ (kept (local_value a)) (either _ (local_ended_kept a f id p w N) refused)
+local_named_kept a f id p w N (a_sign n q) =
+    either _ (kept (local_value a)) (either _ (local_ended_kept a f id p w N) refused)
 local_named_kept a f id p w N t = refused
 
-test_open_kept : (m : Mode) (e : Entry) {s : List Entry} → Awaits (due m) (e ∷ s) → (N : List Node) (t : Lexeme) → Kept (test_open_step m e N s t)
+test_open_kept : (m : Mode) (e : Entry) {s : List Entry} → Awaits (due m) (e ∷ s) → (N : List Node) (t : Lexeme) →
+    Kept (test_open_step m e N s t)
 unfolding test_open_step
 test_open_kept m e a N (a_sign n q) = either _ (kept a) refused
 test_open_kept m e a N t = refused
 
-return_kept : {s : List Entry} → Awaits a_statement s → (p : Pos) (N : List Node) (t : Lexeme) → Kept (return_step p N s t)
+return_kept : {s : List Entry} → Awaits a_statement s → (p : Pos) (N : List Node) (t : Lexeme) →
+    Kept (return_step p N s t)
 unfolding return_step due
 return_kept a p N (a_sign n q) = either _ (kept a) (operand_start_kept (return_open a) N (a_sign n q))
 return_kept a p N t = operand_start_kept (return_open a) N t
 
-statement_word_kept : {s : List Entry} → Awaits a_statement s → (n : ℕ) (p : Pos) (N : List Node) → Kept (statement_word n p N s)
+statement_word_kept : {s : List Entry} → Awaits a_statement s → (n : ℕ) (p : Pos) (N : List Node) →
+    Kept (statement_word n p N s)
 unfolding statement_word due
-statement_word_kept a n p N = either (n == word_if) (kept a) (either (n == word_while) (kept a) (either (n == word_for) (kept a) (either (n == word_return) (kept a) (either (n == word_final) (flags_kept (flags_of_local (simple_open a)) _ _ N (a_word n p)) (first_start_kept (of_simple (simple_open a)) N (a_word n p))))))
+statement_word_kept a n p N =
+    either (n == word_if) (kept a)
+    (either (n == word_while) (kept a)
+    (either (n == word_for) (kept a)
+    (either (n == word_return) (kept a)
+    (either (n == word_final) (flags_kept (flags_of_local (simple_open a)) _ _ N (a_word n p))
+    (first_start_kept (of_simple (simple_open a)) N (a_word n p))))))
 
-statement_sign_kept : {s : List Entry} → Awaits a_statement s → (n : ℕ) (p : Pos) (N : List Node) → Kept (statement_sign n p N s)
+statement_sign_kept : {s : List Entry} → Awaits a_statement s → (n : ℕ) (p : Pos) (N : List Node) →
+    Kept (statement_sign n p N s)
 unfolding statement_sign due
-statement_sign_kept a n p N = either (n == sign_left_brace) (kept (block_open a)) (either (n == sign_semicolon) (kept a) (either (n == sign_at) (flags_kept (flags_of_local (simple_open a)) _ _ N (a_sign n p)) (first_start_kept (of_simple (simple_open a)) N (a_sign n p))))
+statement_sign_kept a n p N =
+    either (n == sign_left_brace) (kept (block_open a))
+    (either (n == sign_semicolon) (kept a)
+    (either (n == sign_at) (flags_kept (flags_of_local (simple_open a)) _ _ N (a_sign n p))
+    (first_start_kept (of_simple (simple_open a)) N (a_sign n p))))
 
-statement_start_kept : {s : List Entry} → Awaits a_statement s → (N : List Node) (t : Lexeme) → Kept (statement_start N s t)
+statement_start_kept : {s : List Entry} → Awaits a_statement s → (N : List Node) (t : Lexeme) →
+    Kept (statement_start N s t)
 unfolding statement_start
 statement_start_kept a N (a_word n p) = statement_word_kept a n p N
 statement_start_kept a N (a_sign n p) = statement_sign_kept a n p N
@@ -491,7 +594,8 @@ block_ended_kept : {s : List Entry} → Awaits a_statement_of_block s → (N : L
 unfolding block_ended due
 block_ended_kept (block_open a) N = kept a
 
-statements_kept : {s : List Entry} → Awaits a_statement_of_block s → (N : List Node) (t : Lexeme) → Kept (statements_step N s t)
+statements_kept : {s : List Entry} → Awaits a_statement_of_block s → (N : List Node) (t : Lexeme) →
+    Kept (statements_step N s t)
 unfolding statements_step
 statements_kept a N (a_sign n p) = either _ (block_ended_kept a N) (statement_start_kept (of_block a) N (a_sign n p))
 statements_kept a N t = statement_start_kept (of_block a) N t
@@ -502,14 +606,21 @@ member_read_kept : {s : List Entry} → Awaits a_member s → (id : ℕ) (N : Li
 unfolding member_read due
 member_read_kept (class_body a) id N = kept (class_body a)
 
-member_named_kept : {s : List Entry} → Awaits a_member s → (f : Option ℕ) (id : ℕ) (p : Pos) (w : List ℕ) (N : List Node) (t : Lexeme) → Kept (member_named_step f id p w N s t)
+member_named_kept : {s : List Entry} → Awaits a_member s →
+    (f : Option ℕ) (id : ℕ) (p : Pos) (w : List ℕ) (N : List Node) (t : Lexeme) →
+    Kept (member_named_step f id p w N s t)
 unfolding member_named_step due
-member_named_kept a f id p w N (a_sign n q) = either (n == sign_semicolon) (member_read_kept a _ _) (either (n == sign_assign) (kept (field_open a)) (either (n == sign_left_parenthesis) (kept (method_open a)) refused))
+member_named_kept a f id p w N (a_sign n q) =
+    either (n == sign_semicolon) (member_read_kept a _ _)
+    (either (n == sign_assign) (kept (field_open a))
+    (either (n == sign_left_parenthesis) (kept (method_open a)) refused))
 member_named_kept a f id p w N t = refused
 
-literal_word_kept : {s : List Entry} → Awaits a_literal s → (n : ℕ) (p : Pos) (N : List Node) → Kept (literal_word n p N s)
+literal_word_kept : {s : List Entry} → Awaits a_literal s → (n : ℕ) (p : Pos) (N : List Node) →
+    Kept (literal_word n p N s)
 unfolding literal_word due
-literal_word_kept a n p N = either (n == word_true) (kept a) (either (n == word_false) (kept a) (either (n == word_null) (kept a) refused))
+literal_word_kept a n p N =
+    either (n == word_true) (kept a) (either (n == word_false) (kept a) (either (n == word_null) (kept a) refused))
 
 literal_kept : {s : List Entry} → Awaits a_literal s → (N : List Node) (t : Lexeme) → Kept (literal_step N s t)
 unfolding literal_step due
@@ -518,7 +629,8 @@ literal_kept a N (a_number n p) = either _ refused (kept a)
 literal_kept a N (a_sign n p) = either _ (kept a) refused
 literal_kept a N t = refused
 
-literal_minus_kept : {s : List Entry} → Awaits a_literal s → (p : Pos) (N : List Node) (t : Lexeme) → Kept (literal_minus_step p N s t)
+literal_minus_kept : {s : List Entry} → Awaits a_literal s → (p : Pos) (N : List Node) (t : Lexeme) →
+    Kept (literal_minus_step p N s t)
 unfolding literal_minus_step due
 literal_minus_kept a p N (a_number n q) = kept a
 literal_minus_kept a p N t = refused
@@ -527,56 +639,74 @@ field_ended_kept : {s : List Entry} → Awaits a_literal s → (id : ℕ) (N : L
 unfolding field_ended
 field_ended_kept (field_open a) id N = member_read_kept a _ _
 
-literal_end_kept : {s : List Entry} → Awaits a_literal s → (id : ℕ) (N : List Node) (t : Lexeme) → Kept (literal_end_step id N s t)
+literal_end_kept : {s : List Entry} → Awaits a_literal s → (id : ℕ) (N : List Node) (t : Lexeme) →
+    Kept (literal_end_step id N s t)
 unfolding literal_end_step
 literal_end_kept a id N (a_sign n p) = either _ (field_ended_kept a id N) refused
 literal_end_kept a id N t = refused
 
-result_kept : {s : List Entry} → Awaits a_member s → (f : Option ℕ) (id : ℕ) (N : List Node) (t : Lexeme) → Kept (result_step f id N s t)
+result_kept : {s : List Entry} → Awaits a_member s → (f : Option ℕ) (id : ℕ) (N : List Node) (t : Lexeme) →
+    Kept (result_step f id N s t)
 unfolding result_step due
 result_kept a f id N (a_name w p) = kept a
 result_kept a f id N t = refused
 
-method_named_kept : {s : List Entry} → Awaits a_member s → (f : Option ℕ) (id : ℕ) (p : Pos) (w : List ℕ) (N : List Node) (t : Lexeme) → Kept (method_named_step f id p w N s t)
+method_named_kept : {s : List Entry} → Awaits a_member s →
+    (f : Option ℕ) (id : ℕ) (p : Pos) (w : List ℕ) (N : List Node) (t : Lexeme) →
+    Kept (method_named_step f id p w N s t)
 unfolding method_named_step due
 method_named_kept a f id p w N (a_sign n q) = either _ (kept (method_open a)) refused
 method_named_kept a f id p w N t = refused
 
-parameters_first_kept : {s : List Entry} → Awaits a_body_owner s → (p : Pos) (N : List Node) (t : Lexeme) → Kept (parameters_first_step p N s t)
+parameters_first_kept : {s : List Entry} → Awaits a_body_owner s → (p : Pos) (N : List Node) (t : Lexeme) →
+    Kept (parameters_first_step p N s t)
 unfolding parameters_first_step due
-parameters_first_kept a p N (a_sign n q) = either _ (kept a) (flags_kept (flags_of_parameter (parameters_open a)) _ _ N (a_sign n q))
+parameters_first_kept a p N (a_sign n q) =
+    either _ (kept a) (flags_kept (flags_of_parameter (parameters_open a)) _ _ N (a_sign n q))
 parameters_first_kept a p N t = flags_kept (flags_of_parameter (parameters_open a)) _ _ N t
 
-parameter_ended_kept : {s : List Entry} → Awaits a_parameter s → (id : ℕ) (N : List Node) (n : ℕ) → Kept (parameter_ended id N s n)
+parameter_ended_kept : {s : List Entry} → Awaits a_parameter s → (id : ℕ) (N : List Node) (n : ℕ) →
+    Kept (parameter_ended id N s n)
 unfolding parameter_ended due
-parameter_ended_kept (parameters_open a) id N n = either (n == sign_comma) (kept (flags_of_parameter (parameters_open a))) (either (n == sign_right_parenthesis) (kept a) refused)
+parameter_ended_kept (parameters_open a) id N n =
+    either (n == sign_comma) (kept (flags_of_parameter (parameters_open a)))
+    (either (n == sign_right_parenthesis) (kept a) refused)
 
-parameter_end_kept : {s : List Entry} → Awaits a_parameter s → (id : ℕ) (N : List Node) (t : Lexeme) → Kept (parameter_end_step id N s t)
+parameter_end_kept : {s : List Entry} → Awaits a_parameter s → (id : ℕ) (N : List Node) (t : Lexeme) →
+    Kept (parameter_end_step id N s t)
 unfolding parameter_end_step
 parameter_end_kept a id N (a_sign n q) = parameter_ended_kept a id N n
 parameter_end_kept a id N t = refused
 
-body_kept : {s : List Entry} → Awaits a_body_owner s → (ps : Option ℕ) (N : List Node) (n : ℕ) (q : Pos) → Kept (body_step ps N s n q)
+body_kept : {s : List Entry} → Awaits a_body_owner s → (ps : Option ℕ) (N : List Node) (n : ℕ) (q : Pos) →
+    Kept (body_step ps N s n q)
 unfolding body_step due
-body_kept (method_open a) ps N n q = either (n == sign_left_brace) (kept (block_open (method_body a))) (either (n == sign_semicolon) (member_read_kept a _ _) refused)
+body_kept (method_open a) ps N n q =
+    either (n == sign_left_brace) (kept (block_open (method_body a)))
+    (either (n == sign_semicolon) (member_read_kept a _ _) refused)
 body_kept (constructor_open a) ps N n q = either _ (kept (constructor_body a)) refused
 
-parameters_end_kept : {s : List Entry} → Awaits a_body_owner s → (ps : Option ℕ) (N : List Node) (t : Lexeme) → Kept (parameters_end_step ps N s t)
+parameters_end_kept : {s : List Entry} → Awaits a_body_owner s → (ps : Option ℕ) (N : List Node) (t : Lexeme) →
+    Kept (parameters_end_step ps N s t)
 unfolding parameters_end_step
 parameters_end_kept a ps N (a_sign n q) = body_kept a ps N n q
 parameters_end_kept a ps N t = refused
 
-constructor_start_kept : {s : List Entry} → Awaits a_constructor_body s → (b : Pos) (N : List Node) (t : Lexeme) → Kept (constructor_start_step b N s t)
+constructor_start_kept : {s : List Entry} → Awaits a_constructor_body s → (b : Pos) (N : List Node) (t : Lexeme) →
+    Kept (constructor_start_step b N s t)
 unfolding constructor_start_step due
-constructor_start_kept a b N (a_word n p) = either _ (kept a) (statements_kept (block_open (of_constructor a)) N (a_word n p))
+constructor_start_kept a b N (a_word n p) =
+    either _ (kept a) (statements_kept (block_open (of_constructor a)) N (a_word n p))
 constructor_start_kept a b N t = statements_kept (block_open (of_constructor a)) N t
 
-super_open_kept : {s : List Entry} → Awaits a_constructor_body s → (b p : Pos) (N : List Node) (t : Lexeme) → Kept (super_open_step b p N s t)
+super_open_kept : {s : List Entry} → Awaits a_constructor_body s → (b p : Pos) (N : List Node) (t : Lexeme) →
+    Kept (super_open_step b p N s t)
 unfolding super_open_step due
 super_open_kept a b p N (a_sign n q) = either _ (kept (argument_here (super_call_open a))) refused
 super_open_kept a b p N t = refused
 
-super_end_kept : {s : List Entry} → Awaits a_constructor_body s → (b : Pos) (N : List Node) (t : Lexeme) → Kept (super_end_step b N s t)
+super_end_kept : {s : List Entry} → Awaits a_constructor_body s → (b : Pos) (N : List Node) (t : Lexeme) →
+    Kept (super_end_step b N s t)
 unfolding super_end_step due
 super_end_kept a b N (a_sign n q) = either _ (kept (block_open (of_constructor a))) refused
 super_end_kept a b N t = refused
@@ -590,11 +720,13 @@ unfolding members_step
 members_kept a N (a_sign n p) = either _ (class_ended_kept a N) (flags_kept (flags_of_member a) _ _ N (a_sign n p))
 members_kept a N t = flags_kept (flags_of_member a) _ _ N t
 
-member_ended_kept : {s : List Entry} → Awaits a_member s → (id : ℕ) (N : List Node) (t : Lexeme) → Kept (member_ended id N s t)
+member_ended_kept : {s : List Entry} → Awaits a_member s → (id : ℕ) (N : List Node) (t : Lexeme) →
+    Kept (member_ended id N s t)
 unfolding member_ended
 member_ended_kept (class_body a) id N t = members_kept (class_body a) N t
 
-statement_ended_kept : {s : List Entry} → Awaits a_statement s → (id : ℕ) (N : List Node) (t : Lexeme) → Kept (statement_ended id N s t)
+statement_ended_kept : {s : List Entry} → Awaits a_statement s → (id : ℕ) (N : List Node) (t : Lexeme) →
+    Kept (statement_ended id N s t)
 unfolding statement_ended due
 statement_ended_kept (of_block (block_open a)) id N t = statements_kept (block_open a) N t
 statement_ended_kept (if_then a) id N t = either _ (kept (if_other a)) (statement_ended_kept a _ _ t)
@@ -656,7 +788,8 @@ unfolding file_start_step due
 file_start_kept a N (a_word n p) = either _ (kept a) (imports_kept a N (a_word n p))
 file_start_kept a N t = imports_kept a N t
 
-class_name_kept : {s : List Entry} → Awaits a_file s → (f : Option ℕ) (N : List Node) (t : Lexeme) → Kept (class_name_step f N s t)
+class_name_kept : {s : List Entry} → Awaits a_file s → (f : Option ℕ) (N : List Node) (t : Lexeme) →
+    Kept (class_name_step f N s t)
 unfolding class_name_step due
 class_name_kept a f N (a_name w p) = kept (class_open a)
 class_name_kept a f N t = refused
@@ -667,7 +800,9 @@ class_opened_kept (class_open a) h N = kept (class_body a)
 
 class_named_kept : {s : List Entry} → Awaits a_head s → (N : List Node) (t : Lexeme) → Kept (class_named_step N s t)
 unfolding class_named_step due
-class_named_kept a N (a_word n p) = either (n == word_extends) (kept (supers_open true a)) (either (n == word_implements) (kept (supers_open false a)) refused)
+class_named_kept a N (a_word n p) =
+    either (n == word_extends) (kept (supers_open true a))
+    (either (n == word_implements) (kept (supers_open false a)) refused)
 class_named_kept a N (a_sign n p) = either _ (class_opened_kept a None N) refused
 class_named_kept a N t = refused
 
@@ -676,31 +811,39 @@ unfolding super_name_step due
 super_name_kept a N (a_name w p) = kept a
 super_name_kept a N t = refused
 
-super_ended_kept : {s : List Entry} → Awaits a_super s → (id : ℕ) (N : List Node) (t : Lexeme) → Kept (super_ended id N s t)
+super_ended_kept : {s : List Entry} → Awaits a_super s → (id : ℕ) (N : List Node) (t : Lexeme) →
+    Kept (super_ended id N s t)
 unfolding super_ended superclass_sign interface_sign due
 super_ended_kept (supers_open true a) id N (a_word n q) = either _ (kept (supers_open false a)) refused
-super_ended_kept (supers_open true a) id N (a_sign n q) = either (n == sign_left_brace) (class_opened_kept a _ _) refused
-super_ended_kept (supers_open false a) id N (a_sign n q) = either (n == sign_comma) (kept (supers_open false a)) (either (n == sign_left_brace) (class_opened_kept a _ _) refused)
+super_ended_kept (supers_open true a) id N (a_sign n q) =
+    either (n == sign_left_brace) (class_opened_kept a _ _) refused
+super_ended_kept (supers_open false a) id N (a_sign n q) =
+    either (n == sign_comma) (kept (supers_open false a))
+    (either (n == sign_left_brace) (class_opened_kept a _ _) refused)
 super_ended_kept a id N t = refused
 
-super_named_kept : {s : List Entry} → Awaits a_super s → (p : Pos) (w : List ℕ) (N : List Node) (t : Lexeme) → Kept (super_named_step p w N s t)
+super_named_kept : {s : List Entry} → Awaits a_super s → (p : Pos) (w : List ℕ) (N : List Node) (t : Lexeme) →
+    Kept (super_named_step p w N s t)
 unfolding super_named_step due
 super_named_kept a p w N (a_sign n q) = either _ (either _ (kept a) refused) (super_ended_kept a _ _ _)
 super_named_kept a p w N t = super_ended_kept a _ _ t
 
-super_argument_name_kept : {s : List Entry} → Awaits a_super s → (p : Pos) (w : List ℕ) (N : List Node) (t : Lexeme) → Kept (super_argument_name_step p w N s t)
+super_argument_name_kept : {s : List Entry} → Awaits a_super s → (p : Pos) (w : List ℕ) (N : List Node) (t : Lexeme) →
+    Kept (super_argument_name_step p w N s t)
 unfolding super_argument_name_step due
 super_argument_name_kept a p w N (a_name v q) = kept a
 super_argument_name_kept a p w N t = refused
 
-super_argument_end_kept : {s : List Entry} → Awaits a_super s → (p : Pos) (w : List ℕ) (id : ℕ) (N : List Node) (t : Lexeme) → Kept (super_argument_end_step p w id N s t)
+super_argument_end_kept : {s : List Entry} → Awaits a_super s →
+    (p : Pos) (w : List ℕ) (id : ℕ) (N : List Node) (t : Lexeme) → Kept (super_argument_end_step p w id N s t)
 unfolding super_argument_end_step due
 super_argument_end_kept a p w id N (a_sign n q) = either _ (kept a) refused
 super_argument_end_kept a p w id N t = refused
 
 -- ---- all steps
 
-step_mode_kept : (m : Mode) {s : List Entry} → Awaits (due m) s → (N : List Node) (t : Lexeme) → Kept (step_mode m N s t)
+step_mode_kept : (m : Mode) {s : List Entry} → Awaits (due m) s → (N : List Node) (t : Lexeme) →
+    Kept (step_mode m N s t)
 unfolding step_mode due
 step_mode_kept FileStart a N t = file_start_kept a N t
 step_mode_kept PackageName a N t = package_name_kept a N t
@@ -797,7 +940,8 @@ step_kept (kept {m = m} {N = N} a) t = step_mode_kept m a N t
 going_on : Option State → List Lexeme → Option State
 going_on r i = elim r [ Some last ↦ run last i | None ↦ None ]
 
-going_on_kept : (r : Option State) (i : List Lexeme) → Kept r → ((last : State) → Kept (Some last) → Kept (run last i)) → Kept (going_on r i)
+going_on_kept : (r : Option State) (i : List Lexeme) → Kept r →
+    ((last : State) → Kept (Some last) → Kept (run last i)) → Kept (going_on r i)
 unfolding going_on
 going_on_kept None i k f = refused
 going_on_kept (Some last) i k f = f last k

@@ -52,7 +52,8 @@ end_closed id N (CastOpen q r w ∷ s) p = end_closed _ _ s p
 end_closed id N (Target ∷ s) p = end_ended Target id N s p
 end_closed id N (_ ∷ s) p = end_ended _ id N s p
 
-pub end_post : (kind : PostKind) (q : Pos) (id : ℕ) (N : List Node) (s : List Entry) (p : Pos) → post_step kind q id N s (the_end p) ≡ None
+pub end_post : (kind : PostKind) (q : Pos) (id : ℕ) (N : List Node) (s : List Entry) (p : Pos) →
+    post_step kind q id N s (the_end p) ≡ None
 unfolding post_step post_ended target_ended
 end_post kind q id N [] p = end_closed id N [] p
 end_post kind q id N (Target ∷ s) p = refl
@@ -67,7 +68,8 @@ end_declaration f N (ParametersOpen q ids ∷ s) p = refl
 end_declaration f N (Simple ∷ s) p = refl
 end_declaration f N (_ ∷ s) p = refl
 
-pub end_flags : (is_local : Bool) (flags : FlagSet) (N : List Node) (s : List Entry) (p : Pos) → flags_step is_local flags N s (the_end p) ≡ None
+pub end_flags : (is_local : Bool) (flags : FlagSet) (N : List Node) (s : List Entry) (p : Pos) →
+    flags_step is_local flags N s (the_end p) ≡ None
 unfolding flags_step flags_ended
 end_flags is_local flags N s p = end_declaration (flags_number N flags) (with_flags N flags) s p
 

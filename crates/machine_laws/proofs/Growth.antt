@@ -79,13 +79,17 @@ times-none x = refl
 pub all_below : (n : ℕ) (ids : List ℕ) → ((x : ℕ) → times x ids ≤ below x n) → AllBelow n ids
 unfolding AllBelow
 all_below n [] h = tt
-all_below n (x ∷ ids) h = (grind (arith, h x, times-head x ids, below-high x n), all_below n ids (λ y. omega (arith, h y, times-tail y x ids)))
+all_below n (x ∷ ids) h = (
+  grind (arith, h x, times-head x ids, below-high x n),
+  all_below n ids (λ y. omega (arith, h y, times-tail y x ids)),
+)
 
 -- from the nodes N came the nodes N1, each with one place, among them the places of these
 pub record Grown (N N1 : List Node) (ids : List ℕ) : Type 0 where
   pub more : List Node
   pub whole : N1 ≡ N ++ more
-  pub once : (x : ℕ) → times x ids + times x (all_children N1) + below x (length N) ≡ times x (all_children N) + below x (length N1)
+  pub once : (x : ℕ) → times x ids + times x (all_children N1) + below x (length N) ≡ times x (all_children N) + below x
+      (length N1)
   pub first : ChildrenFirst 0 N → ChildrenFirst 0 N1
 
 pub none_grown : (N : List Node) → Grown N N []
@@ -106,7 +110,9 @@ counted g e = record { more = g.more; whole = g.whole; once = λ x. omega (arith
 -- what was read are numbers of nodes
 free_below : {N N1 : List Node} {ids : List ℕ} → Grown N N1 ids → (x : ℕ) → times x ids ≤ below x (length N1)
 free_below {N} {N1} {ids} g x =
-    let e : times x (all_children N1) ≡ times x (all_children N) + times x (all_children g.more) = ap (λ t. times x (all_children t)) g.whole ∙ (ap (times x) (all_children-append N g.more) ∙ times-append x (all_children N) (all_children g.more)) in
+    let e : times x (all_children N1) ≡ times x (all_children N) + times x (all_children g.more) =
+    ap (λ t. times x (all_children t)) g.whole
+    ∙ (ap (times x) (all_children-append N g.more) ∙ times-append x (all_children N) (all_children g.more)) in
     omega (arith, g.once x, e)
 
 pub made : {N N1 : List Node} (node : Node) → Grown N N1 (children node) → Grown N (put N1 node) (length N1 ∷ [])
@@ -115,8 +121,13 @@ made {N} {N1} node g = record {
   more = g.more ++ node ∷ [];
   whole = ap (λ t. t ++ node ∷ []) g.whole ∙ append_assoc N g.more (node ∷ []);
   once = λ x.
-      let e : times x (all_children (N1 ++ node ∷ [])) ≡ times x (all_children N1) + times x (children node) = ap (times x) (all_children-append N1 (node ∷ [])) ∙ times-append x (all_children N1) (children node ++ []) ∙ ap (λ t. times x (all_children N1) + times x t) (append-nil (children node)) in
-      let l : below x (length (N1 ++ node ∷ [])) ≡ below x (length N1) + times x (length N1 ∷ []) = ap (below x) (length-append N1 (node ∷ [])) ∙ below-next x (length N1) in
+      let e : times x (all_children (N1 ++ node ∷ [])) ≡ times x (all_children N1) + times x (children node) =
+      ap (times x) (all_children-append N1 (node ∷ [])) ∙ times-append x (all_children N1) (children node ++ [])
+      ∙ ap (λ t. times x (all_children N1) + times x t) (append-nil (children node)) in
+      let l : below x (length (N1 ++ node ∷ [])) ≡ below x (length N1) + times x (length N1 ∷ []) =
+      ap (below x) (length-append N1 (node ∷ [])) ∙ below-next x (length N1) in
       omega (arith, g.once x, e, l);
-  first = λ f. ChildrenFirst-push 0 N1 node (g.first f) (let e : length N1 ≡ 0 + length N1 = sym (zero-add _) in let P : ℕ → Type 0 = λ n. AllBelow n (children node) in subst P e (all_below (length N1) (children node) (free_below g)));
+  first = λ f. ChildrenFirst-push 0 N1 node (g.first f) (let e : length N1 ≡ 0 + length N1 = sym (zero-add _) in
+      let P : ℕ → Type 0 = λ n. AllBelow n (children node) in
+      subst P e (all_below (length N1) (children node) (free_below g)));
 }

@@ -43,7 +43,8 @@ placed_somewhere p flags None e = some_is_none p e
 placed_somewhere p flags (Some q) e = some_is_none q e
 
 -- flags without a place are none
-bare_flags : {is_local : Bool} {N N1 : List Node} {i o : List Lexeme} {flags : FlagSet} → FlagRow is_local N i N1 o flags → flags.place ≡ None → flag_ids flags ≡ []
+bare_flags : {is_local : Bool} {N N1 : List Node} {i o : List Lexeme} {flags : FlagSet} →
+    FlagRow is_local N i N1 o flags → flags.place ≡ None → flag_ids flags ≡ []
 unfolding placed with_scope with_runs_in with_define_scope
 bare_flags no_flag e = refl
 bare_flags (modifier {more = more} {p = p} d h) e = placed_somewhere p more more.place e
@@ -54,13 +55,16 @@ bare_flags (define_scope_flag {flags = flags} {p = p} d h v w) e = placed_somewh
 bare_flags (define_scope_flag_parent_first {flags = flags} {p = p} d h v w) e = placed_somewhere p flags flags.place e
 
 -- a modifier leaves the annotations
-choose : {A : Type 0} {B : Type 0} (b : Bool) (x y : Option A) (r : Option A) → (x ≡ r → B) → (y ≡ r → B) → (if b then x else y) ≡ r → B
+choose : {A : Type 0} {B : Type 0} (b : Bool) (x y : Option A) (r : Option A) → (x ≡ r → B) → (y ≡ r → B) →
+    (if b then x else y) ≡ r → B
 choose true x y r f g e = f e
 choose false x y r f g e = g e
 
-set_ids : (b : Bool) (new flags more : FlagSet) → flag_ids new ≡ flag_ids flags → (if b then None else Some new) ≡ Some more → flag_ids more ≡ flag_ids flags
+set_ids : (b : Bool) (new flags more : FlagSet) → flag_ids new ≡ flag_ids flags →
+    (if b then None else Some new) ≡ Some more → flag_ids more ≡ flag_ids flags
 set_ids true new flags more h e = none_is_some more e
-set_ids false new flags more h e = let P : Option FlagSet → Type 0 = λ x. elim x [ None ↦ Unit {0} | Some f ↦ flag_ids f ≡ flag_ids flags ] in subst P e h
+set_ids false new flags more h e = let P : Option FlagSet → Type 0 =
+    λ x. elim x [ None ↦ Unit {0} | Some f ↦ flag_ids f ≡ flag_ids flags ] in subst P e h
 
 modifier_ids : (w : ℕ) (flags more : FlagSet) → with_modifier w flags ≡ Some more → flag_ids more ≡ flag_ids flags
 unfolding with_modifier
@@ -74,12 +78,29 @@ modifier_ids w flags more =
     (choose (w == word_synchronized) _ _ (Some more) (set_ids flags.is_synchronized _ flags more refl)
     (none_is_some more)))))))
 
-added_ids : (is_local : Bool) (w : ℕ) (flags more : FlagSet) → add_modifier is_local w flags ≡ Some more → flag_ids more ≡ flag_ids flags
+added_ids : (is_local : Bool) (w : ℕ) (flags more : FlagSet) → add_modifier is_local w flags ≡ Some more →
+    flag_ids more ≡ flag_ids flags
 unfolding add_modifier
-added_ids is_local w flags more = choose (is_local && not (w == word_final)) _ _ (Some more) (none_is_some more) (modifier_ids w flags more)
+added_ids is_local w flags more = choose (is_local && not (w == word_final)) _ _ (Some more) (none_is_some more)
+    (modifier_ids w flags more)
 
 -- flags without effect have no nodes
-no_effect : (place : Option Pos) (a b c : Option ℕ) (x0 x1 x2 x3 x4 x5 x6 : Bool) → has_effect (record { place = place; define_scope = a; scope = b; runs_in = c; is_public = x0; is_protected = x1; is_private = x2; is_static = x3; is_final = x4; is_abstract = x5; is_synchronized = x6 }) ≡ false → ids_of a b c ≡ []
+no_effect : (place : Option Pos) (a b c : Option ℕ) (x0 x1 x2 x3 x4 x5 x6 : Bool) →
+    has_effect
+    (record {
+      place = place;
+      define_scope = a;
+      scope = b;
+      runs_in = c;
+      is_public = x0;
+      is_protected = x1;
+      is_private = x2;
+      is_static = x3;
+      is_final = x4;
+      is_abstract = x5;
+      is_synchronized = x6;
+    }) ≡ false →
+    ids_of a b c ≡ []
 unfolding has_effect
 no_effect place None None None x0 x1 x2 x3 x4 x5 x6 e = refl
 no_effect place (Some a) b c x0 x1 x2 x3 x4 x5 x6 e = absurd (true≢false e)
@@ -93,7 +114,8 @@ scope_value_grown bare_scope = made _ (none_grown _)
 scope_value_grown qualified_scope = made _ (none_grown _)
 
 -- a number more among the annotations
-scope_times : (a b c : Option ℕ) (id x : ℕ) → b ≡ None → times x (ids_of a b c ++ id ∷ []) ≡ times x (ids_of a (Some id) c)
+scope_times : (a b c : Option ℕ) (id x : ℕ) → b ≡ None →
+    times x (ids_of a b c ++ id ∷ []) ≡ times x (ids_of a (Some id) c)
 unfolding times
 scope_times a (Some b) c id x e = some_is_none b e
 scope_times None None None id x e = omega arith
@@ -101,7 +123,8 @@ scope_times None None (Some c) id x e = omega arith
 scope_times (Some a) None None id x e = omega arith
 scope_times (Some a) None (Some c) id x e = omega arith
 
-runs_in_times : (a b c : Option ℕ) (id x : ℕ) → c ≡ None → times x (ids_of a b c ++ id ∷ []) ≡ times x (ids_of a b (Some id))
+runs_in_times : (a b c : Option ℕ) (id x : ℕ) → c ≡ None →
+    times x (ids_of a b c ++ id ∷ []) ≡ times x (ids_of a b (Some id))
 unfolding times
 runs_in_times a b (Some c) id x e = some_is_none c e
 runs_in_times None None None id x e = omega arith
@@ -109,7 +132,8 @@ runs_in_times None (Some b) None id x e = omega arith
 runs_in_times (Some a) None None id x e = omega arith
 runs_in_times (Some a) (Some b) None id x e = omega arith
 
-define_scope_times : (a b c : Option ℕ) (id x : ℕ) → a ≡ None → times x (ids_of a b c ++ id ∷ []) ≡ times x (ids_of (Some id) b c)
+define_scope_times : (a b c : Option ℕ) (id x : ℕ) → a ≡ None →
+    times x (ids_of a b c ++ id ∷ []) ≡ times x (ids_of (Some id) b c)
 unfolding times
 define_scope_times (Some a) b c id x e = some_is_none a e
 define_scope_times None None None id x e = omega arith
@@ -120,27 +144,43 @@ define_scope_times None (Some b) (Some c) id x e = omega arith
 same_ids : {N N1 : List Node} {a b : List ℕ} → Grown N N1 a → b ≡ a → Grown N N1 b
 same_ids g e = counted g (λ x. ap (times x) (sym e))
 
-row_grown : {is_local : Bool} {N N1 : List Node} {i o : List Lexeme} {flags : FlagSet} → FlagRow is_local N i N1 o flags → Grown N N1 (flag_ids flags)
+row_grown : {is_local : Bool} {N N1 : List Node} {i o : List Lexeme} {flags : FlagSet} →
+    FlagRow is_local N i N1 o flags → Grown N N1 (flag_ids flags)
 unfolding placed with_scope with_runs_in with_define_scope children
 row_grown no_flag = none_grown _
-row_grown {is_local = is_local} (modifier {flags = flags} {more = more} {w = w} d h) = same_ids (row_grown d) (added_ids is_local w flags more h)
+row_grown {is_local = is_local} (modifier {flags = flags} {more = more} {w = w} d h) =
+    same_ids (row_grown d) (added_ids is_local w flags more h)
 row_grown (effectless d h a) = row_grown d
-row_grown (scope_flag {flags = flags} {id = id} d h v) = counted (and_then (row_grown d) (scope_value_grown v)) (λ x. scope_times flags.define_scope flags.scope flags.runs_in id x h)
-row_grown (runs_in_flag {flags = flags} {id = id} d h v) = counted (and_then (row_grown d) (scope_value_grown v)) (λ x. runs_in_times flags.define_scope flags.scope flags.runs_in id x h)
-row_grown (define_scope_flag {N3 = N3} {flags = flags} d h v w) = counted (and_then (row_grown d) (made _ (and_then (scope_value_grown v) (scope_value_grown w)))) (λ x. define_scope_times flags.define_scope flags.scope flags.runs_in (length N3) x h)
-row_grown (define_scope_flag_parent_first {N3 = N3} {flags = flags} d h v w) = counted (and_then (row_grown d) (made _ (and_then (scope_value_grown v) (scope_value_grown w)))) (λ x. define_scope_times flags.define_scope flags.scope flags.runs_in (length N3) x h)
+row_grown (scope_flag {flags = flags} {id = id} d h v) =
+    counted (and_then (row_grown d) (scope_value_grown v))
+    (λ x. scope_times flags.define_scope flags.scope flags.runs_in id x h)
+row_grown (runs_in_flag {flags = flags} {id = id} d h v) =
+    counted (and_then (row_grown d) (scope_value_grown v))
+    (λ x. runs_in_times flags.define_scope flags.scope flags.runs_in id x h)
+row_grown (define_scope_flag {N3 = N3} {flags = flags} d h v w) =
+    counted (and_then (row_grown d) (made _ (and_then (scope_value_grown v) (scope_value_grown w))))
+    (λ x. define_scope_times flags.define_scope flags.scope flags.runs_in (length N3) x h)
+row_grown (define_scope_flag_parent_first {N3 = N3} {flags = flags} d h v w) =
+    counted (and_then (row_grown d) (made _ (and_then (scope_value_grown v) (scope_value_grown w))))
+    (λ x. define_scope_times flags.define_scope flags.scope flags.runs_in (length N3) x h)
 
 -- the flags' node, where there is one
-flags_put : (N N1 : List Node) (flags : FlagSet) (effect : Bool) (place : Option Pos) → (effect ≡ false → flag_ids flags ≡ []) → (place ≡ None → flag_ids flags ≡ []) → Grown N N1 (flag_ids flags) → let node : Option Node = if effect then elim place [ None ↦ None | Some p ↦ Some (flags_at p flags) ] else None in Grown N (elim node [ None ↦ N1 | Some m ↦ N1 ++ m ∷ [] ]) (optional (elim node [ None ↦ None | Some m ↦ Some (length N1) ]))
+flags_put : (N N1 : List Node) (flags : FlagSet) (effect : Bool) (place : Option Pos) →
+    (effect ≡ false → flag_ids flags ≡ []) → (place ≡ None → flag_ids flags ≡ []) → Grown N N1 (flag_ids flags) →
+    let node : Option Node = if effect then elim place [ None ↦ None | Some p ↦ Some (flags_at p flags) ] else None in
+    Grown N (elim node [ None ↦ N1 | Some m ↦ N1 ++ m ∷ [] ])
+    (optional (elim node [ None ↦ None | Some m ↦ Some (length N1) ]))
 unfolding flags_at children
 flags_put N N1 flags false place h k g = same_ids g (sym (h refl))
 flags_put N N1 flags true None h k g = same_ids g (sym (k refl))
 flags_put N N1 flags true (Some p) h k g = made (flags_at p flags) g
 
-flags_grown : {is_local : Bool} {N N1 : List Node} {i o : List Lexeme} {flags : FlagSet} → FlagRow is_local N i N1 o flags → Grown N (with_flags N1 flags) (optional (flags_number N1 flags))
+flags_grown : {is_local : Bool} {N N1 : List Node} {i o : List Lexeme} {flags : FlagSet} →
+    FlagRow is_local N i N1 o flags → Grown N (with_flags N1 flags) (optional (flags_number N1 flags))
 unfolding with_flags flags_number flags_node
 flags_grown {N = N} {N1 = N1} {flags = flags} d = flags_put N N1 flags (has_effect flags) flags.place
-    (no_effect flags.place flags.define_scope flags.scope flags.runs_in flags.is_public flags.is_protected flags.is_private flags.is_static flags.is_final flags.is_abstract flags.is_synchronized)
+    (no_effect flags.place flags.define_scope flags.scope flags.runs_in flags.is_public flags.is_protected
+    flags.is_private flags.is_static flags.is_final flags.is_abstract flags.is_synchronized)
     (bare_flags d) (row_grown d)
 
 -- ---- types and parameters
@@ -166,11 +206,13 @@ parameter_grown : {N N1 : List Node} {i o : List Lexeme} {id : ℕ} → Paramete
 unfolding children
 parameter_grown (parameter f t) = made _ (and_then (flags_grown f) (type_grown t))
 
-parameters_begun_grown : {N N1 : List Node} {i o : List Lexeme} {ids : List ℕ} → ParametersBegun N i N1 o ids → Grown N N1 ids
+parameters_begun_grown : {N N1 : List Node} {i o : List Lexeme} {ids : List ℕ} → ParametersBegun N i N1 o ids →
+    Grown N N1 ids
 parameters_begun_grown no_parameter_yet = none_grown _
 parameters_begun_grown (parameter_and_comma b d) = and_then (parameters_begun_grown b) (parameter_grown d)
 
-parameters_grown : {N N1 : List Node} {i o : List Lexeme} {id : Option ℕ} → ParametersRead N i N1 o id → Grown N N1 (optional id)
+parameters_grown : {N N1 : List Node} {i o : List Lexeme} {id : Option ℕ} → ParametersRead N i N1 o id →
+    Grown N N1 (optional id)
 unfolding children
 parameters_grown no_parameters = none_grown _
 parameters_grown (parameters b d) = made _ (and_then (parameters_begun_grown b) (parameter_grown d))
@@ -186,12 +228,14 @@ interfaces_grown : {N N1 : List Node} {i o : List Lexeme} {ids : List ℕ} → I
 interfaces_grown no_interface_yet = none_grown _
 interfaces_grown (interface_and_comma b d) = and_then (interfaces_grown b) (super_grown d)
 
-header_grown : {N N1 : List Node} {i o : List Lexeme} {id : Option ℕ} → HeaderRead N i N1 o id → Grown N N1 (optional id)
+header_grown : {N N1 : List Node} {i o : List Lexeme} {id : Option ℕ} → HeaderRead N i N1 o id →
+    Grown N N1 (optional id)
 unfolding children
 header_grown no_header = none_grown _
 header_grown (extends_header d) = made _ (super_grown d)
 header_grown (implements_header b d) = made _ (and_then (interfaces_grown b) (super_grown d))
-header_grown (extends_implements_header s b d) = made _ (and_then (super_grown s) (and_then (interfaces_grown b) (super_grown d)))
+header_grown (extends_implements_header s b d) =
+    made _ (and_then (super_grown s) (and_then (interfaces_grown b) (super_grown d)))
 
 -- ---- expressions
 
@@ -214,7 +258,8 @@ mutual
   unary1_grown (cast h d) = made _ (unary1_grown d)
   unary1_grown (post_unary d) = post_grown d
 
-  post_grown : {minimum : Bool} {kind : PostKind} {p : Pos} {N N1 : List Node} {i o : List Lexeme} {id : ℕ} → PostRead minimum kind p N i N1 o id → Grown N N1 (id ∷ [])
+  post_grown : {minimum : Bool} {kind : PostKind} {p : Pos} {N N1 : List Node} {i o : List Lexeme} {id : ℕ} →
+      PostRead minimum kind p N i N1 o id → Grown N N1 (id ∷ [])
   post_grown simple_name = made _ (none_grown _)
   post_grown (simple_call d) = made _ (arguments_grown d)
   post_grown (field_of d) = made _ (post_grown d)
@@ -237,7 +282,8 @@ mutual
   argument_grown (expression_argument d) = level_grown d
   argument_grown text_argument = made _ (none_grown _)
 
-  arguments_begun_grown : {N N1 : List Node} {i o : List Lexeme} {ids : List ℕ} → ArgumentsBegun N i N1 o ids → Grown N N1 ids
+  arguments_begun_grown : {N N1 : List Node} {i o : List Lexeme} {ids : List ℕ} → ArgumentsBegun N i N1 o ids →
+      Grown N N1 ids
   arguments_begun_grown no_argument_yet = none_grown _
   arguments_begun_grown (argument_and_comma b d) = and_then (arguments_begun_grown b) (argument_grown d)
 
@@ -250,10 +296,13 @@ mutual
 assignment_grown : {N N1 : List Node} {i o : List Lexeme} {id : ℕ} → AssignmentRead N i N1 o id → Grown N N1 (id ∷ [])
 unfolding children
 assignment_grown (assignment x e) = made _ (and_then (post_grown x) (level_grown e))
-assignment_grown (compound_assignment h e) = made _ (and_then (made _ (none_grown _)) (made _ (and_then (made _ (none_grown _)) (made _ (level_grown e)))))
-assignment_grown (step_assignment h) = made _ (and_then (made _ (none_grown _)) (made _ (and_then (made _ (none_grown _)) (made _ (none_grown _)))))
+assignment_grown (compound_assignment h e) =
+    made _ (and_then (made _ (none_grown _)) (made _ (and_then (made _ (none_grown _)) (made _ (level_grown e)))))
+assignment_grown (step_assignment h) =
+    made _ (and_then (made _ (none_grown _)) (made _ (and_then (made _ (none_grown _)) (made _ (none_grown _)))))
 
-local_type_grown : {N N1 : List Node} {i o : List Lexeme} {flags : Option ℕ} {t : ℕ} → LocalTypeRead N i N1 o flags t → Grown N N1 (optional flags ++ t ∷ [])
+local_type_grown : {N N1 : List Node} {i o : List Lexeme} {flags : Option ℕ} {t : ℕ} → LocalTypeRead N i N1 o flags t →
+    Grown N N1 (optional flags ++ t ∷ [])
 local_type_grown (plain_local t) = type_grown t
 local_type_grown (flagged_local h f t) = and_then (flags_grown f) (type_grown t)
 
@@ -268,18 +317,25 @@ mutual
   statement_grown (block d) = made _ (statements_grown d)
   statement_grown empty = made _ (none_grown _)
   statement_grown (local t) = made _ (local_type_grown t)
-  statement_grown (local_with_value {flags = flags} {t = t} {e = e} d v) = made _ (same_ids (and_then (local_type_grown d) (level_grown v)) (value_behind flags t e))
+  statement_grown (local_with_value {flags = flags} {t = t} {e = e} d v) =
+      made _ (same_ids (and_then (local_type_grown d) (level_grown v)) (value_behind flags t e))
   statement_grown (assign_statement d) = assignment_grown d
   statement_grown (call_statement d) = made _ (post_grown d)
   statement_grown (if_alone c s h) = made _ (and_then (level_grown c) (statement_grown s))
   statement_grown (if_else c s e) = made _ (and_then (level_grown c) (and_then (statement_grown s) (statement_grown e)))
   statement_grown (while_statement c s) = made _ (and_then (level_grown c) (statement_grown s))
-  statement_grown (for_local t e c u s) = made _ (and_then (made _ (and_then (type_grown t) (level_grown e))) (and_then (level_grown c) (and_then (assignment_grown u) (statement_grown s))))
-  statement_grown (for_assignment f c u s) = made _ (and_then (assignment_grown f) (and_then (level_grown c) (and_then (assignment_grown u) (statement_grown s))))
+  statement_grown (for_local t e c u s) =
+      made _
+      (and_then (made _ (and_then (type_grown t) (level_grown e)))
+      (and_then (level_grown c) (and_then (assignment_grown u) (statement_grown s))))
+  statement_grown (for_assignment f c u s) =
+      made _
+      (and_then (assignment_grown f) (and_then (level_grown c) (and_then (assignment_grown u) (statement_grown s))))
   statement_grown return_alone = made _ (none_grown _)
   statement_grown (return_value e) = made _ (level_grown e)
 
-  statements_grown : {N N1 : List Node} {i o : List Lexeme} {ids : List ℕ} → StatementsRead N i N1 o ids → Grown N N1 ids
+  statements_grown : {N N1 : List Node} {i o : List Lexeme} {ids : List ℕ} → StatementsRead N i N1 o ids →
+      Grown N N1 ids
   statements_grown no_statement = none_grown _
   statements_grown (one_statement_more b d) = and_then (statements_grown b) (statement_grown d)
 
@@ -297,10 +353,18 @@ member_grown : {N N1 : List Node} {i o : List Lexeme} {id : ℕ} → MemberRead 
 unfolding children
 member_grown (field f t) = made _ (and_then (flags_grown f) (type_grown t))
 member_grown (field_with_value f t v) = made _ (and_then (flags_grown f) (and_then (type_grown t) (literal_grown v)))
-member_grown (bare_method {ps = ps} f t d) = made _ (and_then (flags_grown f) (and_then (result_grown t) (same_ids (parameters_grown d) (append-nil (optional ps)))))
-member_grown (method f t d s) = made _ (and_then (flags_grown f) (and_then (result_grown t) (and_then (parameters_grown d) (made _ (statements_grown s)))))
-member_grown (constructor f d s) = made _ (and_then (flags_grown f) (and_then (parameters_grown d) (made _ (statements_grown s))))
-member_grown (constructor_with_super f d a s) = made _ (and_then (flags_grown f) (and_then (parameters_grown d) (and_then (made _ (arguments_grown a)) (made _ (statements_grown s)))))
+member_grown (bare_method {ps = ps} f t d) =
+    made _
+    (and_then (flags_grown f) (and_then (result_grown t) (same_ids (parameters_grown d) (append-nil (optional ps)))))
+member_grown (method f t d s) =
+    made _
+    (and_then (flags_grown f) (and_then (result_grown t) (and_then (parameters_grown d) (made _ (statements_grown s)))))
+member_grown (constructor f d s) =
+    made _ (and_then (flags_grown f) (and_then (parameters_grown d) (made _ (statements_grown s))))
+member_grown (constructor_with_super f d a s) =
+    made _
+    (and_then (flags_grown f)
+    (and_then (parameters_grown d) (and_then (made _ (arguments_grown a)) (made _ (statements_grown s)))))
 
 members_grown : {N N1 : List Node} {i o : List Lexeme} {ids : List ℕ} → MembersRead N i N1 o ids → Grown N N1 ids
 members_grown no_member = none_grown _
@@ -330,7 +394,8 @@ classes_are no_class = tt
 classes_are (one_class_more {N1 = N1} {N2 = N2} {ids = ids} {id = id} b d) =
     let g = class_grown d in
     let P : List Node → Type 0 = λ M. AllClasses M ids in
-    AllClasses-append N2 ids (id ∷ []) (subst P (sym g.whole) (AllClasses-more N1 g.more ids (classes_are b))) (class_is d)
+    AllClasses-append N2 ids (id ∷ []) (subst P (sym g.whole) (AllClasses-more N1 g.more ids (classes_are b)))
+    (class_is d)
 
 pub tree_grown : {N N1 : List Node} {i : List Lexeme} {ids : List ℕ} → Tree N i N1 ids → Grown N N1 ids
 tree_grown (file d c) = classes_grown c
@@ -353,36 +418,78 @@ times-apart x y n h k = grind (arith, nat_tests)
 no_class_at : (N : List Node) (ids : List ℕ) (x : ℕ) → AllClasses N ids → length N ≤ x → times x ids ≡ 0
 unfolding AllClasses
 no_class_at N [] x h k = times-none x
-no_class_at N (y ∷ ids) x h k = omega (arith, times-append x (y ∷ []) ids, times-apart x y (length N) (got_below N y h.0.0 h.0.1) k, no_class_at N ids x h.1 k)
+no_class_at N (y ∷ ids) x h k =
+    omega (
+      arith,
+      times-append x (y ∷ []) ids,
+      times-apart x y (length N) (got_below N y h.0.0 h.0.1) k,
+      no_class_at N ids x h.1 k,
+    )
 
 none_at : (ids : List ℕ) (n x : ℕ) → AllBelow n ids → n ≤ x → times x ids ≡ 0
 unfolding AllBelow
 none_at [] n x h k = times-none x
 none_at (y ∷ ids) n x h k = omega (arith, times-append x (y ∷ []) ids, times-apart x y n h.0 k, none_at ids n x h.1 k)
 
-no_child_at : (from : ℕ) (N : List Node) (x : ℕ) → ChildrenFirst from N → from + length N ≤ x → times x (all_children N) ≡ 0
+no_child_at : (from : ℕ) (N : List Node) (x : ℕ) → ChildrenFirst from N → from + length N ≤ x →
+    times x (all_children N) ≡ 0
 unfolding ChildrenFirst all_children
 no_child_at from [] x h k = times-none x
-no_child_at from (m ∷ N) x h k = omega (arith, times-append x (children m) (all_children N), none_at (children m) from x h.0 (omega arith), no_child_at (from + 1) N x h.1 (omega arith))
+no_child_at from (m ∷ N) x h k =
+    omega (
+      arith,
+      times-append x (children m) (all_children N),
+      none_at (children m) from x h.0 (omega arith),
+      no_child_at (from + 1) N x h.1 (omega arith),
+    )
 
-one_place_at : (b : Bool) (N N1 : List Node) (files : List (List ℕ)) (ids : List ℕ) (x : ℕ) → nat_lt x (length N) ≡ b → IsForest (forest_of N files) → Grown N N1 ids → times x (joined files) + times x ids + times x (all_children N1) ≤ 1
+one_place_at : (b : Bool) (N N1 : List Node) (files : List (List ℕ)) (ids : List ℕ) (x : ℕ) → nat_lt x (length N) ≡ b →
+    IsForest (forest_of N files) → Grown N N1 ids → times x (joined files) + times x ids + times x (all_children N1) ≤ 1
 one_place_at true N N1 files ids x e h g =
-    omega (arith, g.once x, h.one_place x, times-append x (joined files) (all_children N), below-grows x (length N) (length g.more), ap length g.whole, length-append N g.more, below-one x (length N1), below-low x (length N) (ltb-true x (length N) e))
+    omega (
+      arith,
+      g.once x,
+      h.one_place x,
+      times-append x (joined files) (all_children N),
+      below-grows x (length N) (length g.more),
+      ap length g.whole,
+      length-append N g.more,
+      below-one x (length N1),
+      below-low x (length N) (ltb-true x (length N) e),
+    )
 one_place_at false N N1 files ids x e h g =
     let k : length N ≤ x = ltb-false x (length N) e in
-    omega (arith, g.once x, no_class_at N (joined files) x h.classes k, no_child_at 0 N x h.children_first (omega arith), below-one x (length N1))
+    omega (
+      arith,
+      g.once x,
+      no_class_at N (joined files) x h.classes k,
+      no_child_at 0 N x h.children_first (omega arith),
+      below-one x (length N1),
+    )
 
 -- a tree keeps a forest a forest
-pub forest_kept : {N N1 : List Node} {i : List Lexeme} {ids : List ℕ} (files : List (List ℕ)) → Tree N i N1 ids → IsForest (forest_of N files) → length files < 16 → length N1 < 2 ^ 32 → IsForest (forest_of N1 (files ++ ids ∷ []))
+pub forest_kept : {N N1 : List Node} {i : List Lexeme} {ids : List ℕ} (files : List (List ℕ)) → Tree N i N1 ids →
+    IsForest (forest_of N files) → length files < 16 → length N1 < 2 ^ 32 → IsForest (forest_of N1 (files ++ ids ∷ []))
 unfolding joined
 forest_kept {N} {N1} {i} {ids} files d h room fits =
     let g = tree_grown d in
-    let whole : joined (files ++ ids ∷ []) ≡ joined files ++ ids = joined-append files (ids ∷ []) ∙ ap (λ t. joined files ++ t) (append-nil ids) in
+    let whole : joined (files ++ ids ∷ []) ≡ joined files ++ ids = joined-append files (ids ∷ [])
+    ∙ ap (λ t. joined files ++ t) (append-nil ids) in
     let P : List Node → Type 0 = λ M. AllClasses M (joined files) in
     record {
       children_first = g.first h.children_first;
-      one_place = λ x. rw whole (omega (arith, one_place_at (nat_lt x (length N)) N N1 files ids x refl h g, times-append x (joined files ++ ids) (all_children N1), times-append x (joined files) ids));
-      classes = rw whole (AllClasses-append N1 (joined files) ids (subst P (sym g.whole) (AllClasses-more N g.more (joined files) h.classes)) (tree_classes d));
+      one_place =
+          λ x. rw whole
+          (omega (
+            arith,
+            one_place_at (nat_lt x (length N)) N N1 files ids x refl h g,
+            times-append x (joined files ++ ids) (all_children N1),
+            times-append x (joined files) ids,
+          ));
+      classes =
+          rw whole
+          (AllClasses-append N1 (joined files) ids
+          (subst P (sym g.whole) (AllClasses-more N g.more (joined files) h.classes)) (tree_classes d));
       fits = fits;
       few = rw length-append (omega (arith, room));
     }

@@ -25,39 +25,48 @@ use Rattle.scj_tree.specs.Lexemes.{Lexeme, the_end}
 use Rattle.scj_tree.specs.declared.nodes.Node.{Node}
 use Rattle.scj_tree.specs.declared.readings.FlagSet.{FlagSet}
 
-at_imports : (r : Source) (N : List Node) (s : List Entry) (t : Lexeme) (o : List Lexeme) → Stands r InImports s N (t ∷ o) → Leads r (imports_step N s t) o
+at_imports : (r : Source) (N : List Node) (s : List Entry) (t : Lexeme) (o : List Lexeme) →
+    Stands r InImports s N (t ∷ o) → Leads r (imports_step N s t) o
 unfolding Stands
 at_imports r N s t o h = imports_stands r N s t o h
 
-at_classes : (r : Source) (N : List Node) (s : List Entry) (t : Lexeme) (o : List Lexeme) → Stands r InClasses s N (t ∷ o) → Leads r (classes_step N s t) o
+at_classes : (r : Source) (N : List Node) (s : List Entry) (t : Lexeme) (o : List Lexeme) →
+    Stands r InClasses s N (t ∷ o) → Leads r (classes_step N s t) o
 unfolding Stands
 at_classes r N s t o h = classes_stands r N s t o h
 
-at_pair : (r : Source) (N : List Node) (s : List Entry) (t : Lexeme) (o : List Lexeme) → Stands r PlainNext s N (t ∷ o) → Leads r (plain_next_step N s t) o
+at_pair : (r : Source) (N : List Node) (s : List Entry) (t : Lexeme) (o : List Lexeme) →
+    Stands r PlainNext s N (t ∷ o) → Leads r (plain_next_step N s t) o
 unfolding Stands
 at_pair r N s t o h = plain_next_stands r N s t o h
 
-at_members : (r : Source) (N : List Node) (s : List Entry) (t : Lexeme) (o : List Lexeme) → Stands r InMembers s N (t ∷ o) → Leads r (members_step N s t) o
+at_members : (r : Source) (N : List Node) (s : List Entry) (t : Lexeme) (o : List Lexeme) →
+    Stands r InMembers s N (t ∷ o) → Leads r (members_step N s t) o
 unfolding Stands
 at_members r N s t o h = members_stands r N s t o h
 
-at_statements : (r : Source) (N : List Node) (s : List Entry) (t : Lexeme) (o : List Lexeme) → Stands r InStatements s N (t ∷ o) → Leads r (statements_step N s t) o
+at_statements : (r : Source) (N : List Node) (s : List Entry) (t : Lexeme) (o : List Lexeme) →
+    Stands r InStatements s N (t ∷ o) → Leads r (statements_step N s t) o
 unfolding Stands
 at_statements r N s t o h = statements_stands r N s t o h
 
-at_statement : (r : Source) (N : List Node) (s : List Entry) (t : Lexeme) (o : List Lexeme) → Stands r StatementStart s N (t ∷ o) → Leads r (statement_start N s t) o
+at_statement : (r : Source) (N : List Node) (s : List Entry) (t : Lexeme) (o : List Lexeme) →
+    Stands r StatementStart s N (t ∷ o) → Leads r (statement_start N s t) o
 unfolding Stands
 at_statement r N s t o h = statement_start_stands r N s t o h
 
-at_first : (r : Source) (N : List Node) (s : List Entry) (t : Lexeme) (o : List Lexeme) → Stands r ForFirst s N (t ∷ o) → Leads r (first_start N s t) o
+at_first : (r : Source) (N : List Node) (s : List Entry) (t : Lexeme) (o : List Lexeme) →
+    Stands r ForFirst s N (t ∷ o) → Leads r (first_start N s t) o
 unfolding Stands
 at_first r N s t o h = first_start_stands r N s t o h
 
-at_operand : (r : Source) (N : List Node) (s : List Entry) (t : Lexeme) (o : List Lexeme) → Stands r Operand s N (t ∷ o) → Leads r (operand_start N s t) o
+at_operand : (r : Source) (N : List Node) (s : List Entry) (t : Lexeme) (o : List Lexeme) →
+    Stands r Operand s N (t ∷ o) → Leads r (operand_start N s t) o
 unfolding Stands
 at_operand r N s t o h = operand_start_stands r N s t o h
 
-at_argument : (r : Source) (N : List Node) (s : List Entry) (t : Lexeme) (o : List Lexeme) → Stands r ArgumentNext s N (t ∷ o) → Leads r (argument_start N s t) o
+at_argument : (r : Source) (N : List Node) (s : List Entry) (t : Lexeme) (o : List Lexeme) →
+    Stands r ArgumentNext s N (t ∷ o) → Leads r (argument_start N s t) o
 unfolding Stands
 at_argument r N s t o h = argument_start_stands r N s t o h
 
@@ -65,23 +74,28 @@ nothing_led : (r : Source) (o : List Lexeme) → Leads r None o
 unfolding Leads
 nothing_led r o = tt
 
-at_flags : (r : Source) (b : Bool) (flags : FlagSet) (N : List Node) (s : List Entry) (t : Lexeme) (o : List Lexeme) → Stands r (FlagsRead b flags) s N (t ∷ o) → Leads r (flags_step b flags N s t) o
+at_flags : (r : Source) (b : Bool) (flags : FlagSet) (N : List Node) (s : List Entry) (t : Lexeme) (o : List Lexeme) →
+    Stands r (FlagsRead b flags) s N (t ∷ o) → Leads r (flags_step b flags N s t) o
 unfolding Stands
 at_flags r b flags N s t o (behind f g) = flags_step_stands r b flags N s t o f g
 
-at_super : (r : Source) (id : ℕ) (N : List Node) (s : List Entry) (t : Lexeme) (o : List Lexeme) → Stands r (SuperDone id) s N (t ∷ o) → Leads r (super_ended id N s t) o
+at_super : (r : Source) (id : ℕ) (N : List Node) (s : List Entry) (t : Lexeme) (o : List Lexeme) →
+    Stands r (SuperDone id) s N (t ∷ o) → Leads r (super_ended id N s t) o
 unfolding Stands
 at_super r id N s t o (behind v d) = super_ended_stands r id N s t o v d
 
-at_type : (r : Source) (id : ℕ) (N : List Node) (s : List Entry) (t : Lexeme) (o : List Lexeme) → Stands r (TypeDone id) s N (t ∷ o) → Leads r (typed id N s t) o
+at_type : (r : Source) (id : ℕ) (N : List Node) (s : List Entry) (t : Lexeme) (o : List Lexeme) →
+    Stands r (TypeDone id) s N (t ∷ o) → Leads r (typed id N s t) o
 unfolding Stands
 at_type r id N s t o (behind v d) = typed_stands r id N s t o v d
 
-at_assigned : (r : Source) (id : ℕ) (N : List Node) (s : List Entry) (t : Lexeme) (o : List Lexeme) → Stands r (Assigned id) s N (t ∷ o) → Leads r (assigned id N s t) o
+at_assigned : (r : Source) (id : ℕ) (N : List Node) (s : List Entry) (t : Lexeme) (o : List Lexeme) →
+    Stands r (Assigned id) s N (t ∷ o) → Leads r (assigned id N s t) o
 unfolding Stands
 at_assigned r id N s t o (assigned_so v d) = assigned_stands r id N s t o v d
 
-step_stands : (r : Source) (mode : Mode) (N : List Node) (s : List Entry) (t : Lexeme) (o : List Lexeme) → Stands r mode s N (t ∷ o) → Leads r (step_mode mode N s t) o
+step_stands : (r : Source) (mode : Mode) (N : List Node) (s : List Entry) (t : Lexeme) (o : List Lexeme) →
+    Stands r mode s N (t ∷ o) → Leads r (step_mode mode N s t) o
 unfolding step_mode
 step_stands r FileStart N s t o h = file_start_stands r N s t o h
 step_stands r PackageName N s t o h = package_name_stands r N s t o h
@@ -186,29 +200,38 @@ pub starts_so : (N : List Node) (i : List Lexeme) → StandsSo (record { nodes =
 unfolding StandsSo Stands AtFile
 starts_so N i = file_due refl (λ N1 ids d. d)
 
-file_finished : (r : Source) (s : List Entry) (N : List Node) {N1 : List Node} {ids : List ℕ} {p : Pos} → Due r for_class s N (the_end p ∷ []) → finished (at Finished s N) ≡ Some (parsed N1 ids) → Tree r.nodes r.lexemes N1 ids
+file_finished : (r : Source) (s : List Entry) (N : List Node) {N1 : List Node} {ids : List ℕ} {p : Pos} →
+    Due r for_class s N (the_end p ∷ []) → finished (at Finished s N) ≡ Some (parsed N1 ids) →
+    Tree r.nodes r.lexemes N1 ids
 unfolding finished
 file_finished r s N {N1} {ids} (file_open {ids = these} c h) e =
-    let P : Option Parsed → Type 0 = λ x. elim x [ None ↦ Unit {0} | Some y ↦ Tree r.nodes r.lexemes y.nodes y.classes ] in
+    let P : Option Parsed → Type 0 = λ x. elim x [ None ↦ Unit {0} | Some y ↦ Tree r.nodes r.lexemes y.nodes y.classes ]
+    in
     subst P e (h N these _ c)
 
 none_is_some : {A : Type 0} {x : Parsed} → None ≡ Some x → A
 none_is_some {A} {x} e = let P : Option Parsed → Type 0 = λ y. elim y [ None ↦ Unit {0} | Some z ↦ A ] in subst P e tt
 
-finished_so : (r : Source) (st : State) {N1 : List Node} {ids : List ℕ} → StandsSo r st [] → finished st ≡ Some (parsed N1 ids) → Tree r.nodes r.lexemes N1 ids
+finished_so : (r : Source) (st : State) {N1 : List Node} {ids : List ℕ} → StandsSo r st [] →
+    finished st ≡ Some (parsed N1 ids) → Tree r.nodes r.lexemes N1 ids
 unfolding StandsSo Stands finished
 finished_so r (at Finished s N) (past d) e = file_finished r s N d e
 finished_so r _ h e = none_is_some e
 
-answer_behind : (r : Source) (o : List Lexeme) (x : Option State) {N1 : List Node} {ids : List ℕ} → ((next : State) → StandsSo r next o → answer next o ≡ Some (parsed N1 ids) → Tree r.nodes r.lexemes N1 ids) → Leads r x o → elim x [ Some next ↦ answer next o | None ↦ None ] ≡ Some (parsed N1 ids) → Tree r.nodes r.lexemes N1 ids
+answer_behind : (r : Source) (o : List Lexeme) (x : Option State) {N1 : List Node} {ids : List ℕ} →
+    ((next : State) → StandsSo r next o → answer next o ≡ Some (parsed N1 ids) → Tree r.nodes r.lexemes N1 ids) →
+    Leads r x o → elim x [ Some next ↦ answer next o | None ↦ None ] ≡ Some (parsed N1 ids) →
+    Tree r.nodes r.lexemes N1 ids
 answer_behind r o None f h e = none_is_some e
 answer_behind r o (Some next) f h e = f next (leads_so r next o h) e
 
-answer_so : (r : Source) (i : List Lexeme) (st : State) {N1 : List Node} {ids : List ℕ} → StandsSo r st i → answer st i ≡ Some (parsed N1 ids) → Tree r.nodes r.lexemes N1 ids
+answer_so : (r : Source) (i : List Lexeme) (st : State) {N1 : List Node} {ids : List ℕ} → StandsSo r st i →
+    answer st i ≡ Some (parsed N1 ids) → Tree r.nodes r.lexemes N1 ids
 unfolding answer
 answer_so r [] st h e = finished_so r st h e
 answer_so r (t ∷ o) st h e = answer_behind r o (step st t) (λ next. answer_so r o next) (one_step r st t o h) e
 
 -- soundness: an answer is a tree's
-pub answer_is_tree : (N : List Node) (i : List Lexeme) {N1 : List Node} {ids : List ℕ} → answer (start N) i ≡ Some (parsed N1 ids) → Tree N i N1 ids
+pub answer_is_tree : (N : List Node) (i : List Lexeme) {N1 : List Node} {ids : List ℕ} →
+    answer (start N) i ≡ Some (parsed N1 ids) → Tree N i N1 ids
 answer_is_tree N i e = answer_so (record { nodes = N; lexemes = i }) i (start N) (starts_so N i) e

@@ -68,30 +68,41 @@ PlainValueDue r s N i = (j : List Lexeme) → PlainValue i j → PairEnds r s N 
 
 -- an annotation whose name was read
 pub data AnnotationNamed (r : Source) : List Entry → List Node → List Lexeme → Type 0 where
-  annotation_named_so : {b : _} {s : _} {N : _} {o : _} {flags : _} {w : _} {p q : _} → is_effectless w ≡ true → Due r (for_annotation p) (AnnotationOpen b flags ∷ s) N (a_name w q ∷ o) → AnnotationNamed r (AnnotationOpen b flags ∷ s) N o
+  annotation_named_so : {b : _} {s : _} {N : _} {o : _} {flags : _} {w : _} {p q : _} → is_effectless w ≡ true →
+      Due r (for_annotation p) (AnnotationOpen b flags ∷ s) N (a_name w q ∷ o) →
+      AnnotationNamed r (AnnotationOpen b flags ∷ s) N o
 
 -- `@DefineScope` up to where the lexemes begin
 pub data DefineBegun (r : Source) (p : Pos) : List Entry → List Node → List Lexeme → Type 0 where
-  define_begun : {b : _} {s : _} {N : _} {o : _} {flags : FlagSet} {q : _} → flags.define_scope ≡ None → Due r (for_annotation p) (AnnotationOpen b flags ∷ s) N (a_name (codes "DefineScope") q ∷ o) → DefineBegun r p (AnnotationOpen b flags ∷ s) N o
+  define_begun : {b : _} {s : _} {N : _} {o : _} {flags : FlagSet} {q : _} → flags.define_scope ≡ None →
+      Due r (for_annotation p) (AnnotationOpen b flags ∷ s) N (a_name (codes "DefineScope") q ∷ o) →
+      DefineBegun r p (AnnotationOpen b flags ∷ s) N o
 
 -- and up to the first value
 pub data DefineRead (r : Source) (p : Pos) (first : Bool) (id : ℕ) : List Entry → List Node → List Lexeme → Type 0 where
-  define_read : {s : _} {N N1 : _} {i o : _} {x u v y : _} → DefineBegun r p s N (a_sign sign_left_parenthesis x ∷ a_name (first_word first) u ∷ a_sign sign_assign v ∷ i) → ScopeValue N i N1 (a_sign sign_comma y ∷ o) id → DefineRead r p first id s N1 o
+  define_read : {s : _} {N N1 : _} {i o : _} {x u v y : _} →
+      DefineBegun r p s N (a_sign sign_left_parenthesis x ∷ a_name (first_word first) u ∷ a_sign sign_assign v ∷ i) →
+      ScopeValue N i N1 (a_sign sign_comma y ∷ o) id → DefineRead r p first id s N1 o
 
 -- ---- members
 
 pub data TypeGiven : Option ℕ → ℕ → List Node → List Lexeme → List Node → List Lexeme → Type 0 where
-  type_given : {N N1 N2 : _} {i i1 o : _} {flags : _} {t : _} → FlagsGiven flags N i N1 i1 → TypeRead N1 i1 N2 o t → TypeGiven flags t N i N2 o
+  type_given : {N N1 N2 : _} {i i1 o : _} {flags : _} {t : _} → FlagsGiven flags N i N1 i1 → TypeRead N1 i1 N2 o t →
+      TypeGiven flags t N i N2 o
 
 pub data ResultGiven : Option ℕ → ℕ → List Node → List Lexeme → List Node → List Lexeme → Type 0 where
-  result_given : {N N1 N2 : _} {i i1 o : _} {flags : _} {t : _} → FlagsGiven flags N i N1 i1 → ResultRead N1 i1 N2 o t → ResultGiven flags t N i N2 o
+  result_given : {N N1 N2 : _} {i i1 o : _} {flags : _} {t : _} → FlagsGiven flags N i N1 i1 → ResultRead N1 i1 N2 o t →
+      ResultGiven flags t N i N2 o
 
 pub data LocalTyped : Place → Option ℕ → ℕ → List Node → List Lexeme → List Node → List Lexeme → Type 0 where
-  local_typed : {k : _} {N N1 N2 : _} {i i1 o : _} {flags : _} {t : _} → LocalFlags k flags N i N1 i1 → TypeRead N1 i1 N2 o t → LocalTyped k flags t N i N2 o
+  local_typed : {k : _} {N N1 N2 : _} {i i1 o : _} {flags : _} {t : _} → LocalFlags k flags N i N1 i1 →
+      TypeRead N1 i1 N2 o t → LocalTyped k flags t N i N2 o
 
 -- a constructor's body begins
 pub data ConstructorDue (r : Source) (b : Pos) : List Entry → List Node → List Lexeme → Type 0 where
-  constructor_due : {flags ps : _} {w : _} {q : _} {s : _} {N : _} {o : _} → Due r (for_body b) (ConstructorBody flags q w ps None ∷ s) N o → ConstructorDue r b (ConstructorBody flags q w ps None ∷ s) N o
+  constructor_due : {flags ps : _} {w : _} {q : _} {s : _} {N : _} {o : _} →
+      Due r (for_body b) (ConstructorBody flags q w ps None ∷ s) N o →
+      ConstructorDue r b (ConstructorBody flags q w ps None ∷ s) N o
 
 -- behind `super(..)`
 abbrev pub SuperEnds : Source → Pos → List Entry → List Node → List Lexeme → Type 0
@@ -100,8 +111,10 @@ SuperEnds r b s N i = (p : Pos) (o : List Lexeme) → i ≡ a_sign sign_semicolo
 -- ---- statements
 
 pub data StatementDone (r : Source) (id : ℕ) : List Entry → List Node → List Lexeme → Type 0 where
-  statement_done : {s : _} {N N1 : _} {i o : _} → StatementRead N i N1 o id → Due r for_statement s N i → StatementDone r id s N1 o
-  body_done : {s : _} {p : _} {N N1 : _} {i o : _} → BlockRead p N i N1 o id → Due r (for_body p) s N i → StatementDone r id s N1 o
+  statement_done : {s : _} {N N1 : _} {i o : _} → StatementRead N i N1 o id → Due r for_statement s N i →
+      StatementDone r id s N1 o
+  body_done : {s : _} {p : _} {N N1 : _} {i o : _} → BlockRead p N i N1 o id → Due r (for_body p) s N i →
+      StatementDone r id s N1 o
 
 -- where an assignment is due
 pub data SimpleDue (r : Source) (s : List Entry) (N : List Node) (i : List Lexeme) : Type 0 where
@@ -111,15 +124,18 @@ pub data SimpleDue (r : Source) (s : List Entry) (N : List Node) (i : List Lexem
 pub data FirstDue (r : Source) (s : List Entry) (N : List Node) (i : List Lexeme) : Type 0 where
   first_due : {k : _} → TakesLocal k → Due r (for_simple k) s N i → FirstDue r s N i
 
-pub data LocalNamedSo (r : Source) (flags : Option ℕ) (t : ℕ) (s : List Entry) (N : List Node) (o : List Lexeme) : Type 0 where
-  local_named_so : {k : _} {M : _} {i : _} → LocalTyped k flags t M i N o → Due r (for_simple k) s M i → LocalNamedSo r flags t s N o
+pub data LocalNamedSo (r : Source) (flags : Option ℕ) (t : ℕ) (s : List Entry) (N : List Node)
+    (o : List Lexeme) : Type 0 where
+  local_named_so : {k : _} {M : _} {i : _} → LocalTyped k flags t M i N o → Due r (for_simple k) s M i →
+      LocalNamedSo r flags t s N o
 
 pub data AssignedSo (r : Source) (id : ℕ) (s : List Entry) (N : List Node) (o : List Lexeme) : Type 0 where
   assigned_so : {k : _} {M : _} {i : _} → SimpleRead k M i N o id → Due r (for_simple k) s M i → AssignedSo r id s N o
 
 -- ---- expressions
 
-pub data PostSo (kind : PostKind) (p : Pos) (id : ℕ) (N : List Node) (o : List Lexeme) (M : List Node) (i : List Lexeme) : Type 0 where
+pub data PostSo (kind : PostKind) (p : Pos) (id : ℕ) (N : List Node) (o : List Lexeme) (M : List Node)
+    (i : List Lexeme) : Type 0 where
   post_so : {minimum : _} → PostRead minimum kind p M i N o id → PostSo kind p id N o M i
 
 pub data ObjectSo (id : ℕ) (N : List Node) (o : List Lexeme) (M : List Node) (i : List Lexeme) : Type 0 where
@@ -130,10 +146,12 @@ pub data FirstArgument (r : Source) : List Entry → List Node → List Lexeme �
   first_argument : {s : _} {N : _} {o : _} → Due r for_arguments s N o → FirstArgument r (ArgumentsOpen [] ∷ s) N o
 
 pub data NextArgument (r : Source) : List Entry → List Node → List Lexeme → Type 0 where
-  next_argument : {ids : _} {s : _} {N : _} {o : _} → Due r for_operand (ArgumentsOpen ids ∷ s) N o → NextArgument r (ArgumentsOpen ids ∷ s) N o
+  next_argument : {ids : _} {s : _} {N : _} {o : _} → Due r for_operand (ArgumentsOpen ids ∷ s) N o →
+      NextArgument r (ArgumentsOpen ids ∷ s) N o
 
 pub data TextArgument (r : Source) (id : ℕ) : List Entry → List Node → List Lexeme → Type 0 where
-  text_so : {ids : _} {s : _} {N N1 : _} {i o : _} → ArgumentRead N i N1 o id → Due r for_operand (ArgumentsOpen ids ∷ s) N i → TextArgument r id (ArgumentsOpen ids ∷ s) N1 o
+  text_so : {ids : _} {s : _} {N N1 : _} {i o : _} → ArgumentRead N i N1 o id →
+      Due r for_operand (ArgumentsOpen ids ∷ s) N i → TextArgument r id (ArgumentsOpen ids ∷ s) N1 o
 
 -- a lexeme was read before these
 pub data Past (P : Pos → Type 0) : Type 0 where
@@ -142,15 +160,19 @@ pub data Past (P : Pos → Type 0) : Type 0 where
 -- ---- all modes
 
 unfoldable pub Stands : Source → Mode → List Entry → List Node → List Lexeme → Type 0
-Stands r FileStart s N i = FileDue r s N ((N1 : List Node) (ids : List ℕ) → Tree r.nodes i N1 ids → Tree r.nodes r.lexemes N1 ids)
+Stands r FileStart s N i =
+    FileDue r s N ((N1 : List Node) (ids : List ℕ) → Tree r.nodes i N1 ids → Tree r.nodes r.lexemes N1 ids)
 Stands r PackageName s N i = FileDue r s N (PackageDue r i)
 Stands r PackageEnd s N i = FileDue r s N ((w : List ℕ) × (p : Pos) × PackageDue r (a_name w p ∷ i))
 Stands r InImports s N i = FileDue r s N (ImportsDue r i)
 Stands r ImportStart s N i = FileDue r s N (Past (λ p. ImportsDue r (a_word word_import p ∷ i)))
 Stands r ImportName s N i = FileDue r s N (ImportedDue r i)
-Stands r ImportDot s N i = FileDue r s N ((w : List ℕ) × (p : Pos) × (q : Pos) × ImportedDue r (a_name w p ∷ a_sign sign_dot q ∷ i))
+Stands r ImportDot s N i =
+    FileDue r s N ((w : List ℕ) × (p : Pos) × (q : Pos) × ImportedDue r (a_name w p ∷ a_sign sign_dot q ∷ i))
 Stands r ImportEnd s N i = FileDue r s N ((w : List ℕ) × (p : Pos) × ImportedDue r (a_name w p ∷ i))
-Stands r ImportStar s N i = FileDue r s N ((w : List ℕ) × (p : Pos) × (q : Pos) × (u : Pos) × ImportedDue r (a_name w p ∷ a_sign sign_dot q ∷ a_sign sign_star u ∷ i))
+Stands r ImportStar s N i =
+    FileDue r s N ((w : List ℕ) × (p : Pos) × (q : Pos) × (u : Pos) ×
+    ImportedDue r (a_name w p ∷ a_sign sign_dot q ∷ a_sign sign_star u ∷ i))
 Stands r InClasses s N i = Due r for_class s N i
 Stands r Finished s N i = Past (λ p. Due r for_class s N (the_end p ∷ i))
 Stands r (FlagsRead b flags) s N i = Behind (Flagging r b s) (λ M j. FlagRow b M j N i flags)
@@ -161,7 +183,8 @@ Stands r PlainNext s N i = PairsDue r s N i
 Stands r PlainName s N i = (w : List ℕ) × (p : Pos) × PairsDue r s N (a_name w p ∷ i)
 Stands r PlainAssigned s N i = PlainValueDue r s N i
 Stands r PlainPath s N i = (w : List ℕ) × (p : Pos) × PlainValueDue r s N (a_name w p ∷ i)
-Stands r PlainDot s N i = (w : List ℕ) × (p : Pos) × (q : Pos) × PlainValueDue r s N (a_name w p ∷ a_sign sign_dot q ∷ i)
+Stands r PlainDot s N i = (w : List ℕ) × (p : Pos) × (q : Pos) ×
+    PlainValueDue r s N (a_name w p ∷ a_sign sign_dot q ∷ i)
 Stands r PlainEnd s N i = PairEnds r s N i
 Stands r ValueOpen s N i = (x : Pos) (o : List Lexeme) → i ≡ a_sign sign_left_parenthesis x ∷ o → Due r for_value s N o
 Stands r ValueStart s N i = Due r for_value s N i
@@ -170,26 +193,33 @@ Stands r (ValueDot p) s N i = Past (λ q. Due r for_value s N (a_name (codes "Sc
 Stands r (ValueRead id) s N i = Behind (Due r for_value s) (λ M j. ScopeValue M j N i id)
 Stands r (DefineOpen p) s N i = DefineBegun r p s N i
 Stands r (DefineName p) s N i = Past (λ x. DefineBegun r p s N (a_sign sign_left_parenthesis x ∷ i))
-Stands r (DefineAssign p first) s N i = (x : Pos) × (u : Pos) × DefineBegun r p s N (a_sign sign_left_parenthesis x ∷ a_name (first_word first) u ∷ i)
+Stands r (DefineAssign p first) s N i =
+    (x : Pos) × (u : Pos) × DefineBegun r p s N (a_sign sign_left_parenthesis x ∷ a_name (first_word first) u ∷ i)
 Stands r (DefineOther p first id) s N i = DefineRead r p first id s N i
-Stands r (DefineOtherAssign p first id) s N i = Past (λ z. DefineRead r p first id s N (a_name (other_word first) z ∷ i))
-Stands r (ClassName flags) s N i = Behind (Due r for_class s) (λ M j. Past (λ q. FlagsGiven flags M j N (a_word word_class q ∷ i)))
+Stands r (DefineOtherAssign p first id) s N i =
+    Past (λ z. DefineRead r p first id s N (a_name (other_word first) z ∷ i))
+Stands r (ClassName flags) s N i =
+    Behind (Due r for_class s) (λ M j. Past (λ q. FlagsGiven flags M j N (a_word word_class q ∷ i)))
 Stands r ClassNamed s N i = Due r for_header s N i
 Stands r SuperName s N i = Due r for_super s N i
 Stands r (SuperNamed p w) s N i = Due r for_super s N (a_name w p ∷ i)
-Stands r (SuperArgumentName p w) s N i = (has_type_argument w ≡ true) × Past (λ q. Due r for_super s N (a_name w p ∷ a_sign sign_less q ∷ i))
+Stands r (SuperArgumentName p w) s N i =
+    (has_type_argument w ≡ true) × Past (λ q. Due r for_super s N (a_name w p ∷ a_sign sign_less q ∷ i))
 Stands r (SuperArgumentEnd p w a) s N i = Behind (Due r for_super s) (λ M j. TypeArgumentBegun p w a M j N i)
 Stands r (SuperDone id) s N i = Behind (Due r for_super s) (λ M j. SuperRead M j N i id)
 Stands r InMembers s N i = Due r for_member s N i
 Stands r (TypeName p w) s N i = Due r for_type s N (a_name w p ∷ i)
-Stands r (TypeArgumentName p w) s N i = (has_type_argument w ≡ true) × Past (λ q. Due r for_type s N (a_name w p ∷ a_sign sign_less q ∷ i))
+Stands r (TypeArgumentName p w) s N i =
+    (has_type_argument w ≡ true) × Past (λ q. Due r for_type s N (a_name w p ∷ a_sign sign_less q ∷ i))
 Stands r (TypeArgumentEnd p w a) s N i = Behind (Due r for_type s) (λ M j. TypeArgumentBegun p w a M j N i)
 Stands r (TypeEnd p element) s N i = Behind (Due r for_type s) (λ M j. ElementRead p element M j N i)
-Stands r (TypeBracket p element) s N i = Behind (Due r for_type s) (λ M j. Past (λ q. ElementRead p element M j N (a_sign sign_left_bracket q ∷ i)))
+Stands r (TypeBracket p element) s N i =
+    Behind (Due r for_type s) (λ M j. Past (λ q. ElementRead p element M j N (a_sign sign_left_bracket q ∷ i)))
 Stands r (TypeDone id) s N i = Behind (Due r for_type s) (λ M j. TypeRead M j N i id)
 Stands r (MemberNamed flags t p w) s N i = Behind (Due r for_member s) (λ M j. TypeGiven flags t M j N (a_name w p ∷ i))
 Stands r (ResultDone flags t) s N i = Behind (Due r for_member s) (λ M j. ResultGiven flags t M j N i)
-Stands r (MethodNamed flags t p w) s N i = Behind (Due r for_member s) (λ M j. ResultGiven flags t M j N (a_name w p ∷ i))
+Stands r (MethodNamed flags t p w) s N i =
+    Behind (Due r for_member s) (λ M j. ResultGiven flags t M j N (a_name w p ∷ i))
 Stands r LiteralStart s N i = Due r for_literal s N i
 Stands r (LiteralMinus p) s N i = Due r for_literal s N (a_sign sign_minus p ∷ i)
 Stands r (LiteralDone id) s N i = Behind (Due r for_literal s) (λ M j. LiteralRead M j N i id)
@@ -216,14 +246,17 @@ Stands r Operand s N i = Due r for_operand s N i
 Stands r (NameRead p w) s N i = Due r for_operand s N (a_name w p ∷ i)
 Stands r (Opened p) s N i = Due r for_operand s N (a_sign sign_left_parenthesis p ∷ i)
 Stands r (OpenedName p q w) s N i = Due r for_operand s N (a_sign sign_left_parenthesis p ∷ a_name w q ∷ i)
-Stands r (ClosedName p q w) s N i = Past (λ x. Due r for_operand s N (a_sign sign_left_parenthesis p ∷ a_name w q ∷ a_sign sign_right_parenthesis x ∷ i))
+Stands r (ClosedName p q w) s N i =
+    Past
+    (λ x. Due r for_operand s N (a_sign sign_left_parenthesis p ∷ a_name w q ∷ a_sign sign_right_parenthesis x ∷ i))
 Stands r (Minus p) s N i = (awaits_target s ≡ false) × Due r for_operand s N (a_sign sign_minus p ∷ i)
 Stands r (NewStart p) s N i = Due r for_operand s N (a_word word_new p ∷ i)
 Stands r (NewName p q w) s N i = Due r for_operand s N (a_word word_new p ∷ a_name w q ∷ i)
 Stands r (NewElement p element) s N i = Behind (Due r for_operand s) (λ M j. LengthBegun p element M j N i)
 Stands r (PostDone kind p id) s N i = Behind (Due r for_operand s) (PostSo kind p id N i)
 Stands r (Dot object) s N i = Past (λ x. Behind (Due r for_operand s) (ObjectSo object N (a_sign sign_dot x ∷ i)))
-Stands r (DotName object p w) s N i = Past (λ x. Behind (Due r for_operand s) (ObjectSo object N (a_sign sign_dot x ∷ a_name w p ∷ i)))
+Stands r (DotName object p w) s N i =
+    Past (λ x. Behind (Due r for_operand s) (ObjectSo object N (a_sign sign_dot x ∷ a_name w p ∷ i)))
 Stands r ArgumentFirst s N i = FirstArgument r s N i
 Stands r ArgumentNext s N i = NextArgument r s N i
 Stands r (TextRead id) s N i = TextArgument r id s N i
@@ -234,16 +267,21 @@ Leads r None o = Unit {0}
 Leads r (Some (at mode s N)) o = Stands r mode s N o
 
 -- by a test, by a number, and by a choice
-pub leads_if : (r : Source) (b : Bool) (x y : Option State) (o : List Lexeme) → (b ≡ true → Leads r x o) → (b ≡ false → Leads r y o) → Leads r (if b then x else y) o
+pub leads_if : (r : Source) (b : Bool) (x y : Option State) (o : List Lexeme) → (b ≡ true → Leads r x o) →
+    (b ≡ false → Leads r y o) → Leads r (if b then x else y) o
 leads_if r true x y o f g = f refl
 leads_if r false x y o f g = g refl
 
-pub on_number : (r : Source) (P : ℕ → Type 0) (n k : ℕ) (h : P n) (x y : Option State) (o : List Lexeme) → (P k → Leads r x o) → Leads r y o → Leads r (if n == k then x else y) o
+pub on_number : (r : Source) (P : ℕ → Type 0) (n k : ℕ) (h : P n) (x y : Option State) (o : List Lexeme) →
+    (P k → Leads r x o) → Leads r y o → Leads r (if n == k then x else y) o
 on_number r P n k h x y o f g = leads_if r (n == k) x y o (λ e. f (subst P (eqb-true n k e) h)) (λ e. g)
 
-pub on_name : (r : Source) (P : List ℕ → Type 0) (w v : List ℕ) (h : P w) (x y : Option State) (o : List Lexeme) → (P v → Leads r x o) → Leads r y o → Leads r (if is_same w v then x else y) o
+pub on_name : (r : Source) (P : List ℕ → Type 0) (w v : List ℕ) (h : P w) (x y : Option State) (o : List Lexeme) →
+    (P v → Leads r x o) → Leads r y o → Leads r (if is_same w v then x else y) o
 on_name r P w v h x y o f g = leads_if r (is_same w v) x y o (λ e. f (subst P ((bytes_decides w v).0 e) h)) (λ e. g)
 
-pub leads_option : (r : Source) {A : Type 0} (a : Option A) (f : A → Option State) (y : Option State) (o : List Lexeme) → ((x : A) → a ≡ Some x → Leads r (f x) o) → (a ≡ None → Leads r y o) → Leads r (elim a [ Some x ↦ f x | None ↦ y ]) o
+pub leads_option : (r : Source) {A : Type 0} (a : Option A) (f : A → Option State) (y : Option State)
+    (o : List Lexeme) → ((x : A) → a ≡ Some x → Leads r (f x) o) → (a ≡ None → Leads r y o) →
+    Leads r (elim a [ Some x ↦ f x | None ↦ y ]) o
 leads_option r (Some x) f y o g h = g x refl
 leads_option r None f y o g h = h refl

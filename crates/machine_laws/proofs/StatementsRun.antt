@@ -34,7 +34,8 @@ unfoldable pub begins_target : List Lexeme → Bool
 begins_target [] = false
 begins_target (t ∷ o) = is_target_start t
 
-pub target_begins : {k : PostKind} {p : Pos} {N N1 : List Node} {i o : List Lexeme} {e : ℕ} → PostRead false k p N i N1 o e → begins_target i ≡ true
+pub target_begins : {k : PostKind} {p : Pos} {N N1 : List Node} {i o : List Lexeme} {e : ℕ} →
+    PostRead false k p N i N1 o e → begins_target i ≡ true
 unfolding begins_target is_target_start is_unary1_start
 target_begins simple_name = refl
 target_begins (simple_call a) = refl
@@ -56,7 +57,8 @@ target_begins (new_references d) = refl
 -- behind a name that is no type
 unfoldable pub name_goes_on : List Lexeme → Bool
 name_goes_on (a_name w p ∷ o) = false
-name_goes_on (a_sign n p ∷ o) = not (n == sign_less) && not (n == sign_left_bracket && begins_with_sign sign_right_bracket o)
+name_goes_on (a_sign n p ∷ o) = not (n == sign_less)
+    && not (n == sign_left_bracket && begins_with_sign sign_right_bracket o)
 name_goes_on _ = true
 
 unfoldable pub no_local : List Lexeme → Bool
@@ -73,7 +75,8 @@ no_bracket (a_number w p ∷ o) e = refl
 no_bracket (a_text w p ∷ o) e = refl
 no_bracket (the_end p ∷ o) e = refl
 
-pub post_no_local : {k : PostKind} {p : Pos} {N N1 : List Node} {i o : List Lexeme} {e : ℕ} → PostRead false k p N i N1 o e → name_goes_on o ≡ true → no_local i ≡ true
+pub post_no_local : {k : PostKind} {p : Pos} {N N1 : List Node} {i o : List Lexeme} {e : ℕ} →
+    PostRead false k p N i N1 o e → name_goes_on o ≡ true → no_local i ≡ true
 unfolding no_local name_goes_on
 post_no_local simple_name g = g
 post_no_local (simple_call a) g = refl
@@ -94,7 +97,10 @@ post_no_local (new_references d) g = refl
 
 -- ---- where a target is due
 
-bracket_run : (p : Pos) (w : List ℕ) (q : Pos) (N : List Node) (s : List Entry) (o : List Lexeme) → begins_with_sign sign_right_bracket o ≡ false → answer (at (NameBracket p w q) s N) o ≡ answer (at Operand (IndexOpen q (length N) ∷ Target ∷ s) (put N (SimpleName p w))) o
+bracket_run : (p : Pos) (w : List ℕ) (q : Pos) (N : List Node) (s : List Entry) (o : List Lexeme) →
+    begins_with_sign sign_right_bracket o ≡ false →
+    answer (at (NameBracket p w q) s N) o ≡ answer
+    (at Operand (IndexOpen q (length N) ∷ Target ∷ s) (put N (SimpleName p w))) o
 unfolding machine
 bracket_run p w q N s [] e = refl
 bracket_run p w q N s (a_name v r ∷ o) e = refl
@@ -105,18 +111,30 @@ bracket_run p w q N s (a_sign n r ∷ o) e = fails _ _ _ o e
 bracket_run p w q N s (the_end r ∷ o) e = refl
 
 -- `[` behind a name
-bracket_sign_run : (p : Pos) (w : List ℕ) (q : Pos) (N : List Node) (s : List Entry) (o : List Lexeme) → begins_with_sign sign_right_bracket o ≡ false → answer (at (NameFirst p w) s N) (a_sign sign_left_bracket q ∷ o) ≡ answer (at (NameRead p w) (Target ∷ s) N) (a_sign sign_left_bracket q ∷ o)
+bracket_sign_run : (p : Pos) (w : List ℕ) (q : Pos) (N : List Node) (s : List Entry) (o : List Lexeme) →
+    begins_with_sign sign_right_bracket o ≡ false →
+    answer (at (NameFirst p w) s N) (a_sign sign_left_bracket q ∷ o) ≡ answer (at (NameRead p w) (Target ∷ s) N)
+    (a_sign sign_left_bracket q ∷ o)
 unfolding machine
 bracket_sign_run p w q N s o e = bracket_run p w q N s o e
 
-at_bracket : (p : Pos) (w : List ℕ) (n : ℕ) (q : Pos) (N : List Node) (s : List Entry) (o : List Lexeme) → n ≡ sign_left_bracket → name_goes_on (a_sign n q ∷ o) ≡ true → answer (at (NameFirst p w) s N) (a_sign n q ∷ o) ≡ answer (at (NameRead p w) (Target ∷ s) N) (a_sign n q ∷ o)
+at_bracket : (p : Pos) (w : List ℕ) (n : ℕ) (q : Pos) (N : List Node) (s : List Entry) (o : List Lexeme) →
+    n ≡ sign_left_bracket → name_goes_on (a_sign n q ∷ o) ≡ true →
+    answer (at (NameFirst p w) s N) (a_sign n q ∷ o) ≡ answer (at (NameRead p w) (Target ∷ s) N) (a_sign n q ∷ o)
 unfolding name_goes_on
-at_bracket p w n q N s o h = subst (λ m. name_goes_on (a_sign m q ∷ o) ≡ true → answer (at (NameFirst p w) s N) (a_sign m q ∷ o) ≡ answer (at (NameRead p w) (Target ∷ s) N) (a_sign m q ∷ o)) (sym h) (λ e. bracket_sign_run p w q N s o (not_true _ e))
+at_bracket p w n q N s o h =
+    subst (λ m. name_goes_on (a_sign m q ∷ o) ≡ true → answer (at (NameFirst p w) s N) (a_sign m q ∷ o) ≡ answer
+    (at (NameRead p w) (Target ∷ s) N) (a_sign m q ∷ o)) (sym h) (λ e. bracket_sign_run p w q N s o (not_true _ e))
 
-other_sign_run : (p : Pos) (w : List ℕ) (n : ℕ) (q : Pos) (N : List Node) (s : List Entry) (o : List Lexeme) (b : Bool) → (n == sign_left_bracket) ≡ b → name_goes_on (a_sign n q ∷ o) ≡ true → answer (at (NameFirst p w) s N) (a_sign n q ∷ o) ≡ answer (at (NameRead p w) (Target ∷ s) N) (a_sign n q ∷ o)
+other_sign_run : (p : Pos) (w : List ℕ) (n : ℕ) (q : Pos) (N : List Node) (s : List Entry) (o : List Lexeme)
+    (b : Bool) → (n == sign_left_bracket) ≡ b → name_goes_on (a_sign n q ∷ o) ≡ true →
+    answer (at (NameFirst p w) s N) (a_sign n q ∷ o) ≡ answer (at (NameRead p w) (Target ∷ s) N) (a_sign n q ∷ o)
 unfolding machine name_goes_on
 other_sign_run p w n q N s o false h e =
-    fails (n == sign_less) (if has_type_argument w then Some (at (TypeArgumentName p w) (LocalOpen None ∷ s) N) else None) _ o (not_true (n == sign_less) (and_left (not (n == sign_less)) (not (n == sign_left_bracket && begins_with_sign sign_right_bracket o)) e))
+    fails (n == sign_less)
+    (if has_type_argument w then Some (at (TypeArgumentName p w) (LocalOpen None ∷ s) N) else None) _ o
+    (not_true (n == sign_less)
+    (and_left (not (n == sign_less)) (not (n == sign_left_bracket && begins_with_sign sign_right_bracket o)) e))
     ∙ fails (n == sign_left_bracket) (Some (at (NameBracket p w q) s N)) _ o h
 other_sign_run p w n q N s o true h e = at_bracket p w n q N s o (eqb-true n sign_left_bracket h) e
 
@@ -124,7 +142,8 @@ no_name : {A : Type 0} (v : List ℕ) (q : Pos) (o : List Lexeme) → name_goes_
 unfolding name_goes_on
 no_name v q o e = never e
 
-name_first_run : (p : Pos) (w : List ℕ) (N : List Node) (s : List Entry) (o : List Lexeme) → name_goes_on o ≡ true → answer (at (NameFirst p w) s N) o ≡ answer (at (NameRead p w) (Target ∷ s) N) o
+name_first_run : (p : Pos) (w : List ℕ) (N : List Node) (s : List Entry) (o : List Lexeme) → name_goes_on o ≡ true →
+    answer (at (NameFirst p w) s N) o ≡ answer (at (NameRead p w) (Target ∷ s) N) o
 unfolding machine
 name_first_run p w N s [] e = refl
 name_first_run p w N s (a_name v q ∷ o) e = no_name v q o e
@@ -134,17 +153,21 @@ name_first_run p w N s (a_text v q ∷ o) e = refl
 name_first_run p w N s (a_sign n q ∷ o) e = other_sign_run p w n q N s o (n == sign_left_bracket) refl e
 name_first_run p w N s (the_end q ∷ o) e = refl
 
-pub first_target_run : (N : List Node) (s : List Entry) (i : List Lexeme) → begins_target i ≡ true → no_local i ≡ true → next (first_start N s) i ≡ answer (at Operand (Target ∷ s) N) i
+pub first_target_run : (N : List Node) (s : List Entry) (i : List Lexeme) → begins_target i ≡ true → no_local i ≡ true →
+    next (first_start N s) i ≡ answer (at Operand (Target ∷ s) N) i
 unfolding machine begins_target is_target_start no_local
 first_target_run N s [] e g = refl
 first_target_run N s (a_name w p ∷ o) e g = name_first_run p w N s o g
-first_target_run N s (a_word n p ∷ o) e g = fails _ _ _ o (differs (λ m. is_unary1_start (a_word m p)) n word_int e refl) ∙ fails _ _ _ o (differs (λ m. is_unary1_start (a_word m p)) n word_boolean e refl)
+first_target_run N s (a_word n p ∷ o) e g =
+    fails _ _ _ o (differs (λ m. is_unary1_start (a_word m p)) n word_int e refl)
+    ∙ fails _ _ _ o (differs (λ m. is_unary1_start (a_word m p)) n word_boolean e refl)
 first_target_run N s (a_number n p ∷ o) e g = refl
 first_target_run N s (a_text w p ∷ o) e g = never e
 first_target_run N s (a_sign n p ∷ o) e g = holds _ _ _ o e ∙ sym (holds _ _ _ o e)
 first_target_run N s (the_end p ∷ o) e g = never e
 
-pub step_target_run : (N : List Node) (s : List Entry) (i : List Lexeme) → begins_target i ≡ true → answer (at ForStepStart s N) i ≡ answer (at Operand (Target ∷ s) N) i
+pub step_target_run : (N : List Node) (s : List Entry) (i : List Lexeme) → begins_target i ≡ true →
+    answer (at ForStepStart s N) i ≡ answer (at Operand (Target ∷ s) N) i
 unfolding machine begins_target is_target_start
 step_target_run N s [] e = refl
 step_target_run N s (a_name w p ∷ o) e = refl
@@ -154,17 +177,21 @@ step_target_run N s (a_text w p ∷ o) e = never e
 step_target_run N s (a_sign n p ∷ o) e = holds _ _ _ o e ∙ sym (holds _ _ _ o e)
 step_target_run N s (the_end p ∷ o) e = never e
 
-pub statement_target_run : (N : List Node) (s : List Entry) (i : List Lexeme) → begins_target i ≡ true → answer (at StatementStart s N) i ≡ next (first_start N (Simple ∷ s)) i
+pub statement_target_run : (N : List Node) (s : List Entry) (i : List Lexeme) → begins_target i ≡ true →
+    answer (at StatementStart s N) i ≡ next (first_start N (Simple ∷ s)) i
 unfolding machine begins_target is_target_start
 statement_target_run N s [] e = refl
 statement_target_run N s (a_name w p ∷ o) e = refl
-statement_target_run N s (a_word n p ∷ o) e = fails _ _ _ o (d word_if refl) ∙ (fails _ _ _ o (d word_while refl) ∙ (fails _ _ _ o (d word_for refl) ∙ (fails _ _ _ o (d word_return refl) ∙ fails _ _ _ o (d word_final refl))))
+statement_target_run N s (a_word n p ∷ o) e = fails _ _ _ o (d word_if refl)
+    ∙ (fails _ _ _ o (d word_while refl)
+    ∙ (fails _ _ _ o (d word_for refl) ∙ (fails _ _ _ o (d word_return refl) ∙ fails _ _ _ o (d word_final refl))))
   where
     d : (k : ℕ) → is_unary1_start (a_word k p) ≡ false → (n == k) ≡ false
     d k = differs (λ m. is_unary1_start (a_word m p)) n k e
 statement_target_run N s (a_number n p ∷ o) e = refl
 statement_target_run N s (a_text w p ∷ o) e = never e
-statement_target_run N s (a_sign n p ∷ o) e = fails _ _ _ o (d sign_left_brace refl) ∙ (fails _ _ _ o (d sign_semicolon refl) ∙ fails _ _ _ o (d sign_at refl))
+statement_target_run N s (a_sign n p ∷ o) e = fails _ _ _ o (d sign_left_brace refl)
+    ∙ (fails _ _ _ o (d sign_semicolon refl) ∙ fails _ _ _ o (d sign_at refl))
   where
     d : (k : ℕ) → (k == sign_left_parenthesis) ≡ false → (n == k) ≡ false
     d k = differs (λ m. m == sign_left_parenthesis) n k e
@@ -177,7 +204,13 @@ steps n = is_some (stepping n)
 
 steps_no_compound : (n : ℕ) → steps n ≡ true → compound n ≡ None
 unfolding steps stepping compound
-steps_no_compound n e = rw (d 36 refl) (rw (d 37 refl) (rw (d 38 refl) (rw (d 39 refl) (rw (d 40 refl) (rw (d 41 refl) (rw (d 42 refl) (rw (d 43 refl) (rw (d 44 refl) (rw (d 45 refl) (rw (d 46 refl) refl))))))))))
+steps_no_compound n e =
+    rw (d 36 refl)
+    (rw (d 37 refl)
+    (rw (d 38 refl)
+    (rw (d 39 refl)
+    (rw (d 40 refl)
+    (rw (d 41 refl) (rw (d 42 refl) (rw (d 43 refl) (rw (d 44 refl) (rw (d 45 refl) (rw (d 46 refl) refl))))))))))
   where
     d : (k : ℕ) → steps k ≡ false → (n == k) ≡ false
     d k = differs steps n k e
@@ -185,7 +218,8 @@ steps_no_compound n e = rw (d 36 refl) (rw (d 37 refl) (rw (d 38 refl) (rw (d 39
 some_of : (r : Option ℕ) (x : ℕ) → r ≡ Some x → is_some r ≡ true
 some_of r x e = ap is_some e
 
-value_end_run : (p : Pos) (x e : ℕ) (N : List Node) (s : List Entry) (o : List Lexeme) → ends 0 o ≡ true → next (closed e N (AssignValue p x ∷ s)) o ≡ next (assigned (length N) (put N (Assign p x e)) s) o
+value_end_run : (p : Pos) (x e : ℕ) (N : List Node) (s : List Entry) (o : List Lexeme) → ends 0 o ≡ true →
+    next (closed e N (AssignValue p x ∷ s)) o ≡ next (assigned (length N) (put N (Assign p x e)) s) o
 unfolding machine ends
 value_end_run p x e N s [] h = refl
 value_end_run p x e N s (a_name w q ∷ o) h = refl
@@ -195,7 +229,9 @@ value_end_run p x e N s (a_text w q ∷ o) h = refl
 value_end_run p x e N s (a_sign m q ∷ o) h = fails _ _ _ o (below_level 0 (level m) (and_left _ _ h))
 value_end_run p x e N s (the_end q ∷ o) h = refl
 
-compound_end_run : (p : Pos) (op x l e : ℕ) (N : List Node) (s : List Entry) (o : List Lexeme) → ends 0 o ≡ true → next (closed e N (CompoundValue p op x l ∷ s)) o ≡ next (assigned (compounded_number N p op l e) (compounded N p op x l e) s) o
+compound_end_run : (p : Pos) (op x l e : ℕ) (N : List Node) (s : List Entry) (o : List Lexeme) → ends 0 o ≡ true →
+    next (closed e N (CompoundValue p op x l ∷ s)) o ≡ next
+    (assigned (compounded_number N p op l e) (compounded N p op x l e) s) o
 unfolding machine ends
 compound_end_run p op x l e N s [] h = refl
 compound_end_run p op x l e N s (a_name w q ∷ o) h = refl
@@ -205,40 +241,59 @@ compound_end_run p op x l e N s (a_text w q ∷ o) h = refl
 compound_end_run p op x l e N s (a_sign m q ∷ o) h = fails _ _ _ o (below_level 0 (level m) (and_left _ _ h))
 compound_end_run p op x l e N s (the_end q ∷ o) h = refl
 
-assigned_run : (id : ℕ) (N : List Node) (s : List Entry) (o : List Lexeme) → answer (at (Assigned id) s N) o ≡ next (assigned id N s) o
+assigned_run : (id : ℕ) (N : List Node) (s : List Entry) (o : List Lexeme) →
+    answer (at (Assigned id) s N) o ≡ next (assigned id N s) o
 unfolding machine
 assigned_run id N s [] = refl
 assigned_run id N s (t ∷ o) = refl
 
-compound_begin_run : (n op : ℕ) (w : List ℕ) (p q : Pos) (N : List Node) (s : List Entry) (i : List Lexeme) → compound n ≡ Some op → answer (at (NameRead q w) (Target ∷ s) N) (a_sign n p ∷ i) ≡ answer (at Operand (CompoundValue p op (length N) (length (put N (SimpleName q w))) ∷ s) (name_twice N q w)) i
+compound_begin_run : (n op : ℕ) (w : List ℕ) (p q : Pos) (N : List Node) (s : List Entry) (i : List Lexeme) →
+    compound n ≡ Some op → answer (at (NameRead q w) (Target ∷ s) N) (a_sign n p ∷ i) ≡ answer
+    (at Operand (CompoundValue p op (length N) (length (put N (SimpleName q w))) ∷ s) (name_twice N q w)) i
 unfolding machine
-compound_begin_run n op w p q N s i u = fails _ _ _ i (differs (λ m. is_some (compound m)) n sign_left_parenthesis (some_of _ _ u) refl) ∙ is_some_there _ _ _ _ i u
+compound_begin_run n op w p q N s i u =
+    fails _ _ _ i (differs (λ m. is_some (compound m)) n sign_left_parenthesis (some_of _ _ u) refl)
+    ∙ is_some_there _ _ _ _ i u
 
-stepping_run : (n op : ℕ) (w : List ℕ) (p q : Pos) (N : List Node) (s : List Entry) (i : List Lexeme) → stepping n ≡ Some op → answer (at (NameRead q w) (Target ∷ s) N) (a_sign n p ∷ i) ≡ after (stepping_step q w p op N s) i
+stepping_run : (n op : ℕ) (w : List ℕ) (p q : Pos) (N : List Node) (s : List Entry) (i : List Lexeme) →
+    stepping n ≡ Some op → answer (at (NameRead q w) (Target ∷ s) N) (a_sign n p ∷ i) ≡ after
+    (stepping_step q w p op N s) i
 unfolding machine steps
-stepping_run n op w p q N s i u = fails _ _ _ i (differs steps n sign_left_parenthesis (some_of _ _ u) refl) ∙ (is_none_there _ _ _ i (steps_no_compound n (some_of _ _ u)) ∙ is_some_there _ _ _ _ i u)
+stepping_run n op w p q N s i u = fails _ _ _ i (differs steps n sign_left_parenthesis (some_of _ _ u) refl)
+    ∙ (is_none_there _ _ _ i (steps_no_compound n (some_of _ _ u)) ∙ is_some_there _ _ _ _ i u)
 
-pub assignment_run : {N N1 : List Node} {i o : List Lexeme} {id : ℕ} → AssignmentRead N i N1 o id → ends 0 o ≡ true → (s : List Entry) → answer (at Operand (Target ∷ s) N) i ≡ next (assigned id N1 s) o
+pub assignment_run : {N N1 : List Node} {i o : List Lexeme} {id : ℕ} → AssignmentRead N i N1 o id → ends 0 o ≡ true →
+    (s : List Entry) → answer (at Operand (Target ∷ s) N) i ≡ next (assigned id N1 s) o
 unfolding machine follows calls_on opens_at
-assignment_run {o = o} (assignment {N2 = N2} {x = x} {e = e} {p = p} d v) h s = post_run d refl (Target ∷ s) ∙ (level_run v (ends_up 0 o h) (AssignValue p x ∷ s) refl ∙ value_end_run p x e N2 s o h)
-assignment_run {N = N} {o = o} (compound_assignment {N1 = N1} {i = i} {e = e} {w = w} {n = n} {op = op} {p = p} {q = q} u v) h s =
+assignment_run {o = o} (assignment {N2 = N2} {x = x} {e = e} {p = p} d v) h s = post_run d refl (Target ∷ s)
+    ∙ (level_run v (ends_up 0 o h) (AssignValue p x ∷ s) refl ∙ value_end_run p x e N2 s o h)
+assignment_run {N = N} {o = o}
+    (compound_assignment {N1 = N1} {i = i} {e = e} {w = w} {n = n} {op = op} {p = p} {q = q} u v) h s =
     compound_begin_run n op w p q N s i u
     ∙ (level_run v (ends_up 0 o h) (CompoundValue p op (length N) (length (put N (SimpleName q w))) ∷ s) refl
     ∙ compound_end_run p op (length N) (length (put N (SimpleName q w))) e N1 s o h)
-assignment_run {N = N} {N1 = N1} {o = o} {id = id} (step_assignment {w = w} {n = n} {op = op} {p = p} {q = q} u) h s = stepping_run n op w p q N s o u ∙ assigned_run id N1 s o
+assignment_run {N = N} {N1 = N1} {o = o} {id = id} (step_assignment {w = w} {n = n} {op = op} {p = p} {q = q} u) h s =
+    stepping_run n op w p q N s o u ∙ assigned_run id N1 s o
 
-pub assignment_begins : {N N1 : List Node} {i o : List Lexeme} {id : ℕ} → AssignmentRead N i N1 o id → begins_target i ≡ true
+pub assignment_begins : {N N1 : List Node} {i o : List Lexeme} {id : ℕ} → AssignmentRead N i N1 o id →
+    begins_target i ≡ true
 unfolding begins_target is_target_start is_unary1_start
 assignment_begins (assignment d v) = target_begins d
 assignment_begins (compound_assignment u v) = refl
 assignment_begins (step_assignment u) = refl
 
-sign_goes_on : (f : ℕ → Bool) (n : ℕ) (p : Pos) (o : List Lexeme) → f n ≡ true → f sign_less ≡ false → f sign_left_bracket ≡ false → name_goes_on (a_sign n p ∷ o) ≡ true
+sign_goes_on : (f : ℕ → Bool) (n : ℕ) (p : Pos) (o : List Lexeme) → f n ≡ true → f sign_less ≡ false →
+    f sign_left_bracket ≡ false → name_goes_on (a_sign n p ∷ o) ≡ true
 unfolding name_goes_on
-sign_goes_on f n p o e g h = both _ _ (not_false _ (differs f n sign_less e g)) (not_false _ (ap (λ b. b && begins_with_sign sign_right_bracket o) (differs f n sign_left_bracket e h)))
+sign_goes_on f n p o e g h =
+    both _ _ (not_false _ (differs f n sign_less e g))
+    (not_false _ (ap (λ b. b && begins_with_sign sign_right_bracket o) (differs f n sign_left_bracket e h)))
 
-pub assignment_no_local : {N N1 : List Node} {i o : List Lexeme} {id : ℕ} → AssignmentRead N i N1 o id → no_local i ≡ true
+pub assignment_no_local : {N N1 : List Node} {i o : List Lexeme} {id : ℕ} → AssignmentRead N i N1 o id →
+    no_local i ≡ true
 unfolding no_local name_goes_on compound stepping
 assignment_no_local (assignment d v) = post_no_local d refl
-assignment_no_local (compound_assignment {i = i} {n = n} {p = p} u v) = sign_goes_on (λ m. is_some (compound m)) n p i (some_of _ _ u) refl refl
-assignment_no_local {o = o} (step_assignment {n = n} {p = p} u) = sign_goes_on (λ m. is_some (stepping m)) n p o (some_of _ _ u) refl refl
+assignment_no_local (compound_assignment {i = i} {n = n} {p = p} u v) =
+    sign_goes_on (λ m. is_some (compound m)) n p i (some_of _ _ u) refl refl
+assignment_no_local {o = o} (step_assignment {n = n} {p = p} u) =
+    sign_goes_on (λ m. is_some (stepping m)) n p o (some_of _ _ u) refl refl

@@ -37,7 +37,9 @@ going_on r o = elim r [ Some last ↦ answer last o | None ↦ None ]
 running_on : Option State → List Lexeme → Option State
 running_on r i = elim r [ Some last ↦ run last i | None ↦ None ]
 
-behind_one : (r : Option State) (i o : List Lexeme) → ((last : State) → answer last (i ++ o) ≡ going_on (run last i) o) → going_on r (i ++ o) ≡ going_on (running_on r i) o
+behind_one : (r : Option State) (i o : List Lexeme) →
+    ((last : State) → answer last (i ++ o) ≡ going_on (run last i) o) →
+    going_on r (i ++ o) ≡ going_on (running_on r i) o
 unfolding going_on running_on
 behind_one None i o f = refl
 behind_one (Some last) i o f = f last
@@ -53,4 +55,5 @@ none_is_some e = true≢false (sym (ap is_some e))
 -- where the machine refuses, no file goes on
 pub no_file_behind : (N : List Node) (i : List Lexeme) → run (start N) i ≡ None → BeginsFile N i → Prim.⊥
 unfolding going_on
-no_file_behind N i h b = none_is_some (sym (ap (λ r. going_on r b.rest) h) ∙ (sym (answer_behind i (start N) b.rest) ∙ file_run b.tree))
+no_file_behind N i h b =
+    none_is_some (sym (ap (λ r. going_on r b.rest) h) ∙ (sym (answer_behind i (start N) b.rest) ∙ file_run b.tree))

@@ -15,43 +15,56 @@ use Rattle.scj_builtins.specs.Framework.{framework_methods, parameter_list, meth
 use Rattle.scj_builtins.proofs.Places.{named_there}
 use Rattle.method_rows.specs.Methods.{no_method, framework_numbered, framework_method_on}
 
-pub part_of_some : (o : Option DeclaredMethod) (d : Declared) → option_map (λ (m : DeclaredMethod). m.declared) o ≡ Some d → (unwrap_or o no_method).declared ≡ d
+pub part_of_some : (o : Option DeclaredMethod) (d : Declared) →
+    option_map (λ (m : DeclaredMethod). m.declared) o ≡ Some d → (unwrap_or o no_method).declared ≡ d
 part_of_some None d h = cc
 part_of_some (Some m) d h = cc
 
-pub none_of_none : (o : Option DeclaredMethod) → option_map (λ (m : DeclaredMethod). m.declared) o ≡ None → unwrap_or o no_method ≡ no_method
+pub none_of_none : (o : Option DeclaredMethod) → option_map (λ (m : DeclaredMethod). m.declared) o ≡ None →
+    unwrap_or o no_method ≡ no_method
 none_of_none None h = refl
 none_of_none (Some m) h = cc
 
-pub name_of_some : (o : Option DeclaredMethod) (name : List ℕ) → option_map (λ (m : DeclaredMethod). m.declared.name) o ≡ Some name → (unwrap_or o no_method).declared.name ≡ name
+pub name_of_some : (o : Option DeclaredMethod) (name : List ℕ) →
+    option_map (λ (m : DeclaredMethod). m.declared.name) o ≡ Some name → (unwrap_or o no_method).declared.name ≡ name
 name_of_some None name h = cc
 name_of_some (Some m) name h = cc
 
-pub name_of_none : (o : Option DeclaredMethod) → option_map (λ (m : DeclaredMethod). m.declared.name) o ≡ None → (unwrap_or o no_method).declared.name ≡ []
+pub name_of_none : (o : Option DeclaredMethod) → option_map (λ (m : DeclaredMethod). m.declared.name) o ≡ None →
+    (unwrap_or o no_method).declared.name ≡ []
 name_of_none None h = refl
 name_of_none (Some m) h = cc
 
-pub type_of_some : (o : Option DeclaredMethod) (t : WrittenType) → option_map (λ (m : DeclaredMethod). m.declared.declared_type) o ≡ Some t → (unwrap_or o no_method).declared.declared_type ≡ t
+pub type_of_some : (o : Option DeclaredMethod) (t : WrittenType) →
+    option_map (λ (m : DeclaredMethod). m.declared.declared_type) o ≡ Some t →
+    (unwrap_or o no_method).declared.declared_type ≡ t
 type_of_some None t h = cc
 type_of_some (Some m) t h = cc
 
-pub type_of_none : (o : Option DeclaredMethod) → option_map (λ (m : DeclaredMethod). m.declared.declared_type) o ≡ None → (unwrap_or o no_method).declared.declared_type ≡ void_type
+pub type_of_none : (o : Option DeclaredMethod) →
+    option_map (λ (m : DeclaredMethod). m.declared.declared_type) o ≡ None →
+    (unwrap_or o no_method).declared.declared_type ≡ void_type
 type_of_none None h = refl
 type_of_none (Some m) h = cc
 
-pub is_static_where_declared : (o : Option DeclaredMethod) → (unwrap_or o no_method).declared.modifiers.is_static ≡ holds o (λ (m : DeclaredMethod). m.declared.modifiers.is_static)
+pub is_static_where_declared : (o : Option DeclaredMethod) →
+    (unwrap_or o no_method).declared.modifiers.is_static ≡ holds o
+    (λ (m : DeclaredMethod). m.declared.modifiers.is_static)
 is_static_where_declared None = refl
 is_static_where_declared (Some m) = refl
 
-pub body_of_source : (o : Option DeclaredMethod) → (unwrap_or o no_method).body ≡ option_and_then (λ (m : DeclaredMethod). m.body) o
+pub body_of_source : (o : Option DeclaredMethod) →
+    (unwrap_or o no_method).body ≡ option_and_then (λ (m : DeclaredMethod). m.body) o
 body_of_source None = refl
 body_of_source (Some m) = refl
 
-pub parameters_of_source : (o : Option DeclaredMethod) → (unwrap_or o no_method).parameters ≡ unwrap_or (option_map (λ (m : DeclaredMethod). m.parameters) o) []
+pub parameters_of_source : (o : Option DeclaredMethod) →
+    (unwrap_or o no_method).parameters ≡ unwrap_or (option_map (λ (m : DeclaredMethod). m.parameters) o) []
 parameters_of_source None = refl
 parameters_of_source (Some m) = refl
 
-no_number_of : (nodes : List Node) (id : ℕ) (node : Option Node) → (unwrap_or (option_and_then (method_of nodes id) node) no_method).builtin ≡ None
+no_number_of : (nodes : List Node) (id : ℕ) (node : Option Node) →
+    (unwrap_or (option_and_then (method_of nodes id) node) no_method).builtin ≡ None
 unfolding method_of
 no_number_of nodes id None = refl
 no_number_of nodes id (Some (Method place name flags result_type parameters body)) = refl
@@ -60,31 +73,40 @@ no_number_of nodes id (Some _) = refl
 pub no_number : (nodes : List Node) (id : ℕ) → (unwrap_or (method_at nodes id) no_method).builtin ≡ None
 no_number nodes id = no_number_of nodes id (slice_get nodes id)
 
-callable_of : (nodes : List Node) (id : ℕ) (node : Option Node) → (unwrap_or (option_and_then (method_of nodes id) node) no_method).callable ≡ is_some (option_and_then (method_of nodes id) node)
+callable_of : (nodes : List Node) (id : ℕ) (node : Option Node) →
+    (unwrap_or (option_and_then (method_of nodes id) node) no_method).callable ≡ is_some
+    (option_and_then (method_of nodes id) node)
 unfolding method_of
 callable_of nodes id None = refl
 callable_of nodes id (Some (Method place name flags result_type parameters body)) = refl
 callable_of nodes id (Some _) = refl
 
-pub is_callable_where_declared : (nodes : List Node) (id : ℕ) → (unwrap_or (method_at nodes id) no_method).callable ≡ is_some (method_at nodes id)
+pub is_callable_where_declared : (nodes : List Node) (id : ℕ) →
+    (unwrap_or (method_at nodes id) no_method).callable ≡ is_some (method_at nodes id)
 is_callable_where_declared nodes id = callable_of nodes id (slice_get nodes id)
 
-open_of : (nodes : List Node) (id : ℕ) (node : Option Node) → (unwrap_or (option_and_then (method_of nodes id) node) no_method).overridable ≡ is_some (option_and_then (method_of nodes id) node)
+open_of : (nodes : List Node) (id : ℕ) (node : Option Node) →
+    (unwrap_or (option_and_then (method_of nodes id) node) no_method).overridable ≡ is_some
+    (option_and_then (method_of nodes id) node)
 unfolding method_of
 open_of nodes id None = refl
 open_of nodes id (Some (Method place name flags result_type parameters body)) = refl
 open_of nodes id (Some _) = refl
 
-pub is_open_where_declared : (nodes : List Node) (id : ℕ) → (unwrap_or (method_at nodes id) no_method).overridable ≡ is_some (method_at nodes id)
+pub is_open_where_declared : (nodes : List Node) (id : ℕ) →
+    (unwrap_or (method_at nodes id) no_method).overridable ≡ is_some (method_at nodes id)
 is_open_where_declared nodes id = open_of nodes id (slice_get nodes id)
 
-node_of : (nodes : List Node) (id : ℕ) (node : Option Node) → (unwrap_or (option_and_then (method_of nodes id) node) no_method).declared.node ≡ (if is_some (option_and_then (method_of nodes id) node) then id else 0)
+node_of : (nodes : List Node) (id : ℕ) (node : Option Node) →
+    (unwrap_or (option_and_then (method_of nodes id) node) no_method).declared.node
+    ≡ (if is_some (option_and_then (method_of nodes id) node) then id else 0)
 unfolding method_of
 node_of nodes id None = refl
 node_of nodes id (Some (Method place name flags result_type parameters body)) = refl
 node_of nodes id (Some _) = refl
 
-pub node_where_declared : (nodes : List Node) (id : ℕ) → (unwrap_or (method_at nodes id) no_method).declared.node ≡ (if is_some (method_at nodes id) then id else 0)
+pub node_where_declared : (nodes : List Node) (id : ℕ) →
+    (unwrap_or (method_at nodes id) no_method).declared.node ≡ (if is_some (method_at nodes id) then id else 0)
 node_where_declared nodes id = node_of nodes id (slice_get nodes id)
 
 no_node_of : (o : Option FrameworkMethod) → (unwrap_or (option_map framework_method o) no_method).declared.node ≡ 0
@@ -119,50 +141,67 @@ abbrev as_declared : ParameterKind → Declared
 as_declared kind = of_framework [] false false (parameter_written kind)
 
 row_numbered : (number : ℕ) (o : Option FrameworkMethod) → slice_get framework_methods number ≡ o
-    → (unwrap_or (framework_numbered number) no_method).parameters ≡ elim o [ None ↦ [] | Some m ↦ map as_declared (parameter_list m.parameters) ]
+    → (unwrap_or (framework_numbered number) no_method).parameters ≡ elim o
+    [ None ↦ [] | Some m ↦ map as_declared (parameter_list m.parameters) ]
 unfolding framework_numbered framework_method
 row_numbered number o h = rw h (go o)
   where
-    go : (o : Option FrameworkMethod) → (unwrap_or (option_map framework_method o) no_method).parameters ≡ elim o [ None ↦ [] | Some m ↦ map as_declared (parameter_list m.parameters) ]
+    go : (o : Option FrameworkMethod) → (unwrap_or (option_map framework_method o) no_method).parameters ≡ elim o
+        [ None ↦ [] | Some m ↦ map as_declared (parameter_list m.parameters) ]
     go None = refl
     go (Some m) = refl
 
-pub count_of_row : (number : ℕ) (m : FrameworkMethod) → slice_get framework_methods number ≡ Some m → length (unwrap_or (framework_numbered number) no_method).parameters ≡ length (parameter_list m.parameters)
-count_of_row number m h = ap length (row_numbered number (Some m) h) ∙ length_map as_declared (parameter_list m.parameters)
+pub count_of_row : (number : ℕ) (m : FrameworkMethod) → slice_get framework_methods number ≡ Some m →
+    length (unwrap_or (framework_numbered number) no_method).parameters ≡ length (parameter_list m.parameters)
+count_of_row number m h = ap length (row_numbered number (Some m) h)
+    ∙ length_map as_declared (parameter_list m.parameters)
 
-pub count_of_none : (number : ℕ) → slice_get framework_methods number ≡ None → length (unwrap_or (framework_numbered number) no_method).parameters ≡ 0
+pub count_of_none : (number : ℕ) → slice_get framework_methods number ≡ None →
+    length (unwrap_or (framework_numbered number) no_method).parameters ≡ 0
 count_of_none number h = ap length (row_numbered number None h)
 
 pub parameter_of_row : (number i : ℕ) (m : FrameworkMethod) → slice_get framework_methods number ≡ Some m
-    → slice_get (unwrap_or (framework_numbered number) no_method).parameters i ≡ option_map as_declared (slice_get (parameter_list m.parameters) i)
-parameter_of_row number i m h = ap (λ (ds : List Declared). slice_get ds i) (row_numbered number (Some m) h) ∙ get_map as_declared (parameter_list m.parameters) i
+    → slice_get (unwrap_or (framework_numbered number) no_method).parameters i ≡ option_map as_declared
+    (slice_get (parameter_list m.parameters) i)
+parameter_of_row number i m h = ap (λ (ds : List Declared). slice_get ds i) (row_numbered number (Some m) h)
+    ∙ get_map as_declared (parameter_list m.parameters) i
 
-pub parameter_of_none : (number i : ℕ) → slice_get framework_methods number ≡ None → slice_get (unwrap_or (framework_numbered number) no_method).parameters i ≡ None
+pub parameter_of_none : (number i : ℕ) → slice_get framework_methods number ≡ None →
+    slice_get (unwrap_or (framework_numbered number) no_method).parameters i ≡ None
 parameter_of_none number i h = ap (λ (ds : List Declared). slice_get ds i) (row_numbered number None h)
 
 -- the method that is found by its class and its name
 abbrev is_named : List ℕ → DeclaredMethod → Bool
 is_named name m = is_same name m.declared.name
 
-either : (name : List ℕ) (class : ℕ) (m : FrameworkMethod) (rest : List FrameworkMethod) (on named : Bool) → (m.on == class) ≡ on → is_same name m.name ≡ named
-    → find (is_named name) (map framework_method (filter (λ (r : FrameworkMethod). r.on == class) rest)) ≡ option_map framework_method (find (λ (r : FrameworkMethod). (r.on == class) && is_same name r.name) rest)
-    → find (is_named name) (map framework_method (filter (λ (r : FrameworkMethod). r.on == class) (m ∷ rest))) ≡ option_map framework_method (find (λ (r : FrameworkMethod). (r.on == class) && is_same name r.name) (m ∷ rest))
+either : (name : List ℕ) (class : ℕ) (m : FrameworkMethod) (rest : List FrameworkMethod) (on named : Bool) →
+    (m.on == class) ≡ on → is_same name m.name ≡ named
+    → find (is_named name) (map framework_method (filter (λ (r : FrameworkMethod). r.on == class) rest))
+    ≡ option_map framework_method (find (λ (r : FrameworkMethod). (r.on == class) && is_same name r.name) rest)
+    → find (is_named name) (map framework_method (filter (λ (r : FrameworkMethod). r.on == class) (m ∷ rest)))
+    ≡ option_map framework_method
+    (find (λ (r : FrameworkMethod). (r.on == class) && is_same name r.name) (m ∷ rest))
 unfolding framework_method
 either name class m rest true true e f h = rw (e, f) refl
 either name class m rest true false e f h = rw (e, f) h
 either name class m rest false named e f h = rw e h
 
 found_among : (name : List ℕ) (class : ℕ) (rows : List FrameworkMethod)
-    → find (is_named name) (map framework_method (filter (λ (m : FrameworkMethod). m.on == class) rows)) ≡ option_map framework_method (find (λ (m : FrameworkMethod). (m.on == class) && is_same name m.name) rows)
+    → find (is_named name) (map framework_method (filter (λ (m : FrameworkMethod). m.on == class) rows))
+    ≡ option_map framework_method (find (λ (m : FrameworkMethod). (m.on == class) && is_same name m.name) rows)
 found_among name class [] = refl
-found_among name class (m ∷ rows) = either name class m rows (m.on == class) (is_same name m.name) refl refl (found_among name class rows)
+found_among name class (m ∷ rows) = either name class m rows (m.on == class) (is_same name m.name) refl refl
+    (found_among name class rows)
 
 at_number : (class : ℕ) (name : List ℕ) (o : Option FrameworkMethod) → method_named class name ≡ o
-    → option_map (λ number. unwrap_or (framework_numbered number) no_method) (option_map (λ (m : FrameworkMethod). m.number) o) ≡ option_map framework_method o
+    → option_map (λ number. unwrap_or (framework_numbered number) no_method)
+    (option_map (λ (m : FrameworkMethod). m.number) o) ≡ option_map framework_method o
 unfolding framework_numbered
 at_number class name None h = refl
 at_number class name (Some m) h = rw (named_there class name m h) refl
 
-pub named_row : (class : ℕ) (name : List ℕ) → option_map (λ number. unwrap_or (framework_numbered number) no_method) (number_named class name) ≡ framework_method_on class name
+pub named_row : (class : ℕ) (name : List ℕ) → option_map (λ number. unwrap_or (framework_numbered number) no_method)
+    (number_named class name) ≡ framework_method_on class name
 unfolding number_named method_named framework_method_on framework_methods_on
-named_row class name = at_number class name (method_named class name) refl ∙ sym (found_among name class framework_methods)
+named_row class name = at_number class name (method_named class name) refl
+    ∙ sym (found_among name class framework_methods)

@@ -36,4 +36,5 @@ found_method nodes m = record { on = m.on; method = method_from nodes m.source }
 
 -- the method of a name that a framework class declares itself
 unfoldable pub framework_method_on : ℕ → List ℕ → Option DeclaredMethod
-framework_method_on class name = find (λ (m : DeclaredMethod). is_same name m.declared.name) (framework_methods_on class)
+framework_method_on class name =
+    find (λ (m : DeclaredMethod). is_same name m.declared.name) (framework_methods_on class)

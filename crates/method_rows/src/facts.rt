@@ -130,7 +130,8 @@ pub fn body(program: &Program, method: &MethodRef) -> Option<NodeId>
 /// The list of the parameters of a declared method.
 #[tactic(auto, using(crate::proofs::MethodLemmas::parameters_of_source))]
 fn parameters_of(program: &Program, node: NodeId) -> Option<NodeId>
-    ensures { parameters_at program.now.nodes result ≡ (unwrap_or (method_at program.now.nodes node) no_method).parameters }
+    ensures { parameters_at program.now.nodes result
+        ≡ (unwrap_or (method_at program.now.nodes node) no_method).parameters }
 {
     views::method_parameters(program, node)
 }
@@ -164,7 +165,8 @@ pub fn parameter(program: &Program, method: &MethodRef, i: usize) -> Option<Decl
 /// The type of a parameter, if there are as many.
 #[tactic(auto, unfolding(crate::specs::Methods::found_method, crate::specs::Methods::method_from))]
 pub fn parameter_type(program: &Program, method: &MethodRef, i: usize) -> Option<WrittenType>
-    ensures { result ≡ option_map (λ (d : Declaration). d.declared_type) (slice_get (found_method program.now.nodes method.now).method.parameters i) }
+    ensures { result ≡ option_map (λ (d : Declaration). d.declared_type)
+        (slice_get (found_method program.now.nodes method.now).method.parameters i) }
 {
     match &method.source {
         MethodSource::Framework(id) => match framework::parameter_of(*id, i) {

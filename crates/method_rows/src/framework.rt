@@ -163,7 +163,8 @@ fn parameter_at(parameters: Parameters, i: usize) -> Option<ParameterKind>
 
 /// What is declared of one of these parameters, if there are as many.
 fn declared_at(parameters: Parameters, i: usize) -> Option<Declared>
-    ensures { result ≡ option_map (λ kind. of_framework [] false false (parameter_written kind)) (slice_get (parameter_list parameters) i) }
+    ensures { result ≡ option_map (λ kind. of_framework [] false false (parameter_written kind))
+        (slice_get (parameter_list parameters) i) }
 {
     match parameter_at(parameters, i) {
         Some(kind) => Some(unnamed(kind)),

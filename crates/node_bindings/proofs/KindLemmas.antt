@@ -10,7 +10,8 @@ use Rattle.scj_rules.specs.TypeRules.{Types}
 use Rattle.scj_rules.specs.Bindings.{plain_or, binding_of, binding_at}
 use Rattle.node_bindings.specs.Kinds.{can_stand}
 
-plain_node : (p : Declarations) (types : Types) (id : ℕ) (node : Node) → can_stand (Some (kind_of node)) ≡ false → binding_of p types id node ≡ Plain
+plain_node : (p : Declarations) (types : Types) (id : ℕ) (node : Node) → can_stand (Some (kind_of node)) ≡ false →
+    binding_of p types id node ≡ Plain
 unfolding kind_of binding_of
 plain_node p types id (Class place name flags header members) h = absurd (true≢false h)
 plain_node p types id (Field place name flags declared_type equals value) h = absurd (true≢false h)
@@ -27,7 +28,8 @@ plain_node p types id (New place name_place name arguments) h = absurd (true≢f
 plain_node p types id (NewArray place element length) h = absurd (true≢false h)
 plain_node p types id _ h = refl
 
-pub plain : (p : Declarations) (types : Types) (id : ℕ) → can_stand (option_map kind_of (slice_get p.nodes id)) ≡ false → Plain ≡ binding_at p types id
+pub plain : (p : Declarations) (types : Types) (id : ℕ) →
+    can_stand (option_map kind_of (slice_get p.nodes id)) ≡ false → Plain ≡ binding_at p types id
 unfolding binding_at
 plain p types id = go (slice_get p.nodes id)
   where

@@ -30,7 +30,9 @@ can_stand (Some cast_kind) = true
 can_stand _ = false
 
 abbrev pub field_here : Declarations → ℕ → List ℕ → Binding
-field_here p id name = plain_or (λ (row : FoundField). field_binding p row.field) (option_and_then (λ class. accessed_field p (the_class class) name) (context p id).class)
+field_here p id name =
+    plain_or (λ (row : FoundField). field_binding p row.field)
+    (option_and_then (λ class. accessed_field p (the_class class) name) (context p id).class)
 
 abbrev pub access_at : Declarations → Types → ℕ → List ℕ → Binding
 access_at p types object name = plain_or (λ r. access_binding p r name) (receiver p types object)
@@ -39,4 +41,5 @@ abbrev pub new_binding : Declarations → ℕ → List ℕ → Binding
 new_binding p id name = if is_form_part p id then Plain else class_binding (class_number p.names name)
 
 abbrev pub new_array : Declarations → ℕ → Binding
-new_array p element = class_binding (option_and_then (array_class p) (option_and_then array_of (written_type p element)))
+new_array p element =
+    class_binding (option_and_then (array_class p) (option_and_then array_of (written_type p element)))

@@ -37,7 +37,8 @@ fn called_on(
     method: &MethodRef,
     arguments: &[NodeId],
 ) -> ClassId
-    ensures { result ≡ called_on (lookup None types.now) receiver.now (found_method program.now.nodes method.now) arguments.now }
+    ensures { result ≡ called_on (lookup None types.now) receiver.now (found_method program.now.nodes method.now)
+        arguments.now }
 {
     if method.on == MANAGED_MEMORY {
         return or_class(second_class(types, arguments), method.on);
@@ -58,7 +59,8 @@ fn target(
     arguments: &[NodeId],
     id: MethodId,
 ) -> Target
-    ensures { result ≡ target (lookup None types.now) receiver.now (found_method program.now.nodes method.now) arguments.now id }
+    ensures { result ≡ target (lookup None types.now) receiver.now (found_method program.now.nodes method.now)
+        arguments.now id }
 {
     let on = called_on(program, types, receiver, method, arguments);
     let gives = !is_void(&result_type(program, method));
@@ -74,7 +76,9 @@ fn declared_binding(
     arguments: &[NodeId],
     method: &MethodRef,
 ) -> Result<Binding, Memory>
-    ensures { IfOk result (λ b. b ≡ declared_binding (declarations_of known.now) (lookup None types.now) receiver.now arguments.now (found_method known.now.nodes method.now)) }
+    ensures { IfOk result
+        (λ b. b ≡ declared_binding (declarations_of known.now) (lookup None types.now) receiver.now arguments.now
+        (found_method known.now.nodes method.now)) }
 {
     let program = known.program();
     let Some(number) = known.classes().method_number(node(program, method)) else {
@@ -97,7 +101,9 @@ fn method_binding(
     arguments: &[NodeId],
     method: &MethodRef,
 ) -> Result<Binding, Memory>
-    ensures { IfOk result (λ b. b ≡ method_binding (declarations_of known.now) (lookup None types.now) receiver.now arguments.now (found_method known.now.nodes method.now)) }
+    ensures { IfOk result
+        (λ b. b ≡ method_binding (declarations_of known.now) (lookup None types.now) receiver.now arguments.now
+        (found_method known.now.nodes method.now)) }
 {
     let program = known.program();
     match builtin(program, method) {
@@ -116,7 +122,10 @@ fn call_on(
     name: &Name,
     arguments: &[NodeId],
 ) -> Result<Binding, Memory>
-    ensures { IfOk result (λ b. b ≡ plain_or (method_binding (declarations_of known.now) (lookup None types.now) receiver.now arguments.now) (called_method (declarations_of known.now) receiver.now name.now)) }
+    ensures { IfOk result
+        (λ b. b ≡ plain_or
+        (method_binding (declarations_of known.now) (lookup None types.now) receiver.now arguments.now)
+        (called_method (declarations_of known.now) receiver.now name.now)) }
 {
     match called_method(known, receiver, name) {
         Some(method) => method_binding(known, types, receiver, arguments, &method),
@@ -133,7 +142,9 @@ pub fn call_binding(
     object: &Option<NodeId>,
     arguments: &[NodeId],
 ) -> Result<Binding, Memory>
-    ensures { IfOk result (λ b. b ≡ call_binding (declarations_of known.now) (lookup None types.now) id name.now object.now arguments.now) }
+    ensures { IfOk result
+        (λ b. b ≡ call_binding (declarations_of known.now) (lookup None types.now) id name.now object.now
+        arguments.now) }
 {
     match call_receiver(known, types, id, object) {
         Some(receiver) => call_on(known, types, &receiver, name, arguments),

@@ -35,7 +35,8 @@ fn meaning_binding(
 ) -> Result<Binding, Memory>
     requires contexts { contexts.now ≡ contexts_in known.now }
     requires numbers { numbers.now ≡ numbers_before (declarations_of known.now) }
-    ensures { IfOk result (λ b. b ≡ meaning_binding (declarations_of known.now) id (meant known.now.nodes meaning.now)) }
+    ensures { IfOk result
+        (λ b. b ≡ meaning_binding (declarations_of known.now) id (meant known.now.nodes meaning.now)) }
 {
     match meaning {
         NameMeaning::Variable(variable) => {
@@ -59,7 +60,8 @@ fn name_binding(
     requires contexts { contexts.now ≡ contexts_in known.now }
     requires numbers { numbers.now ≡ numbers_before (declarations_of known.now) }
     requires there { slice_get known.now.nodes id ≡ Some (SimpleName place name.now) }
-    ensures { IfOk result (λ b. b ≡ meaning_binding (declarations_of known.now) id (meaning (declarations_of known.now) id name.now)) }
+    ensures { IfOk result
+        (λ b. b ≡ meaning_binding (declarations_of known.now) id (meaning (declarations_of known.now) id name.now)) }
 {
     let stands_for = meaning_there(known, id, place, name);
     meaning_binding(known, contexts, numbers, id, &stands_for)

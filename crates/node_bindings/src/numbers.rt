@@ -90,7 +90,9 @@ fn place_here(
 ) -> Option<u32>
     requires contexts { contexts.now ≡ contexts_in program.now }
     requires numbers { numbers.now ≡ numbers_before (declarations_of program.now) }
-    ensures { result ≡ option_and_then (λ member. position (λ v. v == variable) (variables_of (declarations_of program.now) member)) (context (declarations_of program.now) id).member }
+    ensures { result ≡ option_and_then
+        (λ member. position (λ v. v == variable) (variables_of (declarations_of program.now) member))
+        (context (declarations_of program.now) id).member }
 {
     let member = contexts.get(id).member?;
     place_of(program, contexts, numbers, member, variable)
@@ -106,8 +108,8 @@ fn local(number: u32) -> Result<Binding, Memory>
     Ok(Binding::Local(number as u8))
 }
 
-/// A variable, by its number among those of its member. A member with more than 256 of them breaks a limit; of those behind
-/// these there is no number, and the answer is that of want of memory.
+/// A variable, by its number among those of its member. A member with more than 256 of them breaks a limit; of those
+/// behind these there is no number, and the answer is that of want of memory.
 #[tactic(auto, unfolding(scj_rules::specs::Bindings::variable_binding))]
 pub fn variable_binding(
     program: &Program,
@@ -174,8 +176,8 @@ fn count_variable(program: &Program, contexts: &Contexts, counts: &mut [u32], id
     }
 }
 
-/// Counts a node, and tells how many variables of its member stand before it, if it declares one. The kinds of the nodes
-/// tell which do, so the others aren't looked at.
+/// Counts a node, and tells how many variables of its member stand before it, if it declares one. The kinds of the
+/// nodes tell which do, so the others aren't looked at.
 fn count(program: &Program, contexts: &Contexts, counts: &mut [u32], id: NodeId) -> u32
     requires contexts { contexts.now ≡ contexts_in program.now }
     requires room { length counts.old ≡ length program.now.nodes }

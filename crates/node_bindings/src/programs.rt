@@ -38,8 +38,9 @@ fn bind_all(
     Ok(())
 }
 
-/// What each node stands for, where what is known of the program is at hand. Numbers that fit no more are answered by want of memory:
-/// those of the 257th and later variables of a member, which break a limit, and of 2,147,483,648 classes or methods.
+/// What each node stands for, where what is known of the program is at hand. Numbers that fit no more are answered by
+/// want of memory: those of the 257th and later variables of a member, which break a limit, and of 2,147,483,648
+/// classes or methods.
 #[tactic(auto, unfolding(scj_rules::specs::Bindings::bindings_in, crate::specs::Programs::bound_by))]
 pub fn bindings_of(
     alloc: Global,

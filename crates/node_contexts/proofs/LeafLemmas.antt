@@ -27,7 +27,8 @@ leaf (This place) h = refl
 leaf _ h = absurd (true≢false (sym h))
 
 -- a node of such a kind
-pub leaf_here : (node : Node) (found : Option Node) (kind : NodeKind) (is : Bool) → found ≡ Some node → Some kind ≡ option_map kind_of found → is ≡ is_leaf_kind kind → OnTrue is (children node ≡ [])
+pub leaf_here : (node : Node) (found : Option Node) (kind : NodeKind) (is : Bool) → found ≡ Some node →
+    Some kind ≡ option_map kind_of found → is ≡ is_leaf_kind kind → OnTrue is (children node ≡ [])
 leaf_here node found kind true there told h =
     let e : Some kind ≡ Some (kind_of node) = told ∙ ap (option_map kind_of) there in
     let same : kind ≡ kind_of node = cc in

@@ -17,11 +17,16 @@ module _ (forest : Forest) (name : List ℕ) where
   unfolding declarations_of
   context-lookup id = refl
 
-  pub first : (id : ℕ) → variable_named p id name ≡ find (declares forest.nodes name) (on_from p (length forest.nodes) (context p id).last)
+  pub first : (id : ℕ) → variable_named p id name ≡ find (declares forest.nodes name)
+      (on_from p (length forest.nodes) (context p id).last)
   unfolding variable_named known_variables declarations_of
   first id = go (context p id).last
     where
-      go : (o : Option ℕ) → find (declares forest.nodes name) (elim o as (λ _. List ℕ) [ None ↦ [] | Some last ↦ chain (λ v. (context p v).last) (length forest.nodes) last ]) ≡ find (declares forest.nodes name) (on_from p (length forest.nodes) o)
+      go : (o : Option ℕ) →
+          find (declares forest.nodes name)
+          (elim o as (λ _. List ℕ)
+          [ None ↦ [] | Some last ↦ chain (λ v. (context p v).last) (length forest.nodes) last ]) ≡ find
+          (declares forest.nodes name) (on_from p (length forest.nodes) o)
       go None = refl
       go (Some last) = refl
 
@@ -29,22 +34,27 @@ module _ (forest : Forest) (name : List ℕ) where
   unfolding chain
   on-next bound v = go (context p v).last
     where
-      go : (o : Option ℕ) → v ∷ elim o as (λ _. List ℕ) [ None ↦ [] | Some b ↦ chain (λ w. (context p w).last) bound b ] ≡ v ∷ on_from p bound o
+      go : (o : Option ℕ) → v ∷ elim o as (λ _. List ℕ) [ None ↦ [] | Some b ↦ chain (λ w. (context p w).last) bound b ]
+          ≡ v ∷ on_from p bound o
       go None = refl
       go (Some b) = refl
 
-  step : (bound v : ℕ) → seek (suc bound) (Some v) ≡ cond (declares forest.nodes name v) (Some v) (seek bound (context p v).last)
+  step : (bound v : ℕ) → seek (suc bound) (Some v) ≡ cond (declares forest.nodes name v) (Some v)
+      (seek bound (context p v).last)
   step bound v = ap (find (declares forest.nodes name)) (on-next bound v)
 
   pub found_here : (i n v : ℕ) → i < n → declares forest.nodes name v ≡ true → seek (n - i) (Some v) ≡ Some v
   found_here i n v l h =
       let e : n - i ≡ suc (n - (i + 1)) = omega (arith, l) in
-      ap (λ b. seek b (Some v)) e ∙ step (n - (i + 1)) v ∙ ap (λ t. cond t (Some v) (seek (n - (i + 1)) (context p v).last)) h
+      ap (λ b. seek b (Some v)) e ∙ step (n - (i + 1)) v
+      ∙ ap (λ t. cond t (Some v) (seek (n - (i + 1)) (context p v).last)) h
 
-  pub found_later : (i n v : ℕ) → i < n → declares forest.nodes name v ≡ false → seek (n - i) (Some v) ≡ seek (n - (i + 1)) (context p v).last
+  pub found_later : (i n v : ℕ) → i < n → declares forest.nodes name v ≡ false →
+      seek (n - i) (Some v) ≡ seek (n - (i + 1)) (context p v).last
   found_later i n v l h =
       let e : n - i ≡ suc (n - (i + 1)) = omega (arith, l) in
-      ap (λ b. seek b (Some v)) e ∙ step (n - (i + 1)) v ∙ ap (λ t. cond t (Some v) (seek (n - (i + 1)) (context p v).last)) h
+      ap (λ b. seek b (Some v)) e ∙ step (n - (i + 1)) v
+      ∙ ap (λ t. cond t (Some v) (seek (n - (i + 1)) (context p v).last)) h
 
   pub found_nowhere : (i n : ℕ) (o : Option ℕ) → n ≤ i → seek (n - i) o ≡ None
   unfolding chain

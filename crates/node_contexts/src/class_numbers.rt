@@ -24,7 +24,8 @@ fn class_nodes(alloc: Global, program: &Program) -> Result<Vec<NodeId>, Memory>
 /// The number of the class of each node, if it is one.
 pub fn class_numbers(alloc: Global, program: &Program) -> Result<Vec<Option<ClassId>>, Memory>
     ensures whole { IfOk result (λ numbers. length numbers.items ≡ length program.now.nodes) }
-    ensures exact { IfOk result (λ numbers. (id : ℕ) → lookup None numbers.items id ≡ number_of_class (joined program.now.files) id) }
+    ensures exact { IfOk result
+        (λ numbers. (id : ℕ) → lookup None numbers.items id ≡ number_of_class (joined program.now.files) id) }
 {
     let all = class_nodes(alloc, program)?;
     if all.len() > (u32::MAX - FRAMEWORK_CLASS_COUNT) as usize {

@@ -46,7 +46,9 @@ fn listed<'a>(list: &'a [NodeId]) -> Parts<'a>
 /// The children of a node.
 #[tactic(auto, unfolding(scj_tree::specs::Shape::children))]
 pub fn parts_of(node: &Node) -> Parts<'_>
-    ensures { optional result.first ++ (optional result.second ++ (optional result.third ++ (optional result.fourth ++ result.list.now))) ≡ children node.now }
+    ensures { optional result.first
+        ++ (optional result.second ++ (optional result.third ++ (optional result.fourth ++ result.list.now)))
+        ≡ children node.now }
 {
     match node {
         Node::Class {
@@ -307,7 +309,8 @@ pub fn is_leaf(program: &Program, id: NodeId, node: &Node) -> bool
 /// Which variables are known at the children of a node.
 #[tactic(auto, unfolding(scj_tree::specs::Shape::children, scj_rules::specs::Contexts::declared_before))]
 pub fn known_to(node: &Node) -> Knows
-    ensures { (nodes : List Tree) (child : ℕ) → declared_before nodes node.now child ≡ declared_by nodes (children node.now) result child }
+    ensures { (nodes : List Tree) (child : ℕ) → declared_before nodes node.now child ≡ declared_by nodes
+        (children node.now) result child }
 {
     match node {
         Node::Block { .. } | Node::For { .. } | Node::Parameters { .. } => Knows::InTurn,

@@ -61,7 +61,8 @@ fn last_at(
     before: Option<NodeId>,
     child: NodeId,
 ) -> Option<NodeId>
-    ensures { result ≡ last_variable program.now.nodes before (parameters_before program.now.nodes parameters.now child) }
+    ensures { result ≡ last_variable program.now.nodes before
+        (parameters_before program.now.nodes parameters.now child) }
 {
     let Some(parameters) = *parameters else {
         return before;
@@ -106,7 +107,11 @@ fn spread_in_turn(
     requires within { AllBelow (length rows.old.items) ids.now }
     requires apart { (x : ℕ) → times x ids.now ≤ 1 }
     ensures whole { length rows.new.items ≡ length rows.old.items }
-    ensures exact { (id : ℕ) → lookup outermost rows.new.items id ≡ (if is_among id ids.now then of_child base.now object.now (last_variable program.now.nodes base.now.last (those_before id ids.now)) id else lookup outermost rows.old.items id) }
+    ensures exact { (id : ℕ) →
+        lookup outermost rows.new.items id
+        ≡ (if is_among id ids.now then of_child base.now object.now
+        (last_variable program.now.nodes base.now.last (those_before id ids.now)) id else lookup outermost
+        rows.old.items id) }
 {
     let mut known = base.last;
     for i in 0..ids.len() {
@@ -129,7 +134,11 @@ fn spread_apart(
 )
     requires { AllBelow (length rows.old.items) ids.now }
     ensures whole { length rows.new.items ≡ length rows.old.items }
-    ensures exact { (id : ℕ) → lookup outermost rows.new.items id ≡ (if is_among id ids.now then of_child base.now object.now (last_variable program.now.nodes base.now.last (parameters_before program.now.nodes parameters.now id)) id else lookup outermost rows.old.items id) }
+    ensures exact { (id : ℕ) →
+        lookup outermost rows.new.items id
+        ≡ (if is_among id ids.now then of_child base.now object.now
+        (last_variable program.now.nodes base.now.last (parameters_before program.now.nodes parameters.now id)) id
+        else lookup outermost rows.old.items id) }
 {
     for i in 0..ids.len() {
         let child = ids[i];
@@ -141,7 +150,8 @@ fn spread_apart(
 /// What is the same for all children of a node.
 #[tactic(auto, unfolding(crate::specs::Steps::shared))]
 fn shared(class: Option<ClassId>, parent: NodeId, node: &Node, above: &Context) -> Context
-    ensures { (classes : List ℕ) → class ≡ number_of_class classes parent → result ≡ shared classes parent node.now above.now }
+    ensures { (classes : List ℕ) → class ≡ number_of_class classes parent →
+        result ≡ shared classes parent node.now above.now }
 {
     Context {
         class: class.or(above.class),
@@ -171,7 +181,10 @@ fn spread(
     requires within { AllBelow (length rows.old.items) ids.now }
     requires apart { (x : ℕ) → times x ids.now ≤ 1 }
     ensures whole { length rows.new.items ≡ length rows.old.items }
-    ensures exact { (id : ℕ) → lookup outermost rows.new.items id ≡ (if is_among id (children node.now) then child_context program.now.nodes (joined program.now.files) parent node.now (lookup outermost rows.old.items parent) id else lookup outermost rows.old.items id) }
+    ensures exact { (id : ℕ) →
+        lookup outermost rows.new.items id ≡ (if is_among id (children node.now) then child_context program.now.nodes
+        (joined program.now.files) parent node.now (lookup outermost rows.old.items parent) id else lookup outermost
+        rows.old.items id) }
 {
     let above = rows[parent.place()];
     let base = shared(class, parent, node, &above);
@@ -200,7 +213,11 @@ pub fn spread_children(
     requires within { AllBelow (length rows.old.items) (children node.now) }
     requires apart { (x : ℕ) → times x (children node.now) ≤ 1 }
     ensures whole { OnOk result (length rows.new.items ≡ length rows.old.items) }
-    ensures exact { OnOk result ((id : ℕ) → lookup outermost rows.new.items id ≡ (if is_among id (children node.now) then child_context program.now.nodes (joined program.now.files) parent node.now (lookup outermost rows.old.items parent) id else lookup outermost rows.old.items id)) }
+    ensures exact { OnOk result
+        ((id : ℕ) →
+        lookup outermost rows.new.items id ≡ (if is_among id (children node.now) then child_context program.now.nodes
+        (joined program.now.files) parent node.now (lookup outermost rows.old.items parent) id else lookup outermost
+        rows.old.items id)) }
 {
     if is_leaf(program, parent, node) {
         return Ok(());

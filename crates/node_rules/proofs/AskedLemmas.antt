@@ -9,7 +9,8 @@ use Rattle.scj_rules.specs.Contexts.{Declarations}
 use Rattle.node_rules.specs.Limits.{parameter_limit}
 use Rattle.node_rules.specs.Nodes.{node_found, found_at, is_asked_kind}
 
-unasked : (p : Declarations) (id : ℕ) (node : Node) → is_asked_kind (Some (kind_of node)) ≡ false → node_found p id node ≡ []
+unasked : (p : Declarations) (id : ℕ) (node : Node) → is_asked_kind (Some (kind_of node)) ≡ false →
+    node_found p id node ≡ []
 unfolding node_found c9 c11 parameter_limit is_asked_kind kind_of
 unasked p id (Class place name flags header members) h = absurd (true≢false h)
 unasked p id (Field place name flags declared_type equals value) h = absurd (true≢false h)
@@ -24,7 +25,8 @@ unasked p id (Cast place name_place name operand) h = absurd (true≢false h)
 unasked p id (NewArray place element length) h = absurd (true≢false h)
 unasked p id _ h = refl
 
-pub unasked_at : (p : Declarations) (id : ℕ) (found : Option Node) (kind : Option NodeKind) → kind ≡ option_map kind_of found → is_asked_kind kind ≡ false → found_at p found id ≡ []
+pub unasked_at : (p : Declarations) (id : ℕ) (found : Option Node) (kind : Option NodeKind) →
+    kind ≡ option_map kind_of found → is_asked_kind kind ≡ false → found_at p found id ≡ []
 unfolding found_at
 unasked_at p id None kind e h = refl
 unasked_at p id (Some node) kind e h = unasked p id node (ap (λ k. is_asked_kind k) (sym e) ∙ h)

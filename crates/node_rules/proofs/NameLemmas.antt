@@ -17,12 +17,14 @@ use Rattle.scj_rules.specs.Contexts.{declarations_of}
 abbrev pub row_name : ClassRow → List ℕ
 row_name row = row.name
 
-framework_named : (number : ℕ) (cs : List FrameworkClass) → map row_name (framework_rows_from number cs) ≡ map (λ (c : FrameworkClass). c.name) cs
+framework_named : (number : ℕ) (cs : List FrameworkClass) → map row_name (framework_rows_from number cs) ≡ map
+    (λ (c : FrameworkClass). c.name) cs
 unfolding framework_rows_from framework_row
 framework_named number [] = refl
 framework_named number (c ∷ cs) = ap (λ names. c.name ∷ names) (framework_named (number + 1) cs)
 
-users_named : (nodes : List Node) (names : List (List ℕ)) (users : List WrittenClass) → map row_name (map (user_row nodes names) users) ≡ map (λ (c : WrittenClass). c.name) users
+users_named : (nodes : List Node) (names : List (List ℕ)) (users : List WrittenClass) →
+    map row_name (map (user_row nodes names) users) ≡ map (λ (c : WrittenClass). c.name) users
 unfolding user_row
 users_named nodes names [] = refl
 users_named nodes names (c ∷ users) = ap (λ ns. c.name ∷ ns) (users_named nodes names users)
@@ -44,7 +46,8 @@ length-map : {X Y : Type 0} (f : X → Y) (xs : List X) → length (map f xs) �
 length-map f [] = refl
 length-map f (x ∷ xs) = ap suc (length-map f xs)
 
-counted_length : (names : List (List ℕ)) (rows : List ClassRow) (k : ℕ) (xs : List ClassRow) → length (counted_from names rows k xs) ≡ length xs
+counted_length : (names : List (List ℕ)) (rows : List ClassRow) (k : ℕ) (xs : List ClassRow) →
+    length (counted_from names rows k xs) ≡ length xs
 unfolding counted_from
 counted_length names rows k [] = refl
 counted_length names rows k (x ∷ xs) = ap suc (counted_length names rows (k + 1) xs)
@@ -59,14 +62,16 @@ class_length forest =
 position-below : {X : Type 0} (test : X → Bool) (xs : List X) (k : ℕ) → position test xs ≡ Some k → k < length xs
 position-below test xs k h = go (nat_lt (position_or_len test xs) (length xs)) refl h
   where
-    go : (t : Bool) → nat_lt (position_or_len test xs) (length xs) ≡ t → cond t (Some (position_or_len test xs)) None ≡ Some k → k < length xs
+    go : (t : Bool) → nat_lt (position_or_len test xs) (length xs) ≡ t →
+        cond t (Some (position_or_len test xs)) None ≡ Some k → k < length xs
     go true e h =
         let same : position_or_len test xs ≡ k = cc in
         (let P : ℕ → Type 0 = λ x. x < length xs in subst P same (grind (arith, nat_tests)))
     go false e h = cc
 
 -- a class that is named is there
-pub named_within : (forest : Forest) (name : List ℕ) (class : ℕ) → Some class ≡ class_number (declarations_of forest).names name → class < length (declarations_of forest).classes
+pub named_within : (forest : Forest) (name : List ℕ) (class : ℕ) →
+    Some class ≡ class_number (declarations_of forest).names name → class < length (declarations_of forest).classes
 unfolding class_number
 named_within forest name class h =
     let within = position-below (is_same name) (declarations_of forest).names class (sym h) in
@@ -76,15 +81,18 @@ named_within forest name class h =
     omega (arith, within, e, m, l)
 
 -- the name of a class, as it counts
-counted_name : (forest : Forest) (class : ℕ) → option_map row_name (slice_get (declarations_of forest).classes class) ≡ slice_get (declarations_of forest).names class
+counted_name : (forest : Forest) (class : ℕ) → option_map row_name (slice_get (declarations_of forest).classes class)
+    ≡ slice_get (declarations_of forest).names class
 counted_name forest class =
     ap (option_map row_name) (class_get forest class) ∙ named (slice_get (declarations_of forest).written class)
     ∙ mapped row_name (declarations_of forest).written class ∙ ap (λ names. slice_get names class) (rows_named forest)
   where
-    named : (o : Option ClassRow) → option_map row_name (option_map (counted (declarations_of forest) class) o) ≡ option_map row_name o
+    named : (o : Option ClassRow) → option_map row_name (option_map (counted (declarations_of forest) class) o)
+        ≡ option_map row_name o
     named None = refl
     named (Some row) =
-        ap Some (ap row_name (counted_is (declarations_of forest) class row) ∙ kept row_name row (has_good_header (declarations_of forest) class row) refl)
+        ap Some (ap row_name (counted_is (declarations_of forest) class row)
+        ∙ kept row_name row (has_good_header (declarations_of forest) class row) refl)
 
     mapped : {A B : Type 0} (f : A → B) (xs : List A) (k : ℕ) → option_map f (slice_get xs k) ≡ slice_get (map f xs) k
     mapped f [] k = refl
@@ -106,36 +114,48 @@ get_mapped f [] k = refl
 get_mapped f (x ∷ xs) zero = refl
 get_mapped f (x ∷ xs) (suc k) = get_mapped f xs k
 
-pub framework_name_is : (forest : Forest) (class : ℕ) → class < first_user_class → option_map (λ (c : FrameworkClass). c.name) (slice_get framework_classes class) ≡ option_map row_name (slice_get (declarations_of forest).classes class)
+pub framework_name_is : (forest : Forest) (class : ℕ) → class < first_user_class →
+    option_map (λ (c : FrameworkClass). c.name) (slice_get framework_classes class) ≡ option_map row_name
+    (slice_get (declarations_of forest).classes class)
 unfolding declarations_of class_names framework_classes
 framework_name_is forest class l =
-    sym (counted_name forest class ∙ get_front (map (λ (c : FrameworkClass). c.name) framework_classes) (map (λ (c : WrittenClass). c.name) (user_classes forest)) class l
+    sym (counted_name forest class ∙ get_front (map (λ (c : FrameworkClass). c.name) framework_classes)
+    (map (λ (c : WrittenClass). c.name) (user_classes forest)) class l
     ∙ get_mapped (λ (c : FrameworkClass). c.name) framework_classes class)
 
 abbrev user_name : WrittenClass → List ℕ
 user_name c = c.name
 
 -- a user class by its number, from the list of its classes
-user_written : (forest : Forest) (class i : ℕ) → class ≡ first_user_class + i → class_written (declarations_of forest) class ≡ slice_get (user_classes forest) i
+user_written : (forest : Forest) (class i : ℕ) → class ≡ first_user_class + i →
+    class_written (declarations_of forest) class ≡ slice_get (user_classes forest) i
 unfolding declarations_of class_written written_rows framework_classes framework_rows_from framework_row user_row
 user_written forest class i e =
     let users = user_classes forest in
     let names = class_names users in
-    ap (option_and_then (λ (row : ClassRow). row.written)) (get_behind (framework_rows_from 0 framework_classes) (map (user_row forest.nodes names) users) class i e ∙ get_mapped (user_row forest.nodes names) users i)
+    ap (option_and_then (λ (row : ClassRow). row.written))
+    (get_behind (framework_rows_from 0 framework_classes) (map (user_row forest.nodes names) users) class i e
+    ∙ get_mapped (user_row forest.nodes names) users i)
     ∙ again (slice_get users i)
   where
-    again : (o : Option WrittenClass) → option_and_then (λ (row : ClassRow). row.written) (option_map (user_row forest.nodes (class_names (user_classes forest))) o) ≡ o
+    again : (o : Option WrittenClass) →
+        option_and_then (λ (row : ClassRow). row.written)
+        (option_map (user_row forest.nodes (class_names (user_classes forest))) o) ≡ o
     again None = refl
     again (Some c) = refl
 
-pub user_name_is : (forest : Forest) (class : ℕ) → first_user_class ≤ class → option_map user_name (class_written (declarations_of forest) class) ≡ option_map row_name (slice_get (declarations_of forest).classes class)
+pub user_name_is : (forest : Forest) (class : ℕ) → first_user_class ≤ class →
+    option_map user_name (class_written (declarations_of forest) class) ≡ option_map row_name
+    (slice_get (declarations_of forest).classes class)
 unfolding declarations_of class_names framework_classes
 user_name_is forest class l =
     let i : ℕ = class - first_user_class in
     let e : class ≡ first_user_class + i = omega (arith, l) in
     ap (option_map user_name) (user_written forest class i e)
-    ∙ sym (counted_name forest class ∙ get_behind (map (λ (c : FrameworkClass). c.name) framework_classes) (map user_name (user_classes forest)) class i e ∙ get_mapped user_name (user_classes forest) i)
+    ∙ sym (counted_name forest class ∙ get_behind (map (λ (c : FrameworkClass). c.name) framework_classes)
+    (map user_name (user_classes forest)) class i e ∙ get_mapped user_name (user_classes forest) i)
 
-pub name_held : (o : Option ClassRow) (name : List ℕ) (own : Option (List ℕ)) → own ≡ option_map row_name o → holds own (λ n. is_same n name) ≡ holds o (λ (row : ClassRow). is_same row.name name)
+pub name_held : (o : Option ClassRow) (name : List ℕ) (own : Option (List ℕ)) → own ≡ option_map row_name o →
+    holds own (λ n. is_same n name) ≡ holds o (λ (row : ClassRow). is_same row.name name)
 name_held None name own e = ap (λ (o : Option (List ℕ)). holds o (λ n. is_same n name)) e
 name_held (Some row) name own e = ap (λ (o : Option (List ℕ)). holds o (λ n. is_same n name)) e

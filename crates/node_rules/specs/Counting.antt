@@ -32,7 +32,8 @@ late_variable p id =
       | None ↦ []
       | Some d ↦ elim (context p id).member [
         | None ↦ []
-        | Some m ↦ broken (holds (slice_get p.nodes m) is_callable && nat_le most_locals (passing (is_variable_of p m) 0 id)) K2 d.place
+        | Some m ↦ broken (holds (slice_get p.nodes m) is_callable
+            && nat_le most_locals (passing (is_variable_of p m) 0 id)) K2 d.place
       ]
     ]
 
@@ -42,8 +43,10 @@ late_variables p = joined_below (late_variable p) (length p.nodes)
 -- how many variables of each member there are among the first nodes, up to 32
 pub record AreCounts (p : Declarations) (seen : ℕ) (counts : List ℕ) : Type 0 where
   pub whole : length counts ≡ length p.nodes
-  pub exact : (member : ℕ) → member < length p.nodes → lookup 0 counts member ≡ min most_locals (passing (is_variable_of p member) 0 seen)
+  pub exact : (member : ℕ) → member < length p.nodes →
+      lookup 0 counts member ≡ min most_locals (passing (is_variable_of p member) 0 seen)
 
 -- the counts with one variable more of a member
 unfoldable pub raised : List ℕ → ℕ → List ℕ
-raised counts member = if nat_lt member (length counts) then set counts member (min most_locals (lookup 0 counts member + 1)) else counts
+raised counts member =
+    if nat_lt member (length counts) then set counts member (min most_locals (lookup 0 counts member + 1)) else counts

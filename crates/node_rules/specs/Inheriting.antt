@@ -6,7 +6,8 @@ use Rattle.scj_rules.specs.Contexts.{Declarations}
 
 -- an interface has a method of the name, and the class implements it
 abbrev pub interface_method : Declarations → List ℕ → ℕ → ℕ → Bool
-interface_method p name class interface = is_some (own_method p.classes name interface) && is_among interface (all_interfaces p.classes class)
+interface_method p name class interface = is_some (own_method p.classes name interface)
+    && is_among interface (all_interfaces p.classes class)
 
 -- a method that is found is declared at the node
 abbrev pub is_declared_there : ℕ → FoundMethod → Bool

@@ -24,4 +24,6 @@ on_method p id name m =
 abbrev pub on_constructor : Declarations → ℕ → List ℕ → Modifiers → Bool
 on_constructor p id name m =
     has_class_words m || has_method_words m || m.is_static || m.is_abstract || is_some m.scope
-    || not (holds (context p id).class (λ class. holds (slice_get p.classes class) (λ (row : ClassRow). is_same row.name name)))
+    || not
+    (holds (context p id).class
+    (λ class. holds (slice_get p.classes class) (λ (row : ClassRow). is_same row.name name)))

@@ -27,7 +27,8 @@ fn framework_name(number: u32) -> Option<Name>
 /// The name of a class.
 #[tactic(auto, using(crate::proofs::NameLemmas::framework_name_is, crate::proofs::NameLemmas::user_name_is))]
 fn name_of(classes: &Classes<'_>, class: ClassId) -> Option<Name>
-    ensures { result ≡ option_map (λ (row : ClassRow). row.name) (slice_get (declarations_of classes.now).classes class) }
+    ensures { result ≡ option_map (λ (row : ClassRow). row.name)
+        (slice_get (declarations_of classes.now).classes class) }
 {
     if class.number() < FRAMEWORK_CLASS_COUNT {
         return framework_name(class.number());
@@ -39,7 +40,9 @@ fn name_of(classes: &Classes<'_>, class: ClassId) -> Option<Name>
 /// Whether a class has this name.
 #[tactic(auto, using(crate::proofs::NameLemmas::name_held))]
 pub fn has_name(classes: &Classes<'_>, class: Option<ClassId>, name: &Name) -> bool
-    ensures { result ≡ holds class (λ number. holds (slice_get (declarations_of classes.now).classes number) (λ (row : ClassRow). is_same row.name name.now)) }
+    ensures { result ≡ holds class
+        (λ number. holds (slice_get (declarations_of classes.now).classes number)
+        (λ (row : ClassRow). is_same row.name name.now)) }
 {
     let Some(class) = class else {
         return false;

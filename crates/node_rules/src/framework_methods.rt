@@ -47,7 +47,10 @@ fn inherits(classes: &Classes<'_>, node: NodeId, name: &Name, class: ClassId) ->
 /// Whether some class inherits the method at a node as one of Safelet or Runnable.
 #[tactic(auto, using(crate::proofs::InheritingLemmas::numbers_next, crate::proofs::InheritingLemmas::numbers_end, crate::proofs::InheritingLemmas::none_inherits))]
 fn is_inherited(classes: &Classes<'_>, node: NodeId, name: &Name) -> Result<bool, Memory>
-    ensures { IfOk result (λ is_inherited. is_inherited ≡ list_any (inherits_as (declarations_of classes.now) (safelet ∷ runnable ∷ []) node name.now) (numbers_from 0 (declarations_of classes.now).classes)) }
+    ensures { IfOk result
+        (λ is_inherited. is_inherited ≡ list_any
+        (inherits_as (declarations_of classes.now) (safelet ∷ runnable ∷ []) node name.now)
+        (numbers_from 0 (declarations_of classes.now).classes)) }
 {
     let on_safelet = classes.own_method(SAFELET, name).is_some();
     if !on_safelet && classes.own_method(RUNNABLE, name).is_none() {
@@ -82,7 +85,8 @@ pub fn is_framework_method(
 
 /// Whether the framework has a method of this name for a class.
 fn has_framework_row(classes: &Classes<'_>, class: Option<ClassId>, name: &Name) -> bool
-    ensures { result ≡ holds class (λ number. is_some (framework_row_named (declarations_of classes.now).classes number name.now)) }
+    ensures { result ≡ holds class
+        (λ number. is_some (framework_row_named (declarations_of classes.now).classes number name.now)) }
 {
     match class {
         Some(class) => classes.framework_row_named(class, name).is_some(),

@@ -35,7 +35,9 @@ fn count_variable(
     place: Pos,
 ) -> Result<(), Memory>
     requires { length counts.old.items ≡ length program.now.nodes }
-    ensures found { OnOk result (found.new.items ≡ found.old.items ++ broken (holds (slice_get program.now.nodes member) is_callable && nat_le 32 (lookup 0 counts.old.items member)) too_many_locals place) }
+    ensures found { OnOk result (found.new.items ≡ found.old.items
+        ++ broken (holds (slice_get program.now.nodes member) is_callable
+        && nat_le 32 (lookup 0 counts.old.items member)) too_many_locals place) }
     ensures counts { OnOk result (counts.new.items ≡ raised counts.old.items member) }
 {
     let at = member.place();

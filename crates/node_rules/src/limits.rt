@@ -39,7 +39,8 @@ fn note_k3(
 /// Notes the parameters of a method or a constructor that are too many.
 #[tactic(auto, unfolding(crate::specs::Limits::parameter_limit))]
 pub fn note_parameters(found: &mut Vec<Found>, program: &Program, node: &Node) -> Result<(), Memory>
-    ensures { OnOk result (found.new.items ≡ found.old.items ++ parameter_limit (declarations_of program.now) node.now) }
+    ensures { OnOk result (found.new.items ≡ found.old.items
+        ++ parameter_limit (declarations_of program.now) node.now) }
 {
     match node {
         Node::Method { parameters, .. } => note_k3(found, program, *parameters),

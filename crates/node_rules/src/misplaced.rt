@@ -129,7 +129,9 @@ fn is_off_method(
     flags: Option<NodeId>,
 ) -> Result<bool, Memory>
     requires { contexts.now ≡ contexts_in classes.now }
-    ensures { IfOk result (λ is_wrong. is_wrong ≡ on_method (declarations_of classes.now) id name.now (modifiers_at classes.now.nodes flags)) }
+    ensures { IfOk result
+        (λ is_wrong. is_wrong ≡ on_method (declarations_of classes.now) id name.now
+        (modifiers_at classes.now.nodes flags)) }
 {
     if flags.is_none() {
         return Ok(false);

@@ -48,7 +48,8 @@ fn note_asked(
     id: NodeId,
 ) -> Result<(), Memory>
     requires { contexts.now ≡ contexts_in classes.now }
-    ensures { OnOk result (found.new.items ≡ found.old.items ++ found_at (declarations_of classes.now) (slice_get classes.now.nodes id) id) }
+    ensures { OnOk result (found.new.items ≡ found.old.items
+        ++ found_at (declarations_of classes.now) (slice_get classes.now.nodes id) id) }
 {
     let program = classes.program();
     let Some(node) = program.get(id) else {
@@ -69,7 +70,8 @@ fn note_node(
     id: NodeId,
 ) -> Result<(), Memory>
     requires { contexts.now ≡ contexts_in classes.now }
-    ensures { OnOk result (found.new.items ≡ found.old.items ++ found_at (declarations_of classes.now) (slice_get classes.now.nodes id) id) }
+    ensures { OnOk result (found.new.items ≡ found.old.items
+        ++ found_at (declarations_of classes.now) (slice_get classes.now.nodes id) id) }
 {
     let kind = classes.program().kind(id);
     if !is_asked_kind(&kind) {
@@ -86,7 +88,8 @@ fn note_each(
     contexts: &Contexts,
 ) -> Result<(), Memory>
     requires { contexts.now ≡ contexts_in classes.now }
-    ensures { OnOk result (found.new.items ≡ found.old.items ++ over_nodes (declarations_of classes.now) (node_found (declarations_of classes.now))) }
+    ensures { OnOk result (found.new.items ≡ found.old.items
+        ++ over_nodes (declarations_of classes.now) (node_found (declarations_of classes.now))) }
 {
     for place in 0..classes.program().len() {
         note_node(found, classes, contexts, NodeId::at(place as u32))?;
@@ -112,5 +115,6 @@ pub fn note_nodes(
 
 /// What is noted at the nodes is what the rules find there.
 pub fn nodes_are_found()
-    ensures { (forest : Forest) (finding : Finding) → Contains (nodes_found (declarations_of forest)) finding ↔ Contains (nodes_broken (declarations_of forest)) finding }
+    ensures { (forest : Forest) (finding : Finding) → Contains (nodes_found (declarations_of forest)) finding ↔ Contains
+        (nodes_broken (declarations_of forest)) finding }
 {}

@@ -41,7 +41,8 @@ fn is_type_class(classes: &Classes<'_>, class: ClassId) -> bool
 
 /// Whether a type may name the class of this name.
 fn is_type_name(classes: &Classes<'_>, name: &Name) -> bool
-    ensures { result ≡ holds (class_number (declarations_of classes.now).names name.now) (is_type_class (declarations_of classes.now)) }
+    ensures { result ≡ holds (class_number (declarations_of classes.now).names name.now)
+        (is_type_class (declarations_of classes.now)) }
 {
     match classes.class_of(name) {
         Some(class) => is_type_class(classes, class),
@@ -52,7 +53,8 @@ fn is_type_name(classes: &Classes<'_>, name: &Name) -> bool
 /// Notes a type of a class that no type may name.
 #[tactic(auto, unfolding(scj_rules::specs::ClassRules::c9_type, scj_rules::specs::Contexts::declarations_of))]
 fn note_type(found: &mut Vec<Found>, classes: &Classes<'_>, id: NodeId) -> Result<(), Memory>
-    ensures { OnOk result (found.new.items ≡ found.old.items ++ at_node (declarations_of classes.now) (c9_type (declarations_of classes.now)) id) }
+    ensures { OnOk result (found.new.items ≡ found.old.items
+        ++ at_node (declarations_of classes.now) (c9_type (declarations_of classes.now)) id) }
 {
     match classes.program().get(id) {
         Some(Node::ClassType { place, name, .. }) => {
@@ -65,7 +67,8 @@ fn note_type(found: &mut Vec<Found>, classes: &Classes<'_>, id: NodeId) -> Resul
 /// Notes an element type that names no class.
 #[tactic(auto, unfolding(scj_rules::specs::ClassRules::c9_element, scj_rules::specs::Contexts::declarations_of))]
 fn note_element(found: &mut Vec<Found>, classes: &Classes<'_>, id: NodeId) -> Result<(), Memory>
-    ensures { OnOk result (found.new.items ≡ found.old.items ++ at_node (declarations_of classes.now) (c9_element (declarations_of classes.now)) id) }
+    ensures { OnOk result (found.new.items ≡ found.old.items
+        ++ at_node (declarations_of classes.now) (c9_element (declarations_of classes.now)) id) }
 {
     match classes.program().get(id) {
         Some(Node::ClassType { place, name, .. }) => {
@@ -82,7 +85,8 @@ fn note_no_class(
     name: &Name,
     place: Pos,
 ) -> Result<(), Memory>
-    ensures { OnOk result (found.new.items ≡ found.old.items ++ broken (not (is_some (class_number (declarations_of classes.now).names name.now))) unknown_type place) }
+    ensures { OnOk result (found.new.items ≡ found.old.items
+        ++ broken (not (is_some (class_number (declarations_of classes.now).names name.now))) unknown_type place) }
 {
     report_if(found, classes.class_of(name).is_none(), Rule::C9, place)
 }
@@ -90,7 +94,8 @@ fn note_no_class(
 /// Whether a mission class has this name.
 #[tactic(auto, using(crate::proofs::NameLemmas::named_within))]
 fn is_mission_name(classes: &Classes<'_>, name: &Name) -> bool
-    ensures { result ≡ holds (class_number (declarations_of classes.now).names name.now) (λ class. is_among mission (superclasses (declarations_of classes.now).written class)) }
+    ensures { result ≡ holds (class_number (declarations_of classes.now).names name.now)
+        (λ class. is_among mission (superclasses (declarations_of classes.now).written class)) }
 {
     match classes.class_of(name) {
         Some(class) => classes.is_mission_written(class),

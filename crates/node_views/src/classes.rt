@@ -70,8 +70,12 @@ pub fn class_members(program: &Program, id: NodeId) -> &[NodeId]
 /// What stands after the name of the class at a node.
 #[tactic(auto, unfolding(scj_rules::specs::Views::class_of))]
 fn header(program: &Program, id: NodeId) -> Option<NodeId>
-    ensures extends { option_and_then (λ (c : WrittenClass). c.extends) (class_at program.now.nodes id) ≡ option_and_then (λ s. s.0) (option_and_then (read program.now.nodes (named_supers program.now.nodes)) result) }
-    ensures implements { unwrap_or (option_map (λ (c : WrittenClass). c.implements) (class_at program.now.nodes id)) [] ≡ unwrap_or (option_map (λ s. s.1) (option_and_then (read program.now.nodes (named_supers program.now.nodes)) result)) [] }
+    ensures extends { option_and_then (λ (c : WrittenClass). c.extends) (class_at program.now.nodes id)
+        ≡ option_and_then (λ s. s.0)
+        (option_and_then (read program.now.nodes (named_supers program.now.nodes)) result) }
+    ensures implements { unwrap_or (option_map (λ (c : WrittenClass). c.implements) (class_at program.now.nodes id))
+        [] ≡ unwrap_or
+        (option_map (λ s. s.1) (option_and_then (read program.now.nodes (named_supers program.now.nodes)) result)) [] }
 {
     match program.get(id)? {
         Node::Class { header, .. } => *header,
@@ -96,7 +100,8 @@ pub fn class_extends(program: &Program, id: NodeId) -> Option<Written>
 /// The nodes after `implements` of the class at a node. [`named_super`] tells what each names.
 #[tactic(auto, unfolding(scj_rules::specs::Views::named_supers))]
 pub fn interface_nodes(program: &Program, id: NodeId) -> &[NodeId]
-    ensures { filter_map (read program.now.nodes named_super) result.now ≡ unwrap_or (option_map (λ (c : WrittenClass). c.implements) (class_at program.now.nodes id)) [] }
+    ensures { filter_map (read program.now.nodes named_super) result.now ≡ unwrap_or
+        (option_map (λ (c : WrittenClass). c.implements) (class_at program.now.nodes id)) [] }
 {
     let supers = match header(program, id) {
         Some(header) => program.get(header),

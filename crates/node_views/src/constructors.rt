@@ -56,7 +56,8 @@ pub fn constructor_modifiers(program: &Program, id: NodeId) -> Option<Modifiers>
 /// The node of the parameters of the constructor at a node, if it has any.
 #[tactic(auto, unfolding(scj_rules::specs::Views::constructor_of))]
 pub fn constructor_parameters(program: &Program, id: NodeId) -> Option<NodeId>
-    ensures { parameters_at program.now.nodes result ≡ unwrap_or (option_map (λ (c : DeclaredConstructor). c.parameters) (constructor_at program.now.nodes id)) [] }
+    ensures { parameters_at program.now.nodes result ≡ unwrap_or
+        (option_map (λ (c : DeclaredConstructor). c.parameters) (constructor_at program.now.nodes id)) [] }
 {
     match program.get(id)? {
         Node::Constructor { parameters, .. } => *parameters,
@@ -78,7 +79,8 @@ pub fn constructor_body(program: &Program, id: NodeId) -> Option<NodeId>
 /// The node of the super call that the constructor at a node writes.
 #[tactic(auto, unfolding(scj_rules::specs::Views::constructor_of))]
 fn super_call(program: &Program, id: NodeId) -> Option<NodeId>
-    ensures { option_and_then (read program.now.nodes super_arguments) result ≡ option_and_then (λ (c : DeclaredConstructor). c.super_call) (constructor_at program.now.nodes id) }
+    ensures { option_and_then (read program.now.nodes super_arguments) result ≡ option_and_then
+        (λ (c : DeclaredConstructor). c.super_call) (constructor_at program.now.nodes id) }
 {
     match program.get(id)? {
         Node::Constructor { super_call, .. } => *super_call,
@@ -99,7 +101,8 @@ fn arguments(program: &Program, id: NodeId) -> Option<&[NodeId]>
 
 /// The arguments of the super call that the constructor at a node writes, if it writes one.
 pub fn super_call_arguments(program: &Program, id: NodeId) -> Option<&[NodeId]>
-    ensures { option_copied result ≡ option_and_then (λ (c : DeclaredConstructor). c.super_call) (constructor_at program.now.nodes id) }
+    ensures { option_copied result ≡ option_and_then (λ (c : DeclaredConstructor). c.super_call)
+        (constructor_at program.now.nodes id) }
 {
     arguments(program, super_call(program, id)?)
 }

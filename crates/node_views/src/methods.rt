@@ -52,7 +52,8 @@ pub fn method_body(program: &Program, id: NodeId) -> Option<NodeId>
 /// The node of the parameters of the method at a node, if it has any.
 #[tactic(auto, unfolding(scj_rules::specs::Views::method_of))]
 pub fn method_parameters(program: &Program, id: NodeId) -> Option<NodeId>
-    ensures { parameters_at program.now.nodes result ≡ unwrap_or (option_map (λ (m : DeclaredMethod). m.parameters) (method_at program.now.nodes id)) [] }
+    ensures { parameters_at program.now.nodes result ≡ unwrap_or
+        (option_map (λ (m : DeclaredMethod). m.parameters) (method_at program.now.nodes id)) [] }
 {
     match program.get(id)? {
         Node::Method { parameters, .. } => *parameters,

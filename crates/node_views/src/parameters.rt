@@ -43,7 +43,8 @@ pub fn parameter_count(program: &Program, parameters: Option<NodeId>) -> usize
 
 /// The node of the parameter of a number.
 pub fn parameter_node(program: &Program, parameters: Option<NodeId>, i: usize) -> Option<NodeId>
-    ensures { option_and_then (variable_at program.now.nodes) result ≡ slice_get (parameters_at program.now.nodes parameters) i }
+    ensures { option_and_then (variable_at program.now.nodes) result ≡ slice_get
+        (parameters_at program.now.nodes parameters) i }
 {
     let mut left = i;
     let mut others = parameter_nodes(program, parameters);
@@ -75,7 +76,8 @@ pub fn parameter_type(
     parameters: Option<NodeId>,
     i: usize,
 ) -> Option<WrittenType>
-    ensures { result ≡ option_map (λ (d : Declaration). d.declared_type) (slice_get (parameters_at program.now.nodes parameters) i) }
+    ensures { result ≡ option_map (λ (d : Declaration). d.declared_type)
+        (slice_get (parameters_at program.now.nodes parameters) i) }
 {
     match parameter_node(program, parameters, i) {
         Some(id) => variable_type(program, id),

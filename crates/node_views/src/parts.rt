@@ -66,7 +66,8 @@ pub fn is_static_method(program: &Program, id: NodeId) -> bool
 /// Whether a node declares an abstract method.
 #[tactic(auto, unfolding(scj_rules::specs::Views::method_of))]
 pub fn is_abstract_method(program: &Program, id: NodeId) -> bool
-    ensures { result ≡ holds (method_at program.now.nodes id) (λ (m : DeclaredMethod). m.declared.modifiers.is_abstract) }
+    ensures { result ≡ holds (method_at program.now.nodes id)
+        (λ (m : DeclaredMethod). m.declared.modifiers.is_abstract) }
 {
     match program.get(id) {
         Some(Node::Method { flags, .. }) => is_abstract_at(program, *flags),

@@ -33,16 +33,19 @@ first_start N s (a_word n p) =
 first_start N s t = target_start N s t
 
 unfoldable pub name_first_step : Pos → List ℕ → List Node → List Entry → Lexeme → Option State
-name_first_step p w N s (a_name v q) = typed (length N) (put N (ClassType p w None false)) (LocalOpen None ∷ s) (a_name v q)
+name_first_step p w N s (a_name v q) = typed (length N) (put N (ClassType p w None false)) (LocalOpen None ∷ s)
+    (a_name v q)
 name_first_step p w N s (a_sign n q) =
-    if n == sign_less then (if has_type_argument w then Some (at (TypeArgumentName p w) (LocalOpen None ∷ s) N) else None) else
+    if n == sign_less then (if has_type_argument w then Some (at (TypeArgumentName p w) (LocalOpen None ∷ s) N)
+    else None) else
     if n == sign_left_bracket then Some (at (NameBracket p w q) s N) else
     name_step p w N (Target ∷ s) (a_sign n q)
 name_first_step p w N s t = None
 
 unfoldable pub name_bracket_step : Pos → List ℕ → Pos → List Node → List Entry → Lexeme → Option State
 name_bracket_step p w b N s (a_sign n q) =
-    if n == sign_right_bracket then Some (at (TypeDone (length N)) (LocalOpen None ∷ s) (put N (ClassType p w None true))) else
+    if n == sign_right_bracket then Some
+    (at (TypeDone (length N)) (LocalOpen None ∷ s) (put N (ClassType p w None true))) else
     operand_start (put N (SimpleName p w)) (IndexOpen b (length N) ∷ Target ∷ s) (a_sign n q)
 name_bracket_step p w b N s t = operand_start (put N (SimpleName p w)) (IndexOpen b (length N) ∷ Target ∷ s) t
 

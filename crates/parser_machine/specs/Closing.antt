@@ -20,15 +20,19 @@ use Rattle.scj_tree.specs.declared.readings.PostKind.TheVariants.{Variable, Invo
 -- behind an assignment or a local with a value
 unfoldable pub assigned : ℕ → List Node → List Entry → Lexeme → Option State
 assigned id N (Simple ∷ s) (a_sign n p) = if n == sign_semicolon then Some (at (StatementEnd id) s N) else None
-assigned id N (ForHead q ∷ s) (a_sign n p) = if n == sign_semicolon then Some (at Operand (ForTest q id ∷ s) N) else None
-assigned id N (ForStep q first condition ∷ s) (a_sign n p) = if n == sign_right_parenthesis then Some (at StatementStart (ForBody q first condition id ∷ s) N) else None
+assigned id N (ForHead q ∷ s) (a_sign n p) =
+    if n == sign_semicolon then Some (at Operand (ForTest q id ∷ s) N) else None
+assigned id N (ForStep q first condition ∷ s) (a_sign n p) =
+    if n == sign_right_parenthesis then Some (at StatementStart (ForBody q first condition id ∷ s) N) else None
 assigned id N _ _ = None
 
 -- behind the closing parenthesis of arguments
 unfoldable pub arguments_ended : List ℕ → List Node → List Entry → Option State
-arguments_ended ids N (CallOpen p w object ∷ s) = Some (at (PostDone Invocation p (length N)) s (put N (Call p w object ids)))
+arguments_ended ids N (CallOpen p w object ∷ s) =
+    Some (at (PostDone Invocation p (length N)) s (put N (Call p w object ids)))
 arguments_ended ids N (NewOpen p q w ∷ s) = Some (at (PostDone Invocation p (length N)) s (put N (New p q w ids)))
-arguments_ended ids N (SuperCallOpen b p ∷ ConstructorBody flags q w parameters super_call ∷ s) = Some (at (SuperEnd b) (ConstructorBody flags q w parameters (Some (length N)) ∷ s) (put N (SuperCall p ids)))
+arguments_ended ids N (SuperCallOpen b p ∷ ConstructorBody flags q w parameters super_call ∷ s) =
+    Some (at (SuperEnd b) (ConstructorBody flags q w parameters (Some (length N)) ∷ s) (put N (SuperCall p ids)))
 arguments_ended ids N _ = None
 
 -- behind an argument
@@ -66,17 +70,27 @@ compounded_number N p op left e = length (put (put N (Parenthesized p e)) (Binar
 
 -- behind an expression that is a part of no other expression's operators
 unfoldable pub ended : Entry → ℕ → List Node → List Entry → Lexeme → Option State
-ended (GroupOpen p) id N s (a_sign n q) = if n == sign_right_parenthesis then Some (at (PostDone Value p (length N)) s (put N (Parenthesized p id))) else None
-ended (IndexOpen p array) id N s (a_sign n q) = if n == sign_right_bracket then Some (at (PostDone Variable p (length N)) s (put N (Element p array id))) else None
-ended (LengthOpen p element) id N s (a_sign n q) = if n == sign_right_bracket then Some (at (PostDone NewArrayKind p (length N)) s (put N (NewArray p element id))) else None
+ended (GroupOpen p) id N s (a_sign n q) =
+    if n == sign_right_parenthesis then Some (at (PostDone Value p (length N)) s (put N (Parenthesized p id))) else None
+ended (IndexOpen p array) id N s (a_sign n q) =
+    if n == sign_right_bracket then Some (at (PostDone Variable p (length N)) s (put N (Element p array id))) else None
+ended (LengthOpen p element) id N s (a_sign n q) =
+    if n == sign_right_bracket then Some (at (PostDone NewArrayKind p (length N)) s (put N (NewArray p element id)))
+    else None
 ended (ArgumentsOpen ids) id N s t = argument_ended id ids N s t
 ended (AssignValue p target) id N s t = assigned (length N) (put N (Assign p target id)) s t
-ended (CompoundValue p op target left) id N s t = assigned (compounded_number N p op left id) (compounded N p op target left id) s t
-ended (LocalValue p q w flags declared) id N s t = assigned (length N) (put N (LocalWithValue p q w flags declared id)) s t
-ended (ForTest p first) id N s (a_sign n q) = if n == sign_semicolon then Some (at ForStepStart (ForStep p first id ∷ s) N) else None
-ended (IfTest p) id N s (a_sign n q) = if n == sign_right_parenthesis then Some (at StatementStart (IfThen p id ∷ s) N) else None
-ended (WhileTest p) id N s (a_sign n q) = if n == sign_right_parenthesis then Some (at StatementStart (WhileBody p id ∷ s) N) else None
-ended (ReturnValue p) id N s (a_sign n q) = if n == sign_semicolon then Some (at (StatementEnd (length N)) s (put N (Return p (Some id)))) else None
+ended (CompoundValue p op target left) id N s t =
+    assigned (compounded_number N p op left id) (compounded N p op target left id) s t
+ended (LocalValue p q w flags declared) id N s t =
+    assigned (length N) (put N (LocalWithValue p q w flags declared id)) s t
+ended (ForTest p first) id N s (a_sign n q) =
+    if n == sign_semicolon then Some (at ForStepStart (ForStep p first id ∷ s) N) else None
+ended (IfTest p) id N s (a_sign n q) =
+    if n == sign_right_parenthesis then Some (at StatementStart (IfThen p id ∷ s) N) else None
+ended (WhileTest p) id N s (a_sign n q) =
+    if n == sign_right_parenthesis then Some (at StatementStart (WhileBody p id ∷ s) N) else None
+ended (ReturnValue p) id N s (a_sign n q) =
+    if n == sign_semicolon then Some (at (StatementEnd (length N)) s (put N (Return p (Some id)))) else None
 ended _ id N s t = None
 
 -- an operator that binds so tightly takes the operand behind the entry for its own: no such operator has level 0

@@ -27,16 +27,19 @@ element_node p (Reference w argument) is_array = ClassType p w argument is_array
 -- behind a type: the name of what it is the type of
 unfoldable pub typed : ℕ → List Node → List Entry → Lexeme → Option State
 typed t N (MemberOpen flags ∷ s) (a_name w p) = Some (at (MemberNamed flags t p w) s N)
-typed t N (ParameterOpen flags ∷ s) (a_name w p) = Some (at (ParameterDone (length N)) s (put N (Parameter p w flags t)))
+typed t N (ParameterOpen flags ∷ s) (a_name w p) =
+    Some (at (ParameterDone (length N)) s (put N (Parameter p w flags t)))
 typed t N (LocalOpen flags ∷ s) (a_name w p) = Some (at (LocalNamed flags t p w) s N)
 typed t N _ _ = None
 
 unfoldable pub type_end_step : Pos → ElementType → List Node → List Entry → Lexeme → Option State
-type_end_step p element N s (a_sign n q) = if n == sign_left_bracket then Some (at (TypeBracket p element) s N) else None
+type_end_step p element N s (a_sign n q) =
+    if n == sign_left_bracket then Some (at (TypeBracket p element) s N) else None
 type_end_step p element N s t = typed (length N) (put N (element_node p element false)) s t
 
 unfoldable pub type_bracket_step : Pos → ElementType → List Node → List Entry → Lexeme → Option State
-type_bracket_step p element N s (a_sign n q) = if n == sign_right_bracket then Some (at (TypeDone (length N)) s (put N (element_node p element true))) else None
+type_bracket_step p element N s (a_sign n q) =
+    if n == sign_right_bracket then Some (at (TypeDone (length N)) s (put N (element_node p element true))) else None
 type_bracket_step p element N s _ = None
 
 -- a member that begins with a name and `(` is a constructor
@@ -57,7 +60,8 @@ type_argument_name_step p w N s (a_name v q) = Some (at (TypeArgumentEnd p w (le
 type_argument_name_step p w N s _ = None
 
 unfoldable pub type_argument_end_step : Pos → List ℕ → ℕ → List Node → List Entry → Lexeme → Option State
-type_argument_end_step p w argument N s (a_sign n q) = if n == sign_greater then Some (at (TypeEnd p (Reference w (Some argument))) s N) else None
+type_argument_end_step p w argument N s (a_sign n q) =
+    if n == sign_greater then Some (at (TypeEnd p (Reference w (Some argument))) s N) else None
 type_argument_end_step p w argument N s _ = None
 
 unfoldable pub type_start : List Node → List Entry → Lexeme → Option State
@@ -86,8 +90,10 @@ class_start flags N s _ = None
 
 unfoldable pub declaration_start : Option ℕ → List Node → List Entry → Lexeme → Option State
 declaration_start flags N (FileOpen classes ∷ s) t = class_start flags N (FileOpen classes ∷ s) t
-declaration_start flags N (ClassBody f p w header members ∷ s) t = member_start flags N (ClassBody f p w header members ∷ s) t
-declaration_start flags N (ParametersOpen p list ∷ s) t = type_start N (ParameterOpen flags ∷ ParametersOpen p list ∷ s) t
+declaration_start flags N (ClassBody f p w header members ∷ s) t =
+    member_start flags N (ClassBody f p w header members ∷ s) t
+declaration_start flags N (ParametersOpen p list ∷ s) t =
+    type_start N (ParameterOpen flags ∷ ParametersOpen p list ∷ s) t
 declaration_start flags N (Simple ∷ s) t = type_start N (LocalOpen flags ∷ Simple ∷ s) t
 declaration_start flags N _ t = None
 
@@ -108,13 +114,19 @@ flags_step is_local flags N s t = flags_ended flags N s t
 -- ---- annotations
 
 unfoldable pub scope_named : Bool → FlagSet → List Node → List Entry → Option State
-scope_named is_local flags N s = elim flags.scope [ None ↦ Some (at ValueOpen (ScopeOpen ∷ AnnotationOpen is_local flags ∷ s) N) | Some id ↦ None ]
+scope_named is_local flags N s =
+    elim flags.scope [ None ↦ Some (at ValueOpen (ScopeOpen ∷ AnnotationOpen is_local flags ∷ s) N) | Some id ↦ None ]
 
 unfoldable pub runs_in_named : Bool → FlagSet → List Node → List Entry → Option State
-runs_in_named is_local flags N s = elim flags.runs_in [ None ↦ Some (at ValueOpen (RunsInOpen ∷ AnnotationOpen is_local flags ∷ s) N) | Some id ↦ None ]
+runs_in_named is_local flags N s =
+    elim flags.runs_in [
+      | None ↦ Some (at ValueOpen (RunsInOpen ∷ AnnotationOpen is_local flags ∷ s) N)
+      | Some id ↦ None
+    ]
 
 unfoldable pub define_scope_named : Pos → Bool → FlagSet → List Node → List Entry → Option State
-define_scope_named p is_local flags N s = elim flags.define_scope [ None ↦ Some (at (DefineOpen p) (AnnotationOpen is_local flags ∷ s) N) | Some id ↦ None ]
+define_scope_named p is_local flags N s =
+    elim flags.define_scope [ None ↦ Some (at (DefineOpen p) (AnnotationOpen is_local flags ∷ s) N) | Some id ↦ None ]
 
 unfoldable pub annotation_named : Pos → List ℕ → Bool → FlagSet → List Node → List Entry → Option State
 annotation_named p w is_local flags N s =
@@ -138,7 +150,8 @@ plain_without N (AnnotationOpen is_local flags ∷ s) t = flags_step is_local fl
 plain_without N _ t = None
 
 unfoldable pub plain_open_step : List Node → List Entry → Lexeme → Option State
-plain_open_step N s (a_sign n p) = if n == sign_left_parenthesis then Some (at PlainFirst s N) else plain_without N s (a_sign n p)
+plain_open_step N s (a_sign n p) = if n == sign_left_parenthesis then Some (at PlainFirst s N) else plain_without N s
+    (a_sign n p)
 plain_open_step N s t = plain_without N s t
 
 -- behind a pair
@@ -167,7 +180,8 @@ plain_path_step N s (a_sign n p) = if n == sign_dot then Some (at PlainDot s N) 
 plain_path_step N s _ = None
 
 unfoldable pub plain_name_step : List Node → List Entry → Lexeme → Option State
-plain_name_step N s (a_sign n p) = if n == sign_assign then Some (at PlainAssigned s N) else plain_path_step N s (a_sign n p)
+plain_name_step N s (a_sign n p) = if n == sign_assign then Some (at PlainAssigned s N) else plain_path_step N s
+    (a_sign n p)
 plain_name_step N s _ = None
 
 unfoldable pub plain_assigned_step : List Node → List Entry → Lexeme → Option State
@@ -186,10 +200,16 @@ plain_end_step N s _ = None
 
 -- behind a scope's name, by what it is the value of
 unfoldable pub valued : ℕ → List Node → List Entry → ℕ → Option State
-valued id N (ScopeOpen ∷ AnnotationOpen is_local flags ∷ s) n = if n == sign_right_parenthesis then Some (at (FlagsRead is_local (with_scope id flags)) s N) else None
-valued id N (RunsInOpen ∷ AnnotationOpen is_local flags ∷ s) n = if n == sign_right_parenthesis then Some (at (FlagsRead is_local (with_runs_in id flags)) s N) else None
-valued id N (DefineFirst p parent_first ∷ s) n = if n == sign_comma then Some (at (DefineOther p parent_first id) s N) else None
-valued id N (DefineSecond p parent_first first ∷ AnnotationOpen is_local flags ∷ s) n = if n == sign_right_parenthesis then Some (at (FlagsRead is_local (with_define_scope (length N) flags)) s (put N (DefineScope p first id parent_first))) else None
+valued id N (ScopeOpen ∷ AnnotationOpen is_local flags ∷ s) n =
+    if n == sign_right_parenthesis then Some (at (FlagsRead is_local (with_scope id flags)) s N) else None
+valued id N (RunsInOpen ∷ AnnotationOpen is_local flags ∷ s) n =
+    if n == sign_right_parenthesis then Some (at (FlagsRead is_local (with_runs_in id flags)) s N) else None
+valued id N (DefineFirst p parent_first ∷ s) n =
+    if n == sign_comma then Some (at (DefineOther p parent_first id) s N) else None
+valued id N (DefineSecond p parent_first first ∷ AnnotationOpen is_local flags ∷ s) n =
+    if n == sign_right_parenthesis then Some
+    (at (FlagsRead is_local (with_define_scope (length N) flags)) s (put N (DefineScope p first id parent_first)))
+    else None
 valued id N _ n = None
 
 unfoldable pub value_end_step : ℕ → List Node → List Entry → Lexeme → Option State
@@ -201,8 +221,10 @@ value_open_step N s (a_sign n p) = if n == sign_left_parenthesis then Some (at V
 value_open_step N s _ = None
 
 unfoldable pub value_start_step : List Node → List Entry → Lexeme → Option State
-value_start_step N s (a_text w p) = if is_name w then Some (at (ValueRead (length N)) s (put N (ScopeName p w))) else None
-value_start_step N s (a_name w p) = if is_same w (codes "Scope") then Some (at (ValueScope p) s N) else Some (at (ValueRead (length N)) s (put N (ScopeName p w)))
+value_start_step N s (a_text w p) =
+    if is_name w then Some (at (ValueRead (length N)) s (put N (ScopeName p w))) else None
+value_start_step N s (a_name w p) = if is_same w (codes "Scope") then Some (at (ValueScope p) s N) else Some
+    (at (ValueRead (length N)) s (put N (ScopeName p w)))
 value_start_step N s _ = None
 
 unfoldable pub value_scope_step : Pos → List Node → List Entry → Lexeme → Option State
@@ -227,7 +249,8 @@ define_name_step p N s (a_name w q) =
 define_name_step p N s _ = None
 
 unfoldable pub define_assign_step : Pos → Bool → List Node → List Entry → Lexeme → Option State
-define_assign_step p parent_first N s (a_sign n q) = if n == sign_assign then Some (at ValueStart (DefineFirst p parent_first ∷ s) N) else None
+define_assign_step p parent_first N s (a_sign n q) =
+    if n == sign_assign then Some (at ValueStart (DefineFirst p parent_first ∷ s) N) else None
 define_assign_step p parent_first N s _ = None
 
 -- the word before the second value
@@ -236,9 +259,11 @@ other_word true = codes "name"
 other_word false = codes "parent"
 
 unfoldable pub define_other_step : Pos → Bool → ℕ → List Node → List Entry → Lexeme → Option State
-define_other_step p parent_first first N s (a_name w q) = if is_same w (other_word parent_first) then Some (at (DefineOtherAssign p parent_first first) s N) else None
+define_other_step p parent_first first N s (a_name w q) =
+    if is_same w (other_word parent_first) then Some (at (DefineOtherAssign p parent_first first) s N) else None
 define_other_step p parent_first first N s _ = None
 
 unfoldable pub define_other_assign_step : Pos → Bool → ℕ → List Node → List Entry → Lexeme → Option State
-define_other_assign_step p parent_first first N s (a_sign n q) = if n == sign_assign then Some (at ValueStart (DefineSecond p parent_first first ∷ s) N) else None
+define_other_assign_step p parent_first first N s (a_sign n q) =
+    if n == sign_assign then Some (at ValueStart (DefineSecond p parent_first first ∷ s) N) else None
 define_other_assign_step p parent_first first N s _ = None

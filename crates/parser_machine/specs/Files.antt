@@ -56,7 +56,8 @@ imports_step N s (a_word n p) = if n == word_import then Some (at ImportStart s 
 imports_step N s t = classes_step N s t
 
 unfoldable pub file_start_step : List Node → List Entry → Lexeme → Option State
-file_start_step N s (a_word n p) = if n == word_package then Some (at PackageName s N) else imports_step N s (a_word n p)
+file_start_step N s (a_word n p) = if n == word_package then Some (at PackageName s N) else imports_step N s
+    (a_word n p)
 file_start_step N s t = imports_step N s t
 
 -- ---- heads of classes
@@ -84,7 +85,8 @@ super_name_step N s _ = None
 
 -- behind a class named after `extends`, and behind one named after `implements`
 unfoldable pub superclass_sign : ℕ → Pos → List Node → List Entry → ℕ → Option State
-superclass_sign id p N s n = if n == sign_left_brace then class_opened (Some (length N)) (put N (Supers p (Some id) [])) s else None
+superclass_sign id p N s n =
+    if n == sign_left_brace then class_opened (Some (length N)) (put N (Supers p (Some id) [])) s else None
 
 unfoldable pub interface_sign : ℕ → Pos → Option ℕ → List ℕ → List Node → List Entry → ℕ → Option State
 interface_sign id p superclass ids N s n =
@@ -93,7 +95,8 @@ interface_sign id p superclass ids N s n =
     None
 
 unfoldable pub super_ended : ℕ → List Node → List Entry → Lexeme → Option State
-super_ended id N (SupersOpen p true superclass ids ∷ s) (a_word n q) = if n == word_implements then Some (at SuperName (SupersOpen p false (Some id) [] ∷ s) N) else None
+super_ended id N (SupersOpen p true superclass ids ∷ s) (a_word n q) =
+    if n == word_implements then Some (at SuperName (SupersOpen p false (Some id) [] ∷ s) N) else None
 super_ended id N (SupersOpen p true superclass ids ∷ s) (a_sign n q) = superclass_sign id p N s n
 super_ended id N (SupersOpen p false superclass ids ∷ s) (a_sign n q) = interface_sign id p superclass ids N s n
 super_ended id N _ _ = None
@@ -109,5 +112,6 @@ super_argument_name_step p w N s (a_name v q) = Some (at (SuperArgumentEnd p w (
 super_argument_name_step p w N s _ = None
 
 unfoldable pub super_argument_end_step : Pos → List ℕ → ℕ → List Node → List Entry → Lexeme → Option State
-super_argument_end_step p w argument N s (a_sign n q) = if n == sign_greater then Some (at (SuperDone (length N)) s (put N (SuperType p w (Some argument)))) else None
+super_argument_end_step p w argument N s (a_sign n q) =
+    if n == sign_greater then Some (at (SuperDone (length N)) s (put N (SuperType p w (Some argument)))) else None
 super_argument_end_step p w argument N s _ = None

@@ -16,7 +16,8 @@ use Rattle.scj_tree.specs.declared.nodes.Node.TheVariants.{Class, Constructor, F
 
 -- a class with one member more
 unfoldable pub member_read : ℕ → List Node → List Entry → Option State
-member_read id N (ClassBody flags p w header ids ∷ s) = Some (at InMembers (ClassBody flags p w header (ids ++ id ∷ []) ∷ s) N)
+member_read id N (ClassBody flags p w header ids ∷ s) =
+    Some (at InMembers (ClassBody flags p w header (ids ++ id ∷ []) ∷ s) N)
 member_read id N _ = None
 
 -- ---- fields
@@ -38,7 +39,8 @@ literal_word n p N s =
 
 unfoldable pub literal_step : List Node → List Entry → Lexeme → Option State
 literal_step N s (a_word n p) = literal_word n p N s
-literal_step N s (a_number n p) = if is_minimum n then None else Some (at (LiteralDone (length N)) s (put N (Number p n false)))
+literal_step N s (a_number n p) =
+    if is_minimum n then None else Some (at (LiteralDone (length N)) s (put N (Number p n false)))
 literal_step N s (a_sign n p) = if n == sign_minus then Some (at (LiteralMinus p) s N) else None
 literal_step N s _ = None
 
@@ -61,7 +63,8 @@ result_step flags t N s (a_name w p) = Some (at (MethodNamed flags t p w) s N)
 result_step flags t N s _ = None
 
 unfoldable pub method_named_step : Option ℕ → ℕ → Pos → List ℕ → List Node → List Entry → Lexeme → Option State
-method_named_step flags t p w N s (a_sign n q) = if n == sign_left_parenthesis then Some (at (ParametersFirst q) (MethodOpen flags t p w ∷ s) N) else None
+method_named_step flags t p w N s (a_sign n q) =
+    if n == sign_left_parenthesis then Some (at (ParametersFirst q) (MethodOpen flags t p w ∷ s) N) else None
 method_named_step flags t p w N s _ = None
 
 unfoldable pub parameters_first_step : Pos → List Node → List Entry → Lexeme → Option State
@@ -73,7 +76,8 @@ parameters_first_step p N s t = flags_step false no_flags N (ParametersOpen p []
 unfoldable pub parameter_ended : ℕ → List Node → List Entry → ℕ → Option State
 parameter_ended id N (ParametersOpen p ids ∷ s) n =
     if n == sign_comma then Some (at (FlagsRead false no_flags) (ParametersOpen p (ids ++ id ∷ []) ∷ s) N) else
-    if n == sign_right_parenthesis then Some (at (ParametersDone (Some (length N))) s (put N (Parameters p (ids ++ id ∷ [])))) else
+    if n == sign_right_parenthesis then Some
+    (at (ParametersDone (Some (length N))) s (put N (Parameters p (ids ++ id ∷ [])))) else
     None
 parameter_ended id N _ n = None
 
@@ -102,7 +106,8 @@ constructor_start_step b N s (a_word n p) =
 constructor_start_step b N s t = statements_step N (BlockOpen b [] ∷ s) t
 
 unfoldable pub super_open_step : Pos → Pos → List Node → List Entry → Lexeme → Option State
-super_open_step b p N s (a_sign n q) = if n == sign_left_parenthesis then Some (at ArgumentFirst (ArgumentsOpen [] ∷ SuperCallOpen b p ∷ s) N) else None
+super_open_step b p N s (a_sign n q) =
+    if n == sign_left_parenthesis then Some (at ArgumentFirst (ArgumentsOpen [] ∷ SuperCallOpen b p ∷ s) N) else None
 super_open_step b p N s _ = None
 
 unfoldable pub super_end_step : Pos → List Node → List Entry → Lexeme → Option State
@@ -112,18 +117,21 @@ super_end_step b N s _ = None
 -- ---- members in a row
 
 unfoldable pub class_ended : List Node → List Entry → Option State
-class_ended N (ClassBody flags p w header ids ∷ FileOpen classes ∷ s) = Some (at InClasses (FileOpen (classes ++ length N ∷ []) ∷ s) (put N (Class p w flags header ids)))
+class_ended N (ClassBody flags p w header ids ∷ FileOpen classes ∷ s) =
+    Some (at InClasses (FileOpen (classes ++ length N ∷ []) ∷ s) (put N (Class p w flags header ids)))
 class_ended N _ = None
 
 unfoldable pub members_step : List Node → List Entry → Lexeme → Option State
-members_step N s (a_sign n p) = if n == sign_right_brace then class_ended N s else flags_step false no_flags N s (a_sign n p)
+members_step N s (a_sign n p) = if n == sign_right_brace then class_ended N s else flags_step false no_flags N s
+    (a_sign n p)
 members_step N s t = flags_step false no_flags N s t
 
 -- ---- behind a statement
 
 -- a body ends its member, and what stands behind the member follows
 unfoldable pub member_ended : ℕ → List Node → List Entry → Lexeme → Option State
-member_ended id N (ClassBody flags p w header ids ∷ s) t = members_step N (ClassBody flags p w header (ids ++ id ∷ []) ∷ s) t
+member_ended id N (ClassBody flags p w header ids ∷ s) t =
+    members_step N (ClassBody flags p w header (ids ++ id ∷ []) ∷ s) t
 member_ended id N _ t = None
 
 unfoldable pub is_else : Lexeme → Bool
@@ -139,6 +147,8 @@ statement_ended id N (IfThen p c ∷ s) t =
 statement_ended id N (IfElse p c a ∷ s) t = statement_ended (length N) (put N (If p c a (Some id))) s t
 statement_ended id N (WhileBody p c ∷ s) t = statement_ended (length N) (put N (While p c id)) s t
 statement_ended id N (ForBody p f c u ∷ s) t = statement_ended (length N) (put N (For p f c u id)) s t
-statement_ended id N (MethodBody flags r p w parameters ∷ s) t = member_ended (length N) (put N (Method p w flags r parameters (Some id))) s t
-statement_ended id N (ConstructorBody flags p w parameters super_call ∷ s) t = member_ended (length N) (put N (Constructor p w flags parameters super_call id)) s t
+statement_ended id N (MethodBody flags r p w parameters ∷ s) t =
+    member_ended (length N) (put N (Method p w flags r parameters (Some id))) s t
+statement_ended id N (ConstructorBody flags p w parameters super_call ∷ s) t =
+    member_ended (length N) (put N (Constructor p w flags parameters super_call id)) s t
 statement_ended id N _ t = None

@@ -40,7 +40,8 @@ dot_step object N s _ = None
 
 unfoldable pub dot_name_step : ℕ → Pos → List ℕ → List Node → List Entry → Lexeme → Option State
 dot_name_step object p w N s (a_sign n q) =
-    if n == sign_left_parenthesis then Some (at ArgumentFirst (ArgumentsOpen [] ∷ CallOpen p w (Some object) ∷ s) N) else
+    if n == sign_left_parenthesis then Some (at ArgumentFirst (ArgumentsOpen [] ∷ CallOpen p w (Some object) ∷ s) N)
+    else
     post_step Variable p (length N) (put N (FieldAccess p w object)) s (a_sign n q)
 dot_name_step object p w N s t = post_step Variable p (length N) (put N (FieldAccess p w object)) s t
 
@@ -48,12 +49,18 @@ dot_name_step object p w N s t = post_step Variable p (length N) (put N (FieldAc
 
 -- `x op=` and `x++`, where x is a target
 unfoldable pub compound_step : Pos → List ℕ → Pos → ℕ → List Node → List Entry → Option State
-compound_step p w q op N s = Some (at Operand (CompoundValue q op (length N) (length (put N (SimpleName p w))) ∷ s) (name_twice N p w))
+compound_step p w q op N s =
+    Some (at Operand (CompoundValue q op (length N) (length (put N (SimpleName p w))) ∷ s) (name_twice N p w))
 
 unfoldable pub stepping_step : Pos → List ℕ → Pos → ℕ → List Node → List Entry → Option State
 stepping_step p w q op N s =
-    Some (at (Assigned (length (put (put (name_twice N p w) (Number q 1 false)) (Binary q op (length (put N (SimpleName p w))) (length (name_twice N p w)))))) s
-    (operated (put (name_twice N p w) (Number q 1 false)) q op (length N) (length (put N (SimpleName p w))) (length (name_twice N p w))))
+    Some (at
+    (Assigned
+    (length
+    (put (put (name_twice N p w) (Number q 1 false))
+    (Binary q op (length (put N (SimpleName p w))) (length (name_twice N p w)))))) s
+    (operated (put (name_twice N p w) (Number q 1 false)) q op (length N) (length (put N (SimpleName p w)))
+    (length (name_twice N p w))))
 
 -- a name where a target is due, and a sign behind it
 unfoldable pub target_name_step : Pos → List ℕ → List Node → List Entry → ℕ → Pos → Option State
@@ -97,7 +104,8 @@ operand_sign n p N s =
 unfoldable pub operand_start : List Node → List Entry → Lexeme → Option State
 operand_start N s (a_name w p) = Some (at (NameRead p w) s N)
 operand_start N s (a_word n p) = operand_word n p N s
-operand_start N s (a_number n p) = if is_minimum n then None else Some (at (PostDone Value p (length N)) s (put N (Number p n false)))
+operand_start N s (a_number n p) =
+    if is_minimum n then None else Some (at (PostDone Value p (length N)) s (put N (Number p n false)))
 operand_start N s (a_text w p) = None
 operand_start N s (a_sign n p) = operand_sign n p N s
 operand_start N s (the_end p) = None
@@ -119,7 +127,9 @@ opened_step p N s (a_name w q) = Some (at (OpenedName p q w) s N)
 opened_step p N s t = operand_start N (GroupOpen p ∷ s) t
 
 unfoldable pub opened_name_step : Pos → Pos → List ℕ → List Node → List Entry → Lexeme → Option State
-opened_name_step p q w N s (a_sign n r) = if n == sign_right_parenthesis then Some (at (ClosedName p q w) s N) else name_step q w N (GroupOpen p ∷ s) (a_sign n r)
+opened_name_step p q w N s (a_sign n r) =
+    if n == sign_right_parenthesis then Some (at (ClosedName p q w) s N) else name_step q w N (GroupOpen p ∷ s)
+    (a_sign n r)
 opened_name_step p q w N s t = name_step q w N (GroupOpen p ∷ s) t
 
 -- behind `( Name )`: a cast where the next lexeme begins its operand; no cast is a target
@@ -141,12 +151,14 @@ new_step p N s _ = None
 unfoldable pub new_name_step : Pos → Pos → List ℕ → List Node → List Entry → Lexeme → Option State
 new_name_step p q w N s (a_sign n r) =
     if n == sign_left_parenthesis then Some (at ArgumentFirst (ArgumentsOpen [] ∷ NewOpen p q w ∷ s) N) else
-    if n == sign_left_bracket then Some (at Operand (LengthOpen p (length N) ∷ s) (put N (ClassType q w None false))) else
+    if n == sign_left_bracket then Some (at Operand (LengthOpen p (length N) ∷ s) (put N (ClassType q w None false)))
+    else
     None
 new_name_step p q w N s _ = None
 
 unfoldable pub new_element_step : Pos → ℕ → List Node → List Entry → Lexeme → Option State
-new_element_step p element N s (a_sign n r) = if n == sign_left_bracket then Some (at Operand (LengthOpen p element ∷ s) N) else None
+new_element_step p element N s (a_sign n r) =
+    if n == sign_left_bracket then Some (at Operand (LengthOpen p element ∷ s) N) else None
 new_element_step p element N s _ = None
 
 -- ---- arguments
@@ -160,7 +172,8 @@ no_arguments_step N (ArgumentsOpen ids ∷ s) = arguments_ended [] N s
 no_arguments_step N _ = None
 
 unfoldable pub argument_first_step : List Node → List Entry → Lexeme → Option State
-argument_first_step N s (a_sign n p) = if n == sign_right_parenthesis then no_arguments_step N s else argument_start N s (a_sign n p)
+argument_first_step N s (a_sign n p) = if n == sign_right_parenthesis then no_arguments_step N s else argument_start N s
+    (a_sign n p)
 argument_first_step N s t = argument_start N s t
 
 unfoldable pub text_step : ℕ → List Node → List Entry → Lexeme → Option State

@@ -13,7 +13,8 @@ use scj_base::{Memory, NodeId};
 /// Behind a member that has no body.
 #[tactic(auto, unfolding(parser_machine::specs::Members::member_read))]
 pub fn member_read(nodes: &mut Nodes, stack: &mut Stack, id: NodeId) -> Result<Option<Mode>, Memory>
-    ensures step { let awaited = member_read id nodes.old.all stack.old in gives result nodes.new.all stack.new awaited ≡ awaited }
+    ensures step { let awaited = member_read id nodes.old.all stack.old in
+        gives result nodes.new.all stack.new awaited ≡ awaited }
     ensures kept { nodes.new.kept ≡ nodes.old.kept }
 {
     let Some(entry) = stack.pop() else {

@@ -7,11 +7,14 @@ use Rattle.scj_tree.specs.Lexemes.{lexeme_of, place_of_lexeme}
 -- a lexeme stands where its token does
 pub same_place : (bytes : List ℕ) (token : Token) → place_of_lexeme (lexeme_of bytes token) ≡ token.pos
 unfolding lexeme_of place_of_lexeme
-same_place bytes token = elim token.kind as (λ kind. place_of_lexeme (lexeme_of bytes (record { kind = kind; pos = token.pos; start = token.start; len = token.len })) ≡ token.pos) [
-  | Name ↦ refl
-  | Word n ↦ refl
-  | Number n ↦ refl
-  | Text ↦ refl
-  | Sign n ↦ refl
-  | End ↦ refl
-]
+same_place bytes token =
+    elim token.kind as
+    (λ kind. place_of_lexeme
+    (lexeme_of bytes (record { kind = kind; pos = token.pos; start = token.start; len = token.len })) ≡ token.pos) [
+      | Name ↦ refl
+      | Word n ↦ refl
+      | Number n ↦ refl
+      | Text ↦ refl
+      | Sign n ↦ refl
+      | End ↦ refl
+    ]

@@ -48,7 +48,8 @@ fn classes_of(stack: &mut Stack, mode: Mode) -> Option<NodeList>
 
 /// What stands on the stack behind all tokens.
 fn end_of(nodes: &Nodes, stack: &mut Stack, mode: Mode) -> FileRead
-    ensures whole { (ids : List ℕ) → result ≡ Whole ids → finished (at mode stack.old nodes.now.all) ≡ Some (parsed nodes.now.all ids) }
+    ensures whole { (ids : List ℕ) → result ≡ Whole ids →
+        finished (at mode stack.old nodes.now.all) ≡ Some (parsed nodes.now.all ids) }
     ensures unfinished { result ≡ Unfinished → finished (at mode stack.old nodes.now.all) ≡ None }
     ensures stopped { (p : Place) → result ≡ Stopped p → ⊥ }
 {
@@ -65,9 +66,12 @@ fn told_by(
     stack: &mut Stack,
     outcome: Result<Outcome, Memory>,
 ) -> Result<FileRead, Memory>
-    ensures whole { (awaited : Way) (ids : List ℕ) → leads outcome nodes.now.all stack.old awaited ≡ awaited → result ≡ Ok (Whole ids) → (st : State) × (awaited ≡ to st) × (finished st ≡ Some (parsed nodes.now.all ids)) }
-    ensures stopped { (awaited : Way) (p : Place) → leads outcome nodes.now.all stack.old awaited ≡ awaited → result ≡ Ok (Stopped p) → awaited ≡ up_to p }
-    ensures unfinished { (awaited : Way) → leads outcome nodes.now.all stack.old awaited ≡ awaited → result ≡ Ok Unfinished → (st : State) × (awaited ≡ to st) × (finished st ≡ None) }
+    ensures whole { (awaited : Way) (ids : List ℕ) → leads outcome nodes.now.all stack.old awaited ≡ awaited →
+        result ≡ Ok (Whole ids) → (st : State) × (awaited ≡ to st) × (finished st ≡ Some (parsed nodes.now.all ids)) }
+    ensures stopped { (awaited : Way) (p : Place) → leads outcome nodes.now.all stack.old awaited ≡ awaited →
+        result ≡ Ok (Stopped p) → awaited ≡ up_to p }
+    ensures unfinished { (awaited : Way) → leads outcome nodes.now.all stack.old awaited ≡ awaited →
+        result ≡ Ok Unfinished → (st : State) × (awaited ≡ to st) × (finished st ≡ None) }
 {
     match outcome {
         Ok(Outcome::Stopped(pos)) => Ok(FileRead::Stopped(pos)),
@@ -84,9 +88,13 @@ pub fn read_file(
     tokens: &[Token],
 ) -> Result<FileRead, Memory>
     requires { AllFit bytes.now tokens.now }
-    ensures whole { (ids : List ℕ) → result ≡ Ok (Whole ids) → (st : State) × (way (start nodes.old.all) (lexemes_of bytes.now tokens.now) ≡ to st) × (finished st ≡ Some (parsed nodes.new.all ids)) }
-    ensures stopped { (p : Place) → result ≡ Ok (Stopped p) → way (start nodes.old.all) (lexemes_of bytes.now tokens.now) ≡ up_to p }
-    ensures unfinished { result ≡ Ok Unfinished → (st : State) × (way (start nodes.old.all) (lexemes_of bytes.now tokens.now) ≡ to st) × (finished st ≡ None) }
+    ensures whole { (ids : List ℕ) → result ≡ Ok (Whole ids) →
+        (st : State) × (way (start nodes.old.all) (lexemes_of bytes.now tokens.now) ≡ to st) ×
+        (finished st ≡ Some (parsed nodes.new.all ids)) }
+    ensures stopped { (p : Place) → result ≡ Ok (Stopped p) →
+        way (start nodes.old.all) (lexemes_of bytes.now tokens.now) ≡ up_to p }
+    ensures unfinished { result ≡ Ok Unfinished →
+        (st : State) × (way (start nodes.old.all) (lexemes_of bytes.now tokens.now) ≡ to st) × (finished st ≡ None) }
     ensures kept { nodes.new.kept ≡ nodes.old.kept }
 {
     let mut stack = Stack::new(alloc);

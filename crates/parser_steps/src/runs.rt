@@ -71,7 +71,8 @@ pub fn read(
     tokens: &[Token],
 ) -> Result<Outcome, Memory>
     requires { AllFit bytes.now tokens.now }
-    ensures way { let awaited = way (at FileStart stack.old nodes.old.all) (lexemes_of bytes.now tokens.now) in leads result nodes.new.all stack.new awaited ≡ awaited }
+    ensures way { let awaited = way (at FileStart stack.old nodes.old.all) (lexemes_of bytes.now tokens.now) in
+        leads result nodes.new.all stack.new awaited ≡ awaited }
     ensures kept { nodes.new.kept ≡ nodes.old.kept }
 {
     let mut mode = Mode::FileStart;

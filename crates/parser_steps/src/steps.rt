@@ -61,7 +61,8 @@ pub fn step_mode(
     view: &View,
     mode: &Mode,
 ) -> Result<Option<Mode>, Memory>
-    ensures step { let awaited = step_mode mode.now nodes.old.all stack.old (seen view.now) in gives result nodes.new.all stack.new awaited ≡ awaited }
+    ensures step { let awaited = step_mode mode.now nodes.old.all stack.old (seen view.now) in
+        gives result nodes.new.all stack.new awaited ≡ awaited }
     ensures kept { nodes.new.kept ≡ nodes.old.kept }
 {
     match mode {

@@ -25,24 +25,33 @@ module _ (forest : Forest) (scopes : Scopes) (seen : Declared → Option Scope) 
   no_parameters (id ∷ rest) = refl
 
   step : (ds : List Declared) (i id : ℕ) (rest : List ℕ)
-      → misfit_arguments (declarations_of forest) scopes seen (drop i ds) (id ∷ rest) ≡ argument_breaks forest scopes seen (slice_get ds i) id ++ misfit_arguments (declarations_of forest) scopes seen (drop (suc i) ds) rest
+      → misfit_arguments (declarations_of forest) scopes seen (drop i ds) (id ∷ rest) ≡ argument_breaks forest scopes
+      seen (slice_get ds i) id ++ misfit_arguments (declarations_of forest) scopes seen (drop (suc i) ds) rest
   unfolding misfit_arguments misfits_parameter declarations_of
   step [] i id rest = no_parameters_here i
     where
-      no_parameters_here : (i : ℕ) → misfit_arguments (declarations_of forest) scopes seen (drop i []) (id ∷ rest) ≡ misfit_arguments (declarations_of forest) scopes seen (drop (suc i) []) rest
+      no_parameters_here : (i : ℕ) → misfit_arguments (declarations_of forest) scopes seen (drop i [])
+          (id ∷ rest) ≡ misfit_arguments (declarations_of forest) scopes seen (drop (suc i) []) rest
       no_parameters_here zero = sym (no_parameters rest)
       no_parameters_here (suc i) = sym (no_parameters rest)
   step (d ∷ ds) zero id rest = refl
   step (d ∷ ds) (suc i) id rest = step ds i id rest
 
-  pub arguments_more : (found initial all : List Found) (ds : List Declared) (ids : List ℕ) (i id : ℕ) → i < length ids → id ≡ get_or ids i id
+  pub arguments_more : (found initial all : List Found) (ds : List Declared) (ids : List ℕ) (i id : ℕ) →
+      i < length ids → id ≡ get_or ids i id
       → found ++ misfit_arguments (declarations_of forest) scopes seen (drop i ds) (drop i ids) ≡ initial ++ all
-      → (found ++ argument_breaks forest scopes seen (slice_get ds i) id) ++ misfit_arguments (declarations_of forest) scopes seen (drop (i + 1) ds) (drop (i + 1) ids) ≡ initial ++ all
+      → (found ++ argument_breaks forest scopes seen (slice_get ds i) id)
+      ++ misfit_arguments (declarations_of forest) scopes seen (drop (i + 1) ds) (drop (i + 1) ids) ≡ initial ++ all
   arguments_more found initial all ds ids i id l e h =
-      append_assoc found (argument_breaks forest scopes seen (slice_get ds i) id) (misfit_arguments (declarations_of forest) scopes seen (drop (i + 1) ds) (drop (i + 1) ids))
+      append_assoc found (argument_breaks forest scopes seen (slice_get ds i) id)
+      (misfit_arguments (declarations_of forest) scopes seen (drop (i + 1) ds) (drop (i + 1) ids))
       ∙ ap (λ (fs : List Found). found ++ fs) (
-      ap (λ n. argument_breaks forest scopes seen (slice_get ds i) id ++ misfit_arguments (declarations_of forest) scopes seen (drop n ds) (drop (i + 1) ids)) (let f : i + 1 ≡ suc i = omega arith in f)
-      ∙ sym (step ds i id (drop (i + 1) ids)) ∙ ap (λ (xs : List ℕ). misfit_arguments (declarations_of forest) scopes seen (drop i ds) xs) (sym (drop_here ids i id l e)))
+      ap (λ n. argument_breaks forest scopes seen (slice_get ds i) id
+      ++ misfit_arguments (declarations_of forest) scopes seen (drop n ds) (drop (i + 1) ids))
+      (let f : i + 1 ≡ suc i = omega arith in f)
+      ∙ sym (step ds i id (drop (i + 1) ids))
+      ∙ ap (λ (xs : List ℕ). misfit_arguments (declarations_of forest) scopes seen (drop i ds) xs)
+      (sym (drop_here ids i id l e)))
       ∙ h
 
   past : (ds : List Declared) → misfit_arguments (declarations_of forest) scopes seen ds [] ≡ []
@@ -53,4 +62,5 @@ module _ (forest : Forest) (scopes : Scopes) (seen : Declared → Option Scope) 
   pub arguments_all : (found : List Found) (ds : List Declared) (ids : List ℕ) (i : ℕ) → length ids ≤ i
       → found ++ misfit_arguments (declarations_of forest) scopes seen (drop i ds) (drop i ids) ≡ found
   arguments_all found ds ids i l =
-      ap (λ (xs : List ℕ). found ++ misfit_arguments (declarations_of forest) scopes seen (drop i ds) xs) (drop_all i ids l) ∙ ap (λ (fs : List Found). found ++ fs) (past (drop i ds)) ∙ append-nil found
+      ap (λ (xs : List ℕ). found ++ misfit_arguments (declarations_of forest) scopes seen (drop i ds) xs)
+      (drop_all i ids l) ∙ ap (λ (fs : List Found). found ++ fs) (past (drop i ds)) ∙ append-nil found

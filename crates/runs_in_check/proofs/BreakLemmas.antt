@@ -24,49 +24,65 @@ use Rattle.runs_in_check.specs.Callees.{parameters_of, declared_scope, arguments
 use Rattle.runs_in_check.specs.Parts.{lies_elsewhere, misfits_new, made_breaks, new_breaks, super_breaks, method_called, misfits_call, user_call_breaks, enters_wrong, executes_wrong, built_in_breaks, call_breaks, called_breaks, assign_breaks, return_breaks, lies_off, misfits_cast, of_user}
 
 pub constructor_arguments : (forest : Forest) (scopes : Scopes) (object : Option Scope) (arguments : List ℕ) (class : ℕ)
-    → arguments_breaks forest scopes (record { called = Constructor class; object = object; current = object }) arguments
+    → arguments_breaks forest scopes (record { called = Constructor class; object = object; current = object })
+    arguments
     ≡ e3_of_constructor (declarations_of forest) scopes object arguments class
 unfolding parameters_of declared_scope e3_of_constructor
 constructor_arguments forest scopes object arguments class = refl
 
 -- an assignment of a value that fits breaks nothing
-pub right_assign : (p : Declarations) (scopes : Scopes) (place : Pos) (target value : ℕ) → false ≡ misfit_scope (scopes value) (scopes target) → assign_breaks p scopes place target value ≡ []
+pub right_assign : (p : Declarations) (scopes : Scopes) (place : Pos) (target value : ℕ) →
+    false ≡ misfit_scope (scopes value) (scopes target) → assign_breaks p scopes place target value ≡ []
 unfolding assign_breaks
-right_assign p scopes place target value h = go (read p.nodes (target_rule p target) target) (misfit_scope (scopes value) (scopes target)) h
+right_assign p scopes place target value h =
+    go (read p.nodes (target_rule p target) target) (misfit_scope (scopes value) (scopes target)) h
   where
-    go : (o : Option Rule) (b : Bool) → false ≡ b → elim o as (λ _. List Found) [ None ↦ [] | Some rule ↦ broken b rule place ] ≡ []
+    go : (o : Option Rule) (b : Bool) → false ≡ b →
+        elim o as (λ _. List Found) [ None ↦ [] | Some rule ↦ broken b rule place ] ≡ []
     go None b h = refl
     go (Some rule) true h = absurd (true≢false (sym h))
     go (Some rule) false h = refl
 
 module _ (p : Declarations) (types : Types) (scopes : Scopes) (id : ℕ) where
-  pub at_new : (place name_place : Pos) (name arguments : List ℕ) → use_breaks p types scopes id (New place name_place name arguments) ≡ new_breaks p scopes id place name arguments
+  pub at_new : (place name_place : Pos) (name arguments : List ℕ) →
+      use_breaks p types scopes id (New place name_place name arguments) ≡ new_breaks p scopes id place name arguments
   unfolding use_breaks e1 e2 e3 e4_and_e5 e6 e7 e8 e9 e10 made_breaks lies_elsewhere
-  at_new place name_place name arguments = ap (λ (fs : List Found). broken (misfits_new p id name) E1 place ++ fs) (append-nil (made_breaks p scopes id name arguments))
+  at_new place name_place name arguments = ap (λ (fs : List Found). broken (misfits_new p id name) E1 place ++ fs)
+      (append-nil (made_breaks p scopes id name arguments))
 
-  pub at_super : (place : Pos) (arguments : List ℕ) → use_breaks p types scopes id (SuperCall place arguments) ≡ super_breaks p scopes id arguments
+  pub at_super : (place : Pos) (arguments : List ℕ) →
+      use_breaks p types scopes id (SuperCall place arguments) ≡ super_breaks p scopes id arguments
   unfolding use_breaks e1 e2 e3 e4_and_e5 e6 e7 e8 e9 e10 super_breaks
   at_super place arguments = append-nil (super_breaks p scopes id arguments)
 
-  pub at_assign : (place : Pos) (target value : ℕ) → use_breaks p types scopes id (Assign place target value) ≡ assign_breaks p scopes place target value
+  pub at_assign : (place : Pos) (target value : ℕ) →
+      use_breaks p types scopes id (Assign place target value) ≡ assign_breaks p scopes place target value
   unfolding use_breaks e1 e2 e3 e4_and_e5 e6 e7 e8 e9 e10 assign_breaks
   at_assign place target value = append-nil (assign_breaks p scopes place target value)
 
   pub at_local : (place name_place : Pos) (name : List ℕ) (flags : Option ℕ) (declared_type value : ℕ)
-      → use_breaks p types scopes id (LocalWithValue place name_place name flags declared_type value) ≡ broken (misfit_scope (scopes value) (option_and_then (declaration_scope p) (scoped_variable_at p id))) E4 place
+      → use_breaks p types scopes id (LocalWithValue place name_place name flags declared_type value) ≡ broken
+      (misfit_scope (scopes value) (option_and_then (declaration_scope p) (scoped_variable_at p id))) E4 place
   unfolding use_breaks e1 e2 e3 e4_and_e5 e6 e7 e8 e9 e10
-  at_local place name_place name flags declared_type value = append-nil (broken (misfit_scope (scopes value) (option_and_then (declaration_scope p) (scoped_variable_at p id))) E4 place)
+  at_local place name_place name flags declared_type value =
+      append-nil
+      (broken (misfit_scope (scopes value) (option_and_then (declaration_scope p) (scoped_variable_at p id))) E4 place)
 
-  pub at_return : (place : Pos) (value : Option ℕ) → use_breaks p types scopes id (Return place value) ≡ return_breaks p scopes id place value
+  pub at_return : (place : Pos) (value : Option ℕ) →
+      use_breaks p types scopes id (Return place value) ≡ return_breaks p scopes id place value
   unfolding use_breaks e1 e2 e3 e4_and_e5 e6 e7 e8 e9 e10 return_breaks
   at_return place None = refl
   at_return place (Some value) = append-nil (broken (misfit_scope (scopes value) (result_scope_at p id)) E6 place)
 
-  pub at_cast : (place name_place : Pos) (name : List ℕ) (operand : ℕ) → use_breaks p types scopes id (Cast place name_place name operand) ≡ broken (misfits_cast p (scopes operand) name) E9 place
+  pub at_cast : (place name_place : Pos) (name : List ℕ) (operand : ℕ) →
+      use_breaks p types scopes id (Cast place name_place name operand) ≡ broken (misfits_cast p (scopes operand) name)
+      E9 place
   unfolding use_breaks e1 e2 e3 e4_and_e5 e6 e7 e8 e9 e10 lies_off
   at_cast place name_place name operand = append-nil (broken (misfits_cast p (scopes operand) name) E9 place)
 
-  pub at_array : (place : Pos) (element length : ℕ) → use_breaks p types scopes id (NewArray place element length) ≡ broken (holds (written_type p element) (misfits_element p id)) E10 place
+  pub at_array : (place : Pos) (element length : ℕ) →
+      use_breaks p types scopes id (NewArray place element length) ≡ broken
+      (holds (written_type p element) (misfits_element p id)) E10 place
   unfolding use_breaks e1 e2 e3 e4_and_e5 e6 e7 e8 e9 e10
   at_array place element length = refl
 
@@ -83,9 +99,12 @@ module _ (p : Declarations) (types : Types) (scopes : Scopes) (id : ℕ) where
   no_use_of_kind (NewArray a e l) h = absurd (true≢false (sym h))
   no_use_of_kind _ h = refl
 
-  pub no_use : (node : Node) → ((a : Pos) (b : List ℕ) → node ≡ SuperCall a b → ⊥) → ((a b : Pos) (n : List ℕ) (f : Option ℕ) (t v : ℕ) → node ≡ LocalWithValue a b n f t v → ⊥)
-      → ((a : Pos) (t v : ℕ) → node ≡ Assign a t v → ⊥) → ((a : Pos) (v : Option ℕ) → node ≡ Return a v → ⊥) → ((a b : Pos) (n : List ℕ) (o : ℕ) → node ≡ Cast a b n o → ⊥)
-      → ((a : Pos) (n : List ℕ) (o : Option ℕ) (ids : List ℕ) → node ≡ Call a n o ids → ⊥) → ((a b : Pos) (n ids : List ℕ) → node ≡ New a b n ids → ⊥) → ((a : Pos) (e l : ℕ) → node ≡ NewArray a e l → ⊥)
+  pub no_use : (node : Node) → ((a : Pos) (b : List ℕ) → node ≡ SuperCall a b → ⊥) →
+      ((a b : Pos) (n : List ℕ) (f : Option ℕ) (t v : ℕ) → node ≡ LocalWithValue a b n f t v → ⊥)
+      → ((a : Pos) (t v : ℕ) → node ≡ Assign a t v → ⊥) → ((a : Pos) (v : Option ℕ) → node ≡ Return a v → ⊥) →
+      ((a b : Pos) (n : List ℕ) (o : ℕ) → node ≡ Cast a b n o → ⊥)
+      → ((a : Pos) (n : List ℕ) (o : Option ℕ) (ids : List ℕ) → node ≡ Call a n o ids → ⊥) →
+      ((a b : Pos) (n ids : List ℕ) → node ≡ New a b n ids → ⊥) → ((a : Pos) (e l : ℕ) → node ≡ NewArray a e l → ⊥)
       → use_breaks p types scopes id node ≡ []
   unfolding use_breaks e1 e2 e3 e4_and_e5 e6 e7 e8 e9 e10
   no_use (SuperCall a b) h1 h2 h3 h4 h5 h6 h7 h8 = absurd (h1 a b refl)
@@ -101,45 +120,80 @@ module _ (p : Declarations) (types : Types) (scopes : Scopes) (id : ℕ) where
   module _ (place : Pos) (object : Option ℕ) where
     two_arguments : (a b : ℕ) (f : FoundMethod) (o : Option ℕ)
         → broken (holds (if is_some o then None else Some f) (misfits_call p scopes id object)) E2 place
-        ++ (elim (if is_some o then None else Some f) as (λ _. List Found) [ None ↦ [] | Some g ↦ e3_of_call p scopes (receiver_scope p scopes id object) (current_at p id) (a ∷ b ∷ []) g ]
-        ++ (broken (holds o (λ number. enters_wrong p types id number b)) E7 place ++ (broken (holds o (λ number. executes_wrong p types scopes number a b)) E8 place ++ [])))
-        ≡ elim o as (λ _. List Found) [ None ↦ user_call_breaks p scopes id place object (a ∷ b ∷ []) f | Some number ↦ built_in_breaks p types scopes id place number (a ∷ b ∷ []) ]
+        ++ (elim (if is_some o then None else Some f) as (λ _. List Found) [
+          | None ↦ []
+          | Some g ↦ e3_of_call p scopes (receiver_scope p scopes id object) (current_at p id)
+              (a ∷ b ∷ []) g
+        ]
+        ++ (broken (holds o (λ number. enters_wrong p types id number b)) E7 place
+        ++ (broken (holds o (λ number. executes_wrong p types scopes number a b)) E8 place ++ [])))
+        ≡ elim o as (λ _. List Found) [
+          | None ↦ user_call_breaks p scopes id place object (a ∷ b ∷ []) f
+          | Some number ↦ built_in_breaks p types scopes id place number (a ∷ b ∷ [])
+        ]
     unfolding user_call_breaks built_in_breaks
     two_arguments a b f None =
-        ap (λ (fs : List Found). broken (misfits_call p scopes id object f) E2 place ++ fs) (append-nil (e3_of_call p scopes (receiver_scope p scopes id object) (current_at p id) (a ∷ b ∷ []) f))
+        ap (λ (fs : List Found). broken (misfits_call p scopes id object f) E2 place ++ fs)
+        (append-nil (e3_of_call p scopes (receiver_scope p scopes id object) (current_at p id) (a ∷ b ∷ []) f))
     two_arguments a b f (Some number) =
-        ap (λ (fs : List Found). broken (enters_wrong p types id number b) E7 place ++ fs) (append-nil (broken (executes_wrong p types scopes number a b) E8 place))
+        ap (λ (fs : List Found). broken (enters_wrong p types id number b) E7 place ++ fs)
+        (append-nil (broken (executes_wrong p types scopes number a b) E8 place))
 
-    other_arguments : (arguments : List ℕ) (f : FoundMethod) → ((number : ℕ) → built_in_breaks p types scopes id place number arguments ≡ []) → (o : Option ℕ)
+    other_arguments : (arguments : List ℕ) (f : FoundMethod) →
+        ((number : ℕ) → built_in_breaks p types scopes id place number arguments ≡ []) → (o : Option ℕ)
         → broken (holds (if is_some o then None else Some f) (misfits_call p scopes id object)) E2 place
-        ++ (elim (if is_some o then None else Some f) as (λ _. List Found) [ None ↦ [] | Some g ↦ e3_of_call p scopes (receiver_scope p scopes id object) (current_at p id) arguments g ] ++ [])
-        ≡ elim o as (λ _. List Found) [ None ↦ user_call_breaks p scopes id place object arguments f | Some number ↦ built_in_breaks p types scopes id place number arguments ]
+        ++ (elim (if is_some o then None else Some f) as (λ _. List Found) [
+          | None ↦ []
+          | Some g ↦ e3_of_call p scopes (receiver_scope p scopes id object)
+              (current_at p id) arguments g
+        ] ++ [])
+        ≡ elim o as (λ _. List Found) [
+          | None ↦ user_call_breaks p scopes id place object arguments f
+          | Some number ↦ built_in_breaks p types scopes id place number arguments
+        ]
     unfolding user_call_breaks
     other_arguments arguments f none None =
-        ap (λ (fs : List Found). broken (misfits_call p scopes id object f) E2 place ++ fs) (append-nil (e3_of_call p scopes (receiver_scope p scopes id object) (current_at p id) arguments f))
+        ap (λ (fs : List Found). broken (misfits_call p scopes id object f) E2 place ++ fs)
+        (append-nil (e3_of_call p scopes (receiver_scope p scopes id object) (current_at p id) arguments f))
     other_arguments arguments f none (Some number) = rw (none number) refl
 
     two_called : (a b : ℕ) (o : Option FoundMethod)
         → broken (holds (of_user o) (misfits_call p scopes id object)) E2 place
-        ++ (elim (of_user o) as (λ _. List Found) [ None ↦ [] | Some g ↦ e3_of_call p scopes (receiver_scope p scopes id object) (current_at p id) (a ∷ b ∷ []) g ]
-        ++ (broken (holds (option_and_then (λ (f : FoundMethod). f.method.builtin) o) (λ number. enters_wrong p types id number b)) E7 place
-        ++ (broken (holds (option_and_then (λ (f : FoundMethod). f.method.builtin) o) (λ number. executes_wrong p types scopes number a b)) E8 place ++ [])))
+        ++ (elim (of_user o) as (λ _. List Found) [
+          | None ↦ []
+          | Some g ↦ e3_of_call p scopes (receiver_scope p scopes id object) (current_at p id)
+              (a ∷ b ∷ []) g
+        ]
+        ++ (broken
+        (holds (option_and_then (λ (f : FoundMethod). f.method.builtin) o)
+        (λ number. enters_wrong p types id number b)) E7 place
+        ++ (broken
+        (holds (option_and_then (λ (f : FoundMethod). f.method.builtin) o)
+        (λ number. executes_wrong p types scopes number a b)) E8 place ++ [])))
         ≡ called_breaks p types scopes id place object (a ∷ b ∷ []) o
     unfolding called_breaks call_breaks
     two_called a b None = refl
     two_called a b (Some f) = two_arguments a b f f.method.builtin
 
-    other_called : (arguments : List ℕ) → ((number : ℕ) → built_in_breaks p types scopes id place number arguments ≡ []) → (o : Option FoundMethod)
+    other_called : (arguments : List ℕ) →
+        ((number : ℕ) → built_in_breaks p types scopes id place number arguments ≡ []) → (o : Option FoundMethod)
         → broken (holds (of_user o) (misfits_call p scopes id object)) E2 place
-        ++ (elim (of_user o) as (λ _. List Found) [ None ↦ [] | Some g ↦ e3_of_call p scopes (receiver_scope p scopes id object) (current_at p id) arguments g ] ++ [])
+        ++ (elim (of_user o) as (λ _. List Found) [
+          | None ↦ []
+          | Some g ↦ e3_of_call p scopes (receiver_scope p scopes id object)
+              (current_at p id) arguments g
+        ] ++ [])
         ≡ called_breaks p types scopes id place object arguments o
     unfolding called_breaks call_breaks
     other_called arguments none None = refl
     other_called arguments none (Some f) = other_arguments arguments f none f.method.builtin
 
-    pub at_call : (name arguments : List ℕ) → use_breaks p types scopes id (Call place name object arguments) ≡ called_breaks p types scopes id place object arguments (method_called p types id object name)
+    pub at_call : (name arguments : List ℕ) →
+        use_breaks p types scopes id (Call place name object arguments) ≡ called_breaks p types scopes id place object
+        arguments (method_called p types id object name)
     unfolding use_breaks e1 e2 e3 e4_and_e5 e6 e7 e8 e9 e10 built_in_breaks
     at_call name [] = other_called [] (λ number. refl) (method_called p types id object name)
     at_call name (a ∷ []) = other_called (a ∷ []) (λ number. refl) (method_called p types id object name)
     at_call name (a ∷ b ∷ []) = two_called a b (method_called p types id object name)
-    at_call name (a ∷ b ∷ c ∷ rest) = other_called (a ∷ b ∷ c ∷ rest) (λ number. refl) (method_called p types id object name)
+    at_call name (a ∷ b ∷ c ∷ rest) =
+        other_called (a ∷ b ∷ c ∷ rest) (λ number. refl) (method_called p types id object name)

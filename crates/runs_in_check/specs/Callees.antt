@@ -23,12 +23,14 @@ parameters_of forest (Constructor class) = constructor_parameters (declarations_
 
 -- the scope of a parameter where it is declared
 unfoldable pub declared_scope : Forest → Called → Declared → Option Scope
-declared_scope forest (Method m) d = parameter_scope (declarations_of forest) (found_method forest.nodes m).on (found_method forest.nodes m).method d
+declared_scope forest (Method m) d = parameter_scope (declarations_of forest) (found_method forest.nodes m).on
+    (found_method forest.nodes m).method d
 declared_scope forest (Constructor class) d = constructor_parameter_scope (declarations_of forest) class d
 
 -- the scope of a parameter as the caller sees it
 abbrev pub seen_scope : Forest → Callee → Declared → Option Scope
-seen_scope forest callee d = option_and_then (substitute callee.object callee.current) (declared_scope forest callee.called d)
+seen_scope forest callee d =
+    option_and_then (substitute callee.object callee.current) (declared_scope forest callee.called d)
 
 -- a value of a scope doesn't fit a parameter, if there is one
 unfoldable pub misfits_parameter : (Declared → Option Scope) → Option Declared → Option Scope → Bool
@@ -37,8 +39,11 @@ misfits_parameter seen (Some d) value = misfit_scope value (seen d)
 
 -- E3 of an argument, where there is a parameter for it
 abbrev pub argument_breaks : Forest → Scopes → (Declared → Option Scope) → Option Declared → ℕ → List Found
-argument_breaks forest scopes seen o argument = broken (misfits_parameter seen o (scopes argument)) E3 (place_at forest.nodes argument)
+argument_breaks forest scopes seen o argument =
+    broken (misfits_parameter seen o (scopes argument)) E3 (place_at forest.nodes argument)
 
 -- E3 of all arguments
 abbrev pub arguments_breaks : Forest → Scopes → Callee → List ℕ → List Found
-arguments_breaks forest scopes callee arguments = misfit_arguments (declarations_of forest) scopes (seen_scope forest callee) (parameters_of forest callee.called) arguments
+arguments_breaks forest scopes callee arguments =
+    misfit_arguments (declarations_of forest) scopes (seen_scope forest callee) (parameters_of forest callee.called)
+    arguments

@@ -19,21 +19,27 @@ use Rattle.scj_rules.specs.UseRules.{Scopes, this_at, current_at, receiver_scope
 
 -- an object of the class lies elsewhere than in the current scope
 unfoldable pub lies_elsewhere : Declarations → ℕ → ℕ → Bool
-lies_elsewhere p id class = elim (class_scope p class) [ unannotated ↦ false | annotated s ↦ isnt_current p id (In s) | unknown ↦ false ]
+lies_elsewhere p id class =
+    elim (class_scope p class) [ unannotated ↦ false | annotated s ↦ isnt_current p id (In s) | unknown ↦ false ]
 
 abbrev pub misfits_new : Declarations → ℕ → List ℕ → Bool
 misfits_new p id name = holds (class_number p.names name) (lies_elsewhere p id)
 
 -- E3 of `new`
 unfoldable pub made_breaks : Declarations → Scopes → ℕ → List ℕ → List ℕ → List Found
-made_breaks p scopes id name arguments = elim (class_number p.names name) [ None ↦ [] | Some class ↦ e3_of_constructor p scopes (scope_of_new p id class) arguments class ]
+made_breaks p scopes id name arguments =
+    elim (class_number p.names name)
+    [ None ↦ [] | Some class ↦ e3_of_constructor p scopes (scope_of_new p id class) arguments class ]
 
 abbrev pub new_breaks : Declarations → Scopes → ℕ → Pos → List ℕ → List ℕ → List Found
-new_breaks p scopes id place name arguments = broken (misfits_new p id name) E1 place ++ made_breaks p scopes id name arguments
+new_breaks p scopes id place name arguments = broken (misfits_new p id name) E1 place
+    ++ made_breaks p scopes id name arguments
 
 -- E3 of a super call
 unfoldable pub super_breaks : Declarations → Scopes → ℕ → List ℕ → List Found
-super_breaks p scopes id arguments = elim (superclass_at p id) [ None ↦ [] | Some superclass ↦ e3_of_constructor p scopes (this_at p id) arguments superclass ]
+super_breaks p scopes id arguments =
+    elim (superclass_at p id)
+    [ None ↦ [] | Some superclass ↦ e3_of_constructor p scopes (this_at p id) arguments superclass ]
 
 -- the method that a call stands for
 abbrev pub method_called : Declarations → Types → ℕ → Option ℕ → List ℕ → Option FoundMethod
@@ -41,36 +47,46 @@ method_called p types id object name = option_and_then (λ r. called_method p r 
 
 -- E2 and E3 of a call of a user's method
 abbrev pub misfits_call : Declarations → Scopes → ℕ → Option ℕ → FoundMethod → Bool
-misfits_call p scopes id object f = holds (runs_in p f.on f.method) (misfits_runs_in p id (receiver_scope p scopes id object))
+misfits_call p scopes id object f =
+    holds (runs_in p f.on f.method) (misfits_runs_in p id (receiver_scope p scopes id object))
 
 unfoldable pub user_call_breaks : Declarations → Scopes → ℕ → Pos → Option ℕ → List ℕ → FoundMethod → List Found
 user_call_breaks p scopes id place object arguments f =
-    broken (misfits_call p scopes id object f) E2 place ++ e3_of_call p scopes (receiver_scope p scopes id object) (current_at p id) arguments f
+    broken (misfits_call p scopes id object f) E2 place ++ e3_of_call p scopes (receiver_scope p scopes id object)
+    (current_at p id) arguments f
 
 -- E7 and E8 of a call of the framework's method of a number
 abbrev pub enters_wrong : Declarations → Types → ℕ → ℕ → ℕ → Bool
-enters_wrong p types id number r = (number == managed_memory_enter_private_memory) && holds (types r) (misfits_enter p id)
+enters_wrong p types id number r = (number == managed_memory_enter_private_memory)
+    && holds (types r) (misfits_enter p id)
 
 abbrev pub executes_wrong : Declarations → Types → Scopes → ℕ → ℕ → ℕ → Bool
-executes_wrong p types scopes number o r = (number == managed_memory_execute_in_area_of) && holds (types r) (misfits_execute p (scopes o))
+executes_wrong p types scopes number o r = (number == managed_memory_execute_in_area_of)
+    && holds (types r) (misfits_execute p (scopes o))
 
 unfoldable pub built_in_breaks : Declarations → Types → Scopes → ℕ → Pos → ℕ → List ℕ → List Found
 built_in_breaks p types scopes id place number (first ∷ second ∷ []) =
-    broken (enters_wrong p types id number second) E7 place ++ broken (executes_wrong p types scopes number first second) E8 place
+    broken (enters_wrong p types id number second) E7 place
+    ++ broken (executes_wrong p types scopes number first second) E8 place
 built_in_breaks p types scopes id place number _ = []
 
 unfoldable pub call_breaks : Declarations → Types → Scopes → ℕ → Pos → Option ℕ → List ℕ → FoundMethod → List Found
 call_breaks p types scopes id place object arguments f =
-    elim f.method.builtin [ None ↦ user_call_breaks p scopes id place object arguments f | Some number ↦ built_in_breaks p types scopes id place number arguments ]
+    elim f.method.builtin [
+      | None ↦ user_call_breaks p scopes id place object arguments f
+      | Some number ↦ built_in_breaks p types scopes id place number arguments
+    ]
 
-unfoldable pub called_breaks : Declarations → Types → Scopes → ℕ → Pos → Option ℕ → List ℕ → Option FoundMethod → List Found
+unfoldable pub called_breaks : Declarations → Types → Scopes → ℕ → Pos → Option ℕ → List ℕ → Option FoundMethod →
+    List Found
 called_breaks p types scopes id place object arguments None = []
 called_breaks p types scopes id place object arguments (Some f) = call_breaks p types scopes id place object arguments f
 
 -- E4 and E5 of an assignment
 unfoldable pub assign_breaks : Declarations → Scopes → Pos → ℕ → ℕ → List Found
 assign_breaks p scopes place target value =
-    elim (read p.nodes (target_rule p target) target) [ None ↦ [] | Some rule ↦ broken (misfit_scope (scopes value) (scopes target)) rule place ]
+    elim (read p.nodes (target_rule p target) target)
+    [ None ↦ [] | Some rule ↦ broken (misfit_scope (scopes value) (scopes target)) rule place ]
 
 -- E6 of a return
 unfoldable pub return_breaks : Declarations → Scopes → ℕ → Pos → Option ℕ → List Found
@@ -79,7 +95,12 @@ return_breaks p scopes id place (Some value) = broken (misfit_scope (scopes valu
 
 -- E9
 unfoldable pub lies_off : Declarations → Option Scope → ℕ → Bool
-lies_off p operand class = elim (class_scope p class) [ unannotated ↦ false | annotated s ↦ misfit_scope operand (Some (In s)) | unknown ↦ false ]
+lies_off p operand class =
+    elim (class_scope p class) [
+      | unannotated ↦ false
+      | annotated s ↦ misfit_scope operand (Some (In s))
+      | unknown ↦ false
+    ]
 
 abbrev pub misfits_cast : Declarations → Option Scope → List ℕ → Bool
 misfits_cast p operand name = holds (class_number p.names name) (lies_off p operand)

@@ -81,7 +81,8 @@ fn misfits_parameter(
 /// Whether a value of this scope doesn't fit the parameter of a number, if there is one.
 #[tactic(auto, using(crate::proofs::ArgumentLemmas::none_misfits))]
 fn misfits_numbered(uses: &Uses<'_>, callee: &Callee, i: usize, value: &Option<Scope>) -> bool
-    ensures { result ≡ misfits_parameter (seen_scope uses.now callee.now) (slice_get (parameters_of uses.now callee.now.called) i) value.now }
+    ensures { result ≡ misfits_parameter (seen_scope uses.now callee.now)
+        (slice_get (parameters_of uses.now callee.now.called) i) value.now }
 {
     match value {
         Some(_) => {
@@ -101,7 +102,8 @@ fn note_argument(
     i: usize,
     argument: NodeId,
 ) -> Result<(), Memory>
-    ensures { OnOk result (found.new.items ≡ found.old.items ++ argument_breaks uses.now (lookup None scopes.now) (seen_scope uses.now callee.now) (slice_get (parameters_of uses.now callee.now.called) i) argument) }
+    ensures { OnOk result (found.new.items ≡ found.old.items ++ argument_breaks uses.now (lookup None scopes.now)
+        (seen_scope uses.now callee.now) (slice_get (parameters_of uses.now callee.now.called) i) argument) }
 {
     let is_wrong = misfits_numbered(uses, callee, i, &told(scopes, argument));
     let place = place_at(uses.program(), argument);
@@ -117,7 +119,8 @@ pub fn note_arguments(
     callee: &Callee,
     arguments: &[NodeId],
 ) -> Result<(), Memory>
-    ensures { OnOk result (found.new.items ≡ found.old.items ++ arguments_breaks uses.now (lookup None scopes.now) callee.now arguments.now) }
+    ensures { OnOk result (found.new.items ≡ found.old.items
+        ++ arguments_breaks uses.now (lookup None scopes.now) callee.now arguments.now) }
 {
     for i in 0..arguments.len() {
         note_argument(found, uses, scopes, callee, i, arguments[i])?;

@@ -53,7 +53,8 @@ fn note_constructor(
     arguments: &[NodeId],
     class: ClassId,
 ) -> Result<(), Memory>
-    ensures { OnOk result (found.new.items ≡ found.old.items ++ e3_of_constructor (declarations_of uses.now) (lookup None scopes.now) object arguments.now class) }
+    ensures { OnOk result (found.new.items ≡ found.old.items
+        ++ e3_of_constructor (declarations_of uses.now) (lookup None scopes.now) object arguments.now class) }
 {
     let current = object;
     let callee = Callee {
@@ -75,7 +76,8 @@ fn note_made(
     name: &Name,
     arguments: &[NodeId],
 ) -> Result<(), Memory>
-    ensures { OnOk result (found.new.items ≡ found.old.items ++ made_breaks (declarations_of uses.now) (lookup None scopes.now) id name.now arguments.now) }
+    ensures { OnOk result (found.new.items ≡ found.old.items
+        ++ made_breaks (declarations_of uses.now) (lookup None scopes.now) id name.now arguments.now) }
 {
     match uses.class_of(name) {
         Some(class) => {
@@ -97,7 +99,8 @@ fn note_new(
     name: &Name,
     arguments: &[NodeId],
 ) -> Result<(), Memory>
-    ensures { OnOk result (found.new.items ≡ found.old.items ++ new_breaks (declarations_of uses.now) (lookup None scopes.now) id place name.now arguments.now) }
+    ensures { OnOk result (found.new.items ≡ found.old.items
+        ++ new_breaks (declarations_of uses.now) (lookup None scopes.now) id place name.now arguments.now) }
 {
     report_if(found, misfits_new(uses, id, name), Rule::E1, place)?;
     note_made(found, uses, scopes, id, name, arguments)?;
@@ -113,7 +116,8 @@ fn note_super(
     id: NodeId,
     arguments: &[NodeId],
 ) -> Result<(), Memory>
-    ensures { OnOk result (found.new.items ≡ found.old.items ++ super_breaks (declarations_of uses.now) (lookup None scopes.now) id arguments.now) }
+    ensures { OnOk result (found.new.items ≡ found.old.items
+        ++ super_breaks (declarations_of uses.now) (lookup None scopes.now) id arguments.now) }
 {
     match uses.superclass_at(id) {
         Some(superclass) => {
@@ -146,7 +150,8 @@ fn note_assign(
     target: NodeId,
     value: NodeId,
 ) -> Result<(), Memory>
-    ensures { OnOk result (found.new.items ≡ found.old.items ++ assign_breaks (declarations_of uses.now) (lookup None scopes.now) place target value) }
+    ensures { OnOk result (found.new.items ≡ found.old.items
+        ++ assign_breaks (declarations_of uses.now) (lookup None scopes.now) place target value) }
 {
     let is_wrong = misfit_scope(&told(scopes, value), &told(scopes, target));
     if !is_wrong {
@@ -163,7 +168,8 @@ fn note_assign(
 
 /// Whether a value doesn't fit the variable that a node declares.
 fn misfits_variable(uses: &Uses<'_>, scopes: &[Option<Scope>], id: NodeId, value: NodeId) -> bool
-    ensures { let p = declarations_of uses.now in result ≡ misfit_scope (lookup None scopes.now value) (option_and_then (declaration_scope p) (scoped_variable_at p id)) }
+    ensures { let p = declarations_of uses.now in result ≡ misfit_scope (lookup None scopes.now value)
+        (option_and_then (declaration_scope p) (scoped_variable_at p id)) }
 {
     let scope = told(scopes, value);
     match &scope {
@@ -181,7 +187,11 @@ fn note_local(
     place: Pos,
     value: NodeId,
 ) -> Result<(), Memory>
-    ensures { let p = declarations_of uses.now in OnOk result (found.new.items ≡ found.old.items ++ broken (misfit_scope (lookup None scopes.now value) (option_and_then (declaration_scope p) (scoped_variable_at p id))) E4 place) }
+    ensures { let p = declarations_of uses.now in
+        OnOk result (found.new.items ≡ found.old.items
+        ++ broken
+        (misfit_scope (lookup None scopes.now value) (option_and_then (declaration_scope p) (scoped_variable_at p id)))
+        E4 place) }
 {
     let is_wrong = misfits_variable(uses, scopes, id, value);
     report_if(found, is_wrong, Rule::E4, place)?;
@@ -209,7 +219,8 @@ fn note_return(
     place: Pos,
     value: &Option<NodeId>,
 ) -> Result<(), Memory>
-    ensures { OnOk result (found.new.items ≡ found.old.items ++ return_breaks (declarations_of uses.now) (lookup None scopes.now) id place value.now) }
+    ensures { OnOk result (found.new.items ≡ found.old.items
+        ++ return_breaks (declarations_of uses.now) (lookup None scopes.now) id place value.now) }
 {
     match value {
         Some(value) => {
@@ -252,7 +263,8 @@ fn note_cast(
     name: &Name,
     operand: NodeId,
 ) -> Result<(), Memory>
-    ensures { OnOk result (found.new.items ≡ found.old.items ++ broken (misfits_cast (declarations_of uses.now) (lookup None scopes.now operand) name.now) E9 place) }
+    ensures { OnOk result (found.new.items ≡ found.old.items
+        ++ broken (misfits_cast (declarations_of uses.now) (lookup None scopes.now operand) name.now) E9 place) }
 {
     let is_wrong = misfits_cast(uses, &told(scopes, operand), name);
     report_if(found, is_wrong, Rule::E9, place)?;
@@ -272,7 +284,8 @@ fn is_outer_of_current(uses: &Uses<'_>, scope: ScopeId, current: &Scope) -> bool
 
 /// Whether another scope is current than one that lies in this scope or is this scope.
 fn isnt_in_current(uses: &Uses<'_>, id: NodeId, scope: ScopeId) -> bool
-    ensures { let p = declarations_of uses.now in result ≡ holds (current_at p id) (λ current. not (is_outer_of_current p scope current)) }
+    ensures { let p = declarations_of uses.now in
+        result ≡ holds (current_at p id) (λ current. not (is_outer_of_current p scope current)) }
 {
     match &uses.current_at(id) {
         Some(current) => !is_outer_of_current(uses, scope, current),
@@ -313,7 +326,9 @@ fn note_new_array(
     place: Pos,
     element: NodeId,
 ) -> Result<(), Memory>
-    ensures { let p = declarations_of uses.now in OnOk result (found.new.items ≡ found.old.items ++ broken (holds (written_type p element) (misfits_element p id)) E10 place) }
+    ensures { let p = declarations_of uses.now in
+        OnOk result (found.new.items ≡ found.old.items
+        ++ broken (holds (written_type p element) (misfits_element p id)) E10 place) }
 {
     report_if(found, misfits_array(uses, id, element), Rule::E10, place)?;
     Ok(())
@@ -329,7 +344,8 @@ pub fn note_uses(
     id: NodeId,
     node: &Node,
 ) -> Result<(), Memory>
-    ensures { OnOk result (found.new.items ≡ found.old.items ++ use_breaks (declarations_of uses.now) (lookup None types.now) (lookup None scopes.now) id node.now) }
+    ensures { OnOk result (found.new.items ≡ found.old.items
+        ++ use_breaks (declarations_of uses.now) (lookup None types.now) (lookup None scopes.now) id node.now) }
 {
     match node {
         Node::New {

@@ -63,7 +63,8 @@ fn misfits_call(
     object: &Option<NodeId>,
     method: &MethodRef,
 ) -> bool
-    ensures { result ≡ misfits_call (declarations_of uses.now) (lookup None scopes.now) id object.now (found_method uses.now.nodes method.now) }
+    ensures { result ≡ misfits_call (declarations_of uses.now) (lookup None scopes.now) id object.now
+        (found_method uses.now.nodes method.now) }
 {
     match uses.runs_in(method) {
         Some(scope) => {
@@ -81,7 +82,12 @@ fn callee_of(
     object: &Option<NodeId>,
     method: &MethodRef,
 ) -> Callee
-    ensures { let p = declarations_of uses.now in result ≡ record { called = Method method.now; object = receiver_scope p (lookup None scopes.now) id object.now; current = current_at p id } }
+    ensures { let p = declarations_of uses.now in
+        result ≡ record {
+          called = Method method.now;
+          object = receiver_scope p (lookup None scopes.now) id object.now;
+          current = current_at p id;
+        } }
 {
     Callee {
         called: Called::Method(*method),
@@ -101,7 +107,9 @@ fn note_user_call(
     arguments: &[NodeId],
     method: &MethodRef,
 ) -> Result<(), Memory>
-    ensures { OnOk result (found.new.items ≡ found.old.items ++ user_call_breaks (declarations_of uses.now) (lookup None scopes.now) id place object.now arguments.now (found_method uses.now.nodes method.now)) }
+    ensures { OnOk result (found.new.items ≡ found.old.items
+        ++ user_call_breaks (declarations_of uses.now) (lookup None scopes.now) id place object.now arguments.now
+        (found_method uses.now.nodes method.now)) }
 {
     let is_wrong = misfits_call(uses, scopes, id, object, method);
     report_if(found, is_wrong, Rule::E2, place)?;
@@ -150,7 +158,8 @@ fn runs_off(uses: &Uses<'_>, scope: ScopeId, method: &MethodRef) -> bool
 
 /// Whether there is a method that runs neither in `CALLER` nor in the scope.
 fn is_run_off(uses: &Uses<'_>, scope: ScopeId, run: &Option<MethodRef>) -> bool
-    ensures { result ≡ holds (option_map (found_method uses.now.nodes) run.now) (runs_off (declarations_of uses.now) scope) }
+    ensures { result ≡ holds (option_map (found_method uses.now.nodes) run.now)
+        (runs_off (declarations_of uses.now) scope) }
 {
     match run {
         Some(method) => runs_off(uses, scope, method),
@@ -197,7 +206,8 @@ fn misfits_enter(uses: &Uses<'_>, id: NodeId, t: &Ty) -> bool
 
 /// Whether a method runs in another scope than this one, or this one isn't named.
 fn misfits_area(uses: &Uses<'_>, area: &Scope, method: &MethodRef) -> bool
-    ensures { let p = declarations_of uses.now in result ≡ (not (is_named_scope area.now) || misfits_area p area.now (found_method uses.now.nodes method.now)) }
+    ensures { let p = declarations_of uses.now in
+        result ≡ (not (is_named_scope area.now) || misfits_area p area.now (found_method uses.now.nodes method.now)) }
 {
     if !is_named_scope(area) {
         return true;
@@ -211,7 +221,8 @@ fn misfits_area(uses: &Uses<'_>, area: &Scope, method: &MethodRef) -> bool
 /// Whether a `run`, if there is one, may not be run in the area of an object of this scope.
 #[tactic(auto, unfolding(crate::specs::Parts::area_misfits))]
 fn area_misfits(uses: &Uses<'_>, area: &Option<Scope>, run: &Option<MethodRef>) -> bool
-    ensures { result ≡ area_misfits (declarations_of uses.now) area.now (option_map (found_method uses.now.nodes) run.now) }
+    ensures { result ≡ area_misfits (declarations_of uses.now) area.now
+        (option_map (found_method uses.now.nodes) run.now) }
 {
     match (run, area) {
         (Some(method), Some(area)) => misfits_area(uses, area, method),
@@ -259,7 +270,8 @@ fn executes_wrong(
     first: NodeId,
     second: NodeId,
 ) -> bool
-    ensures { result ≡ executes_wrong (declarations_of uses.now) (lookup None types.now) (lookup None scopes.now) number first second }
+    ensures { result ≡ executes_wrong (declarations_of uses.now) (lookup None types.now)
+        (lookup None scopes.now) number first second }
 {
     if number != MANAGED_MEMORY_EXECUTE_IN_AREA_OF {
         return false;
@@ -282,7 +294,9 @@ fn note_built_in(
     number: MethodId,
     arguments: &[NodeId],
 ) -> Result<(), Memory>
-    ensures { OnOk result (found.new.items ≡ found.old.items ++ built_in_breaks (declarations_of uses.now) (lookup None types.now) (lookup None scopes.now) id place number arguments.now) }
+    ensures { OnOk result (found.new.items ≡ found.old.items
+        ++ built_in_breaks (declarations_of uses.now) (lookup None types.now) (lookup None scopes.now) id place number
+        arguments.now) }
 {
     match arguments {
         [first, second] => {
@@ -309,7 +323,9 @@ fn note_called(
     arguments: &[NodeId],
     method: &MethodRef,
 ) -> Result<(), Memory>
-    ensures { OnOk result (found.new.items ≡ found.old.items ++ call_breaks (declarations_of uses.now) (lookup None types.now) (lookup None scopes.now) id place object.now arguments.now (found_method uses.now.nodes method.now)) }
+    ensures { OnOk result (found.new.items ≡ found.old.items
+        ++ call_breaks (declarations_of uses.now) (lookup None types.now) (lookup None scopes.now) id place object.now
+        arguments.now (found_method uses.now.nodes method.now)) }
 {
     match method_rows::builtin(uses.program(), method) {
         Some(number) => {
@@ -336,7 +352,9 @@ fn note_method(
     arguments: &[NodeId],
     method: &Option<MethodRef>,
 ) -> Result<(), Memory>
-    ensures { OnOk result (found.new.items ≡ found.old.items ++ called_breaks (declarations_of uses.now) (lookup None types.now) (lookup None scopes.now) id place object.now arguments.now (option_map (found_method uses.now.nodes) method.now)) }
+    ensures { OnOk result (found.new.items ≡ found.old.items
+        ++ called_breaks (declarations_of uses.now) (lookup None types.now) (lookup None scopes.now) id place object.now
+        arguments.now (option_map (found_method uses.now.nodes) method.now)) }
 {
     match method {
         Some(method) => {
@@ -361,7 +379,10 @@ pub fn note_call(
     object: &Option<NodeId>,
     arguments: &[NodeId],
 ) -> Result<(), Memory>
-    ensures { let p = declarations_of uses.now in OnOk result (found.new.items ≡ found.old.items ++ called_breaks p (lookup None types.now) (lookup None scopes.now) id place object.now arguments.now (method_called p (lookup None types.now) id object.now name.now)) }
+    ensures { let p = declarations_of uses.now in
+        OnOk result (found.new.items ≡ found.old.items
+        ++ called_breaks p (lookup None types.now) (lookup None scopes.now) id place object.now arguments.now
+        (method_called p (lookup None types.now) id object.now name.now)) }
 {
     let method = called(uses, types, id, name, object);
     note_method(

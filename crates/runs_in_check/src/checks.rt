@@ -65,7 +65,9 @@ fn note_looked_at(
     scopes: &[Option<Scope>],
     id: NodeId,
 ) -> Result<(), Memory>
-    ensures { let p = declarations_of uses.now in OnOk result (found.new.items ≡ found.old.items ++ at_node p (use_breaks p (lookup None types.now) (lookup None scopes.now)) id) }
+    ensures { let p = declarations_of uses.now in
+        OnOk result (found.new.items ≡ found.old.items
+        ++ at_node p (use_breaks p (lookup None types.now) (lookup None scopes.now)) id) }
 {
     match uses.node(id) {
         Some(node) => {
@@ -84,7 +86,9 @@ fn note_node(
     scopes: &[Option<Scope>],
     id: NodeId,
 ) -> Result<(), Memory>
-    ensures { let p = declarations_of uses.now in OnOk result (found.new.items ≡ found.old.items ++ at_node p (use_breaks p (lookup None types.now) (lookup None scopes.now)) id) }
+    ensures { let p = declarations_of uses.now in
+        OnOk result (found.new.items ≡ found.old.items
+        ++ at_node p (use_breaks p (lookup None types.now) (lookup None scopes.now)) id) }
 {
     if !may_break_at(uses, id) {
         return Ok(());
@@ -100,7 +104,9 @@ fn found_at_nodes(
     types: &[Option<Ty>],
     scopes: &[Option<Scope>],
 ) -> Result<Vec<Found>, Memory>
-    ensures { let p = declarations_of uses.now in IfOk result (λ found. found.items ≡ over_nodes p (use_breaks p (lookup None types.now) (lookup None scopes.now))) }
+    ensures { let p = declarations_of uses.now in
+        IfOk result
+        (λ found. found.items ≡ over_nodes p (use_breaks p (lookup None types.now) (lookup None scopes.now))) }
 {
     let program = uses.program();
     let mut found = Vec::new(alloc);
@@ -129,7 +135,8 @@ pub fn check_uses(
     types: &[Option<Ty>],
 ) -> Result<Vec<Found>, Memory>
     requires { types.now ≡ types_in (declarations_of uses.now) }
-    ensures { IfOk result (λ found. AreInOrder (broken_uses (declarations_of uses.now) (lookup None types.now)) found.items) }
+    ensures { IfOk result
+        (λ found. AreInOrder (broken_uses (declarations_of uses.now) (lookup None types.now)) found.items) }
 {
     let mut found = found_uses(alloc, uses, types)?;
     put_in_order(&mut found);
@@ -147,7 +154,8 @@ pub fn check_scopes(
     requires table { IsTableOf program.now table.now }
     requires types { types.now ≡ types_in (declarations_of program.now) }
     requires tree { IsTreeOf program.now tree.now }
-    ensures { IfOk result (λ found. AreInOrder (broken_uses (declarations_of program.now) (lookup None types.now)) found.items) }
+    ensures { IfOk result
+        (λ found. AreInOrder (broken_uses (declarations_of program.now) (lookup None types.now)) found.items) }
 {
     let contexts = Contexts::of(alloc, program)?;
     let returns = returning(alloc, program)?;
@@ -166,8 +174,10 @@ pub fn joined_report(
     annotations: Vec<Found>,
     uses: &[Found],
 ) -> Result<Vec<Found>, Memory>
-    requires annotations { (finding : Finding) → Contains annotations.items finding ↔ Contains (broken_annotations (declarations_of program.now)) finding }
-    requires uses { let p = declarations_of program.now in (finding : Finding) → Contains uses.now finding ↔ Contains (broken_uses p (lookup None (types_in p))) finding }
+    requires annotations { (finding : Finding) →
+        Contains annotations.items finding ↔ Contains (broken_annotations (declarations_of program.now)) finding }
+    requires uses { let p = declarations_of program.now in (finding : Finding) →
+        Contains uses.now finding ↔ Contains (broken_uses p (lookup None (types_in p))) finding }
     ensures { IfOk result (λ found. IsReport (BreaksUseRules program.now) found.items) }
 {
     let _ = program;

@@ -57,7 +57,8 @@ fn scope_of_found(
     object: &Option<Scope>,
     field: &Option<FieldRef>,
 ) -> Option<Scope>
-    ensures { result ≡ option_and_then (scope_of_field (declarations_of uses.now) object.now) (option_map (found_field uses.now.nodes) field.now) }
+    ensures { result ≡ option_and_then (scope_of_field (declarations_of uses.now) object.now)
+        (option_map (found_field uses.now.nodes) field.now) }
 {
     match field {
         Some(field) => scope_of_field(uses, object, field),
@@ -110,7 +111,8 @@ fn scope_of_call(
     current: &Option<Scope>,
     method: &MethodRef,
 ) -> Option<Scope>
-    ensures { result ≡ scope_of_call (declarations_of uses.now) object.now current.now (found_method uses.now.nodes method.now) }
+    ensures { result ≡ scope_of_call (declarations_of uses.now) object.now current.now
+        (found_method uses.now.nodes method.now) }
 {
     let scope = uses.result_scope(method)?;
     substitute(object, current, &scope)
@@ -123,7 +125,8 @@ fn scope_of_called(
     current: &Option<Scope>,
     method: &Option<MethodRef>,
 ) -> Option<Scope>
-    ensures { let p = declarations_of uses.now in result ≡ option_and_then (scope_of_call p object.now current.now) (option_map (found_method uses.now.nodes) method.now) }
+    ensures { let p = declarations_of uses.now in result ≡ option_and_then (scope_of_call p object.now current.now)
+        (option_map (found_method uses.now.nodes) method.now) }
 {
     match method {
         Some(method) => scope_of_call(uses, object, current, method),
@@ -160,7 +163,10 @@ fn scope_of_access(
     name: &Name,
     object: NodeId,
 ) -> Option<Scope>
-    ensures { let p = declarations_of uses.now in result ≡ option_and_then (λ r. option_and_then (scope_of_field p (lookup None scopes.now object)) (accessed_field p r name.now)) (receiver p (lookup None types.now) object) }
+    ensures { let p = declarations_of uses.now in
+        result ≡ option_and_then
+        (λ r. option_and_then (scope_of_field p (lookup None scopes.now object)) (accessed_field p r name.now))
+        (receiver p (lookup None types.now) object) }
 {
     let receiver = uses.receiver(types, object)?;
     let field = uses.accessed_field(&receiver, name);
@@ -175,7 +181,8 @@ pub fn called(
     name: &Name,
     object: &Option<NodeId>,
 ) -> Option<MethodRef>
-    ensures { let p = declarations_of uses.now in option_map (found_method uses.now.nodes) result ≡ option_and_then (λ r. called_method p r name.now) (call_receiver p (lookup None types.now) id object.now) }
+    ensures { let p = declarations_of uses.now in option_map (found_method uses.now.nodes) result ≡ option_and_then
+        (λ r. called_method p r name.now) (call_receiver p (lookup None types.now) id object.now) }
 {
     let receiver = uses.call_receiver(types, id, object)?;
     uses.called_method(&receiver, name)
@@ -191,7 +198,11 @@ fn scope_of_value(
     name: &Name,
     object: &Option<NodeId>,
 ) -> Option<Scope>
-    ensures { let p = declarations_of uses.now in result ≡ option_and_then (λ r. option_and_then (scope_of_call p (receiver_scope p (lookup None scopes.now) id object.now) (current_at p id)) (called_method p r name.now)) (call_receiver p (lookup None types.now) id object.now) }
+    ensures { let p = declarations_of uses.now in
+        result ≡ option_and_then
+        (λ r. option_and_then
+        (scope_of_call p (receiver_scope p (lookup None scopes.now) id object.now) (current_at p id))
+        (called_method p r name.now)) (call_receiver p (lookup None types.now) id object.now) }
 {
     let receiver = uses.call_receiver(types, id, object)?;
     let method = uses.called_method(&receiver, name);
@@ -201,7 +212,8 @@ fn scope_of_value(
 
 /// The scope of a new object of a class of this name.
 fn scope_of_made(uses: &Uses<'_>, id: NodeId, name: &Name) -> Option<Scope>
-    ensures { result ≡ option_and_then (scope_of_new (declarations_of uses.now) id) (class_number (declarations_of uses.now).names name.now) }
+    ensures { result ≡ option_and_then (scope_of_new (declarations_of uses.now) id)
+        (class_number (declarations_of uses.now).names name.now) }
 {
     let class = uses.class_of(name)?;
     scope_of_new(uses, id, class)
@@ -214,7 +226,8 @@ fn scope_of_indexed(
     scopes: &[Option<Scope>],
     array: NodeId,
 ) -> Option<Scope>
-    ensures { result ≡ option_and_then (scope_of_element (declarations_of uses.now) (lookup None scopes.now array)) (lookup None types.now array) }
+    ensures { result ≡ option_and_then (scope_of_element (declarations_of uses.now) (lookup None scopes.now array))
+        (lookup None types.now array) }
 {
     let t = type_told(types, array)?;
     scope_of_element(uses, &told(scopes, array), &t)
@@ -227,7 +240,9 @@ fn scope_of_cast(
     name: &Name,
     operand: NodeId,
 ) -> Option<Scope>
-    ensures { let p = declarations_of uses.now in result ≡ option_and_then (λ class. scope_in_class p class (lookup None scopes.now operand)) (class_number p.names name.now) }
+    ensures { let p = declarations_of uses.now in
+        result ≡ option_and_then (λ class. scope_in_class p class (lookup None scopes.now operand))
+        (class_number p.names name.now) }
 {
     let class = uses.class_of(name)?;
     scope_in_class(uses, class, &told(scopes, operand))
@@ -242,7 +257,8 @@ fn scope_of(
     id: NodeId,
     node: &Node,
 ) -> Option<Scope>
-    ensures { result ≡ scope_of (declarations_of uses.now) (lookup None types.now) (lookup None scopes.now) id node.now }
+    ensures { result ≡ scope_of (declarations_of uses.now) (lookup None types.now)
+        (lookup None scopes.now) id node.now }
 {
     match node {
         Node::This { .. } => uses.this_at(id),
@@ -300,7 +316,8 @@ fn is_scopeless(types: &[Option<Ty>], id: NodeId, kind: NodeKind) -> bool
 
 /// Whether there is a node of this number that has no scope, as its kind or its type tells.
 fn is_scopeless_at(uses: &Uses<'_>, types: &[Option<Ty>], id: NodeId) -> bool
-    ensures { result ≡ holds (option_map kind_of (slice_get uses.now.nodes id)) (is_scopeless (lookup None types.now id)) }
+    ensures { result ≡ holds (option_map kind_of (slice_get uses.now.nodes id))
+        (is_scopeless (lookup None types.now id)) }
 {
     match uses.program().kind(id) {
         Some(kind) => is_scopeless(types, id, kind),

@@ -114,21 +114,24 @@ impl<'a> Uses<'a> {
 
     /// The scope in which a method runs.
     pub fn runs_in(&self, method: &MethodRef) -> Option<Scope>
-        ensures { result ≡ runs_in (declarations_of self.now) (found_method self.now.nodes method.now).on (found_method self.now.nodes method.now).method }
+        ensures { result ≡ runs_in (declarations_of self.now) (found_method self.now.nodes method.now).on
+            (found_method self.now.nodes method.now).method }
     {
         self.scoped.runs_in(method)
     }
 
     /// The scope of a method's result.
     pub fn result_scope(&self, method: &MethodRef) -> Option<Scope>
-        ensures { result ≡ result_scope (declarations_of self.now) (found_method self.now.nodes method.now).on (found_method self.now.nodes method.now).method }
+        ensures { result ≡ result_scope (declarations_of self.now) (found_method self.now.nodes method.now).on
+            (found_method self.now.nodes method.now).method }
     {
         self.scoped.result_scope(method)
     }
 
     /// The scope of a method's parameter.
     pub fn parameter_scope(&self, method: &MethodRef, parameter: &Declared) -> Option<Scope>
-        ensures { result ≡ parameter_scope (declarations_of self.now) (found_method self.now.nodes method.now).on (found_method self.now.nodes method.now).method parameter.now }
+        ensures { result ≡ parameter_scope (declarations_of self.now) (found_method self.now.nodes method.now).on
+            (found_method self.now.nodes method.now).method parameter.now }
     {
         self.scoped.parameter_scope(method, parameter)
     }
@@ -142,14 +145,16 @@ impl<'a> Uses<'a> {
 
     /// The scope of the field for which a row stands.
     pub fn field_scope(&self, field: &FieldRef) -> Option<Scope>
-        ensures { let f = found_field self.now.nodes field.now in result ≡ field_scope (declarations_of self.now) f.on f.field }
+        ensures { let f = found_field self.now.nodes field.now in
+            result ≡ field_scope (declarations_of self.now) f.on f.field }
     {
         self.scoped.found_field_scope(field)
     }
 
     /// The scope of the variable that a node declares.
     pub fn variable_scope(&self, node: NodeId) -> Option<Scope>
-        ensures { result ≡ option_and_then (declaration_scope (declarations_of self.now)) (scoped_variable_at (declarations_of self.now) node) }
+        ensures { result ≡ option_and_then (declaration_scope (declarations_of self.now))
+            (scoped_variable_at (declarations_of self.now) node) }
     {
         self.scoped.variable_scope(node)
     }
@@ -179,7 +184,8 @@ impl<'a> Uses<'a> {
     /// The scope of the result of a member of a class, if that is a method.
     #[tactic(auto, using(crate::proofs::CallLemmas::result_of_method, crate::proofs::CallLemmas::result_of_none))]
     fn result_of(&self, class: ClassId, member: NodeId) -> Option<Scope>
-        ensures { let p = declarations_of self.now in result ≡ option_and_then (λ (m : DeclaredMethod). result_scope p class m) (method_at p.nodes member) }
+        ensures { let p = declarations_of self.now in
+            result ≡ option_and_then (λ (m : DeclaredMethod). result_scope p class m) (method_at p.nodes member) }
     {
         if !is_method(self.program(), member) {
             return None;
@@ -228,21 +234,24 @@ impl<'a> Uses<'a> {
 
     /// The field of a name that a receiver has, as a short row.
     pub fn accessed_field(&self, receiver: &Receiver, name: &Name) -> Option<FieldRef>
-        ensures { option_map (found_field self.now.nodes) result ≡ accessed_field (declarations_of self.now) receiver.now name.now }
+        ensures { option_map (found_field self.now.nodes) result ≡ accessed_field
+            (declarations_of self.now) receiver.now name.now }
     {
         names::accessed_field(&self.known, receiver, name)
     }
 
     /// The method of a name that a receiver has.
     pub fn called_method(&self, receiver: &Receiver, name: &Name) -> Option<MethodRef>
-        ensures { option_map (found_method self.now.nodes) result ≡ called_method (declarations_of self.now) receiver.now name.now }
+        ensures { option_map (found_method self.now.nodes) result ≡ called_method
+            (declarations_of self.now) receiver.now name.now }
     {
         names::called_method(&self.known, receiver, name)
     }
 
     /// The method of a name that a class has.
     pub fn method_named(&self, class: ClassId, name: &Name) -> Option<MethodRef>
-        ensures { option_map (found_method self.now.nodes) result ≡ method_named (declarations_of self.now).classes class name.now }
+        ensures { option_map (found_method self.now.nodes) result ≡ method_named (declarations_of self.now).classes
+            class name.now }
     {
         self.known.classes().method_named(class, name)
     }

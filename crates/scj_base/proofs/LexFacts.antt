@@ -30,26 +30,56 @@ pub record AreTokensOf (file : ℕ) (bytes : List ℕ) (tokens : List Token) : T
   pub whole : tokens ≡ lexemes ++ token_at file bytes End 0 ∷ []
   pub each : All (IsTokenOf file bytes) lexemes
 
-piece_lexeme : (w rest : List ℕ) (found : Option TokenKind) (kind : TokenKind) → Piece w rest found → found ≡ Some kind → Lexeme w rest kind
+piece_lexeme : (w rest : List ℕ) (found : Option TokenKind) (kind : TokenKind) → Piece w rest found →
+    found ≡ Some kind → Lexeme w rest kind
 piece_lexeme _ _ _ kind (blank b rest e) q = absurd (cc)
 piece_lexeme _ _ _ kind (line_comment inside rest a e) q = absurd (cc)
 piece_lexeme _ _ _ kind (block_comment inside rest e) q = absurd (cc)
 piece_lexeme _ _ _ kind (lexeme w rest k is) q = let same : k ≡ kind = cc in subst (Lexeme w rest) same is
 
-from_here : (file : ℕ) (before bytes : List ℕ) (tokens : List Token) → Lexes file before bytes tokens → AreTokensOf file (before ++ bytes) tokens
-from_here _ _ _ _ (ends file before) = rw (append-nil before) (record { lexemes = []; whole = refl; each = λ k d l. absurd (omega arith) })
-from_here _ _ _ _ (skips file before w rest tokens p l) = rw (← append_assoc before w rest) (from_here file (before ++ w) rest tokens l)
+from_here : (file : ℕ) (before bytes : List ℕ) (tokens : List Token) → Lexes file before bytes tokens →
+    AreTokensOf file (before ++ bytes) tokens
+from_here _ _ _ _ (ends file before) =
+    rw (append-nil before) (record { lexemes = []; whole = refl; each = λ k d l. absurd (omega arith) })
+from_here _ _ _ _ (skips file before w rest tokens p l) =
+    rw (← append_assoc before w rest) (from_here file (before ++ w) rest tokens l)
 from_here _ _ _ _ (takes file before w rest kind tokens p l) =
-    let all_more : AreTokensOf file (before ++ (w ++ rest)) tokens = rw (← append_assoc before w rest) (from_here file (before ++ w) rest tokens l) in
+    let all_more : AreTokensOf file (before ++ (w ++ rest)) tokens =
+    rw (← append_assoc before w rest) (from_here file (before ++ w) rest tokens l) in
     let t = token_at file before kind (length w) in
-    let one : IsTokenOf file (before ++ (w ++ rest)) t = record { before = before; lexeme = w; rest = rest; whole = refl; is = piece_lexeme w rest (Some kind) kind p refl; start = refl; len = refl; place = refl } in
-    record { lexemes = t ∷ all_more.lexemes; whole = ap (λ u. t ∷ u) all_more.whole; each = All-cons (IsTokenOf file (before ++ (w ++ rest))) t all_more.lexemes one all_more.each }
+    let one : IsTokenOf file (before ++ (w ++ rest)) t =
+    record {
+      before = before;
+      lexeme = w;
+      rest = rest;
+      whole = refl;
+      is = piece_lexeme w rest
+          (Some kind) kind p refl;
+      start = refl;
+      len = refl;
+      place = refl;
+    } in
+    record {
+      lexemes = t ∷ all_more.lexemes;
+      whole = ap (λ u. t ∷ u) all_more.whole;
+      each = All-cons
+          (IsTokenOf file (before ++ (w ++ rest))) t all_more.lexemes one all_more.each;
+    }
 
-pub tokens_of_lex : (file : ℕ) (bytes : List ℕ) (tokens : List Token) → Lex file bytes tokens → AreTokensOf file bytes tokens
+pub tokens_of_lex : (file : ℕ) (bytes : List ℕ) (tokens : List Token) → Lex file bytes tokens →
+    AreTokensOf file bytes tokens
 tokens_of_lex file bytes tokens l = from_here file [] bytes tokens l
 
 pub token_within : (file : ℕ) (bytes : List ℕ) (t : Token) → IsTokenOf file bytes t → t.start + t.len ≤ length bytes
-token_within file bytes t h = omega (arith, h.start, h.len, ap length h.whole, length-append h.before (h.lexeme ++ h.rest), length-append h.lexeme h.rest)
+token_within file bytes t h =
+    omega (
+      arith,
+      h.start,
+      h.len,
+      ap length h.whole,
+      length-append h.before (h.lexeme ++ h.rest),
+      length-append h.lexeme h.rest,
+    )
 
 -- a token of a text is no end of a file
 pub lexeme_not_end : (w rest : List ℕ) (kind : TokenKind) → Lexeme w rest kind → kind ≡ End → ⊥
@@ -66,28 +96,32 @@ name_short _ _ _ (number w rest h l e) q = absurd (cc)
 name_short _ _ _ (text inside rest a) q = absurd (cc)
 name_short _ _ _ (sign w rest n e h o) q = absurd (cc)
 
-pub text_quoted : (w rest : List ℕ) (kind : TokenKind) → Lexeme w rest kind → kind ≡ Text → (inside : List ℕ) × (w ≡ 34 ∷ (inside ++ 34 ∷ []))
+pub text_quoted : (w rest : List ℕ) (kind : TokenKind) → Lexeme w rest kind → kind ≡ Text → (inside : List ℕ) ×
+    (w ≡ 34 ∷ (inside ++ 34 ∷ []))
 text_quoted _ _ _ (name w rest h l r e) q = absurd (cc)
 text_quoted _ _ _ (word w rest n h e) q = absurd (cc)
 text_quoted _ _ _ (number w rest h l e) q = absurd (cc)
 text_quoted _ _ _ (text inside rest a) q = (inside, refl)
 text_quoted _ _ _ (sign w rest n e h o) q = absurd (cc)
 
-pub word_listed : (w rest : List ℕ) (kind : TokenKind) (m : ℕ) → Lexeme w rest kind → kind ≡ Word m → slice_get words m ≡ Some w
+pub word_listed : (w rest : List ℕ) (kind : TokenKind) (m : ℕ) → Lexeme w rest kind → kind ≡ Word m →
+    slice_get words m ≡ Some w
 word_listed _ _ _ m (name w rest h l r e) q = absurd (cc)
 word_listed _ _ _ m (word w rest n h e) q = let same : n ≡ m = cc in rw (← same) h
 word_listed _ _ _ m (number w rest h l e) q = absurd (cc)
 word_listed _ _ _ m (text inside rest a) q = absurd (cc)
 word_listed _ _ _ m (sign w rest n e h o) q = absurd (cc)
 
-pub sign_listed : (w rest : List ℕ) (kind : TokenKind) (m : ℕ) → Lexeme w rest kind → kind ≡ Sign m → slice_get signs m ≡ Some w
+pub sign_listed : (w rest : List ℕ) (kind : TokenKind) (m : ℕ) → Lexeme w rest kind → kind ≡ Sign m →
+    slice_get signs m ≡ Some w
 sign_listed _ _ _ m (name w rest h l r e) q = absurd (cc)
 sign_listed _ _ _ m (word w rest n h e) q = absurd (cc)
 sign_listed _ _ _ m (number w rest h l e) q = absurd (cc)
 sign_listed _ _ _ m (text inside rest a) q = absurd (cc)
 sign_listed _ _ _ m (sign w rest n e h o) q = let same : n ≡ m = cc in rw (← same) e
 
-pub number_value : (w rest : List ℕ) (kind : TokenKind) (m : ℕ) → Lexeme w rest kind → kind ≡ Number m → (m ≡ value_of w) × (m ≤ 2147483648)
+pub number_value : (w rest : List ℕ) (kind : TokenKind) (m : ℕ) → Lexeme w rest kind → kind ≡ Number m →
+    (m ≡ value_of w) × (m ≤ 2147483648)
 number_value _ _ _ m (name w rest h l r e) q = absurd (cc)
 number_value _ _ _ m (word w rest n h e) q = absurd (cc)
 number_value _ _ _ m (number w rest h l e) q = let same : value_of w ≡ m = cc in (sym same, rw (← same) l)

@@ -131,7 +131,8 @@ left_parenthesis-is : (LEFT_PARENTHESIS ≡ sign_left_parenthesis) × (slice_get
 unfolding signs
 left_parenthesis-is = (refl, refl)
 
-right_parenthesis-is : (RIGHT_PARENTHESIS ≡ sign_right_parenthesis) × (slice_get signs RIGHT_PARENTHESIS ≡ Some (codes ")"))
+right_parenthesis-is : (RIGHT_PARENTHESIS ≡ sign_right_parenthesis) ×
+    (slice_get signs RIGHT_PARENTHESIS ≡ Some (codes ")"))
 unfolding signs
 right_parenthesis-is = (refl, refl)
 
@@ -243,7 +244,8 @@ shift_right-is : (SHIFT_RIGHT ≡ sign_shift_right) × (slice_get signs SHIFT_RI
 unfolding signs
 shift_right-is = (refl, refl)
 
-shift_right_unsigned-is : (SHIFT_RIGHT_UNSIGNED ≡ sign_shift_right_unsigned) × (slice_get signs SHIFT_RIGHT_UNSIGNED ≡ Some (codes ">>>"))
+shift_right_unsigned-is : (SHIFT_RIGHT_UNSIGNED ≡ sign_shift_right_unsigned) ×
+    (slice_get signs SHIFT_RIGHT_UNSIGNED ≡ Some (codes ">>>"))
 unfolding signs
 shift_right_unsigned-is = (refl, refl)
 
@@ -287,14 +289,17 @@ xor_assign-is : (XOR_ASSIGN ≡ sign_xor_assign) × (slice_get signs XOR_ASSIGN 
 unfolding signs
 xor_assign-is = (refl, refl)
 
-shift_left_assign-is : (SHIFT_LEFT_ASSIGN ≡ sign_shift_left_assign) × (slice_get signs SHIFT_LEFT_ASSIGN ≡ Some (codes "<<="))
+shift_left_assign-is : (SHIFT_LEFT_ASSIGN ≡ sign_shift_left_assign) ×
+    (slice_get signs SHIFT_LEFT_ASSIGN ≡ Some (codes "<<="))
 unfolding signs
 shift_left_assign-is = (refl, refl)
 
-shift_right_assign-is : (SHIFT_RIGHT_ASSIGN ≡ sign_shift_right_assign) × (slice_get signs SHIFT_RIGHT_ASSIGN ≡ Some (codes ">>="))
+shift_right_assign-is : (SHIFT_RIGHT_ASSIGN ≡ sign_shift_right_assign) ×
+    (slice_get signs SHIFT_RIGHT_ASSIGN ≡ Some (codes ">>="))
 unfolding signs
 shift_right_assign-is = (refl, refl)
 
-shift_right_unsigned_assign-is : (SHIFT_RIGHT_UNSIGNED_ASSIGN ≡ sign_shift_right_unsigned_assign) × (slice_get signs SHIFT_RIGHT_UNSIGNED_ASSIGN ≡ Some (codes ">>>="))
+shift_right_unsigned_assign-is : (SHIFT_RIGHT_UNSIGNED_ASSIGN ≡ sign_shift_right_unsigned_assign) ×
+    (slice_get signs SHIFT_RIGHT_UNSIGNED_ASSIGN ≡ Some (codes ">>>="))
 unfolding signs
 shift_right_unsigned_assign-is = (refl, refl)

@@ -1,4 +1,5 @@
-//! Places, rules, statuses, names and tokens, and the faults and values of a run: the words that every other crate speaks.
+//! Places, rules, statuses, names and tokens, and the faults and values of a run: the words that every other crate
+//! speaks.
 #![tactic(auto)]
 
 pub mod errors;

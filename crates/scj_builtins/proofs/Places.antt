@@ -33,22 +33,58 @@ AreThere (m ∷ ms) = (slice_get framework_methods m.number ≡ Some m) × AreTh
 
 all_there : AreThere framework_methods
 unfolding AreThere framework_methods
-all_there = (refl, (refl, (refl, (refl, (refl, (refl, (refl, (refl, (refl, (refl, (refl, (refl, (refl, (refl, (refl, (refl, (refl, (refl, (refl, tt)))))))))))))))))))
+all_there = (
+  refl,
+  (
+    refl,
+    (
+      refl,
+      (
+        refl,
+        (
+          refl,
+          (
+            refl,
+            (
+              refl,
+              (
+                refl,
+                (
+                  refl,
+                  (
+                    refl,
+                    (refl, (refl, (refl, (refl, (refl, (refl, (refl, (refl, (refl, tt))))))))),
+                  ),
+                ),
+              ),
+            ),
+          ),
+        ),
+      ),
+    ),
+  ),
+)
 
-step : (test : FrameworkMethod → Bool) (x : FrameworkMethod) (rest : Option FrameworkMethod) (m : FrameworkMethod) (b : Bool) → slice_get framework_methods x.number ≡ Some x
-    → (rest ≡ Some m → slice_get framework_methods m.number ≡ Some m) → (if b then Some x else rest) ≡ Some m → slice_get framework_methods m.number ≡ Some m
+step : (test : FrameworkMethod → Bool) (x : FrameworkMethod) (rest : Option FrameworkMethod) (m : FrameworkMethod)
+    (b : Bool) → slice_get framework_methods x.number ≡ Some x
+    → (rest ≡ Some m → slice_get framework_methods m.number ≡ Some m) → (if b then Some x else rest) ≡ Some m →
+    slice_get framework_methods m.number ≡ Some m
 step test x rest m true here later h =
     let same : x ≡ m = cc in
     let P : FrameworkMethod → Type 0 = λ y. slice_get framework_methods y.number ≡ Some y in
     subst P same here
 step test x rest m false here later h = later h
 
-found_there : (test : FrameworkMethod → Bool) (ms : List FrameworkMethod) (m : FrameworkMethod) → AreThere ms → find test ms ≡ Some m → slice_get framework_methods m.number ≡ Some m
+found_there : (test : FrameworkMethod → Bool) (ms : List FrameworkMethod) (m : FrameworkMethod) → AreThere ms →
+    find test ms ≡ Some m → slice_get framework_methods m.number ≡ Some m
 unfolding AreThere
 found_there test [] m there h = cc
 found_there test (x ∷ xs) m there h = step test x (find test xs) m (test x) there.0 (found_there test xs m there.1) h
 
 -- a method that is found by its class and its name is at its number
-pub named_there : (class : ℕ) (name : List ℕ) (m : FrameworkMethod) → method_named class name ≡ Some m → slice_get framework_methods m.number ≡ Some m
+pub named_there : (class : ℕ) (name : List ℕ) (m : FrameworkMethod) → method_named class name ≡ Some m →
+    slice_get framework_methods m.number ≡ Some m
 unfolding method_named
-named_there class name m h = found_there (λ (method : FrameworkMethod). (method.on == class) && is_same name method.name) framework_methods m all_there h
+named_there class name m h =
+    found_there (λ (method : FrameworkMethod). (method.on == class) && is_same name method.name) framework_methods m
+    all_there h

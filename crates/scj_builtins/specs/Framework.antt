@@ -178,8 +178,8 @@ parameter_list no_parameters = []
 parameter_list (one_parameter first) = first ∷ []
 parameter_list (two_parameters first second) = first ∷ second ∷ []
 
--- A method is callable where a program may call the framework's own method, overridable where a user class may declare it,
--- abstract where a concrete class has to; and each declaration of it runs in the scope that the last column tells.
+-- A method is callable where a program may call the framework's own method, overridable where a user class may declare
+-- it, abstract where a concrete class has to; and each declaration of it runs in the scope that the last column tells.
 
 -- what every concrete class under the framework class declares
 abbrev pub declared_below : ℕ → ℕ → List ℕ → GivesKind → RunsInKind → FrameworkMethod
@@ -257,16 +257,19 @@ framework_methods =
     ∷ empty_unless_declared mission_clean_up mission (codes "cleanUp") in_defined_or_caller
     ∷ called_on_object mission_request_termination mission (codes "requestTermination")
     ∷ declared_below mission_sequencer_get_next_mission mission_sequencer (codes "getNextMission") Mission in_immortal
-    ∷ declared_below periodic_handler_handle_async_event periodic_handler (codes "handleAsyncEvent") Nothing in_defined_or_caller
+    ∷ declared_below periodic_handler_handle_async_event periodic_handler (codes "handleAsyncEvent") Nothing
+    in_defined_or_caller
     ∷ called_on_object periodic_handler_register periodic_handler (codes "register")
-    ∷ declared_below aperiodic_handler_handle_async_event aperiodic_handler (codes "handleAsyncEvent") Nothing in_defined_or_caller
+    ∷ declared_below aperiodic_handler_handle_async_event aperiodic_handler (codes "handleAsyncEvent") Nothing
+    in_defined_or_caller
     ∷ called_on_object aperiodic_handler_register aperiodic_handler (codes "register")
     ∷ called_on_object aperiodic_handler_release aperiodic_handler (codes "release")
     ∷ called_on_class managed_memory_enter_private_memory managed_memory (codes "enterPrivateMemory")
     (two_parameters int_parameter runnable_parameter) Nothing
     ∷ called_on_class managed_memory_execute_in_area_of managed_memory (codes "executeInAreaOf")
     (two_parameters object_parameter runnable_parameter) Nothing
-    ∷ called_on_class services_set_ceiling services (codes "setCeiling") (two_parameters object_parameter int_parameter) Nothing
+    ∷ called_on_class services_set_ceiling services (codes "setCeiling") (two_parameters object_parameter int_parameter)
+    Nothing
     ∷ called_on_class trace_print trace (codes "print") (two_parameters text_parameter int_parameter) Nothing
     ∷ called_on_class device_read device (codes "read") (one_parameter int_parameter) Number
     ∷ []

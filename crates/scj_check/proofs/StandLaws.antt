@@ -21,9 +21,11 @@ use Rattle.scj_check.specs.declared.readings.Reading.TheVariants.{Read, Broken}
 pub rest_at : {X : Type 0} (xs : List X) (k : ℕ) (x : X) → slice_get xs k ≡ Some x → drop k xs ≡ x ∷ drop (k + 1) xs
 rest_at xs k x e =
     let one_more : suc k ≡ k + 1 = omega arith in
-    drop-cons xs k x (slice_get_within xs k x e) ∙ (ap (λ y. y ∷ drop (suc k) xs) (get_or_from_slice_get xs k x x e) ∙ ap (λ n. x ∷ drop n xs) one_more)
+    drop-cons xs k x (slice_get_within xs k x e)
+    ∙ (ap (λ y. y ∷ drop (suc k) xs) (get_or_from_slice_get xs k x x e) ∙ ap (λ n. x ∷ drop n xs) one_more)
 
-pub at_the_begin : (texts : List (List ℕ)) (program : Forest) → program.nodes ≡ [] → program.files ≡ [] → Stands texts 0 texts (Read program)
+pub at_the_begin : (texts : List (List ℕ)) (program : Forest) → program.nodes ≡ [] → program.files ≡ [] →
+    Stands texts 0 texts (Read program)
 at_the_begin texts program e f =
     let empty : program ≡ forest_of [] [] = ap (λ n. forest_of n program.files) e ∙ ap (λ s. forest_of [] s) f in
     let known : StandsRead texts 0 texts (forest_of [] []) = record { reads = λ after r. r; breaks = λ found b. b } in
@@ -31,18 +33,25 @@ at_the_begin texts program e f =
 
 -- ---- one text more
 
-breaks_later : (file : ℕ) (before between : Forest) (text : List ℕ) (rest : List (List ℕ)) (tokens : List Token) (found : Found) → Lex file text tokens → FileRead before (lexemes_of text tokens) between → BreaksFrom (file + 1) between rest found → BreaksFrom file before (text ∷ rest) found
+breaks_later : (file : ℕ) (before between : Forest) (text : List ℕ) (rest : List (List ℕ)) (tokens : List Token)
+    (found : Found) → Lex file text tokens → FileRead before (lexemes_of text tokens) between →
+    BreaksFrom (file + 1) between rest found → BreaksFrom file before (text ∷ rest) found
 breaks_later file before between text rest tokens found lexed read (in_lexemes b) = in_lexemes (in_another lexed b)
-breaks_later file before between text rest tokens found lexed read (in_grammar have b) = in_grammar (next_text lexed have) (in_another_file read b)
+breaks_later file before between text rest tokens found lexed read (in_grammar have b) =
+    in_grammar (next_text lexed have) (in_another_file read b)
 
-reads_later : (file : ℕ) (before between after : Forest) (text : List ℕ) (rest : List (List ℕ)) (tokens : List Token) → Lex file text tokens → FileRead before (lexemes_of text tokens) between → ReadsFrom (file + 1) between rest after → ReadsFrom file before (text ∷ rest) after
+reads_later : (file : ℕ) (before between after : Forest) (text : List ℕ) (rest : List (List ℕ)) (tokens : List Token) →
+    Lex file text tokens → FileRead before (lexemes_of text tokens) between → ReadsFrom (file + 1) between rest after →
+    ReadsFrom file before (text ∷ rest) after
 reads_later file before between after text rest tokens lexed read r = record {
   lexemes = lexemes_of text tokens ∷ r.lexemes;
   have_lexemes = next_text lexed r.have_lexemes;
   files_read = next_file read r.files_read;
 }
 
-goes_on : (whole : List (List ℕ)) (file : ℕ) (text : List ℕ) (rest : List (List ℕ)) (tokens : List Token) (before after : Reading) → Lex file text tokens → Goes (lexemes_of text tokens) before after → Stands whole file (text ∷ rest) before → Stands whole (file + 1) rest after
+goes_on : (whole : List (List ℕ)) (file : ℕ) (text : List ℕ) (rest : List (List ℕ)) (tokens : List Token)
+    (before after : Reading) → Lex file text tokens → Goes (lexemes_of text tokens) before after →
+    Stands whole file (text ∷ rest) before → Stands whole (file + 1) rest after
 goes_on whole file text rest tokens (Read before) (Read after) lexed goes stands = record {
   reads = λ last r. stands.reads last (reads_later file before after last text rest tokens lexed goes r);
   breaks = λ found b. stands.breaks found (breaks_later file before after text rest tokens found lexed goes b);
@@ -54,16 +63,22 @@ goes_on whole file text rest tokens (Read before) (Broken found) lexed goes stan
 goes_on whole file text rest tokens (Broken found) (Read after) lexed goes stands = absurd goes
 goes_on whole file text rest tokens (Broken found) (Broken again) lexed goes stands = record {
   lexemes = λ other b. stands.lexemes other (in_another lexed b);
-  grammar = λ rows have. subst (λ (f : Found). BreaksSyntax whole f) (sym goes) (stands.grammar (lexemes_of text tokens ∷ rows) (next_text lexed have));
+  grammar = λ rows have. subst (λ (f : Found). BreaksSyntax whole f) (sym goes)
+      (stands.grammar (lexemes_of text tokens ∷ rows) (next_text lexed have));
 }
 
-pub with_text : (whole : List (List ℕ)) (file : ℕ) (text : List ℕ) (rest : List (List ℕ)) (before after : Reading) → Stands whole file (text ∷ rest) before → GoesOn file text before after → Stands whole (file + 1) rest after
-with_text whole file text rest before after stands more = goes_on whole file text rest more.tokens before after more.lexed more.goes stands
+pub with_text : (whole : List (List ℕ)) (file : ℕ) (text : List ℕ) (rest : List (List ℕ)) (before after : Reading) →
+    Stands whole file (text ∷ rest) before → GoesOn file text before after → Stands whole (file + 1) rest after
+with_text whole file text rest before after stands more =
+    goes_on whole file text rest more.tokens before after more.lexed more.goes stands
 
-pub at_a_break : (whole : List (List ℕ)) (file : ℕ) (text : List ℕ) (rest : List (List ℕ)) (before : Reading) (found : Found) → Stands whole file (text ∷ rest) before → BreaksLexemes file text found → BreaksSyntax whole found
+pub at_a_break : (whole : List (List ℕ)) (file : ℕ) (text : List ℕ) (rest : List (List ℕ)) (before : Reading)
+    (found : Found) → Stands whole file (text ∷ rest) before → BreaksLexemes file text found → BreaksSyntax whole found
 at_a_break whole file text rest (Read program) found stands broken = stands.breaks found (in_lexemes (in_this broken))
 at_a_break whole file text rest (Broken other) found stands broken = stands.lexemes found (in_this broken)
 
-pub at_the_end : (whole : List (List ℕ)) (file : ℕ) (reading : Reading) → Stands whole file [] reading → IsReading whole reading
-at_the_end whole file (Read program) stands = stands.reads program (record { lexemes = []; have_lexemes = no_text; files_read = no_file })
+pub at_the_end : (whole : List (List ℕ)) (file : ℕ) (reading : Reading) → Stands whole file [] reading →
+    IsReading whole reading
+at_the_end whole file (Read program) stands =
+    stands.reads program (record { lexemes = []; have_lexemes = no_text; files_read = no_file })
 at_the_end whole file (Broken found) stands = stands.grammar [] no_text

@@ -14,14 +14,20 @@ use Rattle.scj_check.proofs.SyntaxLaws.{one_program, one_break_told, program_or_
 one_forest : (texts : List (List ℕ)) (forest other : Forest) → Reads texts forest → Reads texts other → forest ≡ other
 one_forest texts = one_program 0 (forest_of [] []) texts
 
-pub one_report_of_texts : {texts : List (List ℕ)} {xs ys : List Found} → IsReportOf texts xs → IsReportOf texts ys → xs ≡ ys
-one_report_of_texts {texts} (in_texts {found = f} b) (in_texts {found = g} c) = ap (λ (h : Found). h ∷ []) (one_break_told 0 (forest_of [] []) texts f g b c)
-one_report_of_texts {texts} (in_texts {found = f} b) (in_program {forest = forest} r o) = absurd (program_or_break 0 (forest_of [] []) texts forest f r b)
-one_report_of_texts {texts} (in_program {forest = forest} r o) (in_texts {found = f} b) = absurd (program_or_break 0 (forest_of [] []) texts forest f r b)
+pub one_report_of_texts : {texts : List (List ℕ)} {xs ys : List Found} → IsReportOf texts xs → IsReportOf texts ys →
+    xs ≡ ys
+one_report_of_texts {texts} (in_texts {found = f} b) (in_texts {found = g} c) =
+    ap (λ (h : Found). h ∷ []) (one_break_told 0 (forest_of [] []) texts f g b c)
+one_report_of_texts {texts} (in_texts {found = f} b) (in_program {forest = forest} r o) =
+    absurd (program_or_break 0 (forest_of [] []) texts forest f r b)
+one_report_of_texts {texts} (in_program {forest = forest} r o) (in_texts {found = f} b) =
+    absurd (program_or_break 0 (forest_of [] []) texts forest f r b)
 one_report_of_texts {texts} {xs} {ys} (in_program {forest = f} r o) (in_program {forest = g} s p) =
     one_of_reports f None xs ys o (subst (λ (h : Forest). Reports h None ys) (sym (one_forest texts f g r s)) p)
 
 -- the verdict on the program of texts is theirs
-pub verdict_of_program : (texts : List (List ℕ)) (forest : Forest) (verdict : Verdict) → Reads texts forest → IsVerdictOn forest verdict → IsVerdict texts verdict
-verdict_of_program texts forest (Accepted checked) reads on = (subst (λ (f : Forest). Reads texts f) (sym on.0) reads, subst IsAccepted (sym on.0) on.1)
+pub verdict_of_program : (texts : List (List ℕ)) (forest : Forest) (verdict : Verdict) → Reads texts forest →
+    IsVerdictOn forest verdict → IsVerdict texts verdict
+verdict_of_program texts forest (Accepted checked) reads on =
+    (subst (λ (f : Forest). Reads texts f) (sym on.0) reads, subst IsAccepted (sym on.0) on.1)
 verdict_of_program texts forest (Refused report) reads on = (on.0, in_program reads on.1)

@@ -15,17 +15,20 @@ pub fn one_program_at_most()
 
 /// Of texts one break at most is told.
 pub fn one_break_at_most()
-    ensures { (texts : List (List ℕ)) (one other : Finding) → BreaksSyntax texts one → BreaksSyntax texts other → one ≡ other }
+    ensures { (texts : List (List ℕ)) (one other : Finding) → BreaksSyntax texts one → BreaksSyntax texts other →
+        one ≡ other }
 {}
 
 /// Texts that have a program have no break.
 pub fn no_break_of_a_program()
-    ensures { (texts : List (List ℕ)) (program : Forest) (found : Finding) → Reads texts program → BreaksSyntax texts found → ⊥ }
+    ensures { (texts : List (List ℕ)) (program : Forest) (found : Finding) → Reads texts program →
+        BreaksSyntax texts found → ⊥ }
 {}
 
 /// Texts have one report at most.
 pub fn one_report_at_most()
-    ensures { (texts : List (List ℕ)) (one other : List Finding) → IsReportOf texts one → IsReportOf texts other → one ≡ other }
+    ensures { (texts : List (List ℕ)) (one other : List Finding) → IsReportOf texts one → IsReportOf texts other →
+        one ≡ other }
 {}
 
 /// Some texts have an empty report: they are read as a program that breaks no rule, so that there is a `Checked`.

@@ -14,8 +14,8 @@ use scj_parser::{ParseAnswer, parse};
 use scj_tree::Program;
 use std::alloc::Global;
 
-/// The bytes of source for which room for one node is made before reading, so that the nodes needn't be moved to a larger
-/// place as they grow. Ordinary source has 6.2 bytes a node.
+/// The bytes of source for which room for one node is made before reading, so that the nodes needn't be moved to a
+/// larger place as they grow. Ordinary source has 6.2 bytes a node.
 const BYTES_A_NODE: usize = 6;
 
 /// What sources are read as.

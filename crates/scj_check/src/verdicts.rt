@@ -48,8 +48,8 @@ pub enum Verdict {
 }
 
 /// Checks sources by all phases: lexemes, grammar, classes with limits, types, scopes, annotations with uses. The first
-/// phase with a break gives the report; of lexemes and grammar that is the first break of the earliest file that has one,
-/// of the others all.
+/// phase with a break gives the report; of lexemes and grammar that is the first break of the earliest file that has
+/// one, of the others all.
 ///
 /// # Errors
 ///

@@ -22,41 +22,55 @@ use Rattle.scj_cli.specs.declared.refusals.Refusal.TheVariants.{Usage, Unread, O
 use Rattle.scj_cli.specs.declared.refusals.Stop.TheVariants.{Told, Broken}
 
 -- what the loads of a job's files were refused for is the cause of a status
-pub Comes-loads : (job : Job) (shelf : ShelfRun) (refusal : Refusal) → RefusesLoads shelf (files_of (Some job)) refusal → Comes (Some job) shelf (status_of refusal) [] (line_of refusal)
+pub Comes-loads : (job : Job) (shelf : ShelfRun) (refusal : Refusal) →
+    RefusesLoads shelf (files_of (Some job)) refusal → Comes (Some job) shelf (status_of refusal) [] (line_of refusal)
 Comes-loads job shelf Usage refuses = absurd refuses
 Comes-loads job shelf (Unread line) refuses = rw refuses.2.1 (unread refuses.1 refuses.2.0)
 Comes-loads job shelf (Overlong line) refuses = rw refuses.2.2 (overlong refuses.1 refuses.2.0 refuses.2.1)
 Comes-loads job shelf OutOfMemory refuses = out_of_memory
 
 -- what a judgement was refused for is the cause of a status
-pub Comes-form : (job : Job) (shelf : ShelfRun) (contents : List (List ℕ)) (refusal : Refusal) → MayStand shelf (files_of (Some job)) contents → RefusesForm job contents refusal → Comes (Some job) shelf (status_of refusal) [] (line_of refusal)
+pub Comes-form : (job : Job) (shelf : ShelfRun) (contents : List (List ℕ)) (refusal : Refusal) →
+    MayStand shelf (files_of (Some job)) contents → RefusesForm job contents refusal →
+    Comes (Some job) shelf (status_of refusal) [] (line_of refusal)
 Comes-form job shelf contents Usage stands refuses = absurd refuses
 Comes-form job shelf contents (Unread line) stands refuses = absurd refuses
 Comes-form job shelf contents (Overlong line) stands refuses = absurd refuses
 Comes-form job shelf contents OutOfMemory stands refuses = out_of_memory
 
 -- words that ask for nothing stop the call
-pub Stops-no_job : (shelf : ShelfRun) (taken : Option (List ℕ)) (faults : ℕ) → Stops None shelf (sink_run taken taken faults faults) (Told Usage)
+pub Stops-no_job : (shelf : ShelfRun) (taken : Option (List ℕ)) (faults : ℕ) →
+    Stops None shelf (sink_run taken taken faults faults) (Told Usage)
 Stops-no_job shelf taken faults = told (answered none no_job) (PutWhole-nothing taken faults)
 
 -- from what the modes leave to the end of the call
-pub Ends-answered : {job : Option Job} {shelf : ShelfRun} {out err : SinkRun} {status : Status} → IsAnswered job shelf out status → PutWhole err [] → Ends (call_of job shelf out err) status
+pub Ends-answered : {job : Option Job} {shelf : ShelfRun} {out err : SinkRun} {status : Status} →
+    IsAnswered job shelf out status → PutWhole err [] → Ends (call_of job shelf out err) status
 Ends-answered answer untouched = whole answer.comes answer.put untouched
 
-pub Ends-told : {job : Option Job} {shelf : ShelfRun} {out err : SinkRun} {refusal : Refusal} {status : Status} → Stops job shelf out (Told refusal) → Tells err refusal status → Ends (call_of job shelf out err) status
+pub Ends-told : {job : Option Job} {shelf : ShelfRun} {out err : SinkRun} {refusal : Refusal} {status : Status} →
+    Stops job shelf out (Told refusal) → Tells err refusal status → Ends (call_of job shelf out err) status
 Ends-told (told comes untouched) (put_whole put) = whole comes untouched put
 Ends-told (told comes untouched) (put_fault put) = fault_of_err comes untouched put
 
-pub Ends-broken : {job : Option Job} {shelf : ShelfRun} {out err : SinkRun} → Stops job shelf out Broken → PutWhole err [] → Ends (call_of job shelf out err) WriteFault
+pub Ends-broken : {job : Option Job} {shelf : ShelfRun} {out err : SinkRun} → Stops job shelf out Broken →
+    PutWhole err [] → Ends (call_of job shelf out err) WriteFault
 Ends-broken (broken comes put) untouched = fault_of_out comes put untouched
 
 -- from the steps of a mode to its end
-pub Stops-loads : (job : Job) (shelf : ShelfRun) (taken : Option (List ℕ)) (faults : ℕ) (refusal : Refusal) → RefusesLoads shelf (files_of (Some job)) refusal → Stops (Some job) shelf (sink_run taken taken faults faults) (Told refusal)
-Stops-loads job shelf taken faults refusal refuses = told (Comes-loads job shelf refusal refuses) (PutWhole-nothing taken faults)
+pub Stops-loads : (job : Job) (shelf : ShelfRun) (taken : Option (List ℕ)) (faults : ℕ) (refusal : Refusal) →
+    RefusesLoads shelf (files_of (Some job)) refusal → Stops (Some job) shelf (sink_run taken taken faults faults)
+    (Told refusal)
+Stops-loads job shelf taken faults refusal refuses =
+    told (Comes-loads job shelf refusal refuses) (PutWhole-nothing taken faults)
 
-pub Stops-form : (job : Job) (shelf : ShelfRun) (contents : List (List ℕ)) (taken : Option (List ℕ)) (faults : ℕ) (refusal : Refusal) → MayStand shelf (files_of (Some job)) contents → RefusesForm job contents refusal → Stops (Some job) shelf (sink_run taken taken faults faults) (Told refusal)
-Stops-form job shelf contents taken faults refusal stands refuses = told (Comes-form job shelf contents refusal stands refuses) (PutWhole-nothing taken faults)
+pub Stops-form : (job : Job) (shelf : ShelfRun) (contents : List (List ℕ)) (taken : Option (List ℕ)) (faults : ℕ)
+    (refusal : Refusal) → MayStand shelf (files_of (Some job)) contents → RefusesForm job contents refusal →
+    Stops (Some job) shelf (sink_run taken taken faults faults) (Told refusal)
+Stops-form job shelf contents taken faults refusal stands refuses =
+    told (Comes-form job shelf contents refusal stands refuses) (PutWhole-nothing taken faults)
 
 -- words that were not read for want of memory
-pub Stops-words : (job : Option Job) (shelf : ShelfRun) (taken : Option (List ℕ)) (faults : ℕ) → Stops job shelf (sink_run taken taken faults faults) (Told OutOfMemory)
+pub Stops-words : (job : Option Job) (shelf : ShelfRun) (taken : Option (List ℕ)) (faults : ℕ) →
+    Stops job shelf (sink_run taken taken faults faults) (Told OutOfMemory)
 Stops-words job shelf taken faults = told out_of_memory (PutWhole-nothing taken faults)

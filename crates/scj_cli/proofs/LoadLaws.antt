@@ -12,14 +12,18 @@ use Rattle.scj_cli.specs.Refusals.{RefusesLoad, RefusesLoads}
 use Rattle.scj_cli.specs.declared.refusals.Refusal.{Refusal}
 use Rattle.scj_cli.specs.declared.refusals.Refusal.TheVariants.{Usage, Unread, Overlong, OutOfMemory}
 
-pub MayStand-more : {shelf : ShelfRun} {names contents : List (List ℕ)} → MayStand shelf names contents → (name content : List ℕ) → MayHold (shelf.held name) content → length content ≤ file_limit → MayStand shelf (names ++ name ∷ []) (contents ++ content ∷ [])
+pub MayStand-more : {shelf : ShelfRun} {names contents : List (List ℕ)} → MayStand shelf names contents →
+    (name content : List ℕ) → MayHold (shelf.held name) content → length content ≤ file_limit →
+    MayStand shelf (names ++ name ∷ []) (contents ++ content ∷ [])
 MayStand-more none name content holds within = next holds within none
-MayStand-more (next first short rest) name content holds within = next first short (MayStand-more rest name content holds within)
+MayStand-more (next first short rest) name content holds within =
+    next first short (MayStand-more rest name content holds within)
 
 pub goes_by : (held : List ℕ → Held) (faults most : List ℕ → ℕ) → ShelfGoes held held faults faults most most
 goes_by held faults most = record { held = λ name. refl; faults = λ name. omega arith; most = λ name. omega arith }
 
-pub goes_then : (a b c : List ℕ → Held) (f g h k m n : List ℕ → ℕ) → ShelfGoes a b f g k m → ShelfGoes b c g h m n → ShelfGoes a c f h k n
+pub goes_then : (a b c : List ℕ → Held) (f g h k m n : List ℕ → ℕ) → ShelfGoes a b f g k m → ShelfGoes b c g h m n →
+    ShelfGoes a c f h k n
 goes_then a b c f g h k m n one two = record {
   held = λ name. two.held name ∙ one.held name;
   faults = λ name. let x = one.faults name in let y = two.faults name in omega arith;
@@ -27,7 +31,8 @@ goes_then a b c f g h k m n one two = record {
 }
 
 -- the loads get to the file of this number, where those before it were loaded
-pub reached_at : {X : Type 0} (shelf : ShelfRun) (f : X → List ℕ) (xs : List X) (k : ℕ) (d : X) (contents : List (List ℕ))
+pub reached_at : {X : Type 0} (shelf : ShelfRun) (f : X → List ℕ) (xs : List X) (k : ℕ) (d : X)
+    (contents : List (List ℕ))
     → k < length xs → MayStand shelf (map f (take k xs)) contents → IsReached shelf.held (f (get_or xs k d)) (map f xs)
 reached_at shelf f [] k d contents within stands = absurd (omega (arith, within))
 reached_at shelf f (x ∷ xs) zero d contents within stands = reached_first
@@ -35,21 +40,38 @@ reached_at shelf f (x ∷ xs) (suc k) d _ within (next holds short rest) =
     behind _ holds short (reached_at shelf f xs k d _ (omega (arith, within)) rest)
 
 -- a load that was refused after others that weren't
-pub refused_later : (held held_then : List ℕ → Held) (faults faults_then faults_after most most_then most_after : List ℕ → ℕ) (names : List (List ℕ)) (name : List ℕ) (refusal : Refusal) → ShelfGoes held held_then faults faults_then most most_then → IsReached held name names → RefusesLoad (shelf_run held_then faults_then faults_after most_after) name refusal → RefusesLoads (shelf_run held faults faults_after most_after) names refusal
-refused_later held held_then faults faults_then faults_after most most_then most_after names name Usage goes reached refuses = absurd refuses
-refused_later held held_then faults faults_then faults_after most most_then most_after names name (Unread line) goes reached refuses = (name, reached, (Rose-earlier _ _ _ (goes.faults name) refuses.0, refuses.1))
-refused_later held held_then faults faults_then faults_after most most_then most_after names name (Overlong line) goes reached refuses =
+pub refused_later : (held held_then : List ℕ → Held)
+    (faults faults_then faults_after most most_then most_after : List ℕ → ℕ) (names : List (List ℕ)) (name : List ℕ)
+    (refusal : Refusal) → ShelfGoes held held_then faults faults_then most most_then → IsReached held name names →
+    RefusesLoad (shelf_run held_then faults_then faults_after most_after) name refusal →
+    RefusesLoads (shelf_run held faults faults_after most_after) names refusal
+refused_later held held_then faults faults_then faults_after most most_then most_after names name Usage goes reached
+    refuses = absurd refuses
+refused_later held held_then faults faults_then faults_after most most_then most_after names name
+    (Unread line) goes reached refuses = (name, reached, (Rose-earlier _ _ _ (goes.faults name) refuses.0, refuses.1))
+refused_later held held_then faults faults_then faults_after most most_then most_after names name
+    (Overlong line) goes reached refuses =
     (name, reached, (subst (λ (h : Held). MayExceed h file_limit) (goes.held name) refuses.0, refuses.1, refuses.2))
-refused_later held held_then faults faults_then faults_after most most_then most_after names name OutOfMemory goes reached refuses = tt
+refused_later held held_then faults faults_then faults_after most most_then most_after names name OutOfMemory goes
+    reached refuses = tt
 
 -- one file more was loaded
-pub stands_more : {X : Type 0} (shelf : ShelfRun) (f : X → List ℕ) (names : List X) (k : ℕ) (d : X) (sources grown : List (List ℕ × List ℕ)) (name bytes : List ℕ) → k < length names → MayStand shelf (map f (take k names)) (texts_of sources) → grown ≡ sources ++ (name, bytes) ∷ [] → MayHold (shelf.held (f (get_or names k d))) bytes → length bytes ≤ file_limit → MayStand shelf (map f (take (k + 1) names)) (texts_of grown)
+pub stands_more : {X : Type 0} (shelf : ShelfRun) (f : X → List ℕ) (names : List X) (k : ℕ) (d : X)
+    (sources grown : List (List ℕ × List ℕ)) (name bytes : List ℕ) → k < length names →
+    MayStand shelf (map f (take k names)) (texts_of sources) → grown ≡ sources ++ (name, bytes) ∷ [] →
+    MayHold (shelf.held (f (get_or names k d))) bytes → length bytes ≤ file_limit →
+    MayStand shelf (map f (take (k + 1) names)) (texts_of grown)
 stands_more shelf f names k d sources grown name bytes within stands is holds short =
-    rw (map_more f names k d within, is, map-append (λ s. s.1) sources ((name, bytes) ∷ [])) (MayStand-more stands (f (get_or names k d)) bytes holds short)
+    rw (map_more f names k d within, is, map-append (λ s. s.1) sources ((name, bytes) ∷ []))
+    (MayStand-more stands (f (get_or names k d)) bytes holds short)
 
-pub one_more_source : (sources grown : List (List ℕ × List ℕ)) (source : List ℕ × List ℕ) (k : ℕ) → grown ≡ sources ++ source ∷ [] → length sources ≡ k → length grown ≡ k + 1
+pub one_more_source : (sources grown : List (List ℕ × List ℕ)) (source : List ℕ × List ℕ) (k : ℕ) → grown ≡ sources
+    ++ source ∷ [] → length sources ≡ k → length grown ≡ k + 1
 one_more_source sources grown source k is count = ap length is ∙ (length_push sources source ∙ ap (λ n. n + 1) count)
 
 -- what a later load gave is what stood there at first
-pub held_first : (held held_then : List ℕ → Held) (faults faults_then most most_then : List ℕ → ℕ) (name content : List ℕ) → ShelfGoes held held_then faults faults_then most most_then → MayHold (held_then name) content → MayHold (held name) content
-held_first held held_then faults faults_then most most_then name content goes holds = subst (λ (h : Held). MayHold h content) (goes.held name) holds
+pub held_first : (held held_then : List ℕ → Held) (faults faults_then most most_then : List ℕ → ℕ)
+    (name content : List ℕ) → ShelfGoes held held_then faults faults_then most most_then →
+    MayHold (held_then name) content → MayHold (held name) content
+held_first held held_then faults faults_then most most_then name content goes holds =
+    subst (λ (h : Held). MayHold h content) (goes.held name) holds

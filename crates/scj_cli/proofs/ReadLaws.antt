@@ -21,16 +21,26 @@ kept : {before after : Forest} {lexemes : List (List Lexeme)} → FilesRead befo
 kept {before} no_file = record { more = []; files = sym (append-nil before.files); nodes = front-none }
 kept {before} (next_file r d) =
     let k = kept d in
-    record { more = r.classes ∷ k.more; files = k.files ∙ ap (λ (t : List (List ℕ)). t ++ k.more) r.files ∙ append_assoc before.files (r.classes ∷ []) k.more; nodes = front-then (tree_front r.tree) k.nodes }
+    record {
+      more = r.classes ∷ k.more;
+      files = k.files ∙ ap (λ (t : List (List ℕ)). t ++ k.more) r.files
+          ∙ append_assoc before.files (r.classes ∷ []) k.more;
+      nodes = front-then (tree_front r.tree) k.nodes;
+    }
 
-classes_at : (files : List (List ℕ)) (ids : List ℕ) (more : List (List ℕ)) → slice_index_or (files ++ ids ∷ more) (length files) [] ≡ ids
+classes_at : (files : List (List ℕ)) (ids : List ℕ) (more : List (List ℕ)) →
+    slice_index_or (files ++ ids ∷ more) (length files) [] ≡ ids
 classes_at [] ids more = refl
 classes_at (f ∷ files) ids more = classes_at files ids more
 
-one_file : {before between after : Forest} {number : ℕ} {text : List ℕ} {tokens : List Token} → Lex number text tokens → FileRead before (lexemes_of text tokens) between → Kept between after → WasReadFrom after (length before.files) text
+one_file : {before between after : Forest} {number : ℕ} {text : List ℕ} {tokens : List Token} → Lex number text tokens →
+    FileRead before (lexemes_of text tokens) between → Kept between after → WasReadFrom after (length before.files) text
 one_file {before} {between} {after} {number} {text} {tokens} l r k =
-    let files : after.files ≡ before.files ++ (r.classes ∷ k.more) = k.files ∙ ap (λ (t : List (List ℕ)). t ++ k.more) r.files ∙ append_assoc before.files (r.classes ∷ []) k.more in
-    let same : classes_of after (length before.files) ≡ r.classes = ap (λ (t : List (List ℕ)). slice_index_or t (length before.files) []) files ∙ classes_at before.files r.classes k.more in
+    let files : after.files ≡ before.files ++ (r.classes ∷ k.more) =
+    k.files ∙ ap (λ (t : List (List ℕ)). t ++ k.more) r.files ∙ append_assoc before.files (r.classes ∷ []) k.more in
+    let same : classes_of after (length before.files) ≡ r.classes =
+    ap (λ (t : List (List ℕ)). slice_index_or t (length before.files) []) files
+    ∙ classes_at before.files r.classes k.more in
     record {
       number = number;
       tokens = tokens;
@@ -42,17 +52,22 @@ one_file {before} {between} {after} {number} {text} {tokens} l r k =
       whole = k.nodes.whole;
     }
 
-each_file : {number : ℕ} {texts : List (List ℕ)} {lexemes : List (List Lexeme)} {before after : Forest} → HaveLexemes number texts lexemes → FilesRead before lexemes after → (k : ℕ) (text : List ℕ) → slice_get texts k ≡ Some text → WasReadFrom after (length before.files + k) text
+each_file : {number : ℕ} {texts : List (List ℕ)} {lexemes : List (List Lexeme)} {before after : Forest} →
+    HaveLexemes number texts lexemes → FilesRead before lexemes after → (k : ℕ) (text : List ℕ) →
+    slice_get texts k ≡ Some text → WasReadFrom after (length before.files + k) text
 each_file no_text no_file k text e = absurd (cc)
 each_file {before = before} {after = after} (next_text {text = first} l h) (next_file r d) zero text e =
     let same : first ≡ text = cc in
     let here : length before.files ≡ length before.files + 0 = omega arith in
-    subst (λ (n : ℕ). WasReadFrom after n text) here (subst (λ (t : List ℕ). WasReadFrom after (length before.files) t) same (one_file l r (kept d)))
+    subst (λ (n : ℕ). WasReadFrom after n text) here
+    (subst (λ (t : List ℕ). WasReadFrom after (length before.files) t) same (one_file l r (kept d)))
 each_file {before = before} {after = after} (next_text l h) (next_file {between = between} r d) (suc k) text e =
-    let here : length between.files + k ≡ length before.files + suc k = omega (arith, ap length r.files, length-append before.files (r.classes ∷ [])) in
+    let here : length between.files + k ≡ length before.files + suc k =
+    omega (arith, ap length r.files, length-append before.files (r.classes ∷ [])) in
     subst (λ (n : ℕ). WasReadFrom after n text) here (each_file h d k text e)
 
-pub read_from : (texts : List (List ℕ)) (forest : Forest) (file : ℕ) (text : List ℕ) → Reads texts forest → slice_get texts file ≡ Some text → WasReadFrom forest file text
+pub read_from : (texts : List (List ℕ)) (forest : Forest) (file : ℕ) (text : List ℕ) → Reads texts forest →
+    slice_get texts file ≡ Some text → WasReadFrom forest file text
 read_from texts forest file text reads e =
     let here : 0 + file ≡ file = omega arith in
     subst (λ (n : ℕ). WasReadFrom forest n text) here (each_file reads.have_lexemes reads.files_read file text e)

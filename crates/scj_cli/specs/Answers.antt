@@ -43,7 +43,8 @@ pub data Answer : Option Job → List (List ℕ) → Status → List ℕ → Lis
       Answer (Some (Show names)) contents Done (shown_text forest) []
 
 -- two answers are the same
-pub record IsSameAnswer (status : Status) (out err : List ℕ) (status_again : Status) (out_again err_again : List ℕ) : Type 0 where
+pub record IsSameAnswer (status : Status) (out err : List ℕ) (status_again : Status)
+    (out_again err_again : List ℕ) : Type 0 where
   pub same_status : status ≡ status_again
   pub same_out : out ≡ out_again
   pub same_err : err ≡ err_again

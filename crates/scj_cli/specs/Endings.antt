@@ -102,11 +102,14 @@ pub data EndsBy (call : Call) (contents : List (List ℕ)) : Status → Type 0 w
 
 -- where the files are told and within the limit and nothing fails, the call ends with the answer
 abbrev pub IsExact : Call → Status → Type 0
-IsExact call status = (contents : List (List ℕ)) → AreTold call.shelf.held (files_of call.job) contents → IsCalm call → EndsBy call contents status
+IsExact call status = (contents : List (List ℕ)) → AreTold call.shelf.held (files_of call.job) contents → IsCalm call →
+    EndsBy call contents status
 
 -- where a file is told to be longer than the limit and nothing fails, that is told
 abbrev pub IsLongExactly : Call → Status → Type 0
-IsLongExactly call status = (name content : List ℕ) → IsAmong name (files_of call.job) → call.shelf.held name ≡ Told content → file_limit < length content → IsCalm call → (status ≡ TooLong) ⊎ (status ≡ NoMemory)
+IsLongExactly call status = (name content : List ℕ) → IsAmong name (files_of call.job) →
+    call.shelf.held name ≡ Told content → file_limit < length content → IsCalm call →
+    (status ≡ TooLong) ⊎ (status ≡ NoMemory)
 
 -- the statuses that no contents of an absent file give
 abbrev pub IsUnanswered : Status → Type 0
@@ -123,4 +126,5 @@ IsUnanswered NotBuilt = ⊥
 
 -- where a file is told as absent, the status is none that rests on its contents
 abbrev pub IsNeverAbsent : Call → Status → Type 0
-IsNeverAbsent call status = (name : List ℕ) → IsAmong name (files_of call.job) → call.shelf.held name ≡ Absent → IsUnanswered status
+IsNeverAbsent call status = (name : List ℕ) → IsAmong name (files_of call.job) → call.shelf.held name ≡ Absent →
+    IsUnanswered status

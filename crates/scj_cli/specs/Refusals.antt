@@ -25,12 +25,15 @@ line_of OutOfMemory = memory_line
 abbrev pub RefusesLoad : ShelfRun → List ℕ → Refusal → Type 0
 RefusesLoad shelf name Usage = ⊥
 RefusesLoad shelf name (Unread line) = IsUnread shelf name × (string_bytes line ≡ read_line name)
-RefusesLoad shelf name (Overlong line) = MayExceed (shelf.held name) file_limit × (file_limit < shelf.most name) × (string_bytes line ≡ too_long_line name)
+RefusesLoad shelf name (Overlong line) = MayExceed (shelf.held name) file_limit × (file_limit < shelf.most name) ×
+    (string_bytes line ≡ too_long_line name)
 RefusesLoad shelf name OutOfMemory = Unit {0}
 
 -- the refusals of the loads of the names, one after the other
 abbrev pub RefusesLoads : ShelfRun → List (List ℕ) → Refusal → Type 0
 RefusesLoads shelf names Usage = ⊥
-RefusesLoads shelf names (Unread line) = (name : List ℕ) × IsReached shelf.held name names × RefusesLoad shelf name (Unread line)
-RefusesLoads shelf names (Overlong line) = (name : List ℕ) × IsReached shelf.held name names × RefusesLoad shelf name (Overlong line)
+RefusesLoads shelf names (Unread line) = (name : List ℕ) × IsReached shelf.held name names ×
+    RefusesLoad shelf name (Unread line)
+RefusesLoads shelf names (Overlong line) = (name : List ℕ) × IsReached shelf.held name names ×
+    RefusesLoad shelf name (Overlong line)
 RefusesLoads shelf names OutOfMemory = Unit {0}

@@ -26,7 +26,8 @@ pub fn scj<H: Shelf, K: Sink, E: Sink>(
     out: &mut K,
     err: &mut E,
 ) -> Status
-    ensures goes { ShelfGoes (H.held shelf.old) (H.held shelf.new) (H.faults shelf.old) (H.faults shelf.new) (H.most shelf.old) (H.most shelf.new) }
+    ensures goes { ShelfGoes (H.held shelf.old) (H.held shelf.new) (H.faults shelf.old) (H.faults shelf.new)
+        (H.most shelf.old) (H.most shelf.new) }
     ensures ends { Ends (call_of (job_of (map string_bytes words.now))
         (shelf_run (H.held shelf.old) (H.faults shelf.old) (H.faults shelf.new) (H.most shelf.new))
         (sink_run (K.taken out.old) (K.taken out.new) (K.faults out.old) (K.faults out.new))
@@ -55,7 +56,8 @@ fn finish<H: Shelf, K: Sink, E: Sink>(
     out: &mut K,
     err: &mut E,
 ) -> Status
-    ensures goes { ShelfGoes (H.held shelf.old) (H.held shelf.new) (H.faults shelf.old) (H.faults shelf.new) (H.most shelf.old) (H.most shelf.new) }
+    ensures goes { ShelfGoes (H.held shelf.old) (H.held shelf.new) (H.faults shelf.old) (H.faults shelf.new)
+        (H.most shelf.old) (H.most shelf.new) }
     ensures ends { Ends (call_of (job_of (map string_bytes words.now))
         (shelf_run (H.held shelf.old) (H.faults shelf.old) (H.faults shelf.new) (H.most shelf.new))
         (sink_run (K.taken out.old) (K.taken out.new) (K.faults out.old) (K.faults out.new))
@@ -75,7 +77,8 @@ fn answer<H: Shelf, K: Sink>(
     shelf: &mut H,
     out: &mut K,
 ) -> Result<Status, Stop>
-    ensures goes { ShelfGoes (H.held shelf.old) (H.held shelf.new) (H.faults shelf.old) (H.faults shelf.new) (H.most shelf.old) (H.most shelf.new) }
+    ensures goes { ShelfGoes (H.held shelf.old) (H.held shelf.new) (H.faults shelf.old) (H.faults shelf.new)
+        (H.most shelf.old) (H.most shelf.new) }
     ensures ok { IfOk result (λ status. IsAnswered (job_of (map string_bytes words.now))
         (shelf_run (H.held shelf.old) (H.faults shelf.old) (H.faults shelf.new) (H.most shelf.new))
         (sink_run (K.taken out.old) (K.taken out.new) (K.faults out.old) (K.faults out.new)) status) }
@@ -93,7 +96,8 @@ fn answer<H: Shelf, K: Sink>(
 
 // Tells a refusal on `err`.
 fn tell<E: Sink>(refusal: &Refusal, err: &mut E) -> Status
-    ensures { Tells (sink_run (E.taken err.old) (E.taken err.new) (E.faults err.old) (E.faults err.new)) refusal.now result }
+    ensures { Tells (sink_run (E.taken err.old) (E.taken err.new) (E.faults err.old) (E.faults err.new)) refusal.now
+        result }
 {
     match put_all(err, refusal.line().as_bytes()) {
         Ok(()) => refusal.status(),

@@ -26,7 +26,8 @@ pub fn check<H: Shelf, K: Sink>(
     out: &mut K,
 ) -> Result<Status, Stop>
     requires { length names.now ≤ 16 }
-    ensures goes { ShelfGoes (H.held shelf.old) (H.held shelf.new) (H.faults shelf.old) (H.faults shelf.new) (H.most shelf.old) (H.most shelf.new) }
+    ensures goes { ShelfGoes (H.held shelf.old) (H.held shelf.new) (H.faults shelf.old) (H.faults shelf.new)
+        (H.most shelf.old) (H.most shelf.new) }
     ensures ok { IfOk result (λ status. IsAnswered (Some (Check (map string_bytes names.now)))
         (shelf_run (H.held shelf.old) (H.faults shelf.old) (H.faults shelf.new) (H.most shelf.new))
         (sink_run (K.taken out.old) (K.taken out.new) (K.faults out.old) (K.faults out.new)) status) }
@@ -49,8 +50,11 @@ struct Told {
 
 // The answer on the contents of the files.
 fn judge(alloc: Global, names: &[String], sources: &Sources) -> Result<Told, Refusal>
-    ensures ok { IfOk result (λ told. Answer (Some (Check (map string_bytes names.now))) (texts_of sources.now) told.status (string_bytes told.text) []) }
-    ensures refusal { IfErr result (λ refusal. RefusesForm (Check (map string_bytes names.now)) (texts_of sources.now) refusal) }
+    ensures ok { IfOk result
+        (λ told. Answer (Some (Check (map string_bytes names.now))) (texts_of sources.now) told.status
+        (string_bytes told.text) []) }
+    ensures refusal { IfErr result
+        (λ refusal. RefusesForm (Check (map string_bytes names.now)) (texts_of sources.now) refusal) }
 {
     match scj_check::check(alloc, sources)? {
         Verdict::Accepted(_) => Ok(accepted(alloc)?),
@@ -69,7 +73,9 @@ fn accepted(alloc: Global) -> Result<Told, AllocError>
 }
 
 fn refused(alloc: Global, names: &[String], found: &[Found]) -> Result<Told, AllocError>
-    ensures { IfOk result (λ told. (told.status ≡ Refused) × (string_bytes told.text ≡ report_text (map string_bytes names.now) found.now)) }
+    ensures { IfOk result
+        (λ told. (told.status ≡ Refused) ×
+        (string_bytes told.text ≡ report_text (map string_bytes names.now) found.now)) }
 {
     let text = report(alloc, names, found)?;
     Ok(Told {

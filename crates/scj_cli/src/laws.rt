@@ -10,7 +10,8 @@ ghost use Rattle.scj_cli.specs.Answers.{Answer, IsSameAnswer};
 
 /// A job has one answer at most on the contents of its files.
 pub fn one_answer()
-    ensures { (job : Option Job) (contents : List (List ℕ)) (status status_again : Told) (out err out_again err_again : List ℕ) →
+    ensures { (job : Option Job) (contents : List (List ℕ)) (status status_again : Told)
+        (out err out_again err_again : List ℕ) →
         Answer job contents status out err → Answer job contents status_again out_again err_again →
         IsSameAnswer status out err status_again out_again err_again }
 {}

@@ -22,9 +22,15 @@ pub fn load_all<H: Shelf>(
     shelf: &mut H,
 ) -> Result<Sources, Refusal>
     requires { length names.now ≤ 16 }
-    ensures goes { ShelfGoes (H.held shelf.old) (H.held shelf.new) (H.faults shelf.old) (H.faults shelf.new) (H.most shelf.old) (H.most shelf.new) }
-    ensures ok { IfOk result (λ sources. MayStand (shelf_run (H.held shelf.old) (H.faults shelf.old) (H.faults shelf.new) (H.most shelf.new)) (map string_bytes names.now) (texts_of sources)) }
-    ensures refusal { IfErr result (λ refusal. RefusesLoads (shelf_run (H.held shelf.old) (H.faults shelf.old) (H.faults shelf.new) (H.most shelf.new)) (map string_bytes names.now) refusal) }
+    ensures goes { ShelfGoes (H.held shelf.old) (H.held shelf.new) (H.faults shelf.old) (H.faults shelf.new)
+        (H.most shelf.old) (H.most shelf.new) }
+    ensures ok { IfOk result
+        (λ sources. MayStand (shelf_run (H.held shelf.old) (H.faults shelf.old) (H.faults shelf.new) (H.most shelf.new))
+        (map string_bytes names.now) (texts_of sources)) }
+    ensures refusal { IfErr result
+        (λ refusal. RefusesLoads
+        (shelf_run (H.held shelf.old) (H.faults shelf.old) (H.faults shelf.new) (H.most shelf.new))
+        (map string_bytes names.now) refusal) }
 {
     let mut sources = Sources::new(alloc);
     for name in names {
@@ -37,9 +43,14 @@ pub fn load_all<H: Shelf>(
 
 /// The bytes of a file.
 fn load<H: Shelf>(alloc: Global, name: &str, shelf: &mut H) -> Result<Vec<u8>, Refusal>
-    ensures goes { ShelfGoes (H.held shelf.old) (H.held shelf.new) (H.faults shelf.old) (H.faults shelf.new) (H.most shelf.old) (H.most shelf.new) }
-    ensures ok { IfOk result (λ bytes. LoadHolds (shelf_run (H.held shelf.old) (H.faults shelf.old) (H.faults shelf.new) (H.most shelf.new)) name.now file_limit bytes.items) }
-    ensures refusal { IfErr result (λ refusal. RefusesLoad (shelf_run (H.held shelf.old) (H.faults shelf.old) (H.faults shelf.new) (H.most shelf.new)) name.now refusal) }
+    ensures goes { ShelfGoes (H.held shelf.old) (H.held shelf.new) (H.faults shelf.old) (H.faults shelf.new)
+        (H.most shelf.old) (H.most shelf.new) }
+    ensures ok { IfOk result
+        (λ bytes. LoadHolds (shelf_run (H.held shelf.old) (H.faults shelf.old) (H.faults shelf.new) (H.most shelf.new))
+        name.now file_limit bytes.items) }
+    ensures refusal { IfErr result
+        (λ refusal. RefusesLoad
+        (shelf_run (H.held shelf.old) (H.faults shelf.old) (H.faults shelf.new) (H.most shelf.new)) name.now refusal) }
 {
     match shelf.load(alloc, name, FILE_LIMIT) {
         Ok(bytes) => Ok(bytes),

@@ -26,7 +26,8 @@ pub fn show<H: Shelf, K: Sink>(
     out: &mut K,
 ) -> Result<Status, Stop>
     requires { length names.now ≤ 16 }
-    ensures goes { ShelfGoes (H.held shelf.old) (H.held shelf.new) (H.faults shelf.old) (H.faults shelf.new) (H.most shelf.old) (H.most shelf.new) }
+    ensures goes { ShelfGoes (H.held shelf.old) (H.held shelf.new) (H.faults shelf.old) (H.faults shelf.new)
+        (H.most shelf.old) (H.most shelf.new) }
     ensures ok { IfOk result (λ status. IsAnswered (Some (Show (map string_bytes names.now)))
         (shelf_run (H.held shelf.old) (H.faults shelf.old) (H.faults shelf.new) (H.most shelf.new))
         (sink_run (K.taken out.old) (K.taken out.new) (K.faults out.old) (K.faults out.new)) status) }
@@ -49,8 +50,11 @@ struct Showing {
 
 // The answer on the contents of the files.
 fn showing_of(alloc: Global, names: &[String], sources: &Sources) -> Result<Showing, Refusal>
-    ensures ok { IfOk result (λ showing. Answer (Some (Show (map string_bytes names.now))) (texts_of sources.now) showing.status (flat_map (λ t. t.items) showing.texts.items) []) }
-    ensures refusal { IfErr result (λ refusal. RefusesForm (Show (map string_bytes names.now)) (texts_of sources.now) refusal) }
+    ensures ok { IfOk result
+        (λ showing. Answer (Some (Show (map string_bytes names.now))) (texts_of sources.now) showing.status
+        (flat_map (λ t. t.items) showing.texts.items) []) }
+    ensures refusal { IfErr result
+        (λ refusal. RefusesForm (Show (map string_bytes names.now)) (texts_of sources.now) refusal) }
 {
     match read(alloc, sources)? {
         Reading::Read(program) => {
@@ -94,9 +98,11 @@ fn alone(alloc: Global, text: &[u8]) -> Result<Vec<Vec<u8>>, Memory>
 // Puts texts one after the other, up to the first put that fails.
 fn put_each<K: Sink>(out: &mut K, texts: &[Vec<u8>]) -> Result<(), Failed>
     ensures ok { OnOk result (PutWhole
-        (sink_run (K.taken out.old) (K.taken out.new) (K.faults out.old) (K.faults out.new)) (flat_map (λ t. t.items) texts.now)) }
+        (sink_run (K.taken out.old) (K.taken out.new) (K.faults out.old) (K.faults out.new))
+        (flat_map (λ t. t.items) texts.now)) }
     ensures failed { OnErr result (PutFront
-        (sink_run (K.taken out.old) (K.taken out.new) (K.faults out.old) (K.faults out.new)) (flat_map (λ t. t.items) texts.now)) }
+        (sink_run (K.taken out.old) (K.taken out.new) (K.faults out.old) (K.faults out.new))
+        (flat_map (λ t. t.items) texts.now)) }
 {
     for text in texts {
         put_all(out, text)?;

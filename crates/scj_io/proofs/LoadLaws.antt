@@ -9,7 +9,8 @@ use Rattle.scj_io.specs.declared.shelves.LoadAnswer.TheVariants.{Failed, TooLong
 pub ShelfGoes-nothing : (h : List ℕ → Held) (f m : List ℕ → ℕ) → ShelfGoes h h f f m m
 ShelfGoes-nothing h f m = record { held = λ _. refl; faults = λ name. omega arith; most = λ name. omega arith }
 
-pub ShelfGoes-then : {h i j : List ℕ → Held} {f g k m n o : List ℕ → ℕ} → ShelfGoes h i f g m n → ShelfGoes i j g k n o → ShelfGoes h j f k m o
+pub ShelfGoes-then : {h i j : List ℕ → Held} {f g k m n o : List ℕ → ℕ} → ShelfGoes h i f g m n →
+    ShelfGoes i j g k n o → ShelfGoes h j f k m o
 ShelfGoes-then first second = record {
   held = λ name. second.held name ∙ first.held name;
   faults = λ name. omega (arith, first.faults name, second.faults name);
@@ -17,14 +18,18 @@ ShelfGoes-then first second = record {
 }
 
 -- what a load gave within a longer run
-pub LoadHolds-within : {h i j l : List ℕ → Held} {f g f' g' m n m' n' : List ℕ → ℕ} {name : List ℕ} {limit : ℕ} {items : List ℕ} → ShelfGoes h i f g m n → LoadHolds (shelf_run i g f' m') name limit items → ShelfGoes j l f' g' m' n' → LoadHolds (shelf_run h f g' n') name limit items
+pub LoadHolds-within : {h i j l : List ℕ → Held} {f g f' g' m n m' n' : List ℕ → ℕ} {name : List ℕ} {limit : ℕ}
+    {items : List ℕ} → ShelfGoes h i f g m n → LoadHolds (shelf_run i g f' m') name limit items →
+    ShelfGoes j l f' g' m' n' → LoadHolds (shelf_run h f g' n') name limit items
 LoadHolds-within {name = name} {items = items} before loaded after = record {
   content = subst (λ (held : Held). MayHold held items) (before.held name) loaded.content;
   within = loaded.within;
   counted = omega (arith, loaded.counted, after.most name);
 }
 
-pub LoadExceeds-within : {h i j l : List ℕ → Held} {f g f' g' m n m' n' : List ℕ → ℕ} {name : List ℕ} {limit taken : ℕ} → ShelfGoes h i f g m n → LoadExceeds (shelf_run i g f' m') name limit taken → ShelfGoes j l f' g' m' n' → LoadExceeds (shelf_run h f g' n') name limit taken
+pub LoadExceeds-within : {h i j l : List ℕ → Held} {f g f' g' m n m' n' : List ℕ → ℕ} {name : List ℕ}
+    {limit taken : ℕ} → ShelfGoes h i f g m n → LoadExceeds (shelf_run i g f' m') name limit taken →
+    ShelfGoes j l f' g' m' n' → LoadExceeds (shelf_run h f g' n') name limit taken
 LoadExceeds-within {name = name} {limit = limit} before loaded after = record {
   content = subst (λ (held : Held). MayExceed held limit) (before.held name) loaded.content;
   beyond = loaded.beyond;
@@ -32,32 +37,48 @@ LoadExceeds-within {name = name} {limit = limit} before loaded after = record {
 }
 
 -- a load that was refused within a longer run
-pub LoadRefuses-within : {h i j l : List ℕ → Held} {f g f' g' m n m' n' : List ℕ → ℕ} (name : List ℕ) (limit : ℕ) (answer : LoadAnswer) → ShelfGoes h i f g m n → LoadRefuses (shelf_run i g f' m') name limit answer → ShelfGoes j l f' g' m' n' → LoadRefuses (shelf_run h f g' n') name limit answer
-LoadRefuses-within name limit Failed before refused after = omega (arith, refused, before.faults name, after.faults name)
+pub LoadRefuses-within : {h i j l : List ℕ → Held} {f g f' g' m n m' n' : List ℕ → ℕ} (name : List ℕ) (limit : ℕ)
+    (answer : LoadAnswer) → ShelfGoes h i f g m n → LoadRefuses (shelf_run i g f' m') name limit answer →
+    ShelfGoes j l f' g' m' n' → LoadRefuses (shelf_run h f g' n') name limit answer
+LoadRefuses-within name limit Failed before refused after =
+    omega (arith, refused, before.faults name, after.faults name)
 LoadRefuses-within name limit (TooLong taken) before refused after = LoadExceeds-within before refused after
 LoadRefuses-within name limit Memory before refused after = tt
 
 -- where the bytes are told and fit, a load is not too long
-pub told_fits : {run : ShelfRun} {name : List ℕ} {limit taken : ℕ} {bytes : List ℕ} → LoadExceeds run name limit taken → run.held name ≡ Told bytes → limit < length bytes
+pub told_fits : {run : ShelfRun} {name : List ℕ} {limit taken : ℕ} {bytes : List ℕ} → LoadExceeds run name limit taken →
+    run.held name ≡ Told bytes → limit < length bytes
 told_fits {limit = limit} exceeds told = subst (λ (held : Held). MayExceed held limit) told exceeds.content
 
 -- where the bytes are told, a load gives exactly these
-pub told_bytes : {run : ShelfRun} {name : List ℕ} {limit : ℕ} {items bytes : List ℕ} → LoadHolds run name limit items → run.held name ≡ Told bytes → items ≡ bytes
+pub told_bytes : {run : ShelfRun} {name : List ℕ} {limit : ℕ} {items bytes : List ℕ} → LoadHolds run name limit items →
+    run.held name ≡ Told bytes → items ≡ bytes
 told_bytes {items = items} holds told = subst (λ (held : Held). MayHold held items) told holds.content
 
 -- where the bytes are told and are more than the limit, and no fault rises, a load is too long
-pub told_exceeds : {V : Type 0} (items_of : V → List ℕ) (run : ShelfRun) (name : List ℕ) (limit : ℕ) (bytes : List ℕ) (result : Result V LoadAnswer) → run.held name ≡ Told bytes → limit < length bytes → (Rose (run.faults_before name) (run.faults_after name) → ⊥) → IfOk result (λ v. LoadHolds run name limit (items_of v)) → IfErr result (λ answer. LoadRefuses run name limit answer) → (answer : LoadAnswer) × (result ≡ Err answer) × IsTooLongOrMemory answer
-told_exceeds items_of run name limit bytes (Ok v) told long calm ok err = absurd (too_short (told_bytes ok told) ok.within)
+pub told_exceeds : {V : Type 0} (items_of : V → List ℕ) (run : ShelfRun) (name : List ℕ) (limit : ℕ) (bytes : List ℕ)
+    (result : Result V LoadAnswer) → run.held name ≡ Told bytes → limit < length bytes →
+    (Rose (run.faults_before name) (run.faults_after name) → ⊥) →
+    IfOk result (λ v. LoadHolds run name limit (items_of v)) →
+    IfErr result (λ answer. LoadRefuses run name limit answer) → (answer : LoadAnswer) × (result ≡ Err answer) ×
+    IsTooLongOrMemory answer
+told_exceeds items_of run name limit bytes (Ok v) told long calm ok err =
+    absurd (too_short (told_bytes ok told) ok.within)
   where
     too_short : items_of v ≡ bytes → length (items_of v) ≤ limit → ⊥
-    too_short same within = let longer : limit < length (items_of v) = subst (λ (t : List ℕ). limit < length t) (sym same) long in omega arith
+    too_short same within = let longer : limit < length (items_of v) =
+        subst (λ (t : List ℕ). limit < length t) (sym same) long in omega arith
 told_exceeds items_of run name limit bytes (Err Failed) told long calm ok err = absurd (calm err)
 told_exceeds items_of run name limit bytes (Err (TooLong taken)) told long calm ok err = (TooLong taken, refl, tt)
 told_exceeds items_of run name limit bytes (Err Memory) told long calm ok err = (Memory, refl, tt)
 
 -- a name told as absent is answered neither with bytes nor as too long
-pub absent_refused : {V : Type 0} (items_of : V → List ℕ) (run : ShelfRun) (name : List ℕ) (limit : ℕ) (result : Result V LoadAnswer) → run.held name ≡ Absent → IfOk result (λ v. LoadHolds run name limit (items_of v)) → IfErr result (λ answer. LoadRefuses run name limit answer) → (result ≡ Err Failed) ⊎ (result ≡ Err Memory)
-absent_refused items_of run name limit (Ok v) absent ok err = absurd (subst (λ (held : Held). MayHold held (items_of v)) absent ok.content)
+pub absent_refused : {V : Type 0} (items_of : V → List ℕ) (run : ShelfRun) (name : List ℕ) (limit : ℕ)
+    (result : Result V LoadAnswer) → run.held name ≡ Absent → IfOk result (λ v. LoadHolds run name limit (items_of v)) →
+    IfErr result (λ answer. LoadRefuses run name limit answer) → (result ≡ Err Failed) ⊎ (result ≡ Err Memory)
+absent_refused items_of run name limit (Ok v) absent ok err =
+    absurd (subst (λ (held : Held). MayHold held (items_of v)) absent ok.content)
 absent_refused items_of run name limit (Err Failed) absent ok err = inl refl
-absent_refused items_of run name limit (Err (TooLong taken)) absent ok err = absurd (subst (λ (held : Held). MayExceed held limit) absent err.content)
+absent_refused items_of run name limit (Err (TooLong taken)) absent ok err =
+    absurd (subst (λ (held : Held). MayExceed held limit) absent err.content)
 absent_refused items_of run name limit (Err Memory) absent ok err = inr refl

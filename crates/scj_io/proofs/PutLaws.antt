@@ -16,17 +16,20 @@ pub Took-nothing : (taken : Option (List ℕ)) → Took taken taken []
 Took-nothing taken = record { whole = sym (appended-nil taken) }
 
 -- bytes and then more bytes
-pub Took-then : {before between after : Option (List ℕ)} {x y : List ℕ} → Took before between x → Took between after y → Took before after (x ++ y)
+pub Took-then : {before between after : Option (List ℕ)} {x y : List ℕ} → Took before between x → Took between after y →
+    Took before after (x ++ y)
 Took-then {before} {between} {after} {x} {y} first second = record {
   whole = rw (second.whole, first.whole) (appended-append before x y);
 }
 
 -- all of some bytes are a front of them and any more
-pub Took-front : {before after : Option (List ℕ)} {x : List ℕ} → Took before after x → (y : List ℕ) → TookFront before after (x ++ y)
+pub Took-front : {before after : Option (List ℕ)} {x : List ℕ} → Took before after x → (y : List ℕ) →
+    TookFront before after (x ++ y)
 Took-front {x = x} whole y = record { front = x; rest = y; parts = refl; took = whole.whole }
 
 -- bytes and then a front of more bytes
-pub Took-then-front : {before between after : Option (List ℕ)} {x y : List ℕ} → Took before between x → TookFront between after y → TookFront before after (x ++ y)
+pub Took-then-front : {before between after : Option (List ℕ)} {x y : List ℕ} → Took before between x →
+    TookFront between after y → TookFront before after (x ++ y)
 Took-then-front {before} {between} {after} {x} {y} first second = record {
   front = x ++ second.front;
   rest = second.rest;
@@ -35,7 +38,8 @@ Took-then-front {before} {between} {after} {x} {y} first second = record {
 }
 
 -- a front of bytes is a front of them and any more
-pub TookFront-more : {before after : Option (List ℕ)} {x : List ℕ} → TookFront before after x → (y : List ℕ) → TookFront before after (x ++ y)
+pub TookFront-more : {before after : Option (List ℕ)} {x : List ℕ} → TookFront before after x → (y : List ℕ) →
+    TookFront before after (x ++ y)
 TookFront-more front y = record {
   front = front.front;
   rest = front.rest ++ y;
@@ -46,10 +50,12 @@ TookFront-more front y = record {
 pub PutWhole-nothing : (taken : Option (List ℕ)) (faults : ℕ) → PutWhole (sink_run taken taken faults faults) []
 PutWhole-nothing taken faults = record { later = omega arith; took = Took-nothing taken }
 
-pub PutWhole-then : {t u v : Option (List ℕ)} {f g h : ℕ} {x y : List ℕ} → PutWhole (sink_run t u f g) x → PutWhole (sink_run u v g h) y → PutWhole (sink_run t v f h) (x ++ y)
+pub PutWhole-then : {t u v : Option (List ℕ)} {f g h : ℕ} {x y : List ℕ} → PutWhole (sink_run t u f g) x →
+    PutWhole (sink_run u v g h) y → PutWhole (sink_run t v f h) (x ++ y)
 PutWhole-then first second = record { later = omega arith; took = Took-then first.took second.took }
 
-pub PutWhole-then-front : {t u v : Option (List ℕ)} {f g h : ℕ} {x y : List ℕ} → PutWhole (sink_run t u f g) x → PutFront (sink_run u v g h) y → PutFront (sink_run t v f h) (x ++ y)
+pub PutWhole-then-front : {t u v : Option (List ℕ)} {f g h : ℕ} {x y : List ℕ} → PutWhole (sink_run t u f g) x →
+    PutFront (sink_run u v g h) y → PutFront (sink_run t v f h) (x ++ y)
 PutWhole-then-front first second = record {
   later = omega arith;
   rose = Rose-earlier _ _ _ first.later second.rose;

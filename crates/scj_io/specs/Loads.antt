@@ -27,10 +27,11 @@ shelf_run held faults_before faults_after most = record {
 }
 
 -- from one moment to a later one: what is held stays as it is, and no count falls, whatever the name
-pub record ShelfGoes (old_held new_held : List ℕ → Held) (old_faults new_faults old_most new_most : List ℕ → ℕ) : Type 0 where
-  pub held : (name : List ℕ) → new_held name ≡ old_held name
-  pub faults : (name : List ℕ) → old_faults name ≤ new_faults name
-  pub most : (name : List ℕ) → old_most name ≤ new_most name
+pub record ShelfGoes (old_held new_held : List ℕ → Held) (old_faults new_faults old_most new_most : List ℕ → ℕ) : Type 0
+  where
+    pub held : (name : List ℕ) → new_held name ≡ old_held name
+    pub faults : (name : List ℕ) → old_faults name ≤ new_faults name
+    pub most : (name : List ℕ) → old_most name ≤ new_most name
 
 -- the bytes may be what stands under a name
 abbrev pub MayHold : Held → List ℕ → Type 0

@@ -150,7 +150,8 @@ fn count_fault(stored: &mut BTreeMap<String, Stored>, name: &str)
     ensures held { (other : List ℕ) → told_by (get_by_text stored.new other) ≡ told_by (get_by_text stored.old other) }
     ensures faulted { get_by_text stored.new name.now ≡ option_map faulted (get_by_text stored.old name.now) }
     ensures spared { (other : List ℕ) → other ≢ name.now → get_by_text stored.new other ≡ get_by_text stored.old other }
-    ensures rises { (other : List ℕ) (others : ℕ) → counter_of (get_by_text stored.old other) others ≤ counter_of (get_by_text stored.new other) others }
+    ensures rises { (other : List ℕ) (others : ℕ) → counter_of (get_by_text stored.old other) others ≤ counter_of
+        (get_by_text stored.new other) others }
 {
     if let Some(file) = stored.get_mut(name) {
         file.faults = raised(file.faults);

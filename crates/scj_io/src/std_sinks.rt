@@ -37,10 +37,14 @@ impl<W: Write> Sink for StdSink<W> {
 
     fn put(&mut self, bytes: &[u8]) -> Result<(), Failed>
         ensures ok { OnOk result (PutWhole (sink_run None None (faults_of self.old) (faults_of self.new)) bytes.now) }
-        ensures failed { OnErr result (PutFront (sink_run None None (faults_of self.old) (faults_of self.new)) bytes.now) }
-        ensures wrote { OnOk result (Appends (W.contents (writer_of self.old)) (W.contents (writer_of self.new)) bytes.now) }
-        ensures broke_off { OnErr result (AppendsFront (W.contents (writer_of self.old)) (W.contents (writer_of self.new)) bytes.now) }
-        ensures counted { faults_of self.new ≡ (if is_ok result then faults_of self.old else one_more (faults_of self.old)) }
+        ensures failed { OnErr result
+            (PutFront (sink_run None None (faults_of self.old) (faults_of self.new)) bytes.now) }
+        ensures wrote { OnOk result
+            (Appends (W.contents (writer_of self.old)) (W.contents (writer_of self.new)) bytes.now) }
+        ensures broke_off { OnErr result
+            (AppendsFront (W.contents (writer_of self.old)) (W.contents (writer_of self.new)) bytes.now) }
+        ensures counted { faults_of self.new
+            ≡ (if is_ok result then faults_of self.old else one_more (faults_of self.old)) }
     {
         match write_whole(&mut self.writer, bytes) {
             Ok(()) => Ok(()),

@@ -36,7 +36,8 @@ told≢bad : {X : Type 0} {kind : Option TokenKind} {n : ℕ} {rule : Rule} → 
 told≢bad e = absurd (cc)
 
 pub no_lexeme : (bytes : List ℕ) (rule : Rule) → first_of bytes ≡ Bad rule → NoLexeme bytes
-no_lexeme bytes rule e = λ w rest kind whole is. told≢bad (sym (exact_lexeme w rest kind is) ∙ ap first_of (sym whole) ∙ e)
+no_lexeme bytes rule e =
+    λ w rest kind whole is. told≢bad (sym (exact_lexeme w rest kind is) ∙ ap first_of (sym whole) ∙ e)
 
 abbrev name_run : List ℕ → List ℕ
 name_run s = take (prefix_len is_name_byte s) s
@@ -45,16 +46,21 @@ abbrev name_rest : List ℕ → List ℕ
 name_rest s = drop (prefix_len is_name_byte s) s
 
 run_like : (b : ℕ) (s : List ℕ) → is_letter b ≡ true → is_name_byte b ≡ true → IsWordLike (name_run (b ∷ s))
-run_like b s e f = let t : prefix_len is_name_byte (b ∷ s) ≡ suc (prefix_len is_name_byte s) = cond-true _ _ _ f ∙ omega arith in rw t (e, prefix_len_all is_name_byte s)
+run_like b s e f = let t : prefix_len is_name_byte (b ∷ s) ≡ suc (prefix_len is_name_byte s) = cond-true _ _ _ f
+    ∙ omega arith in rw t (e, prefix_len_all is_name_byte s)
 
 option_cases : (o : Option ℕ) → (o ≡ None) ⊎ ((n : ℕ) × (o ≡ Some n))
 option_cases None = inl refl
 option_cases (Some n) = inr (n, refl)
 
-run_piece : (w rest : List ℕ) → IsWordLike w → EndsHere is_name_byte rest → length w ≤ 64 → (kind : Option TokenKind) × Piece w rest kind
+run_piece : (w rest : List ℕ) → IsWordLike w → EndsHere is_name_byte rest → length w ≤ 64 → (kind : Option TokenKind) ×
+    Piece w rest kind
 run_piece w rest h e l =
     elim (option_cases (word_of w)) [
-      | inl none ↦ (Some Name, lexeme w rest Name (name w rest h l (λ r. none≢some (sym none ∙ (word_facts r.0 w r.1).found)) e))
+      | inl none ↦ (
+        Some Name,
+        lexeme w rest Name (name w rest h l (λ r. none≢some (sym none ∙ (word_facts r.0 w r.1).found)) e),
+      )
       | inr some ↦ (Some (Word some.0), lexeme w rest (Word some.0) (word w rest some.0 (word_sound w some.0 some.1) e))
     ]
 
@@ -62,10 +68,19 @@ decide_letter : (b : ℕ) (s : List ℕ) → is_letter b ≡ true → is_name_by
 decide_letter b s e f =
     let like : IsWordLike (name_run (b ∷ s)) = run_like b s e f in
     let ends : EndsHere is_name_byte (name_rest (b ∷ s)) = prefix_len_ends is_name_byte (b ∷ s) in
-    let whole : name_run (b ∷ s) ++ name_rest (b ∷ s) ≡ b ∷ s = take-append-drop (prefix_len is_name_byte (b ∷ s)) (b ∷ s) in
+    let whole : name_run (b ∷ s) ++ name_rest (b ∷ s) ≡ b ∷ s =
+    take-append-drop (prefix_len is_name_byte (b ∷ s)) (b ∷ s) in
     elim (cases_lt 64 (length (name_run (b ∷ s)))) [
-      | inl long ↦ inr (record { rule = L4; found = sym (ap first_of whole) ∙ exact_long (name_run (b ∷ s)) (name_rest (b ∷ s)) like ends long; is = subst (λ u. BreakAt u L4) whole (long_name (name_run (b ∷ s)) (name_rest (b ∷ s)) like long ends) })
-      | inr short ↦ let p = run_piece (name_run (b ∷ s)) (name_rest (b ∷ s)) like ends short in inl (record { piece = name_run (b ∷ s); rest = name_rest (b ∷ s); kind = p.0; whole = sym whole; is = p.1 })
+      | inl long ↦ inr
+          (record {
+            rule = L4;
+            found = sym (ap first_of whole)
+                ∙ exact_long (name_run (b ∷ s)) (name_rest (b ∷ s)) like ends long;
+            is =
+                subst (λ u. BreakAt u L4) whole (long_name (name_run (b ∷ s)) (name_rest (b ∷ s)) like long ends);
+          })
+      | inr short ↦ let p = run_piece (name_run (b ∷ s)) (name_rest (b ∷ s)) like ends short in
+          inl (record { piece = name_run (b ∷ s); rest = name_rest (b ∷ s); kind = p.0; whole = sym whole; is = p.1 })
     ]
 
 pub record IsNumber (w : List ℕ) (v : ℕ) : Type 0 where
@@ -75,7 +90,8 @@ pub record IsNumber (w : List ℕ) (v : ℕ) : Type 0 where
 
 zero_alone : (b : ℕ) (s : List ℕ) → (nat_lt 1 (length (b ∷ s)) && (b == 48)) ≡ false → b ≡ 48 → s ≡ []
 zero_alone b [] f e = refl
-zero_alone b (c ∷ s) f e = absurd (false≢true (sym f ∙ and_from _ _ (lt-ltb 1 (suc (suc (length s))) (omega arith)) (eq-eqb b 48 e)))
+zero_alone b (c ∷ s) f e =
+    absurd (false≢true (sym f ∙ and_from _ _ (lt-ltb 1 (suc (suc (length s))) (omega arith)) (eq-eqb b 48 e)))
 
 number_sound : (b : ℕ) (s : List ℕ) (v : ℕ) → number_of (b ∷ s) ≡ Some v → IsNumber (b ∷ s) v
 unfolding number_of value_of
@@ -85,13 +101,19 @@ number_sound b s v e =
       | inr f ↦
           let r : AreDigits 0 (b ∷ s) v = digits_sound 0 (b ∷ s) v (omega arith) (sym (cond-false _ _ _ f) ∙ e) in
           let parts = and_parts _ _ r.digits in
-          record { numeral = (parts.0, parts.1, zero_alone b s f); value = r.value; small = subst (λ n. n ≤ 2147483648) r.value r.small }
+          record {
+            numeral = (parts.0, parts.1, zero_alone b s f);
+            value = r.value;
+            small = subst
+                (λ n. n ≤ 2147483648) r.value r.small;
+          }
     ]
 
 number_piece : (w rest : List ℕ) (v : ℕ) → IsNumber w v → EndsHere is_name_byte rest → Piece w rest (Some (Number v))
 number_piece w rest v r e = rw r.value (lexeme w rest (Number (value_of w)) (number w rest r.numeral r.small e))
 
-run_number : (b : ℕ) (s : List ℕ) (v : ℕ) → is_name_byte b ≡ true → number_of (name_run (b ∷ s)) ≡ Some v → IsNumber (name_run (b ∷ s)) v
+run_number : (b : ℕ) (s : List ℕ) (v : ℕ) → is_name_byte b ≡ true → number_of (name_run (b ∷ s)) ≡ Some v →
+    IsNumber (name_run (b ∷ s)) v
 run_number b s v f e =
     let t : prefix_len is_name_byte (b ∷ s) ≡ suc (prefix_len is_name_byte s) = cond-true _ _ _ f ∙ omega arith in
     let run : name_run (b ∷ s) ≡ b ∷ name_run s = rw t refl in
@@ -102,7 +124,8 @@ unfolding number_first
 decide_digit b s e f =
     elim (option_cases (number_of (name_run (b ∷ s)))) [
       | inl none ↦
-          let found : first_of (b ∷ s) ≡ Bad L2 = digit_first b s e ∙ ap (λ o. number_or_bad o (prefix_len is_name_byte (b ∷ s))) none in
+          let found : first_of (b ∷ s) ≡ Bad L2 = digit_first b s e
+          ∙ ap (λ o. number_or_bad o (prefix_len is_name_byte (b ∷ s))) none in
           inr (record { rule = L2; found = found; is = bad_number b s e (no_lexeme (b ∷ s) L2 found) })
       | inr some ↦
           inl (record {
@@ -110,22 +133,35 @@ decide_digit b s e f =
             rest = name_rest (b ∷ s);
             kind = Some (Number some.0);
             whole = sym (take-append-drop (prefix_len is_name_byte (b ∷ s)) (b ∷ s));
-            is = number_piece (name_run (b ∷ s)) (name_rest (b ∷ s)) some.0 (run_number b s some.0 f some.1) (prefix_len_ends is_name_byte (b ∷ s));
+            is = number_piece (name_run (b ∷ s)) (name_rest (b ∷ s)) some.0 (run_number b s some.0 f some.1)
+                (prefix_len_ends is_name_byte (b ∷ s));
           })
     ]
 
-text_piece : (inside t : List ℕ) (c : ℕ) (s : List ℕ) → AllOf is_text_byte inside → c ≡ 34 → s ≡ inside ++ c ∷ t → Begins (34 ∷ s)
-text_piece inside t c s a q w = record { piece = 34 ∷ (inside ++ 34 ∷ []); rest = t; kind = Some Text; whole = ap (λ u. 34 ∷ u) (rw (append_assoc, ← q) w); is = lexeme _ t Text (text inside t a) }
+text_piece : (inside t : List ℕ) (c : ℕ) (s : List ℕ) → AllOf is_text_byte inside → c ≡ 34 → s ≡ inside ++ c ∷ t →
+    Begins (34 ∷ s)
+text_piece inside t c s a q w =
+    record {
+      piece = 34 ∷ (inside ++ 34 ∷ []);
+      rest = t;
+      kind = Some Text;
+      whole = ap (λ u. 34 ∷ u)
+          (rw (append_assoc, ← q) w);
+      is = lexeme _ t Text (text inside t a);
+    }
 
 open_quote : (s : List ℕ) → text_first s ≡ Bad L3 → Breaks (34 ∷ s)
-open_quote s e = let found : first_of (34 ∷ s) ≡ Bad L3 = quote_first s ∙ e in record { rule = L3; found = found; is = open_text s (no_lexeme (34 ∷ s) L3 found) }
+open_quote s e = let found : first_of (34 ∷ s) ≡ Bad L3 = quote_first s ∙ e in
+    record { rule = L3; found = found; is = open_text s (no_lexeme (34 ∷ s) L3 found) }
 
 decide_quote_at : (s d : List ℕ) → drop (prefix_len is_text_byte s) s ≡ d → Begins (34 ∷ s) ⊎ Breaks (34 ∷ s)
 unfolding text_first
 decide_quote_at s [] e = inr (open_quote s (ap (λ u. quote_or_bad u (prefix_len is_text_byte s)) e))
 decide_quote_at s (c ∷ t) e =
     elim (cases_Bool (c == 34)) [
-      | inl q ↦ inl (text_piece (take (prefix_len is_text_byte s) s) t c s (prefix_len_all is_text_byte s) (eqb-true _ _ q) (sym (take-append-drop (prefix_len is_text_byte s) s) ∙ ap (λ u. take (prefix_len is_text_byte s) s ++ u) e))
+      | inl q ↦ inl (text_piece (take (prefix_len is_text_byte s) s) t c s (prefix_len_all is_text_byte s)
+          (eqb-true _ _ q) (sym (take-append-drop (prefix_len is_text_byte s) s)
+          ∙ ap (λ u. take (prefix_len is_text_byte s) s ++ u) e))
       | inr n ↦ inr (open_quote s (ap (λ u. quote_or_bad u (prefix_len is_text_byte s)) e ∙ cond-false _ _ _ n))
     ]
 
@@ -136,10 +172,18 @@ open_comment_first t e = ap comment_or_bad e
 decide_block : (t : List ℕ) → Begins (47 ∷ 42 ∷ t) ⊎ Breaks (47 ∷ 42 ∷ t)
 decide_block t =
     elim (option_cases (close_of t)) [
-      | inl none ↦ inr (record { rule = L3; found = open_comment_first t none; is = open_comment t (close_none_sound t none) })
+      | inl none ↦ inr
+          (record { rule = L3; found = open_comment_first t none; is = open_comment t (close_none_sound t none) })
       | inr some ↦
           let c : Closed t some.0 = close_sound t some.0 some.1 in
-          inl (record { piece = 47 ∷ 42 ∷ (c.inside ++ 42 ∷ 47 ∷ []); rest = c.rest; kind = None; whole = ap (λ u. 47 ∷ 42 ∷ u) c.whole; is = block_comment c.inside c.rest c.open_so_far })
+          inl (record {
+            piece = 47 ∷ 42 ∷ (c.inside ++ 42 ∷ 47 ∷ []);
+            rest = c.rest;
+            kind = None;
+            whole = ap
+                (λ u. 47 ∷ 42 ∷ u) c.whole;
+            is = block_comment c.inside c.rest c.open_so_far;
+          })
     ]
 
 decide_line : (t : List ℕ) → Begins (47 ∷ 47 ∷ t)
@@ -162,7 +206,8 @@ decide_comment b (c ∷ t) e =
       | inr l ↦ let second : c ≡ 42 = eqb-true _ _ l in rw (slash, second) (decide_block t)
     ]
 
-longest : (bytes : List ℕ) (n : ℕ) (f : SignFound bytes n) → sign_of bytes ≡ Some n → IsLongestSign f.sign (f.sign ++ f.rest)
+longest : (bytes : List ℕ) (n : ℕ) (f : SignFound bytes n) → sign_of bytes ≡ Some n →
+    IsLongestSign f.sign (f.sign ++ f.rest)
 longest bytes n f e = λ m v rest listed whole.
     let c = sign_complete m v rest listed in
     let same : Some c.0 ≡ Some n = sym c.1 ∙ ap sign_of (sym whole ∙ sym f.whole) ∙ e in
@@ -170,13 +215,19 @@ longest bytes n f e = λ m v rest listed whole.
     let is : get_or signs n [] ≡ f.sign = get_or_from_slice_get signs n f.sign [] f.listed in
     subst (λ u. length v ≤ length u) is (subst (λ k. length v ≤ sign_len k) number c.2)
 
-decide_sign : (b : ℕ) (s : List ℕ) → is_blank b ≡ false → is_letter b ≡ false → is_digit b ≡ false → (b == 34) ≡ false → opens_comment (b ∷ s) ≡ false → Begins (b ∷ s) ⊎ Breaks (b ∷ s)
+decide_sign : (b : ℕ) (s : List ℕ) → is_blank b ≡ false → is_letter b ≡ false → is_digit b ≡ false → (b == 34) ≡ false →
+    opens_comment (b ∷ s) ≡ false → Begins (b ∷ s) ⊎ Breaks (b ∷ s)
 unfolding sign_first
 decide_sign b s e1 e2 e3 e4 e5 =
     elim (option_cases (sign_of (b ∷ s))) [
       | inl none ↦
           let found : first_of (b ∷ s) ≡ Bad L1 = other_first b s e1 e2 e3 e4 e5 ∙ ap sign_or_bad none in
-          inr (record { rule = L1; found = found; is = bad_byte b s e1 e2 e3 (eqb-false _ _ e4) e5 (no_lexeme (b ∷ s) L1 found) })
+          inr (record {
+            rule = L1;
+            found = found;
+            is = bad_byte b s e1 e2 e3 (eqb-false _ _ e4) e5
+                (no_lexeme (b ∷ s) L1 found);
+          })
       | inr some ↦
           let f : SignFound (b ∷ s) some.0 = sign_sound (b ∷ s) some.0 some.1 in
           inl (record {
@@ -184,7 +235,9 @@ decide_sign b s e1 e2 e3 e4 e5 =
             rest = f.rest;
             kind = Some (Sign some.0);
             whole = f.whole;
-            is = lexeme f.sign f.rest (Sign some.0) (sign f.sign f.rest some.0 f.listed (longest (b ∷ s) some.0 f some.1) (ap opens_comment (sym f.whole) ∙ e5));
+            is = lexeme f.sign f.rest (Sign some.0)
+                (sign f.sign f.rest some.0 f.listed (longest (b ∷ s) some.0 f some.1)
+                (ap opens_comment (sym f.whole) ∙ e5));
           })
     ]
 
@@ -205,7 +258,8 @@ decide b s =
         | inr e2 ↦ elim (cases_Bool (is_digit b)) [
           | inl e ↦ decide_digit b s e (digit_is_in_name b e)
           | inr e3 ↦ elim (cases_Bool (b == 34)) [
-            | inl e ↦ let quote : b ≡ 34 = eqb-true _ _ e in rw quote (decide_quote_at s (drop (prefix_len is_text_byte s) s) refl)
+            | inl e ↦ let quote : b ≡ 34 = eqb-true _ _ e in
+                rw quote (decide_quote_at s (drop (prefix_len is_text_byte s) s) refl)
             | inr e4 ↦ elim (cases_Bool (opens_comment (b ∷ s))) [
               | inl e ↦ decide_comment b s e
               | inr e5 ↦ decide_sign b s e1 e2 e3 e4 e5
@@ -216,11 +270,13 @@ decide b s =
     ]
 
 -- what is found is so
-pub piece_sound : (b : ℕ) (s : List ℕ) (kind : Option TokenKind) (n : ℕ) → first_of (b ∷ s) ≡ Told kind n → (p : Begins (b ∷ s)) × (p.kind ≡ kind) × (length p.piece ≡ n)
+pub piece_sound : (b : ℕ) (s : List ℕ) (kind : Option TokenKind) (n : ℕ) → first_of (b ∷ s) ≡ Told kind n →
+    (p : Begins (b ∷ s)) × (p.kind ≡ kind) × (length p.piece ≡ n)
 piece_sound b s kind n e =
     elim (decide b s) [
       | inl p ↦
-          let same : Told p.kind (length p.piece) ≡ Told kind n = sym (first_exact p.piece p.rest p.kind p.is) ∙ ap first_of (sym p.whole) ∙ e in
+          let same : Told p.kind (length p.piece) ≡ Told kind n = sym (first_exact p.piece p.rest p.kind p.is)
+          ∙ ap first_of (sym p.whole) ∙ e in
           (p, cc, cc)
       | inr p ↦ told≢bad (sym e ∙ p.found)
     ]
@@ -229,17 +285,20 @@ pub break_sound : (b : ℕ) (s : List ℕ) (rule : Rule) → first_of (b ∷ s) 
 break_sound b s rule e =
     elim (decide b s) [
       | inl p ↦ told≢bad (sym (first_exact p.piece p.rest p.kind p.is) ∙ ap first_of (sym p.whole) ∙ e)
-      | inr p ↦ let same : Bad p.rule ≡ Bad rule = sym p.found ∙ e in let rules_same : p.rule ≡ rule = cc in subst (BreakAt (b ∷ s)) rules_same p.is
+      | inr p ↦ let same : Bad p.rule ≡ Bad rule = sym p.found ∙ e in let rules_same : p.rule ≡ rule =
+          cc in subst (BreakAt (b ∷ s)) rules_same p.is
     ]
 
 -- where no lexeme begins, none is found
-lexeme_in : (w rest : List ℕ) (found : Option TokenKind) (kind : TokenKind) → Piece w rest found → found ≡ Some kind → ((k : TokenKind) → Lexeme w rest k → ⊥) → ⊥
+lexeme_in : (w rest : List ℕ) (found : Option TokenKind) (kind : TokenKind) → Piece w rest found → found ≡ Some kind →
+    ((k : TokenKind) → Lexeme w rest k → ⊥) → ⊥
 lexeme_in _ _ _ kind (blank b rest e) q h = cc
 lexeme_in _ _ _ kind (line_comment inside rest a e) q h = cc
 lexeme_in _ _ _ kind (block_comment inside rest e) q h = cc
 lexeme_in _ _ _ kind (lexeme w rest k is) q h = h k is
 
-not_a_lexeme : (b : ℕ) (s : List ℕ) (kind : TokenKind) (n : ℕ) → NoLexeme (b ∷ s) → first_of (b ∷ s) ≡ Told (Some kind) n → ⊥
+not_a_lexeme : (b : ℕ) (s : List ℕ) (kind : TokenKind) (n : ℕ) → NoLexeme (b ∷ s) →
+    first_of (b ∷ s) ≡ Told (Some kind) n → ⊥
 not_a_lexeme b s kind n none e =
     let p = piece_sound b s (Some kind) n e in
     lexeme_in (p.0).piece (p.0).rest (p.0).kind kind (p.0).is p.1 (λ k is. none (p.0).piece (p.0).rest k (p.0).whole is)
@@ -249,15 +308,19 @@ unfolding number_first
 no_number b s e none =
     elim (option_cases (number_of (name_run (b ∷ s)))) [
       | inl o ↦ ap (λ u. number_or_bad u (prefix_len is_name_byte (b ∷ s))) o
-      | inr o ↦ absurd (not_a_lexeme b s (Number o.0) (prefix_len is_name_byte (b ∷ s)) none (digit_first b s e ∙ ap (λ u. number_or_bad u (prefix_len is_name_byte (b ∷ s))) o.1))
+      | inr o ↦ absurd
+          (not_a_lexeme b s (Number o.0) (prefix_len is_name_byte (b ∷ s)) none
+          (digit_first b s e ∙ ap (λ u. number_or_bad u (prefix_len is_name_byte (b ∷ s))) o.1))
     ]
 
-no_sign : (b : ℕ) (s : List ℕ) → is_blank b ≡ false → is_letter b ≡ false → is_digit b ≡ false → (b == 34) ≡ false → opens_comment (b ∷ s) ≡ false → NoLexeme (b ∷ s) → sign_first (b ∷ s) ≡ Bad L1
+no_sign : (b : ℕ) (s : List ℕ) → is_blank b ≡ false → is_letter b ≡ false → is_digit b ≡ false → (b == 34) ≡ false →
+    opens_comment (b ∷ s) ≡ false → NoLexeme (b ∷ s) → sign_first (b ∷ s) ≡ Bad L1
 unfolding sign_first
 no_sign b s e1 e2 e3 e4 e5 none =
     elim (option_cases (sign_of (b ∷ s))) [
       | inl o ↦ ap sign_or_bad o
-      | inr o ↦ absurd (not_a_lexeme b s (Sign o.0) (sign_len o.0) none (other_first b s e1 e2 e3 e4 e5 ∙ ap sign_or_bad o.1))
+      | inr o ↦ absurd
+          (not_a_lexeme b s (Sign o.0) (sign_len o.0) none (other_first b s e1 e2 e3 e4 e5 ∙ ap sign_or_bad o.1))
     ]
 
 no_text_at : (s d : List ℕ) (n : ℕ) → quote_or_bad d n ≡ text_first s → NoLexeme (34 ∷ s) → quote_or_bad d n ≡ Bad L3
@@ -273,7 +336,8 @@ unfolding text_first
 no_text s none = no_text_at s (drop (prefix_len is_text_byte s) s) (prefix_len is_text_byte s) refl none
 
 pub break_exact : (bytes : List ℕ) (rule : Rule) → BreakAt bytes rule → first_of bytes ≡ Bad rule
-break_exact _ _ (bad_byte b s e1 e2 e3 e4 e5 n) = other_first b s e1 e2 e3 (ne_eqb _ _ e4) e5 ∙ no_sign b s e1 e2 e3 (ne_eqb _ _ e4) e5 n
+break_exact _ _ (bad_byte b s e1 e2 e3 e4 e5 n) = other_first b s e1 e2 e3 (ne_eqb _ _ e4) e5
+    ∙ no_sign b s e1 e2 e3 (ne_eqb _ _ e4) e5 n
 break_exact _ _ (bad_number b s e n) = digit_first b s e ∙ no_number b s e n
 break_exact _ _ (open_comment s e) = open_comment_first s (close_none_exact s e)
 break_exact _ _ (open_text s n) = quote_first s ∙ no_text s n

@@ -38,11 +38,13 @@ commented_len : (inside : List ℕ) → length inside + 4 ≡ suc (suc (length (
 commented_len inside = omega (arith, length-append inside (42 ∷ 47 ∷ []))
 
 -- two signs that begin the same bytes and are as long as each other are one
-same_sign : (w rest : List ℕ) (n m : ℕ) → slice_get signs n ≡ Some w → (f : SignFound (w ++ rest) m) → length w ≤ sign_len m → length f.sign ≤ length w → sign_or_bad (Some m) ≡ Told (Some (Sign n)) (length w)
+same_sign : (w rest : List ℕ) (n m : ℕ) → slice_get signs n ≡ Some w → (f : SignFound (w ++ rest) m) →
+    length w ≤ sign_len m → length f.sign ≤ length w → sign_or_bad (Some m) ≡ Told (Some (Sign n)) (length w)
 same_sign w rest n m e f longer shorter =
     let is : get_or signs m [] ≡ f.sign = get_or_from_slice_get signs m f.sign [] f.listed in
     let as_long : length w ≡ length f.sign = omega (arith, ap length is) in
-    let front : w ≡ f.sign = sym (take_at w rest (length w) refl) ∙ ap (take (length w)) f.whole ∙ take_at f.sign f.rest (length w) (sym as_long) in
+    let front : w ≡ f.sign = sym (take_at w rest (length w) refl) ∙ ap (take (length w)) f.whole
+    ∙ take_at f.sign f.rest (length w) (sym as_long) in
     let same : n ≡ m = sign_same n m w e (f.listed ∙ ap Some (sym front)) in
     rw (is, ← same, ← front) refl
 
@@ -78,11 +80,14 @@ exact_blank : (b : ℕ) (rest : List ℕ) → is_blank b ≡ true → first_of (
 unfolding first_of
 exact_blank b rest e = cond-true _ _ _ e
 
-exact_line : (inside rest : List ℕ) → AllOf is_line_byte inside → EndsHere is_line_byte rest → first_of (47 ∷ 47 ∷ (inside ++ rest)) ≡ Told None (suc (suc (length inside)))
+exact_line : (inside rest : List ℕ) → AllOf is_line_byte inside → EndsHere is_line_byte rest →
+    first_of (47 ∷ 47 ∷ (inside ++ rest)) ≡ Told None (suc (suc (length inside)))
 unfolding first_of is_blank is_letter is_digit opens_comment
-exact_line inside rest a e = let n : prefix_len is_line_byte (inside ++ rest) + 2 ≡ suc (suc (length inside)) = rw (prefix_len_exact is_line_byte inside rest a e) (omega arith) in ap (Told None) n
+exact_line inside rest a e = let n : prefix_len is_line_byte (inside ++ rest) + 2 ≡ suc (suc (length inside)) =
+    rw (prefix_len_exact is_line_byte inside rest a e) (omega arith) in ap (Told None) n
 
-exact_block : (inside rest : List ℕ) → has_close inside ≡ false → first_of (47 ∷ 42 ∷ ((inside ++ 42 ∷ 47 ∷ []) ++ rest)) ≡ Told None (length inside + 4)
+exact_block : (inside rest : List ℕ) → has_close inside ≡ false →
+    first_of (47 ∷ 42 ∷ ((inside ++ 42 ∷ 47 ∷ []) ++ rest)) ≡ Told None (length inside + 4)
 unfolding first_of is_blank is_letter is_digit opens_comment comment_first
 exact_block inside rest e = ap comment_or_bad (close_exact inside rest e)
 
@@ -98,46 +103,64 @@ pub quote_first : (s : List ℕ) → first_of (34 ∷ s) ≡ text_first s
 unfolding first_of is_blank is_letter is_digit
 quote_first s = refl
 
-pub other_first : (b : ℕ) (s : List ℕ) → is_blank b ≡ false → is_letter b ≡ false → is_digit b ≡ false → (b == 34) ≡ false → opens_comment (b ∷ s) ≡ false → first_of (b ∷ s) ≡ sign_first (b ∷ s)
+pub other_first : (b : ℕ) (s : List ℕ) → is_blank b ≡ false → is_letter b ≡ false → is_digit b ≡ false →
+    (b == 34) ≡ false → opens_comment (b ∷ s) ≡ false → first_of (b ∷ s) ≡ sign_first (b ∷ s)
 unfolding first_of
-other_first b s e1 e2 e3 e4 e5 = cond-false _ _ _ e1 ∙ cond-false _ _ _ e2 ∙ cond-false _ _ _ e3 ∙ cond-false _ _ _ e4 ∙ cond-false _ _ _ e5
+other_first b s e1 e2 e3 e4 e5 = cond-false _ _ _ e1 ∙ cond-false _ _ _ e2 ∙ cond-false _ _ _ e3 ∙ cond-false _ _ _ e4
+    ∙ cond-false _ _ _ e5
 
-exact_run : (w rest : List ℕ) → AllOf is_name_byte w → EndsHere is_name_byte rest → length w ≤ 64 → name_first (w ++ rest) ≡ Told (Some (word_or_name (word_of w))) (length w)
+exact_run : (w rest : List ℕ) → AllOf is_name_byte w → EndsHere is_name_byte rest → length w ≤ 64 →
+    name_first (w ++ rest) ≡ Told (Some (word_or_name (word_of w))) (length w)
 unfolding name_first
-exact_run w rest a e h = rw (prefix_len_exact is_name_byte w rest a e, take_at w rest (length w) refl) (cond-false _ _ _ (le-ltb _ _ h))
+exact_run w rest a e h = rw (prefix_len_exact is_name_byte w rest a e, take_at w rest (length w) refl)
+    (cond-false _ _ _ (le-ltb _ _ h))
 
-exact_like : (w rest : List ℕ) → IsWordLike w → EndsHere is_name_byte rest → length w ≤ 64 → first_of (w ++ rest) ≡ Told (Some (word_or_name (word_of w))) (length w)
+exact_like : (w rest : List ℕ) → IsWordLike w → EndsHere is_name_byte rest → length w ≤ 64 →
+    first_of (w ++ rest) ≡ Told (Some (word_or_name (word_of w))) (length w)
 exact_like [] rest h e l = absurd h
-exact_like (b ∷ s) rest h e l = letter_first b (s ++ rest) h.0 ∙ exact_run (b ∷ s) rest (word_like_in_name (b ∷ s) h) e l
+exact_like (b ∷ s) rest h e l = letter_first b (s ++ rest) h.0
+    ∙ exact_run (b ∷ s) rest (word_like_in_name (b ∷ s) h) e l
 
 not_reserved : (w : List ℕ) → (IsReserved w → ⊥) → word_of w ≡ None
 not_reserved w h = none_if (word_of w) (λ n e. h (n, word_sound w n e))
 
-pub exact_long : (w rest : List ℕ) → IsWordLike w → EndsHere is_name_byte rest → 64 < length w → first_of (w ++ rest) ≡ Bad L4
+pub exact_long : (w rest : List ℕ) → IsWordLike w → EndsHere is_name_byte rest → 64 < length w →
+    first_of (w ++ rest) ≡ Bad L4
 unfolding name_first
 exact_long [] rest h e l = absurd h
-exact_long (b ∷ s) rest h e l = letter_first b (s ++ rest) h.0 ∙ rw (prefix_len_exact is_name_byte (b ∷ s) rest (word_like_in_name (b ∷ s) h) e) (cond-true _ _ _ (lt-ltb _ _ l))
+exact_long (b ∷ s) rest h e l = letter_first b (s ++ rest) h.0
+    ∙ rw (prefix_len_exact is_name_byte (b ∷ s) rest (word_like_in_name (b ∷ s) h) e) (cond-true _ _ _ (lt-ltb _ _ l))
 
 numeral_value : (w : List ℕ) → IsNumeral w → value_of w ≤ 2147483648 → number_of w ≡ Some (value_of w)
 unfolding number_of value_of
 numeral_value [] h l = absurd h
 numeral_value (b ∷ s) h l = cond-false _ _ _ (no_leading_zero b s h.2) ∙ digits_exact 0 (b ∷ s) (and_from _ _ h.0 h.1) l
 
-exact_number : (w rest : List ℕ) → IsNumeral w → value_of w ≤ 2147483648 → EndsHere is_name_byte rest → first_of (w ++ rest) ≡ Told (Some (Number (value_of w))) (length w)
+exact_number : (w rest : List ℕ) → IsNumeral w → value_of w ≤ 2147483648 → EndsHere is_name_byte rest →
+    first_of (w ++ rest) ≡ Told (Some (Number (value_of w))) (length w)
 unfolding number_first
 exact_number [] rest h l e = absurd h
 exact_number (b ∷ s) rest h l e =
     digit_first b (s ++ rest) h.0 ∙
-    rw (prefix_len_exact is_name_byte (b ∷ s) rest (digits_in_name (b ∷ s) (and_from _ _ h.0 h.1)) e, take_at (b ∷ s) rest (length (b ∷ s)) refl)
+    rw (
+      prefix_len_exact is_name_byte (b ∷ s) rest (digits_in_name (b ∷ s) (and_from _ _ h.0 h.1)) e,
+      take_at (b ∷ s) rest (length (b ∷ s)) refl,
+    )
     (ap (λ o. number_or_bad o (length (b ∷ s))) (numeral_value (b ∷ s) h l))
 
-exact_text : (inside rest : List ℕ) → AllOf is_text_byte inside → first_of (34 ∷ ((inside ++ 34 ∷ []) ++ rest)) ≡ Told (Some Text) (length inside + 2)
+exact_text : (inside rest : List ℕ) → AllOf is_text_byte inside → first_of (34 ∷ ((inside ++ 34 ∷ []) ++ rest)) ≡ Told
+    (Some Text) (length inside + 2)
 unfolding text_first is_text_byte
 exact_text inside rest a =
     quote_first ((inside ++ 34 ∷ []) ++ rest) ∙
-    rw (append_assoc, prefix_len_exact is_text_byte inside (34 ∷ rest) a refl, drop_at inside (34 ∷ rest) (length inside) refl) refl
+    rw (
+      append_assoc,
+      prefix_len_exact is_text_byte inside (34 ∷ rest) a refl,
+      drop_at inside (34 ∷ rest) (length inside) refl,
+    ) refl
 
-exact_sign : (w rest : List ℕ) (n : ℕ) → slice_get signs n ≡ Some w → IsLongestSign w (w ++ rest) → opens_comment (w ++ rest) ≡ false → first_of (w ++ rest) ≡ Told (Some (Sign n)) (length w)
+exact_sign : (w rest : List ℕ) (n : ℕ) → slice_get signs n ≡ Some w → IsLongestSign w (w ++ rest) →
+    opens_comment (w ++ rest) ≡ false → first_of (w ++ rest) ≡ Told (Some (Sign n)) (length w)
 unfolding sign_first
 exact_sign [] rest n e h o = absurd (sign_not_empty n e)
 exact_sign (b ∷ s) rest n e h o =
@@ -145,10 +168,13 @@ exact_sign (b ∷ s) rest n e h o =
     let (m, found, longer) = sign_complete n (b ∷ s) rest e in
     let as_found : SignFound (b ∷ s ++ rest) m = sign_sound (b ∷ s ++ rest) m found in
     other_first b (s ++ rest) facts.not_blank facts.not_letter facts.not_digit facts.not_quote o ∙
-    ap sign_or_bad found ∙ same_sign (b ∷ s) rest n m e as_found longer (h m as_found.sign as_found.rest as_found.listed as_found.whole)
+    ap sign_or_bad found
+    ∙ same_sign (b ∷ s) rest n m e as_found longer (h m as_found.sign as_found.rest as_found.listed as_found.whole)
 
-pub exact_lexeme : (w rest : List ℕ) (kind : TokenKind) → Lexeme w rest kind → first_of (w ++ rest) ≡ Told (Some kind) (length w)
-exact_lexeme _ _ _ (name w rest h l r e) = exact_like w rest h e l ∙ ap (λ o. Told (Some (word_or_name o)) (length w)) (not_reserved w r)
+pub exact_lexeme : (w rest : List ℕ) (kind : TokenKind) → Lexeme w rest kind →
+    first_of (w ++ rest) ≡ Told (Some kind) (length w)
+exact_lexeme _ _ _ (name w rest h l r e) = exact_like w rest h e l ∙ ap (λ o. Told (Some (word_or_name o)) (length w))
+    (not_reserved w r)
 exact_lexeme _ _ _ (word w rest n h e) =
     let facts : WordFacts n w = word_facts n w h in
     exact_like w rest facts.like e facts.short ∙ ap (λ o. Told (Some (word_or_name o)) (length w)) facts.found
@@ -156,7 +182,8 @@ exact_lexeme _ _ _ (number w rest h l e) = exact_number w rest h l e
 exact_lexeme _ _ _ (text inside rest a) = exact_text inside rest a ∙ ap (Told (Some Text)) (quoted_len inside)
 exact_lexeme _ _ _ (sign w rest n e h o) = exact_sign w rest n e h o
 
-pub first_exact : (w rest : List ℕ) (kind : Option TokenKind) → Piece w rest kind → first_of (w ++ rest) ≡ Told kind (length w)
+pub first_exact : (w rest : List ℕ) (kind : Option TokenKind) → Piece w rest kind →
+    first_of (w ++ rest) ≡ Told kind (length w)
 first_exact _ _ _ (blank b rest e) = exact_blank b rest e
 first_exact _ _ _ (line_comment inside rest a e) = exact_line inside rest a e
 first_exact _ _ _ (block_comment inside rest e) = exact_block inside rest e ∙ ap (Told None) (commented_len inside)

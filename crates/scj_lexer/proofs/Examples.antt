@@ -24,17 +24,20 @@ abbrev token : TokenKind → ℕ → ℕ → ℕ → ℕ → Token
 token kind line col start len = record { kind = kind; pos = place_at 0 line col; start = start; len = len }
 
 -- `<<=` is one sign
-shift : Lex 0 (codes "a<<=b") (token Name 1 1 0 1 ∷ token (Sign 44) 1 2 1 3 ∷ token Name 1 5 4 1 ∷ token End 1 6 5 0 ∷ [])
+shift : Lex 0 (codes "a<<=b") (token Name 1 1 0 1 ∷ token (Sign 44) 1 2 1 3 ∷ token Name 1 5 4 1 ∷ token End 1 6 5 0
+    ∷ [])
 unfolding lexer
 shift = sound 9 0 [] _ _ refl
 
 -- a name with a digit, a word, a line feed, a tab and a text
-lines : Lex 0 (codes "x1 class\n\t\"a\"") (token Name 1 1 0 2 ∷ token (Word 8) 1 4 3 5 ∷ token Text 2 2 10 3 ∷ token End 2 5 13 0 ∷ [])
+lines : Lex 0 (codes "x1 class\n\t\"a\"") (token Name 1 1 0 2 ∷ token (Word 8) 1 4 3 5 ∷ token Text 2 2 10 3
+    ∷ token End 2 5 13 0 ∷ [])
 unfolding lexer
 lines = sound 9 0 [] _ _ refl
 
 -- the greatest number, and a carriage return, which ends no line
-greatest : Lex 0 (codes "2147483648\r0") (token (Number 2147483648) 1 1 0 10 ∷ token (Number 0) 1 12 11 1 ∷ token End 1 13 12 0 ∷ [])
+greatest : Lex 0 (codes "2147483648\r0") (token (Number 2147483648) 1 1 0 10 ∷ token (Number 0) 1 12 11 1
+    ∷ token End 1 13 12 0 ∷ [])
 unfolding lexer
 greatest = sound 9 0 [] _ _ refl
 
@@ -44,7 +47,8 @@ unfolding lexer
 comments = sound 9 0 [] _ _ refl
 
 -- two dots are two signs
-dots : Lex 0 (codes ".. ...") (token (Sign 8) 1 1 0 1 ∷ token (Sign 8) 1 2 1 1 ∷ token (Sign 49) 1 4 3 3 ∷ token End 1 7 6 0 ∷ [])
+dots : Lex 0 (codes ".. ...") (token (Sign 8) 1 1 0 1 ∷ token (Sign 8) 1 2 1 1 ∷ token (Sign 49) 1 4 3 3
+    ∷ token End 1 7 6 0 ∷ [])
 unfolding lexer
 dots = sound 9 0 [] _ _ refl
 

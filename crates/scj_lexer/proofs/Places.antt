@@ -40,8 +40,10 @@ signs_in_line : list_all (list_all is_line_byte) signs ≡ true
 unfolding signs is_line_byte
 signs_in_line = refl
 
-listed_in_line : (texts : List (List ℕ)) (n : ℕ) (w : List ℕ) → list_all (list_all is_line_byte) texts ≡ true → slice_get texts n ≡ Some w → AllOf is_line_byte w
-listed_in_line texts n w a e = subst (AllOf is_line_byte) (get_or_from_slice_get texts n w [] e) (all_at (list_all is_line_byte) texts n [] a refl)
+listed_in_line : (texts : List (List ℕ)) (n : ℕ) (w : List ℕ) → list_all (list_all is_line_byte) texts ≡ true →
+    slice_get texts n ≡ Some w → AllOf is_line_byte w
+listed_in_line texts n w a e =
+    subst (AllOf is_line_byte) (get_or_from_slice_get texts n w [] e) (all_at (list_all is_line_byte) texts n [] a refl)
 
 all_append : (v w : List ℕ) → AllOf is_line_byte v → AllOf is_line_byte w → AllOf is_line_byte (v ++ w)
 all_append [] w a c = c
@@ -52,21 +54,25 @@ all_append (b ∷ v) w a c =
 lexeme_in_line : (w rest : List ℕ) (kind : TokenKind) → Lexeme w rest kind → AllOf is_line_byte w
 unfolding is_letter is_digit is_name_byte is_text_byte is_line_byte
 lexeme_in_line _ _ _ (name [] rest like l r e) = absurd like
-lexeme_in_line _ _ _ (name (b ∷ s) rest like l r e) = and_from _ _ (no_feed is_letter b refl like.0) (no_feeds is_name_byte s refl like.1)
+lexeme_in_line _ _ _ (name (b ∷ s) rest like l r e) =
+    and_from _ _ (no_feed is_letter b refl like.0) (no_feeds is_name_byte s refl like.1)
 lexeme_in_line _ _ _ (word w rest n g e) = listed_in_line words n w words_in_line g
 lexeme_in_line _ _ _ (number [] rest m g e) = refl
-lexeme_in_line _ _ _ (number (b ∷ s) rest m g e) = and_from _ _ (no_feed is_digit b refl m.0) (no_feeds is_digit s refl m.1)
+lexeme_in_line _ _ _ (number (b ∷ s) rest m g e) =
+    and_from _ _ (no_feed is_digit b refl m.0) (no_feeds is_digit s refl m.1)
 lexeme_in_line _ _ _ (text inside rest a) = all_append inside (34 ∷ []) (no_feeds is_text_byte inside refl a) refl
 lexeme_in_line _ _ _ (sign w rest n g m c) = listed_in_line signs n w signs_in_line g
 
-piece_in_line : (w rest : List ℕ) (kind : Option TokenKind) → Piece w rest kind → stays_in_line kind w ≡ true → AllOf is_line_byte w
+piece_in_line : (w rest : List ℕ) (kind : Option TokenKind) → Piece w rest kind → stays_in_line kind w ≡ true →
+    AllOf is_line_byte w
 unfolding stays_in_line is_line_byte
 piece_in_line _ _ _ (blank b rest e) t = absurd (false≢true t)
 piece_in_line _ _ _ (line_comment inside rest a e) t = and_from _ _ refl (and_from _ _ refl a)
 piece_in_line _ _ _ (block_comment inside rest e) t = absurd (false≢true t)
 piece_in_line _ _ _ (lexeme w rest kind is) t = lexeme_in_line w rest kind is
 
-pub told_in_line : (rest : List ℕ) (kind : Option TokenKind) (len : ℕ) → 0 < length rest → first_of rest ≡ Told kind len → stays_in_line kind (take len rest) ≡ true → AllOf is_line_byte (take len rest)
+pub told_in_line : (rest : List ℕ) (kind : Option TokenKind) (len : ℕ) → 0 < length rest →
+    first_of rest ≡ Told kind len → stays_in_line kind (take len rest) ≡ true → AllOf is_line_byte (take len rest)
 told_in_line [] kind len l e t = absurd (omega arith)
 told_in_line (b ∷ s) kind len l e t =
     let found = piece_sound b s kind len e in
@@ -76,12 +82,14 @@ told_in_line (b ∷ s) kind len l e t =
     rw same (piece_in_line p.piece p.rest p.kind p.is (rw (kinds, ← same) t))
 
 -- the place behind bytes with no line feed
-pub fold_in_line : (p : Pos) (w : List ℕ) → AllOf is_line_byte w → fold place_behind_byte p w ≡ place_at p.file p.line (p.col + length w)
+pub fold_in_line : (p : Pos) (w : List ℕ) → AllOf is_line_byte w → fold place_behind_byte p w ≡ place_at p.file p.line
+    (p.col + length w)
 unfolding place_behind_byte is_line_byte
 fold_in_line p [] a = ap (place_at p.file p.line) (omega arith)
 fold_in_line p (b ∷ w) a =
     let parts : (not (b == 10) ≡ true) × (list_all is_line_byte w ≡ true) = and_parts _ _ a in
     elim (cases_Bool (b == 10)) [
       | inl e ↦ absurd (false≢true (sym (ap not e) ∙ parts.0))
-      | inr e ↦ rw e (fold_in_line (place_at p.file p.line (p.col + 1)) w parts.1 ∙ ap (place_at p.file p.line) (omega arith))
+      | inr e ↦ rw e (fold_in_line (place_at p.file p.line (p.col + 1)) w parts.1
+          ∙ ap (place_at p.file p.line) (omega arith))
     ]

@@ -8,16 +8,19 @@ use Rattle.std.proofs.lemmas.List.{length-take-le}
 use Rattle.std.proofs.lemmas.List.Sums.{prefix_len-le-length}
 use Rattle.scj_lexer.specs.First.{digits_of, close_of}
 
-pub prefix_len_exact : (p : ℕ → Bool) (w rest : List ℕ) → AllOf p w → EndsHere p rest → prefix_len p (w ++ rest) ≡ length w
+pub prefix_len_exact : (p : ℕ → Bool) (w rest : List ℕ) → AllOf p w → EndsHere p rest →
+    prefix_len p (w ++ rest) ≡ length w
 prefix_len_exact p [] [] a e = refl
 prefix_len_exact p [] (b ∷ s) a e = cond-false _ _ _ e
-prefix_len_exact p (x ∷ w) rest a e = let parts : (p x ≡ true) × (list_all p w ≡ true) = and_parts _ _ a in cond-true _ _ _ parts.0 ∙ ap (λ n. 1 + n) (prefix_len_exact p w rest parts.1 e) ∙ omega arith
+prefix_len_exact p (x ∷ w) rest a e = let parts : (p x ≡ true) × (list_all p w ≡ true) = and_parts _ _ a in
+    cond-true _ _ _ parts.0 ∙ ap (λ n. 1 + n) (prefix_len_exact p w rest parts.1 e) ∙ omega arith
 
 pub prefix_len_all : (p : ℕ → Bool) (s : List ℕ) → AllOf p (take (prefix_len p s) s)
 prefix_len_all p [] = refl
 prefix_len_all p (b ∷ s) =
     elim (cases_Bool (p b)) [
-      | inl e ↦ let t : prefix_len p (b ∷ s) ≡ suc (prefix_len p s) = cond-true _ _ _ e ∙ omega arith in rw t (and_from _ _ e (prefix_len_all p s))
+      | inl e ↦ let t : prefix_len p (b ∷ s) ≡ suc (prefix_len p s) = cond-true _ _ _ e ∙ omega arith in
+          rw t (and_from _ _ e (prefix_len_all p s))
       | inr e ↦ let t : prefix_len p (b ∷ s) ≡ zero = cond-false _ _ _ e in rw t refl
     ]
 
@@ -25,7 +28,8 @@ pub prefix_len_ends : (p : ℕ → Bool) (s : List ℕ) → EndsHere p (drop (pr
 prefix_len_ends p [] = tt
 prefix_len_ends p (b ∷ s) =
     elim (cases_Bool (p b)) [
-      | inl e ↦ let t : prefix_len p (b ∷ s) ≡ suc (prefix_len p s) = cond-true _ _ _ e ∙ omega arith in rw t (prefix_len_ends p s)
+      | inl e ↦ let t : prefix_len p (b ∷ s) ≡ suc (prefix_len p s) = cond-true _ _ _ e ∙ omega arith in
+          rw t (prefix_len_ends p s)
       | inr e ↦ let t : prefix_len p (b ∷ s) ≡ zero = cond-false _ _ _ e in rw t e
     ]
 
@@ -35,9 +39,11 @@ value_from n s = fold (λ m d. 10 * m + (d - 48)) n s
 
 value_grows : (n : ℕ) (s : List ℕ) → n ≤ value_from n s
 value_grows n [] = omega arith
-value_grows n (d ∷ s) = let h : 10 * n + (d - 48) ≤ value_from (10 * n + (d - 48)) s = value_grows (10 * n + (d - 48)) s in omega arith
+value_grows n (d ∷ s) = let h : 10 * n + (d - 48) ≤ value_from (10 * n + (d - 48)) s = value_grows (10 * n + (d - 48)) s
+    in omega arith
 
-pub digits_exact : (n : ℕ) (s : List ℕ) → AllOf is_digit s → value_from n s ≤ 2147483648 → digits_of n s ≡ Some (value_from n s)
+pub digits_exact : (n : ℕ) (s : List ℕ) → AllOf is_digit s → value_from n s ≤ 2147483648 →
+    digits_of n s ≡ Some (value_from n s)
 unfolding digits_of
 digits_exact n [] a h = refl
 digits_exact n (d ∷ s) a h =
@@ -61,12 +67,14 @@ digits_sound n (d ∷ s) v h e =
     elim (cases_Bool (is_digit d && nat_le (10 * n + (d - 48)) 2147483648)) [
       | inl t ↦
           let parts = and_parts _ _ t in
-          let r : AreDigits (10 * n + (d - 48)) s v = digits_sound (10 * n + (d - 48)) s v (leb-true _ _ parts.1) (sym (cond-true _ _ _ t) ∙ e) in
+          let r : AreDigits (10 * n + (d - 48)) s v =
+          digits_sound (10 * n + (d - 48)) s v (leb-true _ _ parts.1) (sym (cond-true _ _ _ t) ∙ e) in
           record { digits = and_from _ _ parts.0 r.digits; value = r.value; small = r.small }
       | inr f ↦ none≢some (sym (cond-false _ _ _ f) ∙ e)
     ]
 
-pub close_exact : (inside rest : List ℕ) → has_close inside ≡ false → close_of ((inside ++ 42 ∷ 47 ∷ []) ++ rest) ≡ Some (length inside)
+pub close_exact : (inside rest : List ℕ) → has_close inside ≡ false → close_of ((inside ++ 42 ∷ 47 ∷ []) ++ rest) ≡ Some
+    (length inside)
 unfolding close_of has_close
 close_exact [] rest h = refl
 close_exact (a ∷ []) rest h = cond-false _ _ _ (and_right (a == 42) false refl)
@@ -111,14 +119,16 @@ cc_some : {m n : ℕ} → Some m ≡ Some n → m ≡ n
 cc_some e = cc
 
 -- the bytes up to a close hold none, with one byte more in front that begins none
-still_open : (a b : ℕ) (s inside rest : List ℕ) → ((a == 42) && (b == 47)) ≡ false → b ∷ s ≡ (inside ++ 42 ∷ 47 ∷ []) ++ rest → has_close inside ≡ false → has_close (a ∷ inside) ≡ false
+still_open : (a b : ℕ) (s inside rest : List ℕ) → ((a == 42) && (b == 47)) ≡ false → b ∷ s ≡ (inside ++ 42 ∷ 47 ∷ [])
+    ++ rest → has_close inside ≡ false → has_close (a ∷ inside) ≡ false
 unfolding has_close
 still_open a b s [] rest f e h = refl
 still_open a b s (c ∷ inside) rest f e h =
     let same : b ≡ c = cc in
     or_from _ _ (rw (← same) f) h
 
-close_cons : (a b n m : ℕ) (s : List ℕ) → ((a == 42) && (b == 47)) ≡ false → n ≡ suc m → Closed (b ∷ s) m → Closed (a ∷ b ∷ s) n
+close_cons : (a b n m : ℕ) (s : List ℕ) → ((a == 42) && (b == 47)) ≡ false → n ≡ suc m → Closed (b ∷ s) m →
+    Closed (a ∷ b ∷ s) n
 unfolding has_close
 close_cons a b n m s f e c = record {
   inside = a ∷ c.inside;

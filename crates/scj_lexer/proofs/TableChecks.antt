@@ -18,7 +18,8 @@ each : {X : Type 0} → (ℕ → X → Bool) → ℕ → List X → Bool
 each q k [] = true
 each q k (x ∷ xs) = q k x && each q (suc k) xs
 
-each_at : {X : Type 0} (q : ℕ → X → Bool) (k n j : ℕ) (xs : List X) (x : X) → j ≡ k + n → each q k xs ≡ true → slice_get xs n ≡ Some x → q j x ≡ true
+each_at : {X : Type 0} (q : ℕ → X → Bool) (k n j : ℕ) (xs : List X) (x : X) → j ≡ k + n → each q k xs ≡ true →
+    slice_get xs n ≡ Some x → q j x ≡ true
 unfolding each
 each_at q k n j [] x e h s = absurd (cc)
 each_at q k zero j (y ∷ ys) x e h s =
@@ -41,7 +42,9 @@ unfolding each are_same is_letter is_digit is_name_byte
 name_bytes_ok = refl
 
 pub name_byte_at : (b : ℕ) → b < 256 → get_or NAME_BYTES b false ≡ is_name_byte b
-name_byte_at b l = same_if _ _ (each_at (λ k x. are_same x (is_name_byte k)) 0 b b NAME_BYTES (get_or NAME_BYTES b false) (omega arith) name_bytes_ok (slice_get-get_or NAME_BYTES b false l))
+name_byte_at b l =
+    same_if _ _ (each_at (λ k x. are_same x (is_name_byte k)) 0 b b NAME_BYTES (get_or NAME_BYTES b false)
+    (omega arith) name_bytes_ok (slice_get-get_or NAME_BYTES b false l))
 
 is_at : Option ℕ → ℕ → Bool
 is_at None n = false
@@ -92,11 +95,13 @@ find_passes p (x ∷ xs) n e =
       | inr f ↦ find_passes p xs n (sym (cond-false _ _ _ f) ∙ e)
     ]
 
-pub find_place : (p : ℕ → Bool) (xs : List ℕ) (n : ℕ) → find p xs ≡ Some n → (k : ℕ) × (k < length xs) × (get_or xs k 0 ≡ n)
+pub find_place : (p : ℕ → Bool) (xs : List ℕ) (n : ℕ) → find p xs ≡ Some n → (k : ℕ) × (k < length xs) ×
+    (get_or xs k 0 ≡ n)
 find_place p [] n e = none≢some e
 find_place p (x ∷ xs) n e =
     elim (cases_Bool (p x)) [
-      | inl t ↦ let same : Some x ≡ Some n = sym (cond-true _ _ _ t) ∙ e in let here : x ≡ n = cc in (0, omega arith, here)
+      | inl t ↦ let same : Some x ≡ Some n = sym (cond-true _ _ _ t) ∙ e in let here : x ≡ n =
+          cc in (0, omega arith, here)
       | inr f ↦ let (k, l, h) = find_place p xs n (sym (cond-false _ _ _ f) ∙ e) in (suc k, omega arith, h)
     ]
 
@@ -114,7 +119,8 @@ all_member p (x ∷ xs) m a i =
       | inr h ↦ all_member p xs m parts.1 h
     ]
 
-find_longest : (p : ℕ → Bool) (xs : List ℕ) (m : ℕ) → descends xs ≡ true → list_any (λ x. x == m) xs ≡ true → p m ≡ true → (n : ℕ) × (find p xs ≡ Some n) × (sign_len m ≤ sign_len n)
+find_longest : (p : ℕ → Bool) (xs : List ℕ) (m : ℕ) → descends xs ≡ true → list_any (λ x. x == m) xs ≡ true →
+    p m ≡ true → (n : ℕ) × (find p xs ≡ Some n) × (sign_len m ≤ sign_len n)
 unfolding descends
 find_longest p [] m d i t = absurd (false≢true i)
 find_longest p (x ∷ xs) m d i t =
@@ -145,7 +151,12 @@ signs_descend b = all_at descends (map (λ r. r.now) SIGNS_FROM) (b - 33) [] all
 
 sign_ok : ℕ → List ℕ → Bool
 sign_ok n [] = false
-sign_ok n (b ∷ s) = not (is_blank b) && (not (is_letter b) && (not (is_digit b) && (not (b == 34) && ((nat_le 33 b && nat_le b 126) && (list_any (λ m. m == n) (signs_from b) && (position_or_len (λ v. bytes_eq v (b ∷ s)) signs == n))))))
+sign_ok n (b ∷ s) = not (is_blank b)
+    && (not (is_letter b)
+    && (not (is_digit b)
+    && (not (b == 34)
+    && ((nat_le 33 b && nat_le b 126)
+    && (list_any (λ m. m == n) (signs_from b) && (position_or_len (λ v. bytes_eq v (b ∷ s)) signs == n))))))
 
 signs_ok : each sign_ok 0 signs ≡ true
 unfolding each sign_ok signs signs_from is_blank is_letter is_digit
@@ -174,7 +185,15 @@ sign_facts n b s e =
     let p4 = and_parts _ _ p3.1 in
     let p5 = and_parts _ _ p4.1 in
     let p6 = and_parts _ _ p5.1 in
-    record { not_blank = not-true _ p1.0; not_letter = not-true _ p2.0; not_digit = not-true _ p3.0; not_quote = not-true _ p4.0; printed = p5.0; tried = p6.0; place = eqb-true _ _ p6.1 }
+    record {
+      not_blank = not-true _ p1.0;
+      not_letter = not-true _ p2.0;
+      not_digit = not-true _ p3.0;
+      not_quote = not-true _ p4.0;
+      printed = p5.0;
+      tried = p6.0;
+      place = eqb-true _ _ p6.1;
+    }
 
 pub sign_same : (n m : ℕ) (v : List ℕ) → slice_get signs n ≡ Some v → slice_get signs m ≡ Some v → n ≡ m
 sign_same n m [] e f = absurd (sign_not_empty n e)
@@ -183,14 +202,16 @@ sign_same n m (b ∷ s) e f = sym (sign_facts n b s e).place ∙ (sign_facts m b
 starts_front : (v rest : List ℕ) → starts_with ◌==◌ (v ++ rest) v ≡ true
 starts_front v rest = rw (take_at v rest (length v) refl) ((bytes_eq-Decides v v).1 refl)
 
-pub sign_complete : (m : ℕ) (v rest : List ℕ) → slice_get signs m ≡ Some v → (n : ℕ) × (sign_of (v ++ rest) ≡ Some n) × (length v ≤ sign_len n)
+pub sign_complete : (m : ℕ) (v rest : List ℕ) → slice_get signs m ≡ Some v → (n : ℕ) × (sign_of (v ++ rest) ≡ Some n) ×
+    (length v ≤ sign_len n)
 unfolding sign_of
 sign_complete m [] rest e = absurd (sign_not_empty m e)
 sign_complete m (b ∷ s) rest e =
     let facts : SignFacts m b s = sign_facts m b s e in
     let is : get_or signs m [] ≡ b ∷ s = get_or_from_slice_get signs m (b ∷ s) [] e in
     let passes : is_sign_first (b ∷ s ++ rest) m ≡ true = rw is (starts_front (b ∷ s) rest) in
-    let (n, f, l) = find_longest (is_sign_first (b ∷ s ++ rest)) (signs_from b) m (signs_descend b) facts.tried passes in
+    let (n, f, l) = find_longest (is_sign_first (b ∷ s ++ rest)) (signs_from b) m (signs_descend b) facts.tried passes
+    in
     (n, cond-true _ _ _ facts.printed ∙ f, subst (λ u. length u ≤ sign_len n) is l)
 
 pub record SignFound (bytes : List ℕ) (n : ℕ) : Type 0 where
@@ -205,8 +226,15 @@ sign_from b n s e =
     let (k, l, h) = find_place (is_sign_first (b ∷ s)) (signs_from b) n e in
     let low : n < 50 = rw (← h) (signs_in_range b k l) in
     let v = get_or signs n [] in
-    let front : v ≡ take (length v) (b ∷ s) = (bytes_eq-Decides v (take (length v) (b ∷ s))).0 (find_passes (is_sign_first (b ∷ s)) (signs_from b) n e) in
-    record { sign = v; rest = drop (length v) (b ∷ s); listed = slice_get-get_or signs n [] low; whole = sym (take-append-drop (length v) (b ∷ s)) ∙ ap (λ u. u ++ drop (length v) (b ∷ s)) (sym front) }
+    let front : v ≡ take (length v) (b ∷ s) =
+    (bytes_eq-Decides v (take (length v) (b ∷ s))).0 (find_passes (is_sign_first (b ∷ s)) (signs_from b) n e) in
+    record {
+      sign = v;
+      rest = drop (length v) (b ∷ s);
+      listed = slice_get-get_or signs n [] low;
+      whole = sym
+          (take-append-drop (length v) (b ∷ s)) ∙ ap (λ u. u ++ drop (length v) (b ∷ s)) (sym front);
+    }
 
 pub sign_sound : (bytes : List ℕ) (n : ℕ) → sign_of bytes ≡ Some n → SignFound bytes n
 unfolding sign_of
@@ -235,7 +263,8 @@ pub word_sound : (w : List ℕ) (n : ℕ) → word_of w ≡ Some n → slice_get
 unfolding word_of
 word_sound [] n e = none≢some e
 word_sound (a ∷ []) n e = none≢some e
-word_sound (a ∷ b ∷ s) n e = word_at (a ∷ b ∷ s) (only_word_of a b (length (a ∷ b ∷ s))) n (only_word_in_range a b (length (a ∷ b ∷ s))) e
+word_sound (a ∷ b ∷ s) n e =
+    word_at (a ∷ b ∷ s) (only_word_of a b (length (a ∷ b ∷ s))) n (only_word_in_range a b (length (a ∷ b ∷ s))) e
 
 -- the last of the signs of a byte is that byte, and each other has a second byte of a sign
 ends_alone : ℕ → List ℕ → Bool
@@ -249,7 +278,8 @@ all_end_alone = refl
 
 signs_end_alone : (b : ℕ) → 33 ≤ b → b ≤ 126 → ends_alone b (signs_from b) ≡ true
 unfolding signs_from
-signs_end_alone b l u = each_at ends_alone 33 (b - 33) b (map (λ r. r.now) SIGNS_FROM) (signs_from b) (omega arith) all_end_alone (slice_get-get_or (map (λ r. r.now) SIGNS_FROM) (b - 33) [] (omega arith))
+signs_end_alone b l u = each_at ends_alone 33 (b - 33) b (map (λ r. r.now) SIGNS_FROM) (signs_from b)
+    (omega arith) all_end_alone (slice_get-get_or (map (λ r. r.now) SIGNS_FROM) (b - 33) [] (omega arith))
 
 -- bytes with no second byte of a sign do not begin with a sign that has one
 goes_on_front : (v bytes : List ℕ) → goes_on v ≡ true → v ≡ take (length v) bytes → goes_on bytes ≡ true
@@ -260,17 +290,23 @@ goes_on_front (x ∷ y ∷ v) [] g e = absurd (cc)
 goes_on_front (x ∷ y ∷ v) (a ∷ []) g e = absurd (cc)
 goes_on_front (x ∷ y ∷ v) (a ∷ b ∷ s) g e = let same : y ≡ b = cc in rw (← same) g
 
-stops : (bytes : List ℕ) (n : ℕ) → goes_on bytes ≡ false → goes_on (get_or signs n []) ≡ true → is_sign_first bytes n ≡ false
+stops : (bytes : List ℕ) (n : ℕ) → goes_on bytes ≡ false → goes_on (get_or signs n []) ≡ true →
+    is_sign_first bytes n ≡ false
 stops bytes n f g =
     elim (cases_Bool (is_sign_first bytes n)) [
-      | inl t ↦ absurd (false≢true (sym f ∙ goes_on_front (get_or signs n []) bytes g ((bytes_eq-Decides (get_or signs n []) (take (length (get_or signs n [])) bytes)).0 t)))
+      | inl t ↦ absurd
+          (false≢true
+          (sym f
+          ∙ goes_on_front (get_or signs n []) bytes g
+          ((bytes_eq-Decides (get_or signs n []) (take (length (get_or signs n [])) bytes)).0 t)))
       | inr e ↦ e
     ]
 
 starts_alone : (b : ℕ) (s v : List ℕ) → bytes_eq v (b ∷ []) ≡ true → starts_with ◌==◌ (b ∷ s) v ≡ true
 starts_alone b s v e = rw ((bytes_eq-Decides v (b ∷ [])).0 e) (starts_front (b ∷ []) s)
 
-find_alone : (b : ℕ) (s ns : List ℕ) → goes_on (b ∷ s) ≡ false → ends_alone b ns ≡ true → find (is_sign_first (b ∷ s)) ns ≡ slice_get ns (length ns - 1)
+find_alone : (b : ℕ) (s ns : List ℕ) → goes_on (b ∷ s) ≡ false → ends_alone b ns ≡ true →
+    find (is_sign_first (b ∷ s)) ns ≡ slice_get ns (length ns - 1)
 unfolding ends_alone
 find_alone b s [] f e = refl
 find_alone b s (n ∷ []) f e = cond-true _ _ _ (starts_alone b s (get_or signs n []) e)
@@ -279,7 +315,8 @@ find_alone b s (n ∷ m ∷ ns) f e =
     let place : length (n ∷ m ∷ ns) - 1 ≡ suc (length (m ∷ ns) - 1) = omega arith in
     rw place (cond-false _ _ _ (stops (b ∷ s) n f parts.0) ∙ find_alone b s (m ∷ ns) f parts.1)
 
-pub sign_of_alone : (bytes : List ℕ) → 0 < length bytes → 33 ≤ get_or bytes 0 0 → get_or bytes 0 0 ≤ 126 → goes_on bytes ≡ false → sign_of bytes ≡ last_sign (get_or bytes 0 0)
+pub sign_of_alone : (bytes : List ℕ) → 0 < length bytes → 33 ≤ get_or bytes 0 0 → get_or bytes 0 0 ≤ 126 →
+    goes_on bytes ≡ false → sign_of bytes ≡ last_sign (get_or bytes 0 0)
 unfolding last_sign
 sign_of_alone [] h l u f = absurd (omega arith)
 sign_of_alone (b ∷ s) h l u f = sign_of_is (b ∷ s) h l u ∙ find_alone b s (signs_from b) f (signs_end_alone b l u)

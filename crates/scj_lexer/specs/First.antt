@@ -36,7 +36,8 @@ number_or_bad None len = Bad L2
 number_or_bad (Some n) len = lexeme_of (Number n) len
 
 unfoldable pub number_first : List ℕ → Front
-number_first bytes = number_or_bad (number_of (take (prefix_len is_name_byte bytes) bytes)) (prefix_len is_name_byte bytes)
+number_first bytes = number_or_bad (number_of (take (prefix_len is_name_byte bytes) bytes))
+    (prefix_len is_name_byte bytes)
 
 abbrev pub quote_or_bad : List ℕ → ℕ → Front
 quote_or_bad [] len = Bad L3

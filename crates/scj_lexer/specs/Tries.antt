@@ -35,7 +35,10 @@ sign_of (b ∷ s) = cond (nat_le 33 b && nat_le b 126) (find (is_sign_first (b �
 
 -- one of `=`, `&`, `|`, `+`, `-`, `<`, `>`, `:` and `.`
 unfoldable pub is_second_of_sign : ℕ → Bool
-is_second_of_sign b = (b == 61) || ((b == 38) || ((b == 124) || ((b == 43) || ((b == 45) || ((b == 60) || ((b == 62) || ((b == 58) || (b == 46))))))))
+is_second_of_sign b =
+    (b == 61)
+    || ((b == 38)
+    || ((b == 124) || ((b == 43) || ((b == 45) || ((b == 60) || ((b == 62) || ((b == 58) || (b == 46))))))))
 
 -- the second byte can be that of a sign
 unfoldable pub goes_on : List ℕ → Bool

@@ -7,20 +7,24 @@ ghost use Rattle.scj_base.specs.Lex.{Lex, LexBreak};
 
 /// A text has at most one list of tokens.
 pub fn at_most_one_list()
-    ensures { (file : ℕ) (bytes : List ℕ) (some other : List Token) → Lex file bytes some → Lex file bytes other → some ≡ other }
+    ensures { (file : ℕ) (bytes : List ℕ) (some other : List Token) → Lex file bytes some → Lex file bytes other →
+        some ≡ other }
 {}
 
 /// A text has at most one first break, at one place.
 pub fn at_most_one_break()
-    ensures { (bytes : List ℕ) (rule other : Rule) (offset place : ℕ) → LexBreak bytes rule offset → LexBreak bytes other place → (rule ≡ other) × (offset ≡ place) }
+    ensures { (bytes : List ℕ) (rule other : Rule) (offset place : ℕ) → LexBreak bytes rule offset →
+        LexBreak bytes other place → (rule ≡ other) × (offset ≡ place) }
 {}
 
 /// A text with a break has no tokens.
 pub fn no_tokens_with_a_break()
-    ensures { (file : ℕ) (bytes : List ℕ) (tokens : List Token) (rule : Rule) (offset : ℕ) → LexBreak bytes rule offset → Lex file bytes tokens → ⊥ }
+    ensures { (file : ℕ) (bytes : List ℕ) (tokens : List Token) (rule : Rule) (offset : ℕ) →
+        LexBreak bytes rule offset → Lex file bytes tokens → ⊥ }
 {}
 
 /// Every text has tokens or a break.
 pub fn tokens_or_a_break()
-    ensures { (file : ℕ) (bytes : List ℕ) → ((tokens : List Token) × Lex file bytes tokens) ⊎ ((rule : Rule) × ((offset : ℕ) × LexBreak bytes rule offset)) }
+    ensures { (file : ℕ) (bytes : List ℕ) → ((tokens : List Token) × Lex file bytes tokens) ⊎
+        ((rule : Rule) × ((offset : ℕ) × LexBreak bytes rule offset)) }
 {}

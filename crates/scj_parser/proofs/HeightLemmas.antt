@@ -23,25 +23,32 @@ pub record Holds (nodes : List Node) (first at : ℕ) (rows : List ℕ) : Type 0
 below-here : (g : ℕ → ℕ) (n c : ℕ) → c < n → below 0 n g c ≡ g c
 below-here g n c h = let e : nat_lt c n ≡ true = grind (arith, nat_tests) in rw e refl
 
-same-highest : (nodes : List Node) (first at : ℕ) (rows : List ℕ) (ids : List ℕ) → Holds nodes first at rows → AllWithin first at ids → highest (row first rows) ids ≡ highest (below 0 at (height nodes)) ids
+same-highest : (nodes : List Node) (first at : ℕ) (rows : List ℕ) (ids : List ℕ) → Holds nodes first at rows →
+    AllWithin first at ids → highest (row first rows) ids ≡ highest (below 0 at (height nodes)) ids
 unfolding highest AllWithin
 same-highest nodes first at rows [] h w = refl
 same-highest nodes first at rows (x ∷ ids) h w =
-    let e : row first rows x ≡ below 0 at (height nodes) x = h.right x w.0.0 w.0.1 ∙ sym (below-here (height nodes) at x w.0.1) in
+    let e : row first rows x ≡ below 0 at (height nodes) x = h.right x w.0.0 w.0.1
+    ∙ sym (below-here (height nodes) at x w.0.1) in
     let f = same-highest nodes first at rows ids h w.1 in
     omega (arith, e, f)
 
-small-highest : (first : ℕ) (rows : List ℕ) (ids : List ℕ) (n : ℕ) → ((c : ℕ) → row first rows c ≤ n) → highest (row first rows) ids ≤ n
+small-highest : (first : ℕ) (rows : List ℕ) (ids : List ℕ) (n : ℕ) → ((c : ℕ) → row first rows c ≤ n) →
+    highest (row first rows) ids ≤ n
 unfolding highest
 small-highest first rows [] n h = omega arith
 small-highest first rows (x ∷ ids) n h = omega (arith, h x, small-highest first rows ids n h)
 
 -- the height of one node more
-pub next-height : (nodes : List Node) (first at : ℕ) (rows : List ℕ) (node : Node) → Holds nodes first at rows → slice_get nodes at ≡ Some node → AllWithin first at (children node) → weight node + highest (row first rows) (children node) ≡ height nodes at
+pub next-height : (nodes : List Node) (first at : ℕ) (rows : List ℕ) (node : Node) → Holds nodes first at rows →
+    slice_get nodes at ≡ Some node → AllWithin first at (children node) →
+    weight node + highest (row first rows) (children node) ≡ height nodes at
 unfolding height node_height
 next-height nodes first at rows node h e w =
-    let is : height nodes at ≡ node_height (slice_get nodes at) (below 0 at (height nodes)) = by_smaller-is 0 (λ n sub. node_height (slice_get nodes n) sub) at in
-    let here : node_height (slice_get nodes at) (below 0 at (height nodes)) ≡ weight node + highest (below 0 at (height nodes)) (children node) = ap (λ o. node_height o (below 0 at (height nodes))) e in
+    let is : height nodes at ≡ node_height (slice_get nodes at) (below 0 at (height nodes)) =
+    by_smaller-is 0 (λ n sub. node_height (slice_get nodes n) sub) at in
+    let here : node_height (slice_get nodes at) (below 0 at (height nodes)) ≡ weight node + highest
+    (below 0 at (height nodes)) (children node) = ap (λ o. node_height o (below 0 at (height nodes))) e in
     let same = same-highest nodes first at rows (children node) h w in
     ap (λ (n : ℕ). weight node + n) same ∙ sym (is ∙ here)
 
@@ -66,7 +73,8 @@ row-behind (r ∷ rows) zero k = absurd (omega (arith, k))
 row-behind (r ∷ rows) (suc i) k = row-behind rows i (omega (arith, k))
 
 -- the row with one height more
-pub holds-next : (nodes : List Node) (first at h : ℕ) (rows : List ℕ) → Holds nodes first at rows → h ≡ height nodes at → h ≤ length rows + 1 → Holds nodes first (at + 1) (rows ++ h ∷ [])
+pub holds-next : (nodes : List Node) (first at h : ℕ) (rows : List ℕ) → Holds nodes first at rows →
+    h ≡ height nodes at → h ≤ length rows + 1 → Holds nodes first (at + 1) (rows ++ h ∷ [])
 holds-next nodes first at h rows k e l =
     record {
       count = rw length-append (omega (arith, k.count));
@@ -74,7 +82,8 @@ holds-next nodes first at h rows k e l =
       small = λ c. next_small c (nat_lt (c - first) (length rows)) refl;
     }
   where
-    next_right : (c : ℕ) → first ≤ c → c < at + 1 → (b : Bool) → nat_lt c at ≡ b → row first (rows ++ h ∷ []) c ≡ height nodes c
+    next_right : (c : ℕ) → first ≤ c → c < at + 1 → (b : Bool) → nat_lt c at ≡ b →
+        row first (rows ++ h ∷ []) c ≡ height nodes c
     next_right c low high true e1 =
         let lt : c < at = grind (arith, nat_tests) in
         row-front rows h (c - first) (omega (arith, k.count, lt, low)) ∙ k.right c low lt
@@ -83,7 +92,8 @@ holds-next nodes first at h rows k e l =
         let same : c ≡ at = omega (arith, ge, high) in
         row-last rows h (c - first) (omega (arith, k.count, same)) ∙ (e ∙ ap (height nodes) (sym same))
 
-    next_last : (c : ℕ) (b : Bool) → nat_lt (length rows) (c - first) ≡ b → length rows ≤ c - first → row first (rows ++ h ∷ []) c ≤ length (rows ++ h ∷ [])
+    next_last : (c : ℕ) (b : Bool) → nat_lt (length rows) (c - first) ≡ b → length rows ≤ c - first →
+        row first (rows ++ h ∷ []) c ≤ length (rows ++ h ∷ [])
     next_last c true e1 ge =
         let gt : length rows < c - first = grind (arith, nat_tests) in
         rw length-append (omega (arith, row-behind (rows ++ h ∷ []) (c - first) (rw length-append (omega (arith, gt)))))
@@ -91,7 +101,8 @@ holds-next nodes first at h rows k e l =
         let same : c - first ≡ length rows = grind (arith, nat_tests) in
         rw length-append (omega (arith, row-last rows h (c - first) same, l))
 
-    next_small : (c : ℕ) → (b : Bool) → nat_lt (c - first) (length rows) ≡ b → row first (rows ++ h ∷ []) c ≤ length (rows ++ h ∷ [])
+    next_small : (c : ℕ) → (b : Bool) → nat_lt (c - first) (length rows) ≡ b →
+        row first (rows ++ h ∷ []) c ≤ length (rows ++ h ∷ [])
     next_small c true e1 =
         let lt : c - first < length rows = grind (arith, nat_tests) in
         rw length-append (omega (arith, row-front rows h (c - first) lt, k.small c))
@@ -111,16 +122,19 @@ unfolding AllWithin
 within-front low high [] ys w = tt
 within-front low high (x ∷ xs) ys w = (w.0, within-front low high xs ys w.1)
 
-same-one : (nodes : List Node) (first at x : ℕ) (rows : List ℕ) → Holds nodes first at rows → AllWithin first at (x ∷ []) → row first rows x ≡ height nodes x
+same-one : (nodes : List Node) (first at x : ℕ) (rows : List ℕ) → Holds nodes first at rows →
+    AllWithin first at (x ∷ []) → row first rows x ≡ height nodes x
 unfolding AllWithin
 same-one nodes first at x rows h w = h.right x w.0.0 w.0.1
 
-same-super : (nodes : List Node) (first at : ℕ) (rows : List ℕ) (o : Option ℕ) → Holds nodes first at rows → AllWithin first at (optional o) → super_height_by (row first rows) o ≡ super_height nodes o
+same-super : (nodes : List Node) (first at : ℕ) (rows : List ℕ) (o : Option ℕ) → Holds nodes first at rows →
+    AllWithin first at (optional o) → super_height_by (row first rows) o ≡ super_height nodes o
 unfolding super_height_by super_height
 same-super nodes first at rows None h w = refl
 same-super nodes first at rows (Some x) h w = ap (λ (n : ℕ). 1 + n) (same-one nodes first at x rows h w)
 
-same-body : (nodes : List Node) (first at : ℕ) (rows : List ℕ) (node : Node) → Holds nodes first at rows → AllWithin first at (children node) → body_height_by (row first rows) node ≡ body_height nodes node
+same-body : (nodes : List Node) (first at : ℕ) (rows : List ℕ) (node : Node) → Holds nodes first at rows →
+    AllWithin first at (children node) → body_height_by (row first rows) node ≡ body_height nodes node
 unfolding body_height_by body_height children AllWithin
 same-body nodes first at rows (Method place name flags result_type parameters (Some body)) h w =
     let a = within-behind first at (optional flags) _ w in
@@ -136,13 +150,15 @@ same-body nodes first at rows _ h w = refl
 
 -- ---- the pass
 
-get-drop : (nodes : List Node) (k : ℕ) (node : Node) (others : List Node) → drop k nodes ≡ node ∷ others → slice_get nodes k ≡ Some node
+get-drop : (nodes : List Node) (k : ℕ) (node : Node) (others : List Node) → drop k nodes ≡ node ∷ others →
+    slice_get nodes k ≡ Some node
 get-drop [] zero node others e = cc
 get-drop [] (suc k) node others e = cc
 get-drop (m ∷ nodes) zero node others e = cc
 get-drop (m ∷ nodes) (suc k) node others e = get-drop nodes k node others e
 
-drop-next : (nodes : List Node) (k : ℕ) (node : Node) (others : List Node) → drop k nodes ≡ node ∷ others → drop (suc k) nodes ≡ others
+drop-next : (nodes : List Node) (k : ℕ) (node : Node) (others : List Node) → drop k nodes ≡ node ∷ others →
+    drop (suc k) nodes ≡ others
 drop-next [] zero node others e = cc
 drop-next [] (suc k) node others e = cc
 drop-next (m ∷ nodes) zero node others e = cc
@@ -155,31 +171,47 @@ pub record Gone (nodes : List Node) (first : ℕ) (rows : List ℕ) (rest : List
   pub left : drop (first + length rows) nodes ≡ rest
   pub within : ChildrenWithin first (first + length rows) rest
 
-pub gone_none : (nodes : List Node) (first : ℕ) → ChildrenWithin first first (drop first nodes) → Gone nodes first [] (drop first nodes)
+pub gone_none : (nodes : List Node) (first : ℕ) → ChildrenWithin first first (drop first nodes) →
+    Gone nodes first [] (drop first nodes)
 gone_none nodes first w =
     let e : first ≡ first + 0 = omega arith in
     record {
       same = refl;
-      holds = record { count = refl; right = λ c low high. absurd (omega (arith, low, high)); small = λ c. omega (arith, row-behind [] (c - first) (omega arith)) };
+      holds =
+          record {
+            count = refl;
+            right = λ c low high. absurd (omega (arith, low, high));
+            small = λ c. omega
+                (arith, row-behind [] (c - first) (omega arith));
+          };
       left = ap (λ (n : ℕ). drop n nodes) (sym e);
       within = (let P : ℕ → Type 0 = λ n. ChildrenWithin first n (drop first nodes) in subst P e w);
     }
 
-pub gone_deep : (nodes : List Node) (first : ℕ) (rows : List ℕ) (node : Node) (others : List Node) → Gone nodes first rows (node ∷ others) → 64 < body_height_by (row first rows) node → first_too_deep nodes (drop first nodes) ≡ Some (place_of node)
+pub gone_deep : (nodes : List Node) (first : ℕ) (rows : List ℕ) (node : Node) (others : List Node) →
+    Gone nodes first rows (node ∷ others) → 64 < body_height_by (row first rows) node →
+    first_too_deep nodes (drop first nodes) ≡ Some (place_of node)
 unfolding first_too_deep ChildrenWithin
 gone_deep nodes first rows node others g h =
     let same = same-body nodes first (first + length rows) rows node g.holds g.within.0 in
-    let e : nat_lt 64 (body_height nodes node) ≡ true = (let lt : 64 < body_height nodes node = omega (arith, same, h) in grind (arith, nat_tests)) in
+    let e : nat_lt 64 (body_height nodes node) ≡ true =
+    (let lt : 64 < body_height nodes node = omega (arith, same, h) in grind (arith, nat_tests)) in
     g.same ∙ rw e refl
 
-pub gone_next : (nodes : List Node) (first : ℕ) (rows : List ℕ) (node : Node) (others : List Node) (h : ℕ) → Gone nodes first rows (node ∷ others) → body_height_by (row first rows) node ≤ 64 → h ≡ weight node + highest (row first rows) (children node) → Gone nodes first (rows ++ h ∷ []) others
+pub gone_next : (nodes : List Node) (first : ℕ) (rows : List ℕ) (node : Node) (others : List Node) (h : ℕ) →
+    Gone nodes first rows (node ∷ others) → body_height_by (row first rows) node ≤ 64 →
+    h ≡ weight node + highest (row first rows) (children node) → Gone nodes first (rows ++ h ∷ []) others
 unfolding first_too_deep ChildrenWithin
 gone_next nodes first rows node others h g low e =
     let at : ℕ = first + length rows in
     let same = same-body nodes first (first + length rows) rows node g.holds g.within.0 in
-    let flat : nat_lt 64 (body_height nodes node) ≡ false = (let le : body_height nodes node ≤ 64 = omega (arith, same, low) in grind (arith, nat_tests)) in
-    let is : h ≡ height nodes (first + length rows) = e ∙ next-height nodes first (first + length rows) rows node g.holds (get-drop nodes (first + length rows) node others g.left) g.within.0 in
-    let small : h ≤ length rows + 1 = omega (arith, e, light node, small-highest first rows (children node) (length rows) g.holds.small) in
+    let flat : nat_lt 64 (body_height nodes node) ≡ false =
+    (let le : body_height nodes node ≤ 64 = omega (arith, same, low) in grind (arith, nat_tests)) in
+    let is : h ≡ height nodes (first + length rows) =
+    e ∙ next-height nodes first (first + length rows) rows node g.holds
+    (get-drop nodes (first + length rows) node others g.left) g.within.0 in
+    let small : h ≤ length rows + 1 =
+    omega (arith, e, light node, small-highest first rows (children node) (length rows) g.holds.small) in
     let next = holds-next nodes first (first + length rows) h rows g.holds is small in
     let count : (first + length rows) + 1 ≡ first + length (rows ++ h ∷ []) = rw length-append (omega arith) in
     let behind : suc (first + length rows) ≡ first + length (rows ++ h ∷ []) = rw length-append (omega arith) in
@@ -190,27 +222,40 @@ gone_next nodes first rows node others h g low e =
       within = (let P : ℕ → Type 0 = λ n. ChildrenWithin first n others in subst P count g.within.1);
     }
 
-pub gone_end : (nodes : List Node) (first : ℕ) (rows : List ℕ) → Gone nodes first rows [] → first_too_deep nodes (drop first nodes) ≡ None
+pub gone_end : (nodes : List Node) (first : ℕ) (rows : List ℕ) → Gone nodes first rows [] →
+    first_too_deep nodes (drop first nodes) ≡ None
 unfolding first_too_deep
 gone_end nodes first rows g = g.same
 
-length-left : (nodes : List Node) (k : ℕ) (node : Node) (others : List Node) → drop k nodes ≡ node ∷ others → k < length nodes
+length-left : (nodes : List Node) (k : ℕ) (node : Node) (others : List Node) → drop k nodes ≡ node ∷ others →
+    k < length nodes
 length-left [] zero node others e = cc
 length-left [] (suc k) node others e = cc
 length-left (m ∷ nodes) zero node others e = omega arith
 length-left (m ∷ nodes) (suc k) node others e = omega (arith, length-left nodes k node others e)
 
 -- each height in the row is below the number of the nodes
-pub gone_small : (nodes : List Node) (first : ℕ) (rows : List ℕ) (node : Node) (others : List Node) (c : ℕ) → Gone nodes first rows (node ∷ others) → row first rows c < length nodes
-gone_small nodes first rows node others c g = omega (arith, g.holds.small c, length-left nodes (first + length rows) node others g.left)
+pub gone_small : (nodes : List Node) (first : ℕ) (rows : List ℕ) (node : Node) (others : List Node) (c : ℕ) →
+    Gone nodes first rows (node ∷ others) → row first rows c < length nodes
+gone_small nodes first rows node others c g =
+    omega (arith, g.holds.small c, length-left nodes (first + length rows) node others g.left)
 
-pub gone_small_child : (nodes : List Node) (first : ℕ) (rows : List ℕ) (node : Node) (others : List Node) → Gone nodes first rows (node ∷ others) → highest (row first rows) (children node) < length nodes
-gone_small_child nodes first rows node others g = omega (arith, small-highest first rows (children node) (length rows) g.holds.small, length-left nodes (first + length rows) node others g.left)
+pub gone_small_child : (nodes : List Node) (first : ℕ) (rows : List ℕ) (node : Node) (others : List Node) →
+    Gone nodes first rows (node ∷ others) → highest (row first rows) (children node) < length nodes
+gone_small_child nodes first rows node others g =
+    omega (
+      arith,
+      small-highest first rows (children node) (length rows) g.holds.small,
+      length-left nodes (first + length rows) node others g.left,
+    )
 
 -- the rest begins with the node at its place
-pub gone_at : (nodes : List Node) (first : ℕ) (rows : List ℕ) (next : ℕ) (node : Node) → Gone nodes first rows (drop next nodes) → next < length nodes → node ≡ get_or nodes next node → Gone nodes first rows (node ∷ drop (next + 1) nodes)
+pub gone_at : (nodes : List Node) (first : ℕ) (rows : List ℕ) (next : ℕ) (node : Node) →
+    Gone nodes first rows (drop next nodes) → next < length nodes → node ≡ get_or nodes next node →
+    Gone nodes first rows (node ∷ drop (next + 1) nodes)
 gone_at nodes first rows next node g l e =
-    let whole : drop next nodes ≡ node ∷ drop (next + 1) nodes = rw add-one (drop-cons nodes next node l ∙ ap (λ (n : Node). n ∷ drop (suc next) nodes) (sym e)) in
+    let whole : drop next nodes ≡ node ∷ drop (next + 1) nodes =
+    rw add-one (drop-cons nodes next node l ∙ ap (λ (n : Node). n ∷ drop (suc next) nodes) (sym e)) in
     let P : List Node → Type 0 = λ rest. Gone nodes first rows rest in
     subst P whole g
 
@@ -220,7 +265,8 @@ drop-all [] (suc n) h = refl
 drop-all (m ∷ nodes) zero h = absurd (omega (arith, h))
 drop-all (m ∷ nodes) (suc n) h = drop-all nodes n (omega (arith, h))
 
-pub gone_all : (nodes : List Node) (first : ℕ) (rows : List ℕ) (next : ℕ) → Gone nodes first rows (drop next nodes) → length nodes ≤ next → first_too_deep nodes (drop first nodes) ≡ None
+pub gone_all : (nodes : List Node) (first : ℕ) (rows : List ℕ) (next : ℕ) → Gone nodes first rows (drop next nodes) →
+    length nodes ≤ next → first_too_deep nodes (drop first nodes) ≡ None
 gone_all nodes first rows next g l =
     let P : List Node → Type 0 = λ rest. Gone nodes first rows rest in
     gone_end nodes first rows (subst P (drop-all nodes next l) g)

@@ -31,78 +31,106 @@ use Rattle.scj_tree.specs.declared.nodes.Node.{Node}
 room : (before w rest : List ℕ) → length before + length w ≤ length (before ++ (w ++ rest))
 room before w rest = omega (arith, length-append before (w ++ rest), length-append w rest)
 
-shape_fits : (file : ℕ) (before w rest : List ℕ) (kind : TokenKind) → Shape w rest kind → Fits (before ++ (w ++ rest)) (token_at file before kind (length w))
+shape_fits : (file : ℕ) (before w rest : List ℕ) (kind : TokenKind) → Shape w rest kind →
+    Fits (before ++ (w ++ rest)) (token_at file before kind (length w))
 unfolding Fits
 shape_fits file before w rest kind (name w1 rest1 h short r e) = (room before w rest, short)
 shape_fits file before w rest kind (word w1 rest1 n h e) = tt
 shape_fits file before w rest kind (number w1 rest1 h l e) = tt
-shape_fits file before w rest kind (text inside rest1 h) = (room before w rest, omega (arith, length-append inside (34 ∷ [])))
+shape_fits file before w rest kind (text inside rest1 h) =
+    (room before w rest, omega (arith, length-append inside (34 ∷ [])))
 shape_fits file before w rest kind (sign w1 rest1 n h l o) = tt
 
-piece_fits : (file : ℕ) (before w rest : List ℕ) (kind : TokenKind) → Piece w rest (Some kind) → Fits (before ++ (w ++ rest)) (token_at file before kind (length w))
+piece_fits : (file : ℕ) (before w rest : List ℕ) (kind : TokenKind) → Piece w rest (Some kind) →
+    Fits (before ++ (w ++ rest)) (token_at file before kind (length w))
 piece_fits file before w rest kind (lexeme w1 rest1 kind1 d) = shape_fits file before w rest kind d
 
-pub lexed_fit : (file : ℕ) (before rest : List ℕ) (tokens : List Token) → Lexes file before rest tokens → AllFit (before ++ rest) tokens
+pub lexed_fit : (file : ℕ) (before rest : List ℕ) (tokens : List Token) → Lexes file before rest tokens →
+    AllFit (before ++ rest) tokens
 unfolding AllFit Fits
 lexed_fit file before rest tokens (ends file1 before1) = (tt, tt)
 lexed_fit file before rest tokens (skips file1 before1 w rest1 tokens1 d l) =
-    let P : List ℕ → Type 0 = λ bytes. AllFit bytes tokens in subst P (append_assoc before w rest1) (lexed_fit file (before ++ w) rest1 tokens l)
+    let P : List ℕ → Type 0 = λ bytes. AllFit bytes tokens in
+    subst P (append_assoc before w rest1) (lexed_fit file (before ++ w) rest1 tokens l)
 lexed_fit file before rest tokens (takes file1 before1 w rest1 kind tokens1 d l) =
-    let P : List ℕ → Type 0 = λ bytes. AllFit bytes tokens1 in
-    (piece_fits file before w rest1 kind d, subst P (append_assoc before w rest1) (lexed_fit file (before ++ w) rest1 tokens1 l))
+    let P : List ℕ → Type 0 = λ bytes. AllFit bytes tokens1 in (
+      piece_fits file before w rest1 kind d,
+      subst P (append_assoc before w rest1) (lexed_fit file (before ++ w) rest1 tokens1 l),
+    )
 
-pub lexed_ends : (bytes : List ℕ) (file : ℕ) (before rest : List ℕ) (tokens : List Token) → Lexes file before rest tokens → EndsThere (lexemes_of bytes tokens)
+pub lexed_ends : (bytes : List ℕ) (file : ℕ) (before rest : List ℕ) (tokens : List Token) →
+    Lexes file before rest tokens → EndsThere (lexemes_of bytes tokens)
 unfolding lexemes_of lexeme_of
 lexed_ends bytes file before rest tokens (ends file1 before1) = record { front = []; place = _; is = refl }
-lexed_ends bytes file before rest tokens (skips file1 before1 w rest1 tokens1 d l) = lexed_ends bytes file (before ++ w) rest1 tokens l
+lexed_ends bytes file before rest tokens (skips file1 before1 w rest1 tokens1 d l) =
+    lexed_ends bytes file (before ++ w) rest1 tokens l
 lexed_ends bytes file before rest tokens (takes file1 before1 w rest1 kind tokens1 d l) =
     let later = lexed_ends bytes file (before ++ w) rest1 tokens1 l in
-    record { front = lexeme_of bytes (token_at file before kind (length w)) ∷ later.front; place = later.place; is = ap (λ i. lexeme_of bytes (token_at file before kind (length w)) ∷ i) later.is }
+    record {
+      front = lexeme_of bytes (token_at file before kind (length w))
+          ∷ later.front;
+      place = later.place;
+      is =
+          ap (λ i. lexeme_of bytes (token_at file before kind (length w)) ∷ i) later.is;
+    }
 
 -- ---- refusals and trees
 
 some_none : {A : Type 0} {x : A} → None ≡ Some x → Prim.⊥
 some_none e = cc
 
-pub refused_stop : (N : List Node) (i : List Lexeme) (p : Pos) → way (start N) i ≡ up_to p → BreaksGrammar N i (record { pos = p; rule = P1 })
+pub refused_stop : (N : List Node) (i : List Lexeme) (p : Pos) → way (start N) i ≡ up_to p →
+    BreaksGrammar N i (record { pos = p; rule = P1 })
 refused_stop N i p e =
     let stop = way_stops (start N) i p e in
     let P : List Lexeme → Type 0 = λ l. RefusedAt N l p in
     let Q : Pos → Type 0 = λ q. RefusedAt N (stop.before ++ stop.refused ∷ stop.behind) q in
-    not_in_the_grammar refl (subst P (sym stop.whole) (subst Q stop.place (refused_at N stop.before stop.behind stop.refused stop.state stop.reached stop.refuses)))
+    not_in_the_grammar refl
+    (subst P (sym stop.whole)
+    (subst Q stop.place (refused_at N stop.before stop.behind stop.refused stop.state stop.reached stop.refuses)))
 
 -- behind the end of a file the machine is done
-rest_is_none : (st : State) (rest : List Lexeme) {N : List Node} {ids : List ℕ} → ((r : Lexeme) → step st r ≡ None) → answer st rest ≡ Some (parsed N ids) → finished st ≡ Some (parsed N ids)
+rest_is_none : (st : State) (rest : List Lexeme) {N : List Node} {ids : List ℕ} → ((r : Lexeme) → step st r ≡ None) →
+    answer st rest ≡ Some (parsed N ids) → finished st ≡ Some (parsed N ids)
 unfolding answer
 rest_is_none st [] f e = e
 rest_is_none st (r ∷ rest) f e = cc (f r)
 
-pub is_done : (N : List Node) (i : List Lexeme) (st : State) → EndsThere i → way (start N) i ≡ to st → finished st ≡ None → Prim.⊥
+pub is_done : (N : List Node) (i : List Lexeme) (st : State) → EndsThere i → way (start N) i ≡ to st →
+    finished st ≡ None → Prim.⊥
 is_done N i st there e none =
     let reached : run (start N) i ≡ Some st = (way_run (start N) st i e).0 in
     let begins = run_begins N i st reached in
     let given = sym (answer_behind (start N) st i begins.rest reached) ∙ file_run begins.tree in
-    let behind : (r : Lexeme) → step st r ≡ None = λ r. nothing_behind (start N) st there.front there.place r (let P : List Lexeme → Type 0 = λ l. run (start N) l ≡ Some st in subst P there.is reached) in
+    let behind : (r : Lexeme) → step st r ≡ None =
+    λ r. nothing_behind (start N) st there.front there.place r
+    (let P : List Lexeme → Type 0 = λ l. run (start N) l ≡ Some st in subst P there.is reached) in
     some_none (sym none ∙ rest_is_none st begins.rest behind given)
 
-pub tree_of : (N N1 : List Node) (i : List Lexeme) (st : State) (ids : List ℕ) → way (start N) i ≡ to st → finished st ≡ Some (parsed N1 ids) → Tree N i N1 ids
+pub tree_of : (N N1 : List Node) (i : List Lexeme) (st : State) (ids : List ℕ) → way (start N) i ≡ to st →
+    finished st ≡ Some (parsed N1 ids) → Tree N i N1 ids
 tree_of N N1 i st ids e f = answer_is_tree N i ((way_run (start N) st i e).1 ∙ f)
 
 -- ---- programs
 
-pub added : {N N1 : List Node} {i : List Lexeme} {ids : List ℕ} {files more : List (List ℕ)} → Tree N i N1 ids → more ≡ files ++ ids ∷ [] → too_deep (length N) N1 ≡ None → FileRead (forest_of N files) i (forest_of N1 more)
+pub added : {N N1 : List Node} {i : List Lexeme} {ids : List ℕ} {files more : List (List ℕ)} → Tree N i N1 ids →
+    more ≡ files ++ ids ∷ [] → too_deep (length N) N1 ≡ None → FileRead (forest_of N files) i (forest_of N1 more)
 added {N} {N1} {i} {ids} d e f = record { classes = ids; tree = d; files = e; is_low = f }
 
-pub forest_after : (N N1 : List Node) (i : List Lexeme) (files more : List (List ℕ)) → FileRead (forest_of N files) i (forest_of N1 more) → IsForest (forest_of N files) → length files < 16 → length N1 < 2 ^ 32 → IsForest (forest_of N1 more)
+pub forest_after : (N N1 : List Node) (i : List Lexeme) (files more : List (List ℕ)) →
+    FileRead (forest_of N files) i (forest_of N1 more) → IsForest (forest_of N files) → length files < 16 →
+    length N1 < 2 ^ 32 → IsForest (forest_of N1 more)
 forest_after N N1 i files more a h room fits =
     let P : List (List ℕ) → Type 0 = λ fs. IsForest (forest_of N1 fs) in
     subst P (sym a.files) (forest_kept files a.tree h room fits)
 
 -- a whole file is a tree; what has no end is none
-pub whole_tree : (N N1 : List Node) (i : List Lexeme) (ids : List ℕ) → ((st : State) × (way (start N) i ≡ to st) × (finished st ≡ Some (parsed N1 ids))) → Tree N i N1 ids
+pub whole_tree : (N N1 : List Node) (i : List Lexeme) (ids : List ℕ) →
+    ((st : State) × (way (start N) i ≡ to st) × (finished st ≡ Some (parsed N1 ids))) → Tree N i N1 ids
 whole_tree N N1 i ids h = tree_of N N1 i h.0 ids h.1 h.2
 
-pub never_unfinished : (N : List Node) (i : List Lexeme) → EndsThere i → ((st : State) × (way (start N) i ≡ to st) × (finished st ≡ None)) → Prim.⊥
+pub never_unfinished : (N : List Node) (i : List Lexeme) → EndsThere i →
+    ((st : State) × (way (start N) i ≡ to st) × (finished st ≡ None)) → Prim.⊥
 never_unfinished N i there h = is_done N i h.0 there h.1 h.2
 
 -- two answers that are the same tell the same

@@ -7,12 +7,16 @@ use Rattle.scj_tree.specs.Lexemes.{Lexeme, place_of_lexeme}
 use Rattle.parser_steps.specs.Outcomes.{to, up_to, way}
 
 -- the state of a way that goes over all lexemes
-pub way_run : (st last : State) (i : List Lexeme) → way st i ≡ to last → (run st i ≡ Some last) × (answer st i ≡ finished last)
+pub way_run : (st last : State) (i : List Lexeme) → way st i ≡ to last → (run st i ≡ Some last) ×
+    (answer st i ≡ finished last)
 unfolding way run answer
 way_run st last [] e = (cc, cc)
 way_run st last (t ∷ o) e = go (λ next h. way_run next last o h) (step st t) e
   where
-    go : ((next : State) → way next o ≡ to last → (run next o ≡ Some last) × (answer next o ≡ finished last)) → (r : Option State) → elim r [ Some next ↦ way next o | None ↦ up_to (place_of_lexeme t) ] ≡ to last → (elim r [ Some next ↦ run next o | None ↦ None ] ≡ Some last) × (elim r [ Some next ↦ answer next o | None ↦ None ] ≡ finished last)
+    go : ((next : State) → way next o ≡ to last → (run next o ≡ Some last) × (answer next o ≡ finished last)) →
+        (r : Option State) → elim r [ Some next ↦ way next o | None ↦ up_to (place_of_lexeme t) ] ≡ to last →
+        (elim r [ Some next ↦ run next o | None ↦ None ] ≡ Some last) ×
+        (elim r [ Some next ↦ answer next o | None ↦ None ] ≡ finished last)
     go f None e = cc
     go f (Some next) e = f next e
 
@@ -32,8 +36,19 @@ unfolding way run
 way_stops st [] p e = cc
 way_stops st (t ∷ o) p e = go (λ next h. way_stops next o p h) (step st t) refl e
   where
-    go : ((next : State) → way next o ≡ up_to p → IsStopped next o p) → (r : Option State) → step st t ≡ r → elim r [ Some next ↦ way next o | None ↦ up_to (place_of_lexeme t) ] ≡ up_to p → IsStopped st (t ∷ o) p
-    go f None h e = record { before = []; refused = t; behind = o; state = st; whole = refl; reached = refl; refuses = h; place = cc }
+    go : ((next : State) → way next o ≡ up_to p → IsStopped next o p) → (r : Option State) → step st t ≡ r →
+        elim r [ Some next ↦ way next o | None ↦ up_to (place_of_lexeme t) ] ≡ up_to p → IsStopped st (t ∷ o) p
+    go f None h e =
+        record {
+          before = [];
+          refused = t;
+          behind = o;
+          state = st;
+          whole = refl;
+          reached = refl;
+          refuses = h;
+          place = cc;
+        }
     go f (Some next) h e =
         let later = f next e in
         record {
@@ -53,7 +68,9 @@ unfolding run answer
 answer_behind st last [] o e = let same : st ≡ last = cc in rw same refl
 answer_behind st last (u ∷ i) o e = go (λ next h. answer_behind next last i o h) (step st u) e
   where
-    go : ((next : State) → run next i ≡ Some last → answer next (i ++ o) ≡ answer last o) → (r : Option State) → elim r [ Some next ↦ run next i | None ↦ None ] ≡ Some last → elim r [ Some next ↦ answer next (i ++ o) | None ↦ None ] ≡ answer last o
+    go : ((next : State) → run next i ≡ Some last → answer next (i ++ o) ≡ answer last o) → (r : Option State) →
+        elim r [ Some next ↦ run next i | None ↦ None ] ≡ Some last →
+        elim r [ Some next ↦ answer next (i ++ o) | None ↦ None ] ≡ answer last o
     go f None e = cc
     go f (Some next) e = f next e
 

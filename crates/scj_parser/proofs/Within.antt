@@ -24,7 +24,8 @@ not_low : (low x : ℕ) (b : Bool) → nat_lt x low ≡ b → (x < low → Prim.
 not_low low x true e f = absurd (f (grind (arith, nat_tests)))
 not_low low x false e f = grind (arith, nat_tests)
 
-ids_within : (low high : ℕ) (ids : List ℕ) → AllBelow high ids → ((x : ℕ) → x < low → times x ids ≡ 0) → AllWithin low high ids
+ids_within : (low high : ℕ) (ids : List ℕ) → AllBelow high ids → ((x : ℕ) → x < low → times x ids ≡ 0) →
+    AllWithin low high ids
 unfolding AllBelow AllWithin
 ids_within low high [] b f = tt
 ids_within low high (x ∷ ids) b f = (
@@ -32,34 +33,54 @@ ids_within low high (x ∷ ids) b f = (
   ids_within low high ids b.1 (λ y l. omega (arith, f y l, times-rest y x ids)),
 )
 
-nodes_within : (low at : ℕ) (more : List Node) → ChildrenFirst at more → ((x : ℕ) → x < low → times x (all_children more) ≡ 0) → ChildrenWithin low at more
+nodes_within : (low at : ℕ) (more : List Node) → ChildrenFirst at more →
+    ((x : ℕ) → x < low → times x (all_children more) ≡ 0) → ChildrenWithin low at more
 unfolding ChildrenFirst ChildrenWithin all_children
 nodes_within low at [] h f = tt
 nodes_within low at (node ∷ more) h f = (
-  ids_within low at (children node) h.0 (λ x l. omega (arith, f x l, times-append x (children node) (all_children more))),
+  ids_within low at (children node) h.0
+      (λ x l. omega (arith, f x l, times-append x (children node) (all_children more))),
   nodes_within low (at + 1) more h.1 (λ x l. omega (arith, f x l, times-append x (children node) (all_children more))),
 )
 
 first_behind : (from : ℕ) (N more : List Node) → ChildrenFirst from (N ++ more) → ChildrenFirst (from + length N) more
 unfolding ChildrenFirst
-first_behind from [] more h = let e : from ≡ from + 0 = omega arith in (let P : ℕ → Type 0 = λ n. ChildrenFirst n more in subst P e h)
-first_behind from (m ∷ N) more h = let e : (from + 1) + length N ≡ from + suc (length N) = omega arith in (let P : ℕ → Type 0 = λ n. ChildrenFirst n more in subst P e (first_behind (from + 1) N more h.1))
+first_behind from [] more h = let e : from ≡ from + 0 =
+    omega arith in (let P : ℕ → Type 0 = λ n. ChildrenFirst n more in subst P e h)
+first_behind from (m ∷ N) more h = let e : (from + 1) + length N ≡ from + suc (length N) =
+    omega arith in (let P : ℕ → Type 0 = λ n. ChildrenFirst n more in subst P e (first_behind (from + 1) N more h.1))
 
 drop_front : (N more : List Node) → drop (length N) (N ++ more) ≡ more
 drop_front [] more = refl
 drop_front (m ∷ N) more = drop_front N more
 
-pub tree_within : {N N1 : List Node} {i : List Lexeme} {ids : List ℕ} → Tree N i N1 ids → ChildrenFirst 0 N → ChildrenWithin (length N) (length N) (drop (length N) N1)
+pub tree_within : {N N1 : List Node} {i : List Lexeme} {ids : List ℕ} → Tree N i N1 ids → ChildrenFirst 0 N →
+    ChildrenWithin (length N) (length N) (drop (length N) N1)
 tree_within {N} {N1} d h =
     let g = tree_grown d in
-    let all : ChildrenFirst 0 (N ++ g.more) = (let P : List Node → Type 0 = λ M. ChildrenFirst 0 M in subst P g.whole (g.first h)) in
-    let behind : ChildrenFirst (length N) g.more = (let e : 0 + length N ≡ length N = zero-add _ in let P : ℕ → Type 0 = λ n. ChildrenFirst n g.more in subst P e (first_behind 0 N g.more all)) in
+    let all : ChildrenFirst 0 (N ++ g.more) =
+    (let P : List Node → Type 0 = λ M. ChildrenFirst 0 M in subst P g.whole (g.first h)) in
+    let behind : ChildrenFirst (length N) g.more =
+    (let e : 0 + length N ≡ length N = zero-add _ in let P : ℕ → Type 0 = λ n. ChildrenFirst n g.more in
+    subst P e (first_behind 0 N g.more all)) in
     let fresh : (x : ℕ) → x < length N → times x (all_children g.more) ≡ 0 = λ x l.
-    let e : times x (all_children N1) ≡ times x (all_children N) + times x (all_children g.more) = ap (λ M. times x (all_children M)) g.whole ∙ (ap (times x) (all_children-append N g.more) ∙ times-append x (all_children N) (all_children g.more)) in
-    let f : below x (length N1) ≡ below x (length N + length g.more) = ap (λ M. below x (length M)) g.whole ∙ ap (below x) (length-append N g.more) in
-    omega (arith, g.once x, e, f, below-one x (length N + length g.more), below-grows x (length N) (length g.more), below-low x (length N) l) in
+    let e : times x (all_children N1) ≡ times x (all_children N) + times x (all_children g.more) =
+    ap (λ M. times x (all_children M)) g.whole
+    ∙ (ap (times x) (all_children-append N g.more) ∙ times-append x (all_children N) (all_children g.more)) in
+    let f : below x (length N1) ≡ below x (length N + length g.more) = ap (λ M. below x (length M)) g.whole
+    ∙ ap (below x) (length-append N g.more) in
+    omega (
+      arith,
+      g.once x,
+      e,
+      f,
+      below-one x (length N + length g.more),
+      below-grows x (length N) (length g.more),
+      below-low x (length N) l,
+    ) in
     let same : drop (length N) N1 ≡ g.more = ap (drop (length N)) g.whole ∙ drop_front N g.more in
-    (let P : List Node → Type 0 = λ M. ChildrenWithin (length N) (length N) M in subst P (sym same) (nodes_within (length N) (length N) g.more behind fresh))
+    (let P : List Node → Type 0 = λ M. ChildrenWithin (length N) (length N) M in
+    subst P (sym same) (nodes_within (length N) (length N) g.more behind fresh))
 
 pub tree_longer : {N N1 : List Node} {i : List Lexeme} {ids : List ℕ} → Tree N i N1 ids → length N ≤ length N1
 tree_longer {N} {N1} d = let g = tree_grown d in omega (arith, ap length g.whole, length-append N g.more)

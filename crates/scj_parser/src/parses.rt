@@ -29,8 +29,10 @@ fn read_classes(
 ) -> Result<NodeList, ParseAnswer>
     requires fit { AllFit bytes.now tokens.now }
     requires ends { EndsThere (lexemes_of bytes.now tokens.now) }
-    ensures ok { (classes : List ℕ) → result ≡ Ok classes → Tree nodes.old.all (lexemes_of bytes.now tokens.now) nodes.new.all classes }
-    ensures bad { (found : FoundRule) → result ≡ Err (Bad found) → BreaksGrammar nodes.old.all (lexemes_of bytes.now tokens.now) found }
+    ensures ok { (classes : List ℕ) → result ≡ Ok classes →
+        Tree nodes.old.all (lexemes_of bytes.now tokens.now) nodes.new.all classes }
+    ensures bad { (found : FoundRule) → result ≡ Err (Bad found) →
+        BreaksGrammar nodes.old.all (lexemes_of bytes.now tokens.now) found }
     ensures kept { nodes.new.kept ≡ nodes.old.kept }
 {
     match read_file(alloc, nodes, bytes, tokens)? {
@@ -55,8 +57,11 @@ fn add_file(
     requires whole { IsForest (forest_of nodes.old.all (map (λ f. f.items) files.old.items)) }
     requires fit { AllFit bytes.now tokens.now }
     requires ends { EndsThere (lexemes_of bytes.now tokens.now) }
-    ensures ok { OnOk result (IsFileRead (forest_of nodes.old.all (map (λ f. f.items) files.old.items)) (lexemes_of bytes.now tokens.now) (forest_of nodes.new.all (map (λ f. f.items) files.new.items))) }
-    ensures bad { (found : FoundRule) → result ≡ Err (Bad found) → BreaksGrammar nodes.old.all (lexemes_of bytes.now tokens.now) found }
+    ensures ok { OnOk result
+        (IsFileRead (forest_of nodes.old.all (map (λ f. f.items) files.old.items)) (lexemes_of bytes.now tokens.now)
+        (forest_of nodes.new.all (map (λ f. f.items) files.new.items))) }
+    ensures bad { (found : FoundRule) → result ≡ Err (Bad found) →
+        BreaksGrammar nodes.old.all (lexemes_of bytes.now tokens.now) found }
     ensures err { OnErr result (files.new.items ≡ files.old.items) }
     ensures few { OnOk result (length nodes.new.all < 2 ^ 32) }
     ensures kept { nodes.new.kept ≡ nodes.old.kept }
@@ -87,7 +92,8 @@ pub fn parse(
     requires few { file < 16 }
     requires lexed { Lex file bytes.now tokens.now }
     ensures ok { OnOk result (IsFileRead program.old (lexemes_of bytes.now tokens.now) program.new) }
-    ensures bad { (found : FoundRule) → result ≡ Err (Bad found) → BreaksGrammar program.old.nodes (lexemes_of bytes.now tokens.now) found }
+    ensures bad { (found : FoundRule) → result ≡ Err (Bad found) →
+        BreaksGrammar program.old.nodes (lexemes_of bytes.now tokens.now) found }
     ensures err { OnErr result (program.new ≡ program.old) }
 {
     let before = replace(program, Program::new(alloc));

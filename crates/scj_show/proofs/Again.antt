@@ -33,12 +33,18 @@ pub front-one : {N : List Node} (node : Node) → Front N (put N node)
 front-one node = record { rest = node ∷ []; whole = refl }
 
 pub front-then : {M N V : List Node} → Front M N → Front N V → Front M V
-front-then {M} {N} {V} f g = record { rest = f.rest ++ g.rest; whole = g.whole ∙ ap (λ (t : List Node). t ++ g.rest) f.whole ∙ append_assoc M f.rest g.rest }
+front-then {M} {N} {V} f g =
+    record {
+      rest = f.rest ++ g.rest;
+      whole = g.whole ∙ ap (λ (t : List Node). t ++ g.rest) f.whole
+          ∙ append_assoc M f.rest g.rest;
+    }
 
 pub front-put : {V : List Node} (N : List Node) (node : Node) → Front (put N node) V → Front N V
 front-put N node f = front-then (front-one node) f
 
-get-middle : (N : List Node) (node : Node) (more : List Node) → slice_get ((N ++ node ∷ []) ++ more) (length N) ≡ Some node
+get-middle : (N : List Node) (node : Node) (more : List Node) →
+    slice_get ((N ++ node ∷ []) ++ more) (length N) ≡ Some node
 get-middle [] node more = refl
 get-middle (n ∷ N) node more = get-middle N node more
 
@@ -50,7 +56,8 @@ front-at N node f = ap (λ (t : List Node). slice_get t (length N)) f.whole ∙ 
 abbrev pub whole : List Node → ℕ → List Symbol
 whole W id = (written W id).whole
 
-pub whole_at : (W : List Node) (id : ℕ) (node : Node) → ChildrenFirst 0 W → slice_get W id ≡ Some node → whole W id ≡ own_symbols node ++ symbols_of_parts (written W) (parts_of node)
+pub whole_at : (W : List Node) (id : ℕ) (node : Node) → ChildrenFirst 0 W → slice_get W id ≡ Some node →
+    whole W id ≡ own_symbols node ++ symbols_of_parts (written W) (parts_of node)
 unfolding written_node
 whole_at W id node first e = ap (λ (t : Written). t.whole) (written_at W id node first e)
 
@@ -59,37 +66,60 @@ unfoldable pub followed : List Node → List ℕ → List Symbol
 followed W [] = []
 followed W (id ∷ ids) = (whole W id ++ a_sign sign_comma ∷ []) ++ followed W ids
 
-pub followed-put : (W : List Node) (ids : List ℕ) (id : ℕ) → followed W (ids ++ id ∷ []) ≡ followed W ids ++ (whole W id ++ a_sign sign_comma ∷ [])
+pub followed-put : (W : List Node) (ids : List ℕ) (id : ℕ) → followed W (ids ++ id ∷ []) ≡ followed W ids
+    ++ (whole W id ++ a_sign sign_comma ∷ [])
 unfolding followed
 followed-put W [] id = append-nil (whole W id ++ a_sign sign_comma ∷ [])
-followed-put W (x ∷ ids) id = ap (λ (t : List Symbol). (whole W x ++ a_sign sign_comma ∷ []) ++ t) (followed-put W ids id) ∙ sym (append_assoc (whole W x ++ a_sign sign_comma ∷ []) (followed W ids) (whole W id ++ a_sign sign_comma ∷ []))
+followed-put W (x ∷ ids) id = ap (λ (t : List Symbol). (whole W x ++ a_sign sign_comma ∷ []) ++ t)
+    (followed-put W ids id)
+    ∙ sym (append_assoc (whole W x ++ a_sign sign_comma ∷ []) (followed W ids) (whole W id ++ a_sign sign_comma ∷ []))
 
 -- arguments with the closing parenthesis
 unfoldable pub arguments_of : List Node → List ℕ → List Symbol
 arguments_of W ids = symbols_of_parts (written W) (listed ids ++ Sign sign_right_parenthesis ∷ [])
 
-commas-turned : (W : List Node) (x : ℕ) (ids : List ℕ) (id : ℕ) (tail : List Part) → whole W x ++ symbols_of_parts (written W) (each_behind_comma (ids ++ id ∷ []) ++ tail) ≡ followed W (x ∷ ids) ++ (whole W id ++ symbols_of_parts (written W) tail)
+commas-turned : (W : List Node) (x : ℕ) (ids : List ℕ) (id : ℕ) (tail : List Part) → whole W x
+    ++ symbols_of_parts (written W) (each_behind_comma (ids ++ id ∷ []) ++ tail) ≡ followed W (x ∷ ids)
+    ++ (whole W id ++ symbols_of_parts (written W) tail)
 unfolding each_behind_comma symbols_of_parts symbols_of_part followed
-commas-turned W x [] id tail = sym (append_assoc (whole W x) (a_sign sign_comma ∷ []) (whole W id ++ symbols_of_parts (written W) tail)) ∙ ap (λ (t : List Symbol). t ++ (whole W id ++ symbols_of_parts (written W) tail)) (sym (append-nil (whole W x ++ a_sign sign_comma ∷ [])))
+commas-turned W x [] id tail =
+    sym (append_assoc (whole W x) (a_sign sign_comma ∷ []) (whole W id ++ symbols_of_parts (written W) tail))
+    ∙ ap (λ (t : List Symbol). t ++ (whole W id ++ symbols_of_parts (written W) tail))
+    (sym (append-nil (whole W x ++ a_sign sign_comma ∷ [])))
 commas-turned W x (y ∷ ids) id tail =
-    let more : whole W y ++ symbols_of_parts (written W) (each_behind_comma (ids ++ id ∷ []) ++ tail) ≡ followed W (y ∷ ids) ++ (whole W id ++ symbols_of_parts (written W) tail) = commas-turned W y ids id tail in
-    let one : whole W x ++ (a_sign sign_comma ∷ (followed W (y ∷ ids) ++ (whole W id ++ symbols_of_parts (written W) tail))) ≡ ((whole W x ++ a_sign sign_comma ∷ []) ++ followed W (y ∷ ids)) ++ (whole W id ++ symbols_of_parts (written W) tail) = sym (append_assoc (whole W x ++ a_sign sign_comma ∷ []) (followed W (y ∷ ids)) (whole W id ++ symbols_of_parts (written W) tail) ∙ append_assoc (whole W x) (a_sign sign_comma ∷ []) (followed W (y ∷ ids) ++ (whole W id ++ symbols_of_parts (written W) tail))) in
+    let more : whole W y ++ symbols_of_parts (written W) (each_behind_comma (ids ++ id ∷ []) ++ tail) ≡ followed W
+    (y ∷ ids) ++ (whole W id ++ symbols_of_parts (written W) tail) = commas-turned W y ids id tail in
+    let one : whole W x
+    ++ (a_sign sign_comma ∷ (followed W (y ∷ ids) ++ (whole W id ++ symbols_of_parts (written W) tail)))
+    ≡ ((whole W x ++ a_sign sign_comma ∷ []) ++ followed W (y ∷ ids))
+    ++ (whole W id ++ symbols_of_parts (written W) tail) =
+    sym
+    (append_assoc (whole W x ++ a_sign sign_comma ∷ []) (followed W (y ∷ ids))
+    (whole W id ++ symbols_of_parts (written W) tail) ∙ append_assoc (whole W x) (a_sign sign_comma ∷ [])
+    (followed W (y ∷ ids) ++ (whole W id ++ symbols_of_parts (written W) tail))) in
     ap (λ (t : List Symbol). whole W x ++ (a_sign sign_comma ∷ t)) more ∙ one
 
-pub arguments_of-put : (W : List Node) (ids : List ℕ) (id : ℕ) → arguments_of W (ids ++ id ∷ []) ≡ followed W ids ++ (whole W id ++ a_sign sign_right_parenthesis ∷ [])
+pub arguments_of-put : (W : List Node) (ids : List ℕ) (id : ℕ) → arguments_of W (ids ++ id ∷ []) ≡ followed W ids
+    ++ (whole W id ++ a_sign sign_right_parenthesis ∷ [])
 unfolding arguments_of listed symbols_of_parts symbols_of_part followed each_behind_comma
 arguments_of-put W [] id = refl
 arguments_of-put W (x ∷ ids) id = commas-turned W x ids id (Sign sign_right_parenthesis ∷ [])
 
-pub implemented-put : (W : List Node) (ids : List ℕ) (id : ℕ) → symbols_of_parts (written W) (implemented (ids ++ id ∷ [])) ≡ a_word word_implements ∷ (followed W ids ++ (whole W id ++ []))
+pub implemented-put : (W : List Node) (ids : List ℕ) (id : ℕ) →
+    symbols_of_parts (written W) (implemented (ids ++ id ∷ [])) ≡ a_word word_implements
+    ∷ (followed W ids ++ (whole W id ++ []))
 unfolding implemented symbols_of_parts symbols_of_part followed each_behind_comma
 implemented-put W [] id = refl
-implemented-put W (x ∷ ids) id = ap (λ (ps : List Part). a_word word_implements ∷ (whole W x ++ symbols_of_parts (written W) ps)) (sym (append-nil (each_behind_comma (ids ++ id ∷ [])))) ∙ ap (λ (t : List Symbol). a_word word_implements ∷ t) (commas-turned W x ids id [])
+implemented-put W (x ∷ ids) id =
+    ap (λ (ps : List Part). a_word word_implements ∷ (whole W x ++ symbols_of_parts (written W) ps))
+    (sym (append-nil (each_behind_comma (ids ++ id ∷ [])))) ∙ ap (λ (t : List Symbol). a_word word_implements ∷ t)
+    (commas-turned W x ids id [])
 
 pub each-put : (W : List Node) (ids : List ℕ) (id : ℕ) → symbols_of W (ids ++ id ∷ []) ≡ symbols_of W ids ++ whole W id
 unfolding symbols_of each symbols_of_parts symbols_of_part
 each-put W [] id = append-nil (whole W id)
-each-put W (x ∷ ids) id = ap (λ (t : List Symbol). whole W x ++ t) (each-put W ids id) ∙ sym (append_assoc (whole W x) (symbols_of W ids) (whole W id))
+each-put W (x ∷ ids) id = ap (λ (t : List Symbol). whole W x ++ t) (each-put W ids id)
+    ∙ sym (append_assoc (whole W x) (symbols_of W ids) (whole W id))
 
 -- ---- lexemes behind bytes of a file, with more lexemes behind them
 
@@ -97,11 +127,14 @@ unfoldable pub laid : ℕ → List ℕ → List Symbol → List Lexeme → List 
 laid file before [] o = o
 laid file before (s ∷ ss) o = lexeme_at s (place_behind file before) ∷ laid file (before ++ printed s) ss o
 
-pub laid-append : (file : ℕ) (before : List ℕ) (xs ys : List Symbol) (o : List Lexeme) → laid file before (xs ++ ys) o ≡ laid file before xs (laid file (before ++ canonical xs) ys o)
+pub laid-append : (file : ℕ) (before : List ℕ) (xs ys : List Symbol) (o : List Lexeme) →
+    laid file before (xs ++ ys) o ≡ laid file before xs (laid file (before ++ canonical xs) ys o)
 unfolding laid canonical
 laid-append file before [] ys o = ap (λ (t : List ℕ). laid file t ys o) (sym (append-nil before))
 laid-append file before (x ∷ xs) ys o =
-    ap (λ (t : List Lexeme). lexeme_at x (place_behind file before) ∷ t) (laid-append file (before ++ printed x) xs ys o ∙ ap (λ (t : List ℕ). laid file (before ++ printed x) xs (laid file t ys o)) (append_assoc before (printed x) (canonical xs)))
+    ap (λ (t : List Lexeme). lexeme_at x (place_behind file before) ∷ t) (laid-append file (before ++ printed x) xs ys o
+    ∙ ap (λ (t : List ℕ). laid file (before ++ printed x) xs (laid file t ys o))
+    (append_assoc before (printed x) (canonical xs)))
 
 -- ---- what a row of lexemes begins with
 
@@ -165,7 +198,8 @@ right_is w q (text_at v p ∷ o) = refl
 right_is w q (sign_at n p ∷ o) = refl
 right_is w q (the_end p ∷ o) = refl
 
-pub right_of_heads : (w : List ℕ) (p q : Pos) (i j : List Lexeme) → head i ≡ head j → closes_name (name_at w p ∷ i) ≡ closes_name (name_at w q ∷ j)
+pub right_of_heads : (w : List ℕ) (p q : Pos) (i j : List Lexeme) → head i ≡ head j →
+    closes_name (name_at w p ∷ i) ≡ closes_name (name_at w q ∷ j)
 right_of_heads w p q i j h = right_is w p i ∙ ap right_head h ∙ sym (right_is w q j)
 
 -- ---- read again
@@ -176,7 +210,8 @@ Calm o o2 = begins_unary1 o ≡ false → begins_unary1 o2 ≡ false
 
 -- from the nodes M and the lexemes i2 something is read up to o2, which is the same as id among W; id was read from
 -- the lexemes i up to o
-pub record Again (R : List Node → List Lexeme → List Node → List Lexeme → ℕ → Type 0) (W M : List Node) (i o i2 o2 : List Lexeme) (id : ℕ) : Type 0 where
+pub record Again (R : List Node → List Lexeme → List Node → List Lexeme → ℕ → Type 0) (W M : List Node)
+    (i o i2 o2 : List Lexeme) (id : ℕ) : Type 0 where
   pub nodes : List Node
   pub place : ℕ
   pub grown : Front M nodes
@@ -185,26 +220,37 @@ pub record Again (R : List Node → List Lexeme → List Node → List Lexeme �
   pub closes : head o ≡ head o2 → closes_name i ≡ closes_name i2
   pub alike : (V : List Node) → Front nodes V → Alike W V id place
 
-pub again_of : {R : List Node → List Lexeme → List Node → List Lexeme → ℕ → Type 0} {W M : List Node} {i o i2 o2 : List Lexeme} {id : ℕ} (nodes : List Node) (place : ℕ) → Front M nodes → R M i2 nodes o2 place → head i ≡ head i2 → (head o ≡ head o2 → closes_name i ≡ closes_name i2) → ((V : List Node) → Front nodes V → Alike W V id place) → Again R W M i o i2 o2 id
-again_of nodes place grown read heads closes same = record { nodes = nodes; place = place; grown = grown; read = read; heads = heads; closes = closes; alike = same }
+pub again_of : {R : List Node → List Lexeme → List Node → List Lexeme → ℕ → Type 0} {W M : List Node}
+    {i o i2 o2 : List Lexeme} {id : ℕ} (nodes : List Node) (place : ℕ) → Front M nodes → R M i2 nodes o2 place →
+    head i ≡ head i2 → (head o ≡ head o2 → closes_name i ≡ closes_name i2) →
+    ((V : List Node) → Front nodes V → Alike W V id place) → Again R W M i o i2 o2 id
+again_of nodes place grown read heads closes same =
+    record { nodes = nodes; place = place; grown = grown; read = read; heads = heads; closes = closes; alike = same }
 
-pub moved : {R : List Node → List Lexeme → List Node → List Lexeme → ℕ → Type 0} {W M : List Node} {i o i2 i3 o2 : List Lexeme} {id : ℕ} → i3 ≡ i2 → Again R W M i o i2 o2 id → Again R W M i o i3 o2 id
+pub moved : {R : List Node → List Lexeme → List Node → List Lexeme → ℕ → Type 0} {W M : List Node}
+    {i o i2 i3 o2 : List Lexeme} {id : ℕ} → i3 ≡ i2 → Again R W M i o i2 o2 id → Again R W M i o i3 o2 id
 moved {R} {W} {M} {i} {o} {i2} {i3} {o2} {id} e a = subst (λ (t : List Lexeme). Again R W M i o t o2 id) (sym e) a
 
-pub record AllAgain (R : List Node → List Lexeme → List Node → List Lexeme → List ℕ → Type 0) (W M : List Node) (i2 o2 : List Lexeme) (ids : List ℕ) : Type 0 where
+pub record AllAgain (R : List Node → List Lexeme → List Node → List Lexeme → List ℕ → Type 0) (W M : List Node)
+    (i2 o2 : List Lexeme) (ids : List ℕ) : Type 0 where
   pub nodes : List Node
   pub places : List ℕ
   pub grown : Front M nodes
   pub read : R M i2 nodes o2 places
   pub alike : (V : List Node) → Front nodes V → AllAlike W V ids places
 
-pub all_again_of : {R : List Node → List Lexeme → List Node → List Lexeme → List ℕ → Type 0} {W M : List Node} {i2 o2 : List Lexeme} {ids : List ℕ} (nodes : List Node) (places : List ℕ) → Front M nodes → R M i2 nodes o2 places → ((V : List Node) → Front nodes V → AllAlike W V ids places) → AllAgain R W M i2 o2 ids
-all_again_of nodes places grown read same = record { nodes = nodes; places = places; grown = grown; read = read; alike = same }
+pub all_again_of : {R : List Node → List Lexeme → List Node → List Lexeme → List ℕ → Type 0} {W M : List Node}
+    {i2 o2 : List Lexeme} {ids : List ℕ} (nodes : List Node) (places : List ℕ) → Front M nodes →
+    R M i2 nodes o2 places → ((V : List Node) → Front nodes V → AllAlike W V ids places) → AllAgain R W M i2 o2 ids
+all_again_of nodes places grown read same =
+    record { nodes = nodes; places = places; grown = grown; read = read; alike = same }
 
-pub all_moved : {R : List Node → List Lexeme → List Node → List Lexeme → List ℕ → Type 0} {W M : List Node} {i2 i3 o2 : List Lexeme} {ids : List ℕ} → i3 ≡ i2 → AllAgain R W M i2 o2 ids → AllAgain R W M i3 o2 ids
+pub all_moved : {R : List Node → List Lexeme → List Node → List Lexeme → List ℕ → Type 0} {W M : List Node}
+    {i2 i3 o2 : List Lexeme} {ids : List ℕ} → i3 ≡ i2 → AllAgain R W M i2 o2 ids → AllAgain R W M i3 o2 ids
 all_moved {R} {W} {M} {i2} {i3} {o2} {ids} e a = subst (λ (t : List Lexeme). AllAgain R W M t o2 ids) (sym e) a
 
-pub alike-put : {W V : List Node} {ids places : List ℕ} {id place : ℕ} → AllAlike W V ids places → Alike W V id place → AllAlike W V (ids ++ id ∷ []) (places ++ place ∷ [])
+pub alike-put : {W V : List Node} {ids places : List ℕ} {id place : ℕ} → AllAlike W V ids places → Alike W V id place →
+    AllAlike W V (ids ++ id ∷ []) (places ++ place ∷ [])
 alike-put none_alike a = one_alike a none_alike
 alike-put (one_alike b more) a = one_alike b (alike-put more a)
 
@@ -213,25 +259,31 @@ counted-same none_alike = refl
 counted-same (one_alike a more) = ap (λ (t : List ℕ). 0 ∷ t) (counted-same more)
 
 -- what stands at some place
-pub record PostHere (minimum : Bool) (kind : PostKind) (M : List Node) (i : List Lexeme) (N : List Node) (o : List Lexeme) (id : ℕ) : Type 0 where
+pub record PostHere (minimum : Bool) (kind : PostKind) (M : List Node) (i : List Lexeme) (N : List Node)
+    (o : List Lexeme) (id : ℕ) : Type 0 where
   pub at : Pos
   pub read : PostRead minimum kind at M i N o id
 
-pub post_here : {minimum : Bool} {kind : PostKind} {at : Pos} {M N : List Node} {i o : List Lexeme} {id : ℕ} → PostRead minimum kind at M i N o id → PostHere minimum kind M i N o id
+pub post_here : {minimum : Bool} {kind : PostKind} {at : Pos} {M N : List Node} {i o : List Lexeme} {id : ℕ} →
+    PostRead minimum kind at M i N o id → PostHere minimum kind M i N o id
 post_here {at = at} d = record { at = at; read = d }
 
 -- the same where nothing has to be known of the first lexemes
-pub record Told (R : List Node → List Lexeme → List Node → List Lexeme → ℕ → Type 0) (W M : List Node) (i2 o2 : List Lexeme) (id : ℕ) : Type 0 where
+pub record Told (R : List Node → List Lexeme → List Node → List Lexeme → ℕ → Type 0) (W M : List Node)
+    (i2 o2 : List Lexeme) (id : ℕ) : Type 0 where
   pub nodes : List Node
   pub place : ℕ
   pub grown : Front M nodes
   pub read : R M i2 nodes o2 place
   pub alike : (V : List Node) → Front nodes V → Alike W V id place
 
-pub told_of : {R : List Node → List Lexeme → List Node → List Lexeme → ℕ → Type 0} {W M : List Node} {i2 o2 : List Lexeme} {id : ℕ} (nodes : List Node) (place : ℕ) → Front M nodes → R M i2 nodes o2 place → ((V : List Node) → Front nodes V → Alike W V id place) → Told R W M i2 o2 id
+pub told_of : {R : List Node → List Lexeme → List Node → List Lexeme → ℕ → Type 0} {W M : List Node}
+    {i2 o2 : List Lexeme} {id : ℕ} (nodes : List Node) (place : ℕ) → Front M nodes → R M i2 nodes o2 place →
+    ((V : List Node) → Front nodes V → Alike W V id place) → Told R W M i2 o2 id
 told_of nodes place grown read same = record { nodes = nodes; place = place; grown = grown; read = read; alike = same }
 
-pub told_moved : {R : List Node → List Lexeme → List Node → List Lexeme → ℕ → Type 0} {W M : List Node} {i2 i3 o2 : List Lexeme} {id : ℕ} → i3 ≡ i2 → Told R W M i2 o2 id → Told R W M i3 o2 id
+pub told_moved : {R : List Node → List Lexeme → List Node → List Lexeme → ℕ → Type 0} {W M : List Node}
+    {i2 i3 o2 : List Lexeme} {id : ℕ} → i3 ≡ i2 → Told R W M i2 o2 id → Told R W M i3 o2 id
 told_moved {R} {W} {M} {i2} {i3} {o2} {id} e a = subst (λ (t : List Lexeme). Told R W M t o2 id) (sym e) a
 
 -- a part that may be missing
@@ -243,23 +295,30 @@ pub there-same : {W V : List Node} {x y : Option ℕ} → MaybeAlike W V x y →
 there-same both_missing = refl
 there-same (both_there a) = refl
 
-pub optional-alike : {W V : List Node} {x y : Option ℕ} {xs ys : List ℕ} → MaybeAlike W V x y → AllAlike W V xs ys → AllAlike W V (optional x ++ xs) (optional y ++ ys)
+pub optional-alike : {W V : List Node} {x y : Option ℕ} {xs ys : List ℕ} → MaybeAlike W V x y → AllAlike W V xs ys →
+    AllAlike W V (optional x ++ xs) (optional y ++ ys)
 optional-alike both_missing a = a
 optional-alike (both_there b) a = one_alike b a
 
-pub optional-alike-last : {W V : List Node} {x y : Option ℕ} → MaybeAlike W V x y → AllAlike W V (optional x) (optional y)
+pub optional-alike-last : {W V : List Node} {x y : Option ℕ} → MaybeAlike W V x y →
+    AllAlike W V (optional x) (optional y)
 optional-alike-last both_missing = none_alike
 optional-alike-last (both_there b) = one_alike b none_alike
 
-pub record MaybeTold (R : List Node → List Lexeme → List Node → List Lexeme → Option ℕ → Type 0) (W M : List Node) (i2 o2 : List Lexeme) (id : Option ℕ) : Type 0 where
+pub record MaybeTold (R : List Node → List Lexeme → List Node → List Lexeme → Option ℕ → Type 0) (W M : List Node)
+    (i2 o2 : List Lexeme) (id : Option ℕ) : Type 0 where
   pub nodes : List Node
   pub place : Option ℕ
   pub grown : Front M nodes
   pub read : R M i2 nodes o2 place
   pub alike : (V : List Node) → Front nodes V → MaybeAlike W V id place
 
-pub maybe_told_of : {R : List Node → List Lexeme → List Node → List Lexeme → Option ℕ → Type 0} {W M : List Node} {i2 o2 : List Lexeme} {id : Option ℕ} (nodes : List Node) (place : Option ℕ) → Front M nodes → R M i2 nodes o2 place → ((V : List Node) → Front nodes V → MaybeAlike W V id place) → MaybeTold R W M i2 o2 id
-maybe_told_of nodes place grown read same = record { nodes = nodes; place = place; grown = grown; read = read; alike = same }
+pub maybe_told_of : {R : List Node → List Lexeme → List Node → List Lexeme → Option ℕ → Type 0} {W M : List Node}
+    {i2 o2 : List Lexeme} {id : Option ℕ} (nodes : List Node) (place : Option ℕ) → Front M nodes →
+    R M i2 nodes o2 place → ((V : List Node) → Front nodes V → MaybeAlike W V id place) → MaybeTold R W M i2 o2 id
+maybe_told_of nodes place grown read same =
+    record { nodes = nodes; place = place; grown = grown; read = read; alike = same }
 
-pub maybe_told_moved : {R : List Node → List Lexeme → List Node → List Lexeme → Option ℕ → Type 0} {W M : List Node} {i2 i3 o2 : List Lexeme} {id : Option ℕ} → i3 ≡ i2 → MaybeTold R W M i2 o2 id → MaybeTold R W M i3 o2 id
+pub maybe_told_moved : {R : List Node → List Lexeme → List Node → List Lexeme → Option ℕ → Type 0} {W M : List Node}
+    {i2 i3 o2 : List Lexeme} {id : Option ℕ} → i3 ≡ i2 → MaybeTold R W M i2 o2 id → MaybeTold R W M i3 o2 id
 maybe_told_moved {R} {W} {M} {i2} {i3} {o2} {id} e a = subst (λ (t : List Lexeme). MaybeTold R W M t o2 id) (sym e) a

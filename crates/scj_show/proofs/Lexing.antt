@@ -44,7 +44,8 @@ behind (a_number n) = either false
 
 -- ---- tables
 
-at_place : {X : Type 0} (p : X → Bool) (xs : List X) (n : ℕ) (x : X) → list_all p xs ≡ true → slice_get xs n ≡ Some x → p x ≡ true
+at_place : {X : Type 0} (p : X → Bool) (xs : List X) (n : ℕ) (x : X) → list_all p xs ≡ true → slice_get xs n ≡ Some x →
+    p x ≡ true
 at_place p [] n x a e = absurd (cc)
 at_place p (y ∷ xs) zero x a e = let here : y ≡ x = cc in subst (λ z. p z ≡ true) here (and_parts _ _ a).0
 at_place p (y ∷ xs) (suc n) x a e = at_place p xs n x (and_parts _ _ a).1 e
@@ -90,7 +91,8 @@ and-false : (t : Bool) → (t && false) ≡ false
 and-false true = refl
 and-false false = refl
 
-no_comment : (w r : List ℕ) (b : ℕ) → starts_no_comment w ≡ true → (b == 47) ≡ false → (b == 42) ≡ false → opens_comment (w ++ b ∷ r) ≡ false
+no_comment : (w r : List ℕ) (b : ℕ) → starts_no_comment w ≡ true → (b == 47) ≡ false → (b == 42) ≡ false →
+    opens_comment (w ++ b ∷ r) ≡ false
 unfolding starts_no_comment opens_comment
 no_comment [] r b s x y = absurd (false≢true s)
 no_comment (a ∷ []) r b s x y = rw (x, y) (and-false (a == 47))
@@ -153,7 +155,8 @@ more_digits n ds h d =
     let small : n % 10 < 10 = omega arith in
     record {
       digits = list_all-append is_digit ds ((48 + n % 10) ∷ []) ∙ rw (d.digits, digit_byte (n % 10) small) refl;
-      value = fold-append (λ (m c : ℕ). 10 * m + (c - 48)) 0 ds ((48 + n % 10) ∷ []) ∙ omega (arith, d.value, div-add-mod' n 10);
+      value = fold-append (λ (m c : ℕ). 10 * m + (c - 48)) 0 ds ((48 + n % 10) ∷ [])
+          ∙ omega (arith, d.value, div-add-mod' n 10);
     }
 
 digits_of_decimal : (n : ℕ) → n < 2 ^ 64 → Digits n (decimal n)
@@ -162,7 +165,8 @@ digits_of_decimal n h = decimal_by_steps Digits one_digit more_digits n h
 numeral : (ds : List ℕ) (n : ℕ) → ds ≡ decimal n → n < 2 ^ 64 → IsNumeral ds
 numeral [] n e h = absurd (omega (arith, decimal_nonempty n h, ap length e))
 numeral (b ∷ s) n e h =
-    let d : list_all is_digit (b ∷ s) ≡ true = subst (λ (t : List ℕ). list_all is_digit t ≡ true) (sym e) (digits_of_decimal n h).digits in
+    let d : list_all is_digit (b ∷ s) ≡ true =
+    subst (λ (t : List ℕ). list_all is_digit t ≡ true) (sym e) (digits_of_decimal n h).digits in
     let parts = and_parts _ _ d in
     (parts.0, parts.1, λ (z : b ≡ 48). leading z (none_or_some n))
   where
@@ -172,7 +176,8 @@ numeral (b ∷ s) n e h =
 
     leading : b ≡ 48 → (n ≡ 0) ⊎ (0 < n) → s ≡ []
     leading z (inl q) = let same : b ∷ s ≡ 48 ∷ [] = e ∙ ap decimal q ∙ decimal_digit 0 (omega arith) in cc
-    leading z (inr l) = let f : 48 < get_or (decimal n) 0 0 = first_decimal n l h in let g : 48 < b = subst (λ (t : List ℕ). 48 < get_or t 0 0) (sym e) f in absurd (omega arith)
+    leading z (inr l) = let f : 48 < get_or (decimal n) 0 0 = first_decimal n l h in let g : 48 < b =
+        subst (λ (t : List ℕ). 48 < get_or t 0 0) (sym e) f in absurd (omega arith)
 
 -- ---- one lexeme
 
@@ -184,43 +189,73 @@ one_lexeme (a_word n) rest h = word _ _ n (word_there n h) (behind (a_word n)).n
 one_lexeme (a_sign n) rest h =
     let there = sign_there n h in
     let b = behind (a_sign n) in
-    sign _ _ n there (λ m v t e q. within _ v rest t _ q (at_place no_blank signs m v signs_no_blank e) b.blank_byte) (no_comment _ rest _ (at_place starts_no_comment signs n _ signs_no_comment there) b.no_slash b.no_star)
+    sign _ _ n there (λ m v t e q. within _ v rest t _ q (at_place no_blank signs m v signs_no_blank e) b.blank_byte)
+    (no_comment _ rest _ (at_place starts_no_comment signs n _ signs_no_comment there) b.no_slash b.no_star)
 one_lexeme (a_number n) rest h =
     let small : n < 2 ^ 64 = omega arith in
     let v : value_of (decimal n) ≡ n = (digits_of_decimal n small).value in
-    subst (λ (k : ℕ). Lexeme (decimal n) (separator (a_number n) ∷ rest) (Number k)) v (number (decimal n) _ (numeral (decimal n) n refl small) (omega arith) (behind (a_number n)).no_name)
+    subst (λ (k : ℕ). Lexeme (decimal n) (separator (a_number n) ∷ rest) (Number k)) v
+    (number (decimal n) _ (numeral (decimal n) n refl small) (omega arith) (behind (a_number n)).no_name)
 
 -- ---- the whole text
 
-pub lexes : (file : ℕ) (before : List ℕ) (ss : List Symbol) → AreLexemes ss → Lexes file before (canonical ss) (tokens_behind file before ss)
+pub lexes : (file : ℕ) (before : List ℕ) (ss : List Symbol) → AreLexemes ss →
+    Lexes file before (canonical ss) (tokens_behind file before ss)
 unfolding AreLexemes canonical tokens_behind
 lexes file before [] h = ends file before
 lexes file before (s ∷ ss) h =
-    let rest : Lexes file ((before ++ bytes_of s) ++ separator s ∷ []) (canonical ss) (tokens_behind file (before ++ printed s) ss) = rw (append_assoc before (bytes_of s) (separator s ∷ [])) (lexes file (before ++ printed s) ss h.1) in
-    let space : Lexes file (before ++ bytes_of s) ((separator s ∷ []) ++ canonical ss) (tokens_behind file (before ++ printed s) ss) = skips file (before ++ bytes_of s) (separator s ∷ []) (canonical ss) _ (blank (separator s) (canonical ss) (behind s).blank_byte) rest in
-    rw (append_assoc (bytes_of s) (separator s ∷ []) (canonical ss)) (takes file before (bytes_of s) ((separator s ∷ []) ++ canonical ss) (kind_of s) _ (lexeme _ _ _ (one_lexeme s (canonical ss) h.0)) space)
+    let rest : Lexes file ((before ++ bytes_of s) ++ separator s ∷ []) (canonical ss)
+    (tokens_behind file (before ++ printed s) ss) =
+    rw (append_assoc before (bytes_of s) (separator s ∷ [])) (lexes file (before ++ printed s) ss h.1) in
+    let space : Lexes file (before ++ bytes_of s) ((separator s ∷ []) ++ canonical ss)
+    (tokens_behind file (before ++ printed s) ss) =
+    skips file (before ++ bytes_of s) (separator s ∷ []) (canonical ss) _
+    (blank (separator s) (canonical ss) (behind s).blank_byte) rest in
+    rw (append_assoc (bytes_of s) (separator s ∷ []) (canonical ss))
+    (takes file before (bytes_of s) ((separator s ∷ []) ++ canonical ss) (kind_of s) _
+    (lexeme _ _ _ (one_lexeme s (canonical ss) h.0)) space)
 
 -- the part of a text behind some bytes
-pub part_behind : (before w rest : List ℕ) (n m : ℕ) → length before ≡ n → length w ≡ m → part_of (before ++ (w ++ rest)) n m ≡ w
+pub part_behind : (before w rest : List ℕ) (n m : ℕ) → length before ≡ n → length w ≡ m →
+    part_of (before ++ (w ++ rest)) n m ≡ w
 unfolding part_of
 part_behind before w rest n m e q = rw (drop_at before (w ++ rest) n e) (take_at w rest m q)
 
 -- the part of a text between the quotes of a text behind some bytes
-pub text_behind : (before w rest : List ℕ) → part_of (before ++ ((34 ∷ (w ++ 34 ∷ [])) ++ rest)) (length before + 1) (length (34 ∷ (w ++ 34 ∷ [])) - 2) ≡ w
-text_behind before w rest = ap (λ (t : List ℕ). part_of t (length before + 1) (length (34 ∷ (w ++ 34 ∷ [])) - 2)) (sym (append_assoc before (34 ∷ []) _) ∙ ap (λ (t : List ℕ). (before ++ 34 ∷ []) ++ t) (append_assoc w (34 ∷ []) rest)) ∙ part_behind (before ++ 34 ∷ []) w ((34 ∷ []) ++ rest) _ _ (omega (arith, length-append before (34 ∷ []))) (omega (arith, length-append w (34 ∷ [])))
+pub text_behind : (before w rest : List ℕ) → part_of (before ++ ((34 ∷ (w ++ 34 ∷ [])) ++ rest)) (length before + 1)
+    (length (34 ∷ (w ++ 34 ∷ [])) - 2) ≡ w
+text_behind before w rest = ap (λ (t : List ℕ). part_of t (length before + 1) (length (34 ∷ (w ++ 34 ∷ [])) - 2))
+    (sym (append_assoc before (34 ∷ []) _)
+    ∙ ap (λ (t : List ℕ). (before ++ 34 ∷ []) ++ t) (append_assoc w (34 ∷ []) rest))
+    ∙ part_behind (before ++ 34 ∷ []) w ((34 ∷ []) ++ rest) _ _ (omega (arith, length-append before (34 ∷ [])))
+    (omega (arith, length-append w (34 ∷ [])))
 
-one_read : (file : ℕ) (before : List ℕ) (s : Symbol) (rest : List ℕ) → lexeme_of (before ++ (bytes_of s ++ rest)) (token_at file before (kind_of s) (length (bytes_of s))) ≡ lexeme_at s (place_behind file before)
+one_read : (file : ℕ) (before : List ℕ) (s : Symbol) (rest : List ℕ) →
+    lexeme_of (before ++ (bytes_of s ++ rest)) (token_at file before (kind_of s) (length (bytes_of s))) ≡ lexeme_at s
+    (place_behind file before)
 unfolding lexeme_of kind_of lexeme_at bytes_of
-one_read file before (a_name w) rest = ap (λ (t : List ℕ). TreeLexeme.a_name t (place_behind file before)) (part_behind before w rest _ _ refl refl)
-one_read file before (a_text w) rest = ap (λ (t : List ℕ). TreeLexeme.a_text t (place_behind file before)) (text_behind before w rest)
+one_read file before (a_name w) rest = ap (λ (t : List ℕ). TreeLexeme.a_name t (place_behind file before))
+    (part_behind before w rest _ _ refl refl)
+one_read file before (a_text w) rest = ap (λ (t : List ℕ). TreeLexeme.a_text t (place_behind file before))
+    (text_behind before w rest)
 one_read file before (a_word n) rest = refl
 one_read file before (a_sign n) rest = refl
 one_read file before (a_number n) rest = refl
 
-pub reads : (file : ℕ) (before : List ℕ) (ss : List Symbol) → lexemes_of (before ++ canonical ss) (tokens_behind file before ss) ≡ lexemes_behind file before ss
+pub reads : (file : ℕ) (before : List ℕ) (ss : List Symbol) →
+    lexemes_of (before ++ canonical ss) (tokens_behind file before ss) ≡ lexemes_behind file before ss
 unfolding lexemes_of lexeme_of canonical tokens_behind lexemes_behind
 reads file before [] = refl
 reads file before (s ∷ ss) =
-    let more : lexemes_of (before ++ (printed s ++ canonical ss)) (tokens_behind file (before ++ printed s) ss) ≡ lexemes_behind file (before ++ printed s) ss = ap (λ (t : List ℕ). lexemes_of t (tokens_behind file (before ++ printed s) ss)) (sym (append_assoc before (printed s) (canonical ss))) ∙ reads file (before ++ printed s) ss in
-    let one : lexeme_of (before ++ (printed s ++ canonical ss)) (token_at file before (kind_of s) (length (bytes_of s))) ≡ lexeme_at s (place_behind file before) = ap (λ (t : List ℕ). lexeme_of (before ++ t) (token_at file before (kind_of s) (length (bytes_of s)))) (append_assoc (bytes_of s) (separator s ∷ []) (canonical ss)) ∙ one_read file before s ((separator s ∷ []) ++ canonical ss) in
-    ap (λ (t : TreeLexeme). t ∷ lexemes_of (before ++ (printed s ++ canonical ss)) (tokens_behind file (before ++ printed s) ss)) one ∙ ap (λ (t : List TreeLexeme). lexeme_at s (place_behind file before) ∷ t) more
+    let more : lexemes_of (before ++ (printed s ++ canonical ss)) (tokens_behind file (before ++ printed s) ss)
+    ≡ lexemes_behind file (before ++ printed s) ss =
+    ap (λ (t : List ℕ). lexemes_of t (tokens_behind file (before ++ printed s) ss))
+    (sym (append_assoc before (printed s) (canonical ss))) ∙ reads file (before ++ printed s) ss in
+    let one : lexeme_of (before ++ (printed s ++ canonical ss)) (token_at file before (kind_of s) (length (bytes_of s)))
+    ≡ lexeme_at s (place_behind file before) =
+    ap (λ (t : List ℕ). lexeme_of (before ++ t) (token_at file before (kind_of s) (length (bytes_of s))))
+    (append_assoc (bytes_of s) (separator s ∷ []) (canonical ss))
+    ∙ one_read file before s ((separator s ∷ []) ++ canonical ss) in
+    ap (λ (t : TreeLexeme). t ∷ lexemes_of (before ++ (printed s ++ canonical ss))
+    (tokens_behind file (before ++ printed s) ss)) one
+    ∙ ap (λ (t : List TreeLexeme). lexeme_at s (place_behind file before) ∷ t) more

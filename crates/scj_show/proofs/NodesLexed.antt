@@ -59,15 +59,27 @@ parts_are (sign_part h more) = (ltb-true _ _ h, parts_are more)
 parts_are (number_part h more) = (h, parts_are more)
 
 -- a node without a lexeme of its own
-pub node_lexed : {W : List Node} {id : ℕ} {node : Node} → ChildrenFirst 0 W → slice_get W id ≡ Some node → own_symbols node ≡ [] → PartsLexed W (parts_of node) → IsLexed W id
-node_lexed {W} {id} {node} first at own parts = record { are = subst AreLexemes (sym (whole_at W id node first at ∙ ap (λ (ss : List Symbol). ss ++ symbols_of_parts (written W) (parts_of node)) own)) (parts_are parts) }
+pub node_lexed : {W : List Node} {id : ℕ} {node : Node} → ChildrenFirst 0 W → slice_get W id ≡ Some node →
+    own_symbols node ≡ [] → PartsLexed W (parts_of node) → IsLexed W id
+node_lexed {W} {id} {node} first at own parts =
+    record {
+      are = subst AreLexemes
+          (sym
+          (whole_at W id node first at
+          ∙ ap (λ (ss : List Symbol). ss ++ symbols_of_parts (written W) (parts_of node)) own))
+          (parts_are parts);
+    }
 
-pub bare_lexed : {W : List Node} {id : ℕ} {node : Node} → ChildrenFirst 0 W → slice_get W id ≡ Some node → PartsLexed W (bare_parts node) → IsBareLexed W id
-bare_lexed {W} {id} {node} first at parts = record { are = subst AreLexemes (sym (bare_at W id node first at)) (parts_are parts) }
+pub bare_lexed : {W : List Node} {id : ℕ} {node : Node} → ChildrenFirst 0 W → slice_get W id ≡ Some node →
+    PartsLexed W (bare_parts node) → IsBareLexed W id
+bare_lexed {W} {id} {node} first at parts =
+    record { are = subst AreLexemes (sym (bare_at W id node first at)) (parts_are parts) }
 
-pub text_lexed : {W : List Node} {id : ℕ} {p : Pos} {w : List ℕ} → ChildrenFirst 0 W → slice_get W id ≡ Some (Text p w) → AllOf is_text_byte w → IsLexed W id
+pub text_lexed : {W : List Node} {id : ℕ} {p : Pos} {w : List ℕ} → ChildrenFirst 0 W →
+    slice_get W id ≡ Some (Text p w) → AllOf is_text_byte w → IsLexed W id
 unfolding AreLexemes IsLexeme own_symbols symbols_of_parts parts_of
-text_lexed {W} {id} {p} {w} first at h = record { are = subst AreLexemes (sym (whole_at W id (Text p w) first at)) (h, tt) }
+text_lexed {W} {id} {p} {w} first at h =
+    record { are = subst AreLexemes (sym (whole_at W id (Text p w) first at)) (h, tt) }
 
 -- ---- rows of parts
 

@@ -44,19 +44,23 @@ plain_arguments_rest no_parentheses a = a
 plain_arguments_rest empty_parentheses a = behind2 a
 plain_arguments_rest (pairs_in_parentheses d) a = plain_pairs_rest d (behind a)
 
-pub value_rest : {N N1 : List Node} {i o : List Lexeme} {id : ℕ} → ScopeValue N i N1 o id → AreOfSource i → AreOfSource o
+pub value_rest : {N N1 : List Node} {i o : List Lexeme} {id : ℕ} → ScopeValue N i N1 o id → AreOfSource i →
+    AreOfSource o
 value_rest (quoted_scope h) a = behind a
 value_rest bare_scope a = behind a
 value_rest qualified_scope a = behind3 a
 
-pub row_rest : {is_local : Bool} {N N1 : List Node} {i o : List Lexeme} {flags : FlagSet} → FlagRow is_local N i N1 o flags → AreOfSource i → AreOfSource o
+pub row_rest : {is_local : Bool} {N N1 : List Node} {i o : List Lexeme} {flags : FlagSet} →
+    FlagRow is_local N i N1 o flags → AreOfSource i → AreOfSource o
 row_rest no_flag a = a
 row_rest (modifier d h) a = behind (row_rest d a)
 row_rest (effectless d h e) a = plain_arguments_rest e (behind2 (row_rest d a))
 row_rest (scope_flag d h v) a = behind (value_rest v (behind3 (row_rest d a)))
 row_rest (runs_in_flag d h v) a = behind (value_rest v (behind3 (row_rest d a)))
-row_rest (define_scope_flag d h v w) a = behind (value_rest w (behind3 (value_rest v (behind2 (behind3 (row_rest d a))))))
-row_rest (define_scope_flag_parent_first d h v w) a = behind (value_rest w (behind3 (value_rest v (behind2 (behind3 (row_rest d a))))))
+row_rest (define_scope_flag d h v w) a =
+    behind (value_rest w (behind3 (value_rest v (behind2 (behind3 (row_rest d a))))))
+row_rest (define_scope_flag_parent_first d h v w) a =
+    behind (value_rest w (behind3 (value_rest v (behind2 (behind3 (row_rest d a))))))
 
 pub type_rest : {N N1 : List Node} {i o : List Lexeme} {id : ℕ} → TypeRead N i N1 o id → AreOfSource i → AreOfSource o
 type_rest int_type a = behind a
@@ -68,19 +72,23 @@ type_rest class_array a = behind3 a
 type_rest (argument_type h) a = behind (behind3 a)
 type_rest (argument_array h) a = behind3 (behind3 a)
 
-pub result_rest : {N N1 : List Node} {i o : List Lexeme} {id : ℕ} → ResultRead N i N1 o id → AreOfSource i → AreOfSource o
+pub result_rest : {N N1 : List Node} {i o : List Lexeme} {id : ℕ} → ResultRead N i N1 o id → AreOfSource i →
+    AreOfSource o
 result_rest (typed_result d) a = type_rest d a
 result_rest void_result a = behind a
 result_rest long_result a = behind a
 
-pub parameter_rest : {N N1 : List Node} {i o : List Lexeme} {id : ℕ} → ParameterRead N i N1 o id → AreOfSource i → AreOfSource o
+pub parameter_rest : {N N1 : List Node} {i o : List Lexeme} {id : ℕ} → ParameterRead N i N1 o id → AreOfSource i →
+    AreOfSource o
 parameter_rest (parameter d e) a = behind (type_rest e (row_rest d a))
 
-pub parameters_begun_rest : {N N1 : List Node} {i o : List Lexeme} {ids : List ℕ} → ParametersBegun N i N1 o ids → AreOfSource i → AreOfSource o
+pub parameters_begun_rest : {N N1 : List Node} {i o : List Lexeme} {ids : List ℕ} → ParametersBegun N i N1 o ids →
+    AreOfSource i → AreOfSource o
 parameters_begun_rest no_parameter_yet a = a
 parameters_begun_rest (parameter_and_comma d e) a = behind (parameter_rest e (parameters_begun_rest d a))
 
-pub parameters_rest : {N N1 : List Node} {i o : List Lexeme} {id : Option ℕ} → ParametersRead N i N1 o id → AreOfSource i → AreOfSource o
+pub parameters_rest : {N N1 : List Node} {i o : List Lexeme} {id : Option ℕ} → ParametersRead N i N1 o id →
+    AreOfSource i → AreOfSource o
 parameters_rest no_parameters a = behind2 a
 parameters_rest (parameters d e) a = behind (parameter_rest e (parameters_begun_rest d (behind a)))
 
@@ -88,36 +96,43 @@ pub super_rest : {N N1 : List Node} {i o : List Lexeme} {id : ℕ} → SuperRead
 super_rest super_type a = behind a
 super_rest (super_type_with_argument h) a = behind (behind3 a)
 
-pub interfaces_rest : {N N1 : List Node} {i o : List Lexeme} {ids : List ℕ} → InterfacesBegun N i N1 o ids → AreOfSource i → AreOfSource o
+pub interfaces_rest : {N N1 : List Node} {i o : List Lexeme} {ids : List ℕ} → InterfacesBegun N i N1 o ids →
+    AreOfSource i → AreOfSource o
 interfaces_rest no_interface_yet a = a
 interfaces_rest (interface_and_comma d e) a = behind (super_rest e (interfaces_rest d a))
 
-pub header_rest : {N N1 : List Node} {i o : List Lexeme} {id : Option ℕ} → HeaderRead N i N1 o id → AreOfSource i → AreOfSource o
+pub header_rest : {N N1 : List Node} {i o : List Lexeme} {id : Option ℕ} → HeaderRead N i N1 o id → AreOfSource i →
+    AreOfSource o
 header_rest no_header a = behind a
 header_rest (extends_header d) a = behind (super_rest d (behind a))
 header_rest (implements_header d e) a = behind (super_rest e (interfaces_rest d (behind a)))
-header_rest (extends_implements_header d e g) a = behind (super_rest g (interfaces_rest e (behind (super_rest d (behind a)))))
+header_rest (extends_implements_header d e g) a =
+    behind (super_rest g (interfaces_rest e (behind (super_rest d (behind a)))))
 
 -- ---- expressions
 
 mutual
-  pub level_rest : {n : ℕ} {N N1 : List Node} {i o : List Lexeme} {id : ℕ} → Level n N i N1 o id → AreOfSource i → AreOfSource o
+  pub level_rest : {n : ℕ} {N N1 : List Node} {i o : List Lexeme} {id : ℕ} → Level n N i N1 o id → AreOfSource i →
+      AreOfSource o
   level_rest (operand d) a = unary_rest d a
   level_rest (tighter d) a = level_rest d a
   level_rest (binary h d e) a = level_rest e (behind (level_rest d a))
 
-  pub unary_rest : {N N1 : List Node} {i o : List Lexeme} {id : ℕ} → UnaryRead N i N1 o id → AreOfSource i → AreOfSource o
+  pub unary_rest : {N N1 : List Node} {i o : List Lexeme} {id : ℕ} → UnaryRead N i N1 o id → AreOfSource i →
+      AreOfSource o
   unary_rest (minus h d) a = unary_rest d (behind a)
   unary_rest (minimum_unary d) a = post_rest d a
   unary_rest (plain_unary d) a = unary1_rest d a
 
-  pub unary1_rest : {N N1 : List Node} {i o : List Lexeme} {id : ℕ} → Unary1Read N i N1 o id → AreOfSource i → AreOfSource o
+  pub unary1_rest : {N N1 : List Node} {i o : List Lexeme} {id : ℕ} → Unary1Read N i N1 o id → AreOfSource i →
+      AreOfSource o
   unary1_rest (negation d) a = unary_rest d (behind a)
   unary1_rest (complement d) a = unary_rest d (behind a)
   unary1_rest (cast h d) a = unary1_rest d (behind3 a)
   unary1_rest (post_unary d) a = post_rest d a
 
-  pub post_rest : {minimum : Bool} {kind : PostKind} {p : Pos} {N N1 : List Node} {i o : List Lexeme} {id : ℕ} → PostRead minimum kind p N i N1 o id → AreOfSource i → AreOfSource o
+  pub post_rest : {minimum : Bool} {kind : PostKind} {p : Pos} {N N1 : List Node} {i o : List Lexeme} {id : ℕ} →
+      PostRead minimum kind p N i N1 o id → AreOfSource i → AreOfSource o
   post_rest simple_name a = behind a
   post_rest (simple_call d) a = arguments_rest d (behind2 a)
   post_rest (field_of d) a = behind2 (post_rest d a)
@@ -136,31 +151,37 @@ mutual
   post_rest (new_booleans d) a = behind (level_rest d (behind3 a))
   post_rest (new_references d) a = behind (level_rest d (behind3 a))
 
-  pub argument_rest : {N N1 : List Node} {i o : List Lexeme} {id : ℕ} → ArgumentRead N i N1 o id → AreOfSource i → AreOfSource o
+  pub argument_rest : {N N1 : List Node} {i o : List Lexeme} {id : ℕ} → ArgumentRead N i N1 o id → AreOfSource i →
+      AreOfSource o
   argument_rest (expression_argument d) a = level_rest d a
   argument_rest text_argument a = behind a
 
-  pub arguments_begun_rest : {N N1 : List Node} {i o : List Lexeme} {ids : List ℕ} → ArgumentsBegun N i N1 o ids → AreOfSource i → AreOfSource o
+  pub arguments_begun_rest : {N N1 : List Node} {i o : List Lexeme} {ids : List ℕ} → ArgumentsBegun N i N1 o ids →
+      AreOfSource i → AreOfSource o
   arguments_begun_rest no_argument_yet a = a
   arguments_begun_rest (argument_and_comma d e) a = behind (argument_rest e (arguments_begun_rest d a))
 
-  pub arguments_rest : {N N1 : List Node} {i o : List Lexeme} {ids : List ℕ} → ArgumentsRead N i N1 o ids → AreOfSource i → AreOfSource o
+  pub arguments_rest : {N N1 : List Node} {i o : List Lexeme} {ids : List ℕ} → ArgumentsRead N i N1 o ids →
+      AreOfSource i → AreOfSource o
   arguments_rest no_arguments a = behind a
   arguments_rest (arguments d e) a = behind (argument_rest e (arguments_begun_rest d a))
 
 -- ---- statements
 
-pub assignment_rest : {N N1 : List Node} {i o : List Lexeme} {id : ℕ} → AssignmentRead N i N1 o id → AreOfSource i → AreOfSource o
+pub assignment_rest : {N N1 : List Node} {i o : List Lexeme} {id : ℕ} → AssignmentRead N i N1 o id → AreOfSource i →
+    AreOfSource o
 assignment_rest (assignment d e) a = level_rest e (behind (post_rest d a))
 assignment_rest (compound_assignment h d) a = level_rest d (behind2 a)
 assignment_rest (step_assignment h) a = behind2 a
 
-pub local_type_rest : {N N1 : List Node} {i o : List Lexeme} {flags : Option ℕ} {t : ℕ} → LocalTypeRead N i N1 o flags t → AreOfSource i → AreOfSource o
+pub local_type_rest : {N N1 : List Node} {i o : List Lexeme} {flags : Option ℕ} {t : ℕ} →
+    LocalTypeRead N i N1 o flags t → AreOfSource i → AreOfSource o
 local_type_rest (plain_local d) a = type_rest d a
 local_type_rest (flagged_local h d e) a = type_rest e (row_rest d a)
 
 mutual
-  pub statement_rest : {N N1 : List Node} {i o : List Lexeme} {id : ℕ} → StatementRead N i N1 o id → AreOfSource i → AreOfSource o
+  pub statement_rest : {N N1 : List Node} {i o : List Lexeme} {id : ℕ} → StatementRead N i N1 o id → AreOfSource i →
+      AreOfSource o
   statement_rest (block d) a = behind (statements_rest d (behind a))
   statement_rest empty a = behind a
   statement_rest (local d) a = behind2 (local_type_rest d a)
@@ -170,44 +191,55 @@ mutual
   statement_rest (if_alone d e h) a = statement_rest e (behind (level_rest d (behind2 a)))
   statement_rest (if_else d e g) a = statement_rest g (behind (statement_rest e (behind (level_rest d (behind2 a)))))
   statement_rest (while_statement d e) a = statement_rest e (behind (level_rest d (behind2 a)))
-  statement_rest (for_local t e c u s) a = statement_rest s (behind (assignment_rest u (behind (level_rest c (behind (level_rest e (behind2 (type_rest t (behind2 a)))))))))
-  statement_rest (for_assignment e c u s) a = statement_rest s (behind (assignment_rest u (behind (level_rest c (behind (assignment_rest e (behind2 a)))))))
+  statement_rest (for_local t e c u s) a =
+      statement_rest s
+      (behind (assignment_rest u (behind (level_rest c (behind (level_rest e (behind2 (type_rest t (behind2 a)))))))))
+  statement_rest (for_assignment e c u s) a =
+      statement_rest s (behind (assignment_rest u (behind (level_rest c (behind (assignment_rest e (behind2 a)))))))
   statement_rest return_alone a = behind2 a
   statement_rest (return_value d) a = behind (level_rest d (behind a))
 
-  pub statements_rest : {N N1 : List Node} {i o : List Lexeme} {ids : List ℕ} → StatementsRead N i N1 o ids → AreOfSource i → AreOfSource o
+  pub statements_rest : {N N1 : List Node} {i o : List Lexeme} {ids : List ℕ} → StatementsRead N i N1 o ids →
+      AreOfSource i → AreOfSource o
   statements_rest no_statement a = a
   statements_rest (one_statement_more d e) a = statement_rest e (statements_rest d a)
 
 -- ---- members and classes
 
-pub literal_rest : {N N1 : List Node} {i o : List Lexeme} {id : ℕ} → LiteralRead N i N1 o id → AreOfSource i → AreOfSource o
+pub literal_rest : {N N1 : List Node} {i o : List Lexeme} {id : ℕ} → LiteralRead N i N1 o id → AreOfSource i →
+    AreOfSource o
 literal_rest (number_literal h) a = behind a
 literal_rest negative_literal a = behind2 a
 literal_rest true_literal a = behind a
 literal_rest false_literal a = behind a
 literal_rest null_literal a = behind a
 
-pub member_rest : {N N1 : List Node} {i o : List Lexeme} {id : ℕ} → MemberRead N i N1 o id → AreOfSource i → AreOfSource o
+pub member_rest : {N N1 : List Node} {i o : List Lexeme} {id : ℕ} → MemberRead N i N1 o id → AreOfSource i →
+    AreOfSource o
 member_rest (field d e) a = behind2 (type_rest e (row_rest d a))
 member_rest (field_with_value d e l) a = behind (literal_rest l (behind2 (type_rest e (row_rest d a))))
 member_rest (bare_method d e ps) a = behind (parameters_rest ps (behind (result_rest e (row_rest d a))))
-member_rest (method d e ps s) a = behind (statements_rest s (behind (parameters_rest ps (behind (result_rest e (row_rest d a))))))
+member_rest (method d e ps s) a =
+    behind (statements_rest s (behind (parameters_rest ps (behind (result_rest e (row_rest d a))))))
 member_rest (constructor d ps s) a = behind (statements_rest s (behind (parameters_rest ps (behind (row_rest d a)))))
-member_rest (constructor_with_super d ps c s) a = behind (statements_rest s (behind (arguments_rest c (behind3 (parameters_rest ps (behind (row_rest d a)))))))
+member_rest (constructor_with_super d ps c s) a =
+    behind (statements_rest s (behind (arguments_rest c (behind3 (parameters_rest ps (behind (row_rest d a)))))))
 
-pub members_rest : {N N1 : List Node} {i o : List Lexeme} {ids : List ℕ} → MembersRead N i N1 o ids → AreOfSource i → AreOfSource o
+pub members_rest : {N N1 : List Node} {i o : List Lexeme} {ids : List ℕ} → MembersRead N i N1 o ids → AreOfSource i →
+    AreOfSource o
 members_rest no_member a = a
 members_rest (one_member_more d e) a = member_rest e (members_rest d a)
 
 pub class_rest : {N N1 : List Node} {i o : List Lexeme} {id : ℕ} → ClassRead N i N1 o id → AreOfSource i → AreOfSource o
 class_rest (class d h s) a = behind (members_rest s (header_rest h (behind2 (row_rest d a))))
 
-pub classes_rest : {N N1 : List Node} {i o : List Lexeme} {ids : List ℕ} → ClassesRead N i N1 o ids → AreOfSource i → AreOfSource o
+pub classes_rest : {N N1 : List Node} {i o : List Lexeme} {ids : List ℕ} → ClassesRead N i N1 o ids → AreOfSource i →
+    AreOfSource o
 classes_rest no_class a = a
 classes_rest (one_class_more d e) a = class_rest e (classes_rest d a)
 
 -- a file's name of its package and its imports
 
-pub named_package_rest : {i i1 : List Lexeme} {r q : Pos} → Dotted i (a_sign sign_semicolon q ∷ i1) → AreOfSource (a_word word_package r ∷ i) → AreOfSource i1
+pub named_package_rest : {i i1 : List Lexeme} {r q : Pos} → Dotted i (a_sign sign_semicolon q ∷ i1) →
+    AreOfSource (a_word word_package r ∷ i) → AreOfSource i1
 named_package_rest d a = behind (dotted_rest d (behind a))

@@ -108,7 +108,8 @@ sign_counts : (n : ℕ) (w : List ℕ) → slice_get signs n ≡ Some w → nat_
 unfolding signs
 sign_counts n w e = let l : n < 50 = slice_get_within signs n w e in grind (arith, nat_tests)
 
-one_of_source : (file : ℕ) (before w rest : List ℕ) (kind : TokenKind) → Shape w rest kind → IsOfSource (lexeme_of (before ++ (w ++ rest)) (token_at file before kind (length w)))
+one_of_source : (file : ℕ) (before w rest : List ℕ) (kind : TokenKind) → Shape w rest kind →
+    IsOfSource (lexeme_of (before ++ (w ++ rest)) (token_at file before kind (length w)))
 unfolding IsOfSource lexeme_of
 one_of_source file before _ _ _ (name w rest h l r e) = rw (part_behind before w rest _ _ refl refl) (is_a_name w h l r)
 one_of_source file before _ _ _ (word w rest n h e) = word_counts n w h
@@ -116,19 +117,25 @@ one_of_source file before _ _ _ (number w rest h l e) = l
 one_of_source file before _ _ _ (text inside rest a) = rw (text_behind before inside rest) a
 one_of_source file before _ _ _ (sign w rest n e h o) = sign_counts n w e
 
-piece_of_source : (file : ℕ) (before w rest : List ℕ) (kind : TokenKind) → Piece w rest (Some kind) → IsOfSource (lexeme_of (before ++ (w ++ rest)) (token_at file before kind (length w)))
+piece_of_source : (file : ℕ) (before w rest : List ℕ) (kind : TokenKind) → Piece w rest (Some kind) →
+    IsOfSource (lexeme_of (before ++ (w ++ rest)) (token_at file before kind (length w)))
 piece_of_source file before _ _ _ (lexeme w rest kind d) = one_of_source file before w rest kind d
 
 -- the lexemes of a text are such that a source may hold them
-from_here : (bytes : List ℕ) (file : ℕ) (before rest : List ℕ) (tokens : List Token) → Lexes file before rest tokens → bytes ≡ before ++ rest → AreOfSource (lexemes_of bytes tokens)
+from_here : (bytes : List ℕ) (file : ℕ) (before rest : List ℕ) (tokens : List Token) → Lexes file before rest tokens →
+    bytes ≡ before ++ rest → AreOfSource (lexemes_of bytes tokens)
 unfolding IsOfSource lexemes_of lexeme_of
 from_here bytes _ _ _ _ (ends file before) e = one_more tt no_lexeme
-from_here bytes _ _ _ _ (skips file before w rest tokens p l) e = from_here bytes file (before ++ w) rest tokens l (e ∙ sym (append_assoc before w rest))
+from_here bytes _ _ _ _ (skips file before w rest tokens p l) e =
+    from_here bytes file (before ++ w) rest tokens l (e ∙ sym (append_assoc before w rest))
 from_here bytes _ _ _ _ (takes file before w rest kind tokens p l) e =
-    let one : IsOfSource (lexeme_of bytes (token_at file before kind (length w))) = subst (λ (t : List ℕ). IsOfSource (lexeme_of t (token_at file before kind (length w)))) (sym e) (piece_of_source file before w rest kind p) in
+    let one : IsOfSource (lexeme_of bytes (token_at file before kind (length w))) =
+    subst (λ (t : List ℕ). IsOfSource (lexeme_of t (token_at file before kind (length w)))) (sym e)
+    (piece_of_source file before w rest kind p) in
     one_more one (from_here bytes file (before ++ w) rest tokens l (e ∙ sym (append_assoc before w rest)))
 
-pub lexed_of_source : {file : ℕ} {bytes : List ℕ} {tokens : List Token} → Lex file bytes tokens → AreOfSource (lexemes_of bytes tokens)
+pub lexed_of_source : {file : ℕ} {bytes : List ℕ} {tokens : List Token} → Lex file bytes tokens →
+    AreOfSource (lexemes_of bytes tokens)
 lexed_of_source {file} {bytes} {tokens} l = from_here bytes file [] bytes tokens l refl
 
 -- ---- the first lexemes of a row

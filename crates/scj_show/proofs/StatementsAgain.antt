@@ -33,9 +33,11 @@ use Rattle.scj_show.proofs.AssignmentsAgain.{bare, assignment_front, assignment_
 
 -- ---- reading puts nodes behind the others
 
-local_type_front : {N N1 : List Node} {i o : List Lexeme} {flags : Option ℕ} {t : ℕ} → LocalTypeRead N i N1 o flags t → Front N N1
+local_type_front : {N N1 : List Node} {i o : List Lexeme} {flags : Option ℕ} {t : ℕ} → LocalTypeRead N i N1 o flags t →
+    Front N N1
 local_type_front (plain_local d) = type_front d
-local_type_front (flagged_local {N1 = N1} {flags = flags} h d e) = front-then (row_front d) (front-then (flags_front N1 flags) (type_front e))
+local_type_front (flagged_local {N1 = N1} {flags = flags} h d e) =
+    front-then (row_front d) (front-then (flags_front N1 flags) (type_front e))
 
 mutual
   pub statement_front : {N N1 : List Node} {i o : List Lexeme} {id : ℕ} → StatementRead N i N1 o id → Front N N1
@@ -46,14 +48,22 @@ mutual
   statement_front (assign_statement d) = assignment_front d
   statement_front (call_statement d) = front-then (post_front d) (front-one _)
   statement_front (if_alone c s h) = front-then (level_front c) (front-then (statement_front s) (front-one _))
-  statement_front (if_else c s e) = front-then (level_front c) (front-then (statement_front s) (front-then (statement_front e) (front-one _)))
+  statement_front (if_else c s e) =
+      front-then (level_front c) (front-then (statement_front s) (front-then (statement_front e) (front-one _)))
   statement_front (while_statement c s) = front-then (level_front c) (front-then (statement_front s) (front-one _))
-  statement_front (for_local t e c u s) = front-then (type_front t) (front-then (level_front e) (front-then (front-one _) (front-then (level_front c) (front-then (assignment_front u) (front-then (statement_front s) (front-one _))))))
-  statement_front (for_assignment a c u s) = front-then (assignment_front a) (front-then (level_front c) (front-then (assignment_front u) (front-then (statement_front s) (front-one _))))
+  statement_front (for_local t e c u s) =
+      front-then (type_front t)
+      (front-then (level_front e)
+      (front-then (front-one _)
+      (front-then (level_front c) (front-then (assignment_front u) (front-then (statement_front s) (front-one _))))))
+  statement_front (for_assignment a c u s) =
+      front-then (assignment_front a)
+      (front-then (level_front c) (front-then (assignment_front u) (front-then (statement_front s) (front-one _))))
   statement_front return_alone = front-one _
   statement_front (return_value d) = front-then (level_front d) (front-one _)
 
-  pub statements_front : {N N1 : List Node} {i o : List Lexeme} {ids : List ℕ} → StatementsRead N i N1 o ids → Front N N1
+  pub statements_front : {N N1 : List Node} {i o : List Lexeme} {ids : List ℕ} → StatementsRead N i N1 o ids →
+      Front N N1
   statements_front no_statement = front-none
   statements_front (one_statement_more d e) = front-then (statements_front d) (statement_front e)
 
@@ -68,7 +78,8 @@ begun_by e h = ap (begins_with_word word_else) e ∙ h
 mutual
   unfolding begins_with_word
 
-  post_starts : {minimum : Bool} {kind : PostKind} {p : Pos} {N N1 : List Node} {i o : List Lexeme} {id : ℕ} → PostRead minimum kind p N i N1 o id → Starts i
+  post_starts : {minimum : Bool} {kind : PostKind} {p : Pos} {N N1 : List Node} {i o : List Lexeme} {id : ℕ} →
+      PostRead minimum kind p N i N1 o id → Starts i
   post_starts simple_name = refl
   post_starts (simple_call d) = refl
   post_starts (field_of d) = post_starts d
@@ -108,7 +119,8 @@ flags_start (text_at w p ∷ o) h = refl
 flags_start (sign_at n p ∷ o) h = refl
 flags_start (the_end p ∷ o) h = refl
 
-local_starts : {N N1 : List Node} {i o : List Lexeme} {flags : Option ℕ} {t : ℕ} → LocalTypeRead N i N1 o flags t → Starts i
+local_starts : {N N1 : List Node} {i o : List Lexeme} {flags : Option ℕ} {t : ℕ} → LocalTypeRead N i N1 o flags t →
+    Starts i
 local_starts (plain_local d) = type_starts d
 local_starts (flagged_local h d e) = flags_start _ h
 
@@ -141,33 +153,43 @@ record NoFlags (M : List Node) (i : List Lexeme) (N : List Node) (o : List Lexem
   nodes : N ≡ M
   none : flags ≡ no_flags
 
-final_word : {A : Type 0} (w : ℕ) (flags : FlagSet) (more : A) (x : Option A) → (if true && not (w == word_final) then None else x) ≡ Some more → (w == word_final) ≡ true
+final_word : {A : Type 0} (w : ℕ) (flags : FlagSet) (more : A) (x : Option A) →
+    (if true && not (w == word_final) then None else x) ≡ Some more → (w == word_final) ≡ true
 final_word w flags more x = at (w == word_final)
   where
     at : (b : Bool) → (if true && not b then None else x) ≡ Some more → b ≡ true
     at true e = refl
     at false e = absurd (cc)
 
-then_flags : {A : Type 0} (M : List Node) (i j : List Lexeme) (N : List Node) (flags : FlagSet) → NoFlags M i N j flags ⊎ (begins_local_flags i ≡ true) → begins_local_flags j ≡ true → A ⊎ (begins_local_flags i ≡ true)
+then_flags : {A : Type 0} (M : List Node) (i j : List Lexeme) (N : List Node) (flags : FlagSet) →
+    NoFlags M i N j flags ⊎ (begins_local_flags i ≡ true) → begins_local_flags j ≡ true →
+    A ⊎ (begins_local_flags i ≡ true)
 then_flags M i j N flags (inl k) b = inr (ap begins_local_flags k.lexemes ∙ b)
 then_flags M i j N flags (inr k) b = inr k
 
-row_begins : {N N1 : List Node} {i o : List Lexeme} {flags : FlagSet} → FlagRow true N i N1 o flags → NoFlags N i N1 o flags ⊎ (begins_local_flags i ≡ true)
+row_begins : {N N1 : List Node} {i o : List Lexeme} {flags : FlagSet} → FlagRow true N i N1 o flags →
+    NoFlags N i N1 o flags ⊎ (begins_local_flags i ≡ true)
 unfolding begins_local_flags add_modifier
 row_begins no_flag = inl (record { lexemes = refl; nodes = refl; none = refl })
-row_begins (modifier {flags = flags} {more = more} {w = w} d h) = then_flags _ _ _ _ flags (row_begins d) (final_word w flags more _ h)
+row_begins (modifier {flags = flags} {more = more} {w = w} d h) =
+    then_flags _ _ _ _ flags (row_begins d) (final_word w flags more _ h)
 row_begins (effectless {flags = flags} d h a) = then_flags _ _ _ _ flags (row_begins d) refl
 row_begins (scope_flag {flags = flags} d h v) = then_flags _ _ _ _ flags (row_begins d) refl
 row_begins (runs_in_flag {flags = flags} d h v) = then_flags _ _ _ _ flags (row_begins d) refl
 row_begins (define_scope_flag {flags = flags} d h v u) = then_flags _ _ _ _ flags (row_begins d) refl
 row_begins (define_scope_flag_parent_first {flags = flags} d h v u) = then_flags _ _ _ _ flags (row_begins d) refl
 
-local_from : (M : List Node) (i2 : List Lexeme) (N1 : List Node) (t1 : List Lexeme) (flags : FlagSet) (N2 : List Node) (o2 : List Lexeme) (t : ℕ) → FlagRow true M i2 N1 t1 flags → TypeRead (with_flags N1 flags) t1 N2 o2 t → NoFlags M i2 N1 t1 flags ⊎ (begins_local_flags i2 ≡ true) → LocalTypeRead M i2 N2 o2 (flags_number N1 flags) t
+local_from : (M : List Node) (i2 : List Lexeme) (N1 : List Node) (t1 : List Lexeme) (flags : FlagSet) (N2 : List Node)
+    (o2 : List Lexeme) (t : ℕ) → FlagRow true M i2 N1 t1 flags → TypeRead (with_flags N1 flags) t1 N2 o2 t →
+    NoFlags M i2 N1 t1 flags ⊎ (begins_local_flags i2 ≡ true) → LocalTypeRead M i2 N2 o2 (flags_number N1 flags) t
 unfolding with_flags flags_number flags_node has_effect
 local_from M i2 N1 t1 flags N2 o2 t row d (inr b) = flagged_local b row d
 local_from M i2 N1 t1 flags N2 o2 t row d (inl k) =
-    let e : TypeRead (with_flags N1 no_flags) t1 N2 o2 t = subst (λ (f : FlagSet). TypeRead (with_flags N1 f) t1 N2 o2 t) k.none d in
-    let at : TypeRead M i2 N2 o2 t = subst (λ (x : List Lexeme). TypeRead M x N2 o2 t) (sym k.lexemes) (subst (λ (N : List Node). TypeRead N t1 N2 o2 t) k.nodes e) in
+    let e : TypeRead (with_flags N1 no_flags) t1 N2 o2 t =
+    subst (λ (f : FlagSet). TypeRead (with_flags N1 f) t1 N2 o2 t) k.none d in
+    let at : TypeRead M i2 N2 o2 t =
+    subst (λ (x : List Lexeme). TypeRead M x N2 o2 t) (sym k.lexemes)
+    (subst (λ (N : List Node). TypeRead N t1 N2 o2 t) k.nodes e) in
     subst (λ (f : FlagSet). LocalTypeRead M i2 N2 o2 (flags_number N1 f) t) (sym k.none) (plain_local at)
 
 record LocalTold (W M : List Node) (i2 o2 : List Lexeme) (flags : Option ℕ) (t : ℕ) : Type 0 where
@@ -179,27 +201,55 @@ record LocalTold (W M : List Node) (i2 o2 : List Lexeme) (flags : Option ℕ) (t
   same_flags : (V : List Node) → Front nodes V → MaybeAlike W V flags number
   same_type : (V : List Node) → Front nodes V → Alike W V t place
 
-local_type_again : (W : List Node) → ChildrenFirst 0 W → (file : ℕ) (M : List Node) (b : List ℕ) (o2 : List Lexeme) {N N1 : List Node} {i o : List Lexeme} {flags : Option ℕ} {t : ℕ} → LocalTypeRead N i N1 o flags t → AreOfSource i → Front N1 W → LocalTold W M (laid file b (maybe_symbols W flags) (laid file (b ++ canonical (maybe_symbols W flags)) (whole W t) o2)) o2 flags t
+local_type_again : (W : List Node) → ChildrenFirst 0 W →
+    (file : ℕ) (M : List Node) (b : List ℕ) (o2 : List Lexeme) {N N1 : List Node} {i o : List Lexeme} {flags : Option ℕ}
+    {t : ℕ} → LocalTypeRead N i N1 o flags t → AreOfSource i → Front N1 W →
+    LocalTold W M
+    (laid file b (maybe_symbols W flags) (laid file (b ++ canonical (maybe_symbols W flags)) (whole W t) o2)) o2 flags t
 unfolding maybe_symbols maybe symbols_of_parts laid canonical
 local_type_again W first file M b o2 (plain_local d) src f =
     let a = type_again W first file M (b ++ []) o2 d f in
-    record { nodes = a.nodes; number = None; place = a.place; grown = a.grown; read = plain_local a.read; same_flags = λ V g. both_missing; same_type = a.alike }
+    record {
+      nodes = a.nodes;
+      number = None;
+      place = a.place;
+      grown = a.grown;
+      read = plain_local a.read;
+      same_flags = λ V g. both_missing;
+      same_type = a.alike;
+    }
 local_type_again W first file M b o2 (flagged_local {N1 = N1} {flags = flags} {t = t} h d e) src f =
     let b1 : List ℕ = b ++ canonical (maybe_symbols W (flags_number N1 flags)) in
     let t1 : List Lexeme = laid file b1 (whole W t) o2 in
     let a1 = flags_again true W first file M b t1 d src (front-then (type_front e) f) in
     let a2 = type_again W first file (with_flags a1.nodes a1.flags) b1 o2 e f in
-    record { nodes = a2.nodes; number = flags_number a1.nodes a1.flags; place = a2.place; grown = front-then a1.grown (front-then (flags_front a1.nodes a1.flags) a2.grown); read = local_from _ _ _ _ a1.flags _ _ _ a1.read a2.read (row_begins a1.read); same_flags = λ V g. a1.alike V (front-then a2.grown g); same_type = a2.alike }
+    record {
+      nodes = a2.nodes;
+      number = flags_number a1.nodes a1.flags;
+      place = a2.place;
+      grown = front-then a1.grown
+          (front-then (flags_front a1.nodes a1.flags) a2.grown);
+      read =
+          local_from _ _ _ _ a1.flags _ _ _ a1.read a2.read (row_begins a1.read);
+      same_flags =
+          λ V g. a1.alike V (front-then a2.grown g);
+      same_type = a2.alike;
+    }
 
 -- ---- statements
 
 mutual
-  unfolding maybe_symbols maybe each symbols_of symbols_of_parts symbols_of_part own_symbols parts_of alternative block_end return_parts lexeme_at begins_unary1 is_unary1_start begins_with_word shape in_order children laid
+  unfolding maybe_symbols maybe each symbols_of symbols_of_parts symbols_of_part own_symbols parts_of alternative
+      block_end return_parts lexeme_at begins_unary1 is_unary1_start begins_with_word shape in_order children laid
 
-  pub statement_again : (W : List Node) → ChildrenFirst 0 W → (file : ℕ) (M : List Node) (b : List ℕ) (o2 : List Lexeme) {N N1 : List Node} {i o : List Lexeme} {id : ℕ} → StatementRead N i N1 o id → AreOfSource i → Front N1 W → (Starts o → Starts o2) → Told StatementRead W M (laid file b (whole W id) o2) o2 id
+  pub statement_again : (W : List Node) → ChildrenFirst 0 W →
+      (file : ℕ) (M : List Node) (b : List ℕ) (o2 : List Lexeme) {N N1 : List Node} {i o : List Lexeme} {id : ℕ} →
+      StatementRead N i N1 o id → AreOfSource i → Front N1 W → (Starts o → Starts o2) →
+      Told StatementRead W M (laid file b (whole W id) o2) o2 id
   statement_again W first file M b o2 (block {N1 = N1} {ids = ids} {p = p} d) src f h =
       let at : slice_get W (length N1) ≡ Some (Block p ids) = front-at _ _ f in
-      let opened : whole W (length N1) ≡ a_sign sign_left_brace ∷ symbols_of_parts (written W) (each ids ++ Sign sign_right_brace ∷ []) = whole_at W _ _ first at in
+      let opened : whole W (length N1) ≡ a_sign sign_left_brace
+      ∷ symbols_of_parts (written W) (each ids ++ Sign sign_right_brace ∷ []) = whole_at W _ _ first at in
       let b1 : List ℕ = b ++ printed (a_sign sign_left_brace) in
       let b2 : List ℕ = b1 ++ canonical (symbols_of W ids) in
       let t2 : List Lexeme = sign_at sign_right_brace (place_behind file b2) ∷ o2 in
@@ -207,19 +257,26 @@ mutual
       let t0 : List Lexeme = sign_at sign_left_brace (place_behind file b) ∷ t1 in
       let a1 = statements_again W first file M b1 t2 d (behind src) (front-put _ _ f) (λ c. refl) in
       let made : Node = Block (place_behind file b) a1.places in
-      let said : whole W (length N1) ≡ a_sign sign_left_brace ∷ (symbols_of W ids ++ (a_sign sign_right_brace ∷ ([]))) = opened ∙ ap (λ (ss : List Symbol). a_sign sign_left_brace ∷ ss) (symbols_of_parts-append (written W) (each ids) (Sign sign_right_brace ∷ [])) in
-      let same : laid file b (whole W (length N1)) o2 ≡ t0 = ap (λ (ss : List Symbol). laid file b ss o2) said ∙ simp laid-append in
-      told_moved same (told_of (put a1.nodes made) (length a1.nodes) (front-then a1.grown (front-one _)) (block a1.read) (λ V g. let all = a1.alike V (front-put _ _ g) in alike at (front-at _ _ g) (ap (λ (t : List ℕ). Block nowhere t) (counted-same all)) all))
+      let said : whole W (length N1) ≡ a_sign sign_left_brace ∷ (symbols_of W ids ++ (a_sign sign_right_brace ∷ ([]))) =
+      opened ∙ ap (λ (ss : List Symbol). a_sign sign_left_brace ∷ ss)
+      (symbols_of_parts-append (written W) (each ids) (Sign sign_right_brace ∷ [])) in
+      let same : laid file b (whole W (length N1)) o2 ≡ t0 = ap (λ (ss : List Symbol). laid file b ss o2) said
+      ∙ simp laid-append in
+      told_moved same (told_of (put a1.nodes made) (length a1.nodes) (front-then a1.grown (front-one _)) (block a1.read)
+      (λ V g. let all = a1.alike V (front-put _ _ g) in
+      alike at (front-at _ _ g) (ap (λ (t : List ℕ). Block nowhere t) (counted-same all)) all))
   statement_again W first file M b o2 (empty {N = N} {p = p}) src f h =
       let at : slice_get W (length N) ≡ Some (Empty p) = front-at _ _ f in
       let t0 : List Lexeme = sign_at sign_semicolon (place_behind file b) ∷ o2 in
       let made : Node = Empty (place_behind file b) in
       let said : whole W (length N) ≡ a_sign sign_semicolon ∷ ([]) = whole_at W _ _ first at in
       let same : laid file b (whole W (length N)) o2 ≡ t0 = ap (λ (ss : List Symbol). laid file b ss o2) said in
-      told_moved same (told_of (put M made) (length M) (front-one _) (empty) (λ V g. alike at (front-at _ _ g) refl none_alike))
+      told_moved same
+      (told_of (put M made) (length M) (front-one _) (empty) (λ V g. alike at (front-at _ _ g) refl none_alike))
   statement_again W first file M b o2 (local {N1 = N1} {flags = flags} {t = t} {w = w} {p = p} d) src f h =
       let at : slice_get W (length N1) ≡ Some (Local p w flags t) = front-at _ _ f in
-      let opened : whole W (length N1) ≡ symbols_of_parts (written W) (maybe flags ++ (Whole t ∷ Named w ∷ Sign sign_semicolon ∷ [])) = whole_at W _ _ first at in
+      let opened : whole W (length N1) ≡ symbols_of_parts (written W)
+      (maybe flags ++ (Whole t ∷ Named w ∷ Sign sign_semicolon ∷ [])) = whole_at W _ _ first at in
       let b1 : List ℕ = b ++ canonical (maybe_symbols W flags) in
       let b2 : List ℕ = b1 ++ canonical (whole W t) in
       let b3 : List ℕ = b2 ++ printed (a_name w) in
@@ -229,12 +286,21 @@ mutual
       let t0 : List Lexeme = laid file b (maybe_symbols W flags) t1 in
       let a1 = local_type_again W first file M b t2 d src (front-put _ _ f) in
       let made : Node = Local (place_behind file b2) w a1.number a1.place in
-      let said : whole W (length N1) ≡ maybe_symbols W flags ++ (whole W t ++ (a_name w ∷ (a_sign sign_semicolon ∷ ([])))) = opened ∙ symbols_of_parts-append (written W) (maybe flags) (Whole t ∷ Named w ∷ Sign sign_semicolon ∷ []) in
-      let same : laid file b (whole W (length N1)) o2 ≡ t0 = ap (λ (ss : List Symbol). laid file b ss o2) said ∙ simp laid-append in
-      told_moved same (told_of (put a1.nodes made) (length a1.nodes) (front-then a1.grown (front-one _)) (local a1.read) (λ V g. let fs = a1.same_flags V (front-put _ _ g) in alike at (front-at _ _ g) (ap (λ (x : Option ℕ). Local nowhere w x 0) (there-same fs)) (optional-alike fs (one_alike (a1.same_type V (front-put _ _ g)) none_alike))))
-  statement_again W first file M b o2 (local_with_value {N1 = N1} {N2 = N2} {flags = flags} {t = t} {e = e} {w = w} {p = p} {q = q} d1 d2) src f h =
+      let said : whole W (length N1) ≡ maybe_symbols W flags
+      ++ (whole W t ++ (a_name w ∷ (a_sign sign_semicolon ∷ ([])))) =
+      opened ∙ symbols_of_parts-append (written W) (maybe flags) (Whole t ∷ Named w ∷ Sign sign_semicolon ∷ []) in
+      let same : laid file b (whole W (length N1)) o2 ≡ t0 = ap (λ (ss : List Symbol). laid file b ss o2) said
+      ∙ simp laid-append in
+      told_moved same (told_of (put a1.nodes made) (length a1.nodes) (front-then a1.grown (front-one _)) (local a1.read)
+      (λ V g. let fs = a1.same_flags V (front-put _ _ g) in
+      alike at (front-at _ _ g) (ap (λ (x : Option ℕ). Local nowhere w x 0) (there-same fs))
+      (optional-alike fs (one_alike (a1.same_type V (front-put _ _ g)) none_alike))))
+  statement_again W first file M b o2
+      (local_with_value {N1 = N1} {N2 = N2} {flags = flags} {t = t} {e = e} {w = w} {p = p} {q = q} d1 d2) src f h =
       let at : slice_get W (length N2) ≡ Some (LocalWithValue p q w flags t e) = front-at _ _ f in
-      let opened : whole W (length N2) ≡ symbols_of_parts (written W) (maybe flags ++ (Whole t ∷ Named w ∷ Sign sign_assign ∷ Whole e ∷ Sign sign_semicolon ∷ [])) = whole_at W _ _ first at in
+      let opened : whole W (length N2) ≡ symbols_of_parts (written W)
+      (maybe flags ++ (Whole t ∷ Named w ∷ Sign sign_assign ∷ Whole e ∷ Sign sign_semicolon ∷ [])) =
+      whole_at W _ _ first at in
       let b1 : List ℕ = b ++ canonical (maybe_symbols W flags) in
       let b2 : List ℕ = b1 ++ canonical (whole W t) in
       let b3 : List ℕ = b2 ++ printed (a_name w) in
@@ -249,14 +315,25 @@ mutual
       let a1 = local_type_again W first file M b t2 d1 src (front-then (level_front d2) (front-put _ _ f)) in
       let a2 = level_again W first file a1.nodes b4 t5 d2 (front-put _ _ f) (λ c. c) in
       let made : Node = LocalWithValue (place_behind file b3) (place_behind file b2) w a1.number a1.place a2.place in
-      let said : whole W (length N2) ≡ maybe_symbols W flags ++ (whole W t ++ (a_name w ∷ (a_sign sign_assign ∷ (whole W e ++ (a_sign sign_semicolon ∷ ([])))))) = opened ∙ symbols_of_parts-append (written W) (maybe flags) (Whole t ∷ Named w ∷ Sign sign_assign ∷ Whole e ∷ Sign sign_semicolon ∷ []) in
-      let same : laid file b (whole W (length N2)) o2 ≡ t0 = ap (λ (ss : List Symbol). laid file b ss o2) said ∙ simp laid-append in
-      told_moved same (told_of (put a2.nodes made) (length a2.nodes) (front-then a1.grown (front-then a2.grown (front-one _))) (local_with_value a1.read a2.read) (λ V g. let fs = a1.same_flags V (front-then a2.grown (front-put _ _ g)) in alike at (front-at _ _ g) (ap (λ (x : Option ℕ). LocalWithValue nowhere nowhere w x 0 0) (there-same fs)) (optional-alike fs (one_alike (a1.same_type V (front-then a2.grown (front-put _ _ g))) (one_alike (a2.alike V (front-put _ _ g)) none_alike)))))
+      let said : whole W (length N2) ≡ maybe_symbols W flags
+      ++ (whole W t ++ (a_name w ∷ (a_sign sign_assign ∷ (whole W e ++ (a_sign sign_semicolon ∷ ([])))))) =
+      opened ∙ symbols_of_parts-append (written W) (maybe flags) (Whole t ∷ Named w ∷ Sign sign_assign ∷ Whole e
+      ∷ Sign sign_semicolon ∷ []) in
+      let same : laid file b (whole W (length N2)) o2 ≡ t0 = ap (λ (ss : List Symbol). laid file b ss o2) said
+      ∙ simp laid-append in
+      told_moved same
+      (told_of (put a2.nodes made) (length a2.nodes) (front-then a1.grown (front-then a2.grown (front-one _)))
+      (local_with_value a1.read a2.read) (λ V g. let fs = a1.same_flags V (front-then a2.grown (front-put _ _ g)) in
+      alike at (front-at _ _ g) (ap (λ (x : Option ℕ). LocalWithValue nowhere nowhere w x 0 0) (there-same fs))
+      (optional-alike fs
+      (one_alike (a1.same_type V (front-then a2.grown (front-put _ _ g)))
+      (one_alike (a2.alike V (front-put _ _ g)) none_alike)))))
   statement_again W first file M b o2 (assign_statement {id = id} d) src f h =
       let b1 : List ℕ = b ++ canonical (bare W id) in
       let t1 : List Lexeme = sign_at sign_semicolon (place_behind file b1) ∷ o2 in
       let a = assignment_again W first file M b t1 d f refl in
-      let same : laid file b (whole W id) o2 ≡ laid file b (bare W id) t1 = ap (λ (ss : List Symbol). laid file b ss o2) (assignment_statement first d f) ∙ simp laid-append in
+      let same : laid file b (whole W id) o2 ≡ laid file b (bare W id) t1 =
+      ap (λ (ss : List Symbol). laid file b ss o2) (assignment_statement first d f) ∙ simp laid-append in
       told_moved same (told_of a.nodes a.place a.grown (assign_statement a.read) a.alike)
   statement_again W first file M b o2 (call_statement {N1 = N1} {e = e} {p = p} d) src f h =
       let at : slice_get W (length N1) ≡ Some (ExpressionStatement p e) = front-at _ _ f in
@@ -266,8 +343,12 @@ mutual
       let a1 = post_again W first file M b t1 d (front-put _ _ f) (λ c. c) in
       let made : Node = ExpressionStatement a1.read.at a1.place in
       let said : whole W (length N1) ≡ whole W e ++ (a_sign sign_semicolon ∷ ([])) = whole_at W _ _ first at in
-      let same : laid file b (whole W (length N1)) o2 ≡ t0 = ap (λ (ss : List Symbol). laid file b ss o2) said ∙ simp laid-append in
-      told_moved same (told_of (put a1.nodes made) (length a1.nodes) (front-then a1.grown (front-one _)) (call_statement a1.read.read) (λ V g. alike at (front-at _ _ g) refl (one_alike (a1.alike V (front-put _ _ g)) none_alike)))
+      let same : laid file b (whole W (length N1)) o2 ≡ t0 = ap (λ (ss : List Symbol). laid file b ss o2) said
+      ∙ simp laid-append in
+      told_moved same
+      (told_of (put a1.nodes made) (length a1.nodes) (front-then a1.grown (front-one _))
+      (call_statement a1.read.read)
+      (λ V g. alike at (front-at _ _ g) refl (one_alike (a1.alike V (front-put _ _ g)) none_alike)))
   statement_again W first file M b o2 (if_alone {N1 = N1} {N2 = N2} {c = c} {s = s} {p = p} d1 d2 e) src f h =
       let at : slice_get W (length N2) ≡ Some (If p c s None) = front-at _ _ f in
       let b1 : List ℕ = b ++ printed (a_word word_if) in
@@ -280,12 +361,22 @@ mutual
       let t1 : List Lexeme = sign_at sign_left_parenthesis (place_behind file b1) ∷ t2 in
       let t0 : List Lexeme = word_at word_if (place_behind file b) ∷ t1 in
       let a1 = level_again W first file M b2 t3 d1 (front-then (statement_front d2) (front-put _ _ f)) (λ c. c) in
-      let a2 = statement_again W first file a1.nodes b4 o2 d2 (behind (level_rest d1 (behind2 src))) (front-put _ _ f) h in
+      let a2 = statement_again W first file a1.nodes b4 o2 d2 (behind (level_rest d1 (behind2 src))) (front-put _ _ f) h
+      in
       let made : Node = If (place_behind file b) a1.place a2.place None in
-      let said : whole W (length N2) ≡ a_word word_if ∷ (a_sign sign_left_parenthesis ∷ (whole W c ++ (a_sign sign_right_parenthesis ∷ (whole W s ++ ([]))))) = whole_at W _ _ first at in
-      let same : laid file b (whole W (length N2)) o2 ≡ t0 = ap (λ (ss : List Symbol). laid file b ss o2) said ∙ simp laid-append in
-      told_moved same (told_of (put a2.nodes made) (length a2.nodes) (front-then a1.grown (front-then a2.grown (front-one _))) (if_alone a1.read a2.read (h e)) (λ V g. alike at (front-at _ _ g) refl (one_alike (a1.alike V (front-then a2.grown (front-put _ _ g))) (one_alike (a2.alike V (front-put _ _ g)) none_alike))))
-  statement_again W first file M b o2 (if_else {N1 = N1} {N2 = N2} {N3 = N3} {c = c} {s = s} {e = e} {p = p} d1 d2 d3) src f h =
+      let said : whole W (length N2) ≡ a_word word_if
+      ∷ (a_sign sign_left_parenthesis ∷ (whole W c ++ (a_sign sign_right_parenthesis ∷ (whole W s ++ ([]))))) =
+      whole_at W _ _ first at in
+      let same : laid file b (whole W (length N2)) o2 ≡ t0 = ap (λ (ss : List Symbol). laid file b ss o2) said
+      ∙ simp laid-append in
+      told_moved same
+      (told_of (put a2.nodes made) (length a2.nodes) (front-then a1.grown (front-then a2.grown (front-one _)))
+      (if_alone a1.read a2.read (h e))
+      (λ V g. alike at (front-at _ _ g) refl
+      (one_alike (a1.alike V (front-then a2.grown (front-put _ _ g)))
+      (one_alike (a2.alike V (front-put _ _ g)) none_alike))))
+  statement_again W first file M b o2 (if_else {N1 = N1} {N2 = N2} {N3 = N3} {c = c} {s = s} {e = e} {p = p} d1 d2 d3)
+      src f h =
       let at : slice_get W (length N3) ≡ Some (If p c s (Some e)) = front-at _ _ f in
       let b1 : List ℕ = b ++ printed (a_word word_if) in
       let b2 : List ℕ = b1 ++ printed (a_sign sign_left_parenthesis) in
@@ -300,13 +391,29 @@ mutual
       let t2 : List Lexeme = laid file b2 (whole W c) t3 in
       let t1 : List Lexeme = sign_at sign_left_parenthesis (place_behind file b1) ∷ t2 in
       let t0 : List Lexeme = word_at word_if (place_behind file b) ∷ t1 in
-      let a1 = level_again W first file M b2 t3 d1 (front-then (statement_front d2) (front-then (statement_front d3) (front-put _ _ f))) (λ c. c) in
-      let a2 = statement_again W first file a1.nodes b4 t5 d2 (behind (level_rest d1 (behind2 src))) (front-then (statement_front d3) (front-put _ _ f)) (λ c. c) in
-      let a3 = statement_again W first file a2.nodes b6 o2 d3 (behind (statement_rest d2 (behind (level_rest d1 (behind2 src))))) (front-put _ _ f) h in
+      let a1 =
+      level_again W first file M b2 t3 d1
+      (front-then (statement_front d2) (front-then (statement_front d3) (front-put _ _ f))) (λ c. c) in
+      let a2 = statement_again W first file a1.nodes b4 t5 d2 (behind (level_rest d1 (behind2 src)))
+      (front-then (statement_front d3) (front-put _ _ f)) (λ c. c) in
+      let a3 =
+      statement_again W first file a2.nodes b6 o2 d3
+      (behind (statement_rest d2 (behind (level_rest d1 (behind2 src))))) (front-put _ _ f) h in
       let made : Node = If (place_behind file b) a1.place a2.place (Some a3.place) in
-      let said : whole W (length N3) ≡ a_word word_if ∷ (a_sign sign_left_parenthesis ∷ (whole W c ++ (a_sign sign_right_parenthesis ∷ (whole W s ++ (a_word word_else ∷ (whole W e ++ ([]))))))) = whole_at W _ _ first at in
-      let same : laid file b (whole W (length N3)) o2 ≡ t0 = ap (λ (ss : List Symbol). laid file b ss o2) said ∙ simp laid-append in
-      told_moved same (told_of (put a3.nodes made) (length a3.nodes) (front-then a1.grown (front-then a2.grown (front-then a3.grown (front-one _)))) (if_else a1.read a2.read a3.read) (λ V g. alike at (front-at _ _ g) refl (one_alike (a1.alike V (front-then a2.grown (front-then a3.grown (front-put _ _ g)))) (one_alike (a2.alike V (front-then a3.grown (front-put _ _ g))) (one_alike (a3.alike V (front-put _ _ g)) none_alike)))))
+      let said : whole W (length N3) ≡ a_word word_if
+      ∷ (a_sign sign_left_parenthesis
+      ∷ (whole W c ++ (a_sign sign_right_parenthesis ∷ (whole W s ++ (a_word word_else ∷ (whole W e ++ ([]))))))) =
+      whole_at W _ _ first at in
+      let same : laid file b (whole W (length N3)) o2 ≡ t0 = ap (λ (ss : List Symbol). laid file b ss o2) said
+      ∙ simp laid-append in
+      told_moved same
+      (told_of (put a3.nodes made) (length a3.nodes)
+      (front-then a1.grown (front-then a2.grown (front-then a3.grown (front-one _))))
+      (if_else a1.read a2.read a3.read)
+      (λ V g. alike at (front-at _ _ g) refl
+      (one_alike (a1.alike V (front-then a2.grown (front-then a3.grown (front-put _ _ g))))
+      (one_alike (a2.alike V (front-then a3.grown (front-put _ _ g)))
+      (one_alike (a3.alike V (front-put _ _ g)) none_alike)))))
   statement_again W first file M b o2 (while_statement {N1 = N1} {N2 = N2} {c = c} {s = s} {p = p} d1 d2) src f h =
       let at : slice_get W (length N2) ≡ Some (While p c s) = front-at _ _ f in
       let b1 : List ℕ = b ++ printed (a_word word_while) in
@@ -319,18 +426,45 @@ mutual
       let t1 : List Lexeme = sign_at sign_left_parenthesis (place_behind file b1) ∷ t2 in
       let t0 : List Lexeme = word_at word_while (place_behind file b) ∷ t1 in
       let a1 = level_again W first file M b2 t3 d1 (front-then (statement_front d2) (front-put _ _ f)) (λ c. c) in
-      let a2 = statement_again W first file a1.nodes b4 o2 d2 (behind (level_rest d1 (behind2 src))) (front-put _ _ f) h in
+      let a2 = statement_again W first file a1.nodes b4 o2 d2 (behind (level_rest d1 (behind2 src))) (front-put _ _ f) h
+      in
       let made : Node = While (place_behind file b) a1.place a2.place in
-      let said : whole W (length N2) ≡ a_word word_while ∷ (a_sign sign_left_parenthesis ∷ (whole W c ++ (a_sign sign_right_parenthesis ∷ (whole W s ++ ([]))))) = whole_at W _ _ first at in
-      let same : laid file b (whole W (length N2)) o2 ≡ t0 = ap (λ (ss : List Symbol). laid file b ss o2) said ∙ simp laid-append in
-      told_moved same (told_of (put a2.nodes made) (length a2.nodes) (front-then a1.grown (front-then a2.grown (front-one _))) (while_statement a1.read a2.read) (λ V g. alike at (front-at _ _ g) refl (one_alike (a1.alike V (front-then a2.grown (front-put _ _ g))) (one_alike (a2.alike V (front-put _ _ g)) none_alike))))
-  statement_again W first file M b o2 (for_local {N1 = N1} {N2 = N2} {N3 = N3} {N4 = N4} {N5 = N5} {t = t} {e = e} {c = c} {u = u} {s = s} {w = w} {p = p} {a = a} {b = b'} d1 d2 d3 d4 d5) src f h =
+      let said : whole W (length N2) ≡ a_word word_while
+      ∷ (a_sign sign_left_parenthesis ∷ (whole W c ++ (a_sign sign_right_parenthesis ∷ (whole W s ++ ([]))))) =
+      whole_at W _ _ first at in
+      let same : laid file b (whole W (length N2)) o2 ≡ t0 = ap (λ (ss : List Symbol). laid file b ss o2) said
+      ∙ simp laid-append in
+      told_moved same
+      (told_of (put a2.nodes made) (length a2.nodes) (front-then a1.grown (front-then a2.grown (front-one _)))
+      (while_statement a1.read a2.read)
+      (λ V g. alike at (front-at _ _ g) refl
+      (one_alike (a1.alike V (front-then a2.grown (front-put _ _ g)))
+      (one_alike (a2.alike V (front-put _ _ g)) none_alike))))
+  statement_again W first file M b o2
+      (for_local {N1 = N1} {N2 = N2} {N3 = N3} {N4 = N4} {N5 = N5} {t = t} {e = e} {c = c} {u = u} {s = s} {w = w}
+      {p = p} {a = a} {b = b'} d1 d2 d3 d4 d5) src f h =
       let at : slice_get W (length N5) ≡ Some (For p (length N2) c u s) = front-at _ _ f in
-      let ff : Front (put N2 (LocalWithValue b' a w None t e)) W = (front-then (level_front d3) (front-then (assignment_front d4) (front-then (statement_front d5) (front-put _ _ f)))) in
+      let ff : Front (put N2 (LocalWithValue b' a w None t e)) W =
+      (front-then (level_front d3)
+      (front-then (assignment_front d4) (front-then (statement_front d5) (front-put _ _ f)))) in
       let under : slice_get W (length N2) ≡ Some (LocalWithValue b' a w None t e) = front-at _ _ ff in
-      let inner : whole W (length N2) ≡ whole W t ++ (a_name w ∷ a_sign sign_assign ∷ (whole W e ++ a_sign sign_semicolon ∷ [])) = whole_at W _ _ first under in
-      let opened : whole W (length N5) ≡ a_word word_for ∷ a_sign sign_left_parenthesis ∷ (whole W (length N2) ++ (whole W c ++ (a_sign sign_semicolon ∷ (bare W u ++ (a_sign sign_right_parenthesis ∷ (whole W s ++ [])))))) = whole_at W _ _ first at in
-      let flat : (whole W t ++ (a_name w ∷ a_sign sign_assign ∷ (whole W e ++ a_sign sign_semicolon ∷ []))) ++ (whole W c ++ (a_sign sign_semicolon ∷ (bare W u ++ (a_sign sign_right_parenthesis ∷ (whole W s ++ []))))) ≡ whole W t ++ (a_name w ∷ a_sign sign_assign ∷ (whole W e ++ (a_sign sign_semicolon ∷ (whole W c ++ (a_sign sign_semicolon ∷ (bare W u ++ (a_sign sign_right_parenthesis ∷ (whole W s ++ [])))))))) = append_assoc (whole W t) _ _ ∙ ap (λ (ss : List Symbol). whole W t ++ (a_name w ∷ a_sign sign_assign ∷ ss)) (append_assoc (whole W e) (a_sign sign_semicolon ∷ []) _) in
+      let inner : whole W (length N2) ≡ whole W t
+      ++ (a_name w ∷ a_sign sign_assign ∷ (whole W e ++ a_sign sign_semicolon ∷ [])) = whole_at W _ _ first under in
+      let opened : whole W (length N5) ≡ a_word word_for ∷ a_sign sign_left_parenthesis
+      ∷ (whole W (length N2)
+      ++ (whole W c
+      ++ (a_sign sign_semicolon ∷ (bare W u ++ (a_sign sign_right_parenthesis ∷ (whole W s ++ [])))))) = whole_at W
+      _ _ first at in
+      let flat : (whole W t ++ (a_name w ∷ a_sign sign_assign ∷ (whole W e ++ a_sign sign_semicolon ∷ [])))
+      ++ (whole W c ++ (a_sign sign_semicolon ∷ (bare W u ++ (a_sign sign_right_parenthesis ∷ (whole W s ++ [])))))
+      ≡ whole W t
+      ++ (a_name w ∷ a_sign sign_assign
+      ∷ (whole W e
+      ++ (a_sign sign_semicolon
+      ∷ (whole W c
+      ++ (a_sign sign_semicolon ∷ (bare W u ++ (a_sign sign_right_parenthesis ∷ (whole W s ++ [])))))))) =
+      append_assoc (whole W t) _ _ ∙ ap (λ (ss : List Symbol). whole W t ++ (a_name w ∷ a_sign sign_assign ∷ ss))
+      (append_assoc (whole W e) (a_sign sign_semicolon ∷ []) _) in
       let b1 : List ℕ = b ++ printed (a_word word_for) in
       let b2 : List ℕ = b1 ++ printed (a_sign sign_left_parenthesis) in
       let b3 : List ℕ = b2 ++ canonical (whole W t) in
@@ -356,17 +490,65 @@ mutual
       let t0 : List Lexeme = word_at word_for (place_behind file b) ∷ t1 in
       let a1 = type_again W first file M b2 t3 d1 (front-then (level_front d2) (front-put _ _ ff)) in
       let a2 = level_again W first file a1.nodes b5 t6 d2 (front-put _ _ ff) (λ c. c) in
-      let a3 = level_again W first file (put a2.nodes (LocalWithValue (place_behind file b4) (place_behind file b3) w None a1.place a2.place)) b7 t8 d3 (front-then (assignment_front d4) (front-then (statement_front d5) (front-put _ _ f))) (λ c. c) in
-      let a4 = assignment_again W first file a3.nodes b9 t10 d4 (front-then (statement_front d5) (front-put _ _ f)) refl in
-      let a5 = statement_again W first file a4.nodes b11 o2 d5 (behind (assignment_rest d4 (behind (level_rest d3 (behind (level_rest d2 (behind2 (type_rest d1 (behind2 src))))))))) (front-put _ _ f) h in
+      let a3 =
+      level_again W first file
+      (put a2.nodes (LocalWithValue (place_behind file b4) (place_behind file b3) w None a1.place a2.place)) b7 t8
+      d3 (front-then (assignment_front d4) (front-then (statement_front d5) (front-put _ _ f))) (λ c. c) in
+      let a4 = assignment_again W first file a3.nodes b9 t10 d4 (front-then (statement_front d5) (front-put _ _ f)) refl
+      in
+      let a5 =
+      statement_again W first file a4.nodes b11 o2 d5
+      (behind
+      (assignment_rest d4 (behind (level_rest d3 (behind (level_rest d2 (behind2 (type_rest d1 (behind2 src)))))))))
+      (front-put _ _ f) h in
       let made : Node = For (place_behind file b) (length a2.nodes) a3.place a4.place a5.place in
-      let said : whole W (length N5) ≡ a_word word_for ∷ (a_sign sign_left_parenthesis ∷ (whole W t ++ (a_name w ∷ (a_sign sign_assign ∷ (whole W e ++ (a_sign sign_semicolon ∷ (whole W c ++ (a_sign sign_semicolon ∷ (bare W u ++ (a_sign sign_right_parenthesis ∷ (whole W s ++ ([])))))))))))) = opened ∙ ap (λ (ss : List Symbol). a_word word_for ∷ a_sign sign_left_parenthesis ∷ (ss ++ (whole W c ++ (a_sign sign_semicolon ∷ (bare W u ++ (a_sign sign_right_parenthesis ∷ (whole W s ++ []))))))) inner ∙ ap (λ (ss : List Symbol). a_word word_for ∷ a_sign sign_left_parenthesis ∷ ss) flat in
-      let same : laid file b (whole W (length N5)) o2 ≡ t0 = ap (λ (ss : List Symbol). laid file b ss o2) said ∙ simp laid-append in
-      told_moved same (told_of (put a5.nodes made) (length a5.nodes) (front-then a1.grown (front-then a2.grown (front-then (front-one _) (front-then a3.grown (front-then a4.grown (front-then a5.grown (front-one _))))))) (for_local a1.read a2.read a3.read a4.read a5.read) (λ V g. let g2 : Front (put a2.nodes (LocalWithValue (place_behind file b4) (place_behind file b3) w None a1.place a2.place)) V = (front-then a3.grown (front-then a4.grown (front-then a5.grown (front-put _ _ g)))) in alike at (front-at _ _ g) refl (one_alike (alike under (front-at _ _ g2) refl (one_alike (a1.alike V (front-then a2.grown (front-put _ _ g2))) (one_alike (a2.alike V (front-put _ _ g2)) none_alike))) (one_alike (a3.alike V (front-then a4.grown (front-then a5.grown (front-put _ _ g)))) (one_alike (a4.alike V (front-then a5.grown (front-put _ _ g))) (one_alike (a5.alike V (front-put _ _ g)) none_alike))))))
-  statement_again W first file M b o2 (for_assignment {N1 = N1} {N2 = N2} {N3 = N3} {N4 = N4} {f = z} {c = c} {u = u} {s = s} {p = p} d1 d2 d3 d4) src f h =
+      let said : whole W (length N5) ≡ a_word word_for
+      ∷ (a_sign sign_left_parenthesis
+      ∷ (whole W t
+      ++ (a_name w
+      ∷ (a_sign sign_assign
+      ∷ (whole W e
+      ++ (a_sign sign_semicolon
+      ∷ (whole W c
+      ++ (a_sign sign_semicolon ∷ (bare W u ++ (a_sign sign_right_parenthesis ∷ (whole W s ++ ([])))))))))))) =
+      opened
+      ∙ ap (λ (ss : List Symbol). a_word word_for ∷ a_sign sign_left_parenthesis
+      ∷ (ss
+      ++ (whole W c
+      ++ (a_sign sign_semicolon ∷ (bare W u ++ (a_sign sign_right_parenthesis ∷ (whole W s ++ []))))))) inner
+      ∙ ap (λ (ss : List Symbol). a_word word_for ∷ a_sign sign_left_parenthesis ∷ ss) flat in
+      let same : laid file b (whole W (length N5)) o2 ≡ t0 = ap (λ (ss : List Symbol). laid file b ss o2) said
+      ∙ simp laid-append in
+      told_moved same
+      (told_of (put a5.nodes made) (length a5.nodes)
+      (front-then a1.grown
+      (front-then a2.grown
+      (front-then (front-one _) (front-then a3.grown (front-then a4.grown (front-then a5.grown (front-one _)))))))
+      (for_local a1.read a2.read a3.read a4.read a5.read)
+      (λ V g. let g2 : Front
+      (put a2.nodes (LocalWithValue (place_behind file b4) (place_behind file b3) w None a1.place a2.place)) V =
+      (front-then a3.grown (front-then a4.grown (front-then a5.grown (front-put _ _ g)))) in
+      alike at (front-at _ _ g) refl
+      (one_alike
+      (alike under (front-at _ _ g2) refl
+      (one_alike (a1.alike V (front-then a2.grown (front-put _ _ g2)))
+      (one_alike (a2.alike V (front-put _ _ g2)) none_alike)))
+      (one_alike (a3.alike V (front-then a4.grown (front-then a5.grown (front-put _ _ g))))
+      (one_alike (a4.alike V (front-then a5.grown (front-put _ _ g)))
+      (one_alike (a5.alike V (front-put _ _ g)) none_alike))))))
+  statement_again W first file M b o2
+      (for_assignment {N1 = N1} {N2 = N2} {N3 = N3} {N4 = N4} {f = z} {c = c} {u = u} {s = s} {p = p} d1 d2 d3 d4) src f
+      h =
       let at : slice_get W (length N4) ≡ Some (For p z c u s) = front-at _ _ f in
-      let inner : whole W z ≡ bare W z ++ a_sign sign_semicolon ∷ [] = assignment_statement first d1 (front-then (level_front d2) (front-then (assignment_front d3) (front-then (statement_front d4) (front-put _ _ f)))) in
-      let opened : whole W (length N4) ≡ a_word word_for ∷ a_sign sign_left_parenthesis ∷ (whole W z ++ (whole W c ++ (a_sign sign_semicolon ∷ (bare W u ++ (a_sign sign_right_parenthesis ∷ (whole W s ++ [])))))) = whole_at W _ _ first at in
+      let inner : whole W z ≡ bare W z ++ a_sign sign_semicolon ∷ [] =
+      assignment_statement first d1
+      (front-then (level_front d2)
+      (front-then (assignment_front d3) (front-then (statement_front d4) (front-put _ _ f)))) in
+      let opened : whole W (length N4) ≡ a_word word_for ∷ a_sign sign_left_parenthesis
+      ∷ (whole W z
+      ++ (whole W c
+      ++ (a_sign sign_semicolon ∷ (bare W u ++ (a_sign sign_right_parenthesis ∷ (whole W s ++ [])))))) = whole_at W
+      _ _ first at in
       let b1 : List ℕ = b ++ printed (a_word word_for) in
       let b2 : List ℕ = b1 ++ printed (a_sign sign_left_parenthesis) in
       let b3 : List ℕ = b2 ++ canonical (bare W z) in
@@ -384,14 +566,43 @@ mutual
       let t2 : List Lexeme = laid file b2 (bare W z) t3 in
       let t1 : List Lexeme = sign_at sign_left_parenthesis (place_behind file b1) ∷ t2 in
       let t0 : List Lexeme = word_at word_for (place_behind file b) ∷ t1 in
-      let a1 = assignment_again W first file M b2 t3 d1 (front-then (level_front d2) (front-then (assignment_front d3) (front-then (statement_front d4) (front-put _ _ f)))) refl in
-      let a2 = level_again W first file a1.nodes b4 t5 d2 (front-then (assignment_front d3) (front-then (statement_front d4) (front-put _ _ f))) (λ c. c) in
-      let a3 = assignment_again W first file a2.nodes b6 t7 d3 (front-then (statement_front d4) (front-put _ _ f)) refl in
-      let a4 = statement_again W first file a3.nodes b8 o2 d4 (behind (assignment_rest d3 (behind (level_rest d2 (behind (assignment_rest d1 (behind2 src))))))) (front-put _ _ f) h in
+      let a1 =
+      assignment_again W first file M b2 t3 d1
+      (front-then (level_front d2)
+      (front-then (assignment_front d3) (front-then (statement_front d4) (front-put _ _ f)))) refl in
+      let a2 =
+      level_again W first file a1.nodes b4 t5 d2
+      (front-then (assignment_front d3) (front-then (statement_front d4) (front-put _ _ f))) (λ c. c) in
+      let a3 = assignment_again W first file a2.nodes b6 t7 d3 (front-then (statement_front d4) (front-put _ _ f)) refl
+      in
+      let a4 =
+      statement_again W first file a3.nodes b8 o2 d4
+      (behind (assignment_rest d3 (behind (level_rest d2 (behind (assignment_rest d1 (behind2 src)))))))
+      (front-put _ _ f) h in
       let made : Node = For (place_behind file b) a1.place a2.place a3.place a4.place in
-      let said : whole W (length N4) ≡ a_word word_for ∷ (a_sign sign_left_parenthesis ∷ (bare W z ++ (a_sign sign_semicolon ∷ (whole W c ++ (a_sign sign_semicolon ∷ (bare W u ++ (a_sign sign_right_parenthesis ∷ (whole W s ++ ([]))))))))) = opened ∙ ap (λ (ss : List Symbol). a_word word_for ∷ a_sign sign_left_parenthesis ∷ (ss ++ (whole W c ++ (a_sign sign_semicolon ∷ (bare W u ++ (a_sign sign_right_parenthesis ∷ (whole W s ++ []))))))) inner ∙ ap (λ (ss : List Symbol). a_word word_for ∷ a_sign sign_left_parenthesis ∷ ss) (append_assoc (bare W z) (a_sign sign_semicolon ∷ []) _) in
-      let same : laid file b (whole W (length N4)) o2 ≡ t0 = ap (λ (ss : List Symbol). laid file b ss o2) said ∙ simp laid-append in
-      told_moved same (told_of (put a4.nodes made) (length a4.nodes) (front-then a1.grown (front-then a2.grown (front-then a3.grown (front-then a4.grown (front-one _))))) (for_assignment a1.read a2.read a3.read a4.read) (λ V g. alike at (front-at _ _ g) refl (one_alike (a1.alike V (front-then a2.grown (front-then a3.grown (front-then a4.grown (front-put _ _ g))))) (one_alike (a2.alike V (front-then a3.grown (front-then a4.grown (front-put _ _ g)))) (one_alike (a3.alike V (front-then a4.grown (front-put _ _ g))) (one_alike (a4.alike V (front-put _ _ g)) none_alike))))))
+      let said : whole W (length N4) ≡ a_word word_for
+      ∷ (a_sign sign_left_parenthesis
+      ∷ (bare W z
+      ++ (a_sign sign_semicolon
+      ∷ (whole W c
+      ++ (a_sign sign_semicolon ∷ (bare W u ++ (a_sign sign_right_parenthesis ∷ (whole W s ++ ([]))))))))) = opened
+      ∙ ap (λ (ss : List Symbol). a_word word_for ∷ a_sign sign_left_parenthesis
+      ∷ (ss
+      ++ (whole W c
+      ++ (a_sign sign_semicolon ∷ (bare W u ++ (a_sign sign_right_parenthesis ∷ (whole W s ++ []))))))) inner
+      ∙ ap (λ (ss : List Symbol). a_word word_for ∷ a_sign sign_left_parenthesis ∷ ss)
+      (append_assoc (bare W z) (a_sign sign_semicolon ∷ []) _) in
+      let same : laid file b (whole W (length N4)) o2 ≡ t0 = ap (λ (ss : List Symbol). laid file b ss o2) said
+      ∙ simp laid-append in
+      told_moved same
+      (told_of (put a4.nodes made) (length a4.nodes)
+      (front-then a1.grown (front-then a2.grown (front-then a3.grown (front-then a4.grown (front-one _)))))
+      (for_assignment a1.read a2.read a3.read a4.read)
+      (λ V g. alike at (front-at _ _ g) refl
+      (one_alike (a1.alike V (front-then a2.grown (front-then a3.grown (front-then a4.grown (front-put _ _ g)))))
+      (one_alike (a2.alike V (front-then a3.grown (front-then a4.grown (front-put _ _ g))))
+      (one_alike (a3.alike V (front-then a4.grown (front-put _ _ g)))
+      (one_alike (a4.alike V (front-put _ _ g)) none_alike))))))
   statement_again W first file M b o2 (return_alone {N = N} {p = p}) src f h =
       let at : slice_get W (length N) ≡ Some (Return p None) = front-at _ _ f in
       let b1 : List ℕ = b ++ printed (a_word word_return) in
@@ -400,7 +611,9 @@ mutual
       let made : Node = Return (place_behind file b) None in
       let said : whole W (length N) ≡ a_word word_return ∷ (a_sign sign_semicolon ∷ ([])) = whole_at W _ _ first at in
       let same : laid file b (whole W (length N)) o2 ≡ t0 = ap (λ (ss : List Symbol). laid file b ss o2) said in
-      told_moved same (told_of (put M made) (length M) (front-one _) (return_alone) (λ V g. alike at (front-at _ _ g) refl none_alike))
+      told_moved same
+      (told_of (put M made) (length M) (front-one _) (return_alone)
+      (λ V g. alike at (front-at _ _ g) refl none_alike))
   statement_again W first file M b o2 (return_value {N1 = N1} {e = e} {p = p} d) src f h =
       let at : slice_get W (length N1) ≡ Some (Return p (Some e)) = front-at _ _ f in
       let b1 : List ℕ = b ++ printed (a_word word_return) in
@@ -410,17 +623,30 @@ mutual
       let t0 : List Lexeme = word_at word_return (place_behind file b) ∷ t1 in
       let a1 = level_again W first file M b1 t2 d (front-put _ _ f) (λ c. c) in
       let made : Node = Return (place_behind file b) (Some a1.place) in
-      let said : whole W (length N1) ≡ a_word word_return ∷ (whole W e ++ (a_sign sign_semicolon ∷ ([]))) = whole_at W _ _ first at in
-      let same : laid file b (whole W (length N1)) o2 ≡ t0 = ap (λ (ss : List Symbol). laid file b ss o2) said ∙ simp laid-append in
-      told_moved same (told_of (put a1.nodes made) (length a1.nodes) (front-then a1.grown (front-one _)) (return_value a1.read) (λ V g. alike at (front-at _ _ g) refl (one_alike (a1.alike V (front-put _ _ g)) none_alike)))
+      let said : whole W (length N1) ≡ a_word word_return ∷ (whole W e ++ (a_sign sign_semicolon ∷ ([]))) =
+      whole_at W _ _ first at in
+      let same : laid file b (whole W (length N1)) o2 ≡ t0 = ap (λ (ss : List Symbol). laid file b ss o2) said
+      ∙ simp laid-append in
+      told_moved same
+      (told_of (put a1.nodes made) (length a1.nodes) (front-then a1.grown (front-one _)) (return_value a1.read)
+      (λ V g. alike at (front-at _ _ g) refl (one_alike (a1.alike V (front-put _ _ g)) none_alike)))
 
-  pub statements_again : (W : List Node) → ChildrenFirst 0 W → (file : ℕ) (M : List Node) (b : List ℕ) (o2 : List Lexeme) {N N1 : List Node} {i o : List Lexeme} {ids : List ℕ} → StatementsRead N i N1 o ids → AreOfSource i → Front N1 W → (Starts o → Starts o2) → AllAgain StatementsRead W M (laid file b (symbols_of W ids) o2) o2 ids
-  statements_again W first file M b o2 no_statement src f h = all_again_of M [] front-none no_statement (λ V g. none_alike)
+  pub statements_again : (W : List Node) → ChildrenFirst 0 W →
+      (file : ℕ) (M : List Node) (b : List ℕ) (o2 : List Lexeme) {N N1 : List Node} {i o : List Lexeme} {ids : List ℕ} →
+      StatementsRead N i N1 o ids → AreOfSource i → Front N1 W → (Starts o → Starts o2) →
+      AllAgain StatementsRead W M (laid file b (symbols_of W ids) o2) o2 ids
+  statements_again W first file M b o2 no_statement src f h =
+      all_again_of M [] front-none no_statement (λ V g. none_alike)
   statements_again W first file M b o2 (one_statement_more {ids = ids} {id = id} d1 d2) src f h =
       let b1 : List ℕ = b ++ canonical (symbols_of W ids) in
       let t1 : List Lexeme = laid file b1 (whole W id) o2 in
       let probe = statement_again W first file M b1 o2 d2 (statements_rest d1 src) f h in
-      let a1 = statements_again W first file M b t1 d1 src (front-then (statement_front d2) f) (λ c. statement_starts probe.read) in
+      let a1 = statements_again W first file M b t1 d1 src (front-then (statement_front d2) f)
+      (λ c. statement_starts probe.read) in
       let a2 = statement_again W first file a1.nodes b1 o2 d2 (statements_rest d1 src) f h in
-      let same : laid file b (symbols_of W (ids ++ id ∷ [])) o2 ≡ laid file b (symbols_of W ids) t1 = ap (λ (ss : List Symbol). laid file b ss o2) (each-put W ids id) ∙ laid-append file b (symbols_of W ids) (whole W id) o2 in
-      all_moved same (all_again_of a2.nodes (a1.places ++ a2.place ∷ []) (front-then a1.grown a2.grown) (one_statement_more a1.read a2.read) (λ V g. alike-put (a1.alike V (front-then a2.grown g)) (a2.alike V g)))
+      let same : laid file b (symbols_of W (ids ++ id ∷ [])) o2 ≡ laid file b (symbols_of W ids) t1 =
+      ap (λ (ss : List Symbol). laid file b ss o2) (each-put W ids id)
+      ∙ laid-append file b (symbols_of W ids) (whole W id) o2 in
+      all_moved same
+      (all_again_of a2.nodes (a1.places ++ a2.place ∷ []) (front-then a1.grown a2.grown)
+      (one_statement_more a1.read a2.read) (λ V g. alike-put (a1.alike V (front-then a2.grown g)) (a2.alike V g)))

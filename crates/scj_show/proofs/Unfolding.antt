@@ -129,9 +129,11 @@ ids-object_and_dot None = refl
 ids-object_and_dot (Some id) = refl
 
 parts_below : (n : ℕ) (node : Node) → AllBelow n (children node) → AllBelow n (ids_of (parts_of node))
-unfolding ids_of children parts_of class_parts flag_parts class_type_parts field_parts method_parts constructor_parts super_call_parts block_end return_parts call_parts scope_definition AllBelow
+unfolding ids_of children parts_of class_parts flag_parts class_type_parts field_parts method_parts constructor_parts
+    super_call_parts block_end return_parts call_parts scope_definition AllBelow
 parts_below n (Class place name flags header members) h = simp (ids-append, ids-maybe, ids-each, append-nil) h
-parts_below n (Flags place define_scope scope runs_in is_static is_abstract is_synchronized) h = simp (ids-append, ids-maybe, ids-annotation, ids-word_if_set, append-nil) h
+parts_below n (Flags place define_scope scope runs_in is_static is_abstract is_synchronized) h =
+    simp (ids-append, ids-maybe, ids-annotation, ids-word_if_set, append-nil) h
 parts_below n (DefineScope place first second true) h = (h.1.0, (h.0, tt))
 parts_below n (DefineScope place first second false) h = h
 parts_below n (ScopeName place name) h = h
@@ -140,12 +142,16 @@ parts_below n (SuperType place name argument) h = simp ids-argument_in_brackets 
 parts_below n (TypeArgument place name) h = h
 parts_below n (IntType place is_array) h = simp ids-brackets h
 parts_below n (BooleanType place is_array) h = simp ids-brackets h
-parts_below n (ClassType place name argument is_array) h = simp (ids-append, ids-argument_in_brackets, ids-brackets, append-nil) h
+parts_below n (ClassType place name argument is_array) h =
+    simp (ids-append, ids-argument_in_brackets, ids-brackets, append-nil) h
 parts_below n (VoidType place) h = h
 parts_below n (LongType place) h = h
-parts_below n (Field place name flags declared_type equals value) h = simp (ids-append, ids-maybe, ids-assigned, append-nil) h
-parts_below n (Method place name flags result_type parameters body) h = simp (ids-append, ids-maybe, ids-parameters_or_none, ids-body_or_semicolon) h
-parts_below n (Constructor place name flags parameters super_call body) h = simp (ids-append, ids-maybe, ids-parameters_or_none, ids-body_with_call) h
+parts_below n (Field place name flags declared_type equals value) h =
+    simp (ids-append, ids-maybe, ids-assigned, append-nil) h
+parts_below n (Method place name flags result_type parameters body) h =
+    simp (ids-append, ids-maybe, ids-parameters_or_none, ids-body_or_semicolon) h
+parts_below n (Constructor place name flags parameters super_call body) h =
+    simp (ids-append, ids-maybe, ids-parameters_or_none, ids-body_with_call) h
 parts_below n (Parameters place list) h = simp ids-in_parentheses h
 parts_below n (Parameter place name flags declared_type) h = simp (ids-append, ids-maybe) h
 parts_below n (SuperCall place arguments) h = simp (ids-append, ids-in_parentheses, append-nil) h
@@ -189,11 +195,14 @@ below-is default n k f h =
     let t : nat_lt k n ≡ true = grind (arith, nat_tests) in
     rw t refl
 
-symbols_below : (n : ℕ) (w : ℕ → Written) (ps : List Part) → AllBelow n (ids_of ps) → symbols_of_parts (below nothing n w) ps ≡ symbols_of_parts w ps
+symbols_below : (n : ℕ) (w : ℕ → Written) (ps : List Part) → AllBelow n (ids_of ps) →
+    symbols_of_parts (below nothing n w) ps ≡ symbols_of_parts w ps
 unfolding ids_of AllBelow symbols_of_parts symbols_of_part
 symbols_below n w [] h = refl
-symbols_below n w (Whole id ∷ ps) h = ap (λ (t : Written). t.whole ++ symbols_of_parts (below nothing n w) ps) (below-is nothing n id w h.0) ∙ ap (λ (t : List Symbol). (w id).whole ++ t) (symbols_below n w ps h.1)
-symbols_below n w (Bare id ∷ ps) h = ap (λ (t : Written). t.bare ++ symbols_of_parts (below nothing n w) ps) (below-is nothing n id w h.0) ∙ ap (λ (t : List Symbol). (w id).bare ++ t) (symbols_below n w ps h.1)
+symbols_below n w (Whole id ∷ ps) h = ap (λ (t : Written). t.whole ++ symbols_of_parts (below nothing n w) ps)
+    (below-is nothing n id w h.0) ∙ ap (λ (t : List Symbol). (w id).whole ++ t) (symbols_below n w ps h.1)
+symbols_below n w (Bare id ∷ ps) h = ap (λ (t : Written). t.bare ++ symbols_of_parts (below nothing n w) ps)
+    (below-is nothing n id w h.0) ∙ ap (λ (t : List Symbol). (w id).bare ++ t) (symbols_below n w ps h.1)
 symbols_below n w (Named v ∷ ps) h = ap (λ (t : List Symbol). a_name v ∷ t) (symbols_below n w ps h)
 symbols_below n w (Quoted v ∷ ps) h = ap (λ (t : List Symbol). a_text v ∷ t) (symbols_below n w ps h)
 symbols_below n w (Word m ∷ ps) h = ap (λ (t : List Symbol). a_word m ∷ t) (symbols_below n w ps h)
@@ -203,11 +212,16 @@ symbols_below n w (Digits m ∷ ps) h = ap (λ (t : List Symbol). a_number m ∷
 abbrev no_size : Size
 no_size = record { whole = 0; bare = 0 }
 
-sizes_below : (n : ℕ) (s : ℕ → Size) (ps : List Part) → AllBelow n (ids_of ps) → size_of_parts (below no_size n s) ps ≡ size_of_parts s ps
+sizes_below : (n : ℕ) (s : ℕ → Size) (ps : List Part) → AllBelow n (ids_of ps) →
+    size_of_parts (below no_size n s) ps ≡ size_of_parts s ps
 unfolding ids_of AllBelow size_of_parts size_of_part
 sizes_below n s [] h = refl
-sizes_below n s (Whole id ∷ ps) h = let e : below no_size n s id ≡ s id = below-is no_size n id s h.0 in ap (λ (t : Size). (1 + t.whole) + size_of_parts (below no_size n s) ps) e ∙ ap (λ (t : ℕ). (1 + (s id).whole) + t) (sizes_below n s ps h.1)
-sizes_below n s (Bare id ∷ ps) h = let e : below no_size n s id ≡ s id = below-is no_size n id s h.0 in ap (λ (t : Size). (1 + t.bare) + size_of_parts (below no_size n s) ps) e ∙ ap (λ (t : ℕ). (1 + (s id).bare) + t) (sizes_below n s ps h.1)
+sizes_below n s (Whole id ∷ ps) h = let e : below no_size n s id ≡ s id = below-is no_size n id s h.0 in
+    ap (λ (t : Size). (1 + t.whole) + size_of_parts (below no_size n s) ps) e
+    ∙ ap (λ (t : ℕ). (1 + (s id).whole) + t) (sizes_below n s ps h.1)
+sizes_below n s (Bare id ∷ ps) h = let e : below no_size n s id ≡ s id = below-is no_size n id s h.0 in
+    ap (λ (t : Size). (1 + t.bare) + size_of_parts (below no_size n s) ps) e
+    ∙ ap (λ (t : ℕ). (1 + (s id).bare) + t) (sizes_below n s ps h.1)
 sizes_below n s (Named v ∷ ps) h = ap (λ (t : ℕ). 1 + t) (sizes_below n s ps h)
 sizes_below n s (Quoted v ∷ ps) h = ap (λ (t : ℕ). 1 + t) (sizes_below n s ps h)
 sizes_below n s (Word m ∷ ps) h = ap (λ (t : ℕ). 1 + t) (sizes_below n s ps h)
@@ -216,7 +230,8 @@ sizes_below n s (Digits m ∷ ps) h = ap (λ (t : ℕ). 1 + t) (sizes_below n s 
 
 -- ---- at a node of a forest
 
-children_at : (from : ℕ) (nodes : List Node) (k : ℕ) (node : Node) → ChildrenFirst from nodes → slice_get nodes k ≡ Some node → AllBelow (from + k) (children node)
+children_at : (from : ℕ) (nodes : List Node) (k : ℕ) (node : Node) → ChildrenFirst from nodes →
+    slice_get nodes k ≡ Some node → AllBelow (from + k) (children node)
 unfolding ChildrenFirst
 children_at from [] k node h e = absurd (cc)
 children_at from (m ∷ nodes) zero node h e =
@@ -227,19 +242,27 @@ children_at from (m ∷ nodes) (suc k) node h e =
     let f : (from + 1) + k ≡ from + suc k = omega arith in
     rw f at (children_at (from + 1) nodes k node h.1 e)
 
-pub children_below : (nodes : List Node) (k : ℕ) (node : Node) → ChildrenFirst 0 nodes → slice_get nodes k ≡ Some node → AllBelow k (children node)
+pub children_below : (nodes : List Node) (k : ℕ) (node : Node) → ChildrenFirst 0 nodes → slice_get nodes k ≡ Some node →
+    AllBelow k (children node)
 children_below nodes k node h e = rw (zero-add k) at (children_at 0 nodes k node h e)
 
-pub written_at : (nodes : List Node) (id : ℕ) (node : Node) → ChildrenFirst 0 nodes → slice_get nodes id ≡ Some node → written nodes id ≡ written_node (written nodes) (Some node)
+pub written_at : (nodes : List Node) (id : ℕ) (node : Node) → ChildrenFirst 0 nodes → slice_get nodes id ≡ Some node →
+    written nodes id ≡ written_node (written nodes) (Some node)
 unfolding written written_node
 written_at nodes id node first e =
     let under : AllBelow id (children node) = children_below nodes id node first e in
-    let is : written nodes id ≡ written_node (below nothing id (written nodes)) (slice_get nodes id) = by_smaller-is nothing (λ (n : ℕ) (sub : ℕ → Written). written_node sub (slice_get nodes n)) id in
-    let w : symbols_of_parts (below nothing id (written nodes)) (parts_of node) ≡ symbols_of_parts (written nodes) (parts_of node) = symbols_below id (written nodes) (parts_of node) (parts_below id node under) in
-    let b : symbols_of_parts (below nothing id (written nodes)) (bare_parts node) ≡ symbols_of_parts (written nodes) (bare_parts node) = symbols_below id (written nodes) (bare_parts node) (bare_below id node under) in
-    let there : written_node (below nothing id (written nodes)) (slice_get nodes id) ≡ written_node (below nothing id (written nodes)) (Some node) = ap (written_node (below nothing id (written nodes))) e in
+    let is : written nodes id ≡ written_node (below nothing id (written nodes)) (slice_get nodes id) =
+    by_smaller-is nothing (λ (n : ℕ) (sub : ℕ → Written). written_node sub (slice_get nodes n)) id in
+    let w : symbols_of_parts (below nothing id (written nodes)) (parts_of node) ≡ symbols_of_parts (written nodes)
+    (parts_of node) = symbols_below id (written nodes) (parts_of node) (parts_below id node under) in
+    let b : symbols_of_parts (below nothing id (written nodes)) (bare_parts node) ≡ symbols_of_parts (written nodes)
+    (bare_parts node) = symbols_below id (written nodes) (bare_parts node) (bare_below id node under) in
+    let there : written_node (below nothing id (written nodes)) (slice_get nodes id) ≡ written_node
+    (below nothing id (written nodes)) (Some node) = ap (written_node (below nothing id (written nodes))) e in
     let made : (List Symbol → List Symbol → Written) = λ x y. record { whole = own_symbols node ++ x; bare = y } in
-    let last : made (symbols_of_parts (below nothing id (written nodes)) (parts_of node)) (symbols_of_parts (below nothing id (written nodes)) (bare_parts node)) ≡ made (symbols_of_parts (written nodes) (parts_of node)) (symbols_of_parts (written nodes) (bare_parts node)) = cc in
+    let last : made (symbols_of_parts (below nothing id (written nodes)) (parts_of node))
+    (symbols_of_parts (below nothing id (written nodes)) (bare_parts node)) ≡ made
+    (symbols_of_parts (written nodes) (parts_of node)) (symbols_of_parts (written nodes) (bare_parts node)) = cc in
     is ∙ there ∙ last
 
 get_behind : (nodes : List Node) (k : ℕ) → length nodes ≤ k → slice_get nodes k ≡ None
@@ -250,94 +273,158 @@ get_behind (m ∷ nodes) (suc k) h = get_behind nodes k (omega (arith, h))
 written_behind : (nodes : List Node) (id : ℕ) → length nodes ≤ id → written nodes id ≡ nothing
 unfolding written written_node
 written_behind nodes id h =
-    let is : written nodes id ≡ written_node (below nothing id (written nodes)) (slice_get nodes id) = by_smaller-is nothing (λ (n : ℕ) (sub : ℕ → Written). written_node sub (slice_get nodes n)) id in
+    let is : written nodes id ≡ written_node (below nothing id (written nodes)) (slice_get nodes id) =
+    by_smaller-is nothing (λ (n : ℕ) (sub : ℕ → Written). written_node sub (slice_get nodes n)) id in
     is ∙ ap (written_node (below nothing id (written nodes))) (get_behind nodes id h)
 
-pub size_at : (nodes : List Node) (id : ℕ) (node : Node) → ChildrenFirst 0 nodes → slice_get nodes id ≡ Some node → size nodes id ≡ size_of_node (size nodes) (Some node)
+pub size_at : (nodes : List Node) (id : ℕ) (node : Node) → ChildrenFirst 0 nodes → slice_get nodes id ≡ Some node →
+    size nodes id ≡ size_of_node (size nodes) (Some node)
 unfolding size size_of_node
 size_at nodes id node first e =
     let under : AllBelow id (children node) = children_below nodes id node first e in
-    let is : size nodes id ≡ size_of_node (below no_size id (size nodes)) (slice_get nodes id) = by_smaller-is no_size (λ (n : ℕ) (sub : ℕ → Size). size_of_node sub (slice_get nodes n)) id in
-    let w : size_of_parts (below no_size id (size nodes)) (parts_of node) ≡ size_of_parts (size nodes) (parts_of node) = sizes_below id (size nodes) (parts_of node) (parts_below id node under) in
-    let b : size_of_parts (below no_size id (size nodes)) (bare_parts node) ≡ size_of_parts (size nodes) (bare_parts node) = sizes_below id (size nodes) (bare_parts node) (bare_below id node under) in
-    let there : size_of_node (below no_size id (size nodes)) (slice_get nodes id) ≡ size_of_node (below no_size id (size nodes)) (Some node) = ap (size_of_node (below no_size id (size nodes))) e in
+    let is : size nodes id ≡ size_of_node (below no_size id (size nodes)) (slice_get nodes id) =
+    by_smaller-is no_size (λ (n : ℕ) (sub : ℕ → Size). size_of_node sub (slice_get nodes n)) id in
+    let w : size_of_parts (below no_size id (size nodes)) (parts_of node) ≡ size_of_parts (size nodes) (parts_of node) =
+    sizes_below id (size nodes) (parts_of node) (parts_below id node under) in
+    let b : size_of_parts (below no_size id (size nodes)) (bare_parts node) ≡ size_of_parts (size nodes)
+    (bare_parts node) = sizes_below id (size nodes) (bare_parts node) (bare_below id node under) in
+    let there : size_of_node (below no_size id (size nodes)) (slice_get nodes id) ≡ size_of_node
+    (below no_size id (size nodes)) (Some node) = ap (size_of_node (below no_size id (size nodes))) e in
     let made : (ℕ → ℕ → Size) = λ x y. record { whole = x; bare = y } in
-    let last : made (size_of_parts (below no_size id (size nodes)) (parts_of node)) (size_of_parts (below no_size id (size nodes)) (bare_parts node)) ≡ made (size_of_parts (size nodes) (parts_of node)) (size_of_parts (size nodes) (bare_parts node)) = cc in
+    let last : made (size_of_parts (below no_size id (size nodes)) (parts_of node))
+    (size_of_parts (below no_size id (size nodes)) (bare_parts node)) ≡ made
+    (size_of_parts (size nodes) (parts_of node)) (size_of_parts (size nodes) (bare_parts node)) = cc in
     is ∙ there ∙ last
 
 -- ---- what is printed of a node, and what is left to print
 
-pub whole_printed : (nodes : List Node) (id : ℕ) (node : Node) (ps : List Part) (old new : List ℕ) → ChildrenFirst 0 nodes → slice_get nodes id ≡ Some node → ps ≡ parts_of node → new ≡ old ++ canonical (own_symbols node) → new ++ canonical (symbols_of_parts (written nodes) ps) ≡ old ++ canonical (symbols_of_part (written nodes) (Whole id))
+pub whole_printed : (nodes : List Node) (id : ℕ) (node : Node) (ps : List Part) (old new : List ℕ) →
+    ChildrenFirst 0 nodes → slice_get nodes id ≡ Some node → ps ≡ parts_of node → new ≡ old
+    ++ canonical (own_symbols node) → new ++ canonical (symbols_of_parts (written nodes) ps) ≡ old
+    ++ canonical (symbols_of_part (written nodes) (Whole id))
 unfolding symbols_of_part written_node
 whole_printed nodes id node ps old new first e q r =
-    let w : canonical (written nodes id).whole ≡ canonical (own_symbols node) ++ canonical (symbols_of_parts (written nodes) (parts_of node)) = ap (λ (t : Written). canonical t.whole) (written_at nodes id node first e) ∙ canonical-append (own_symbols node) (symbols_of_parts (written nodes) (parts_of node)) in
-    ap (λ (t : List ℕ). t ++ canonical (symbols_of_parts (written nodes) ps)) r ∙ append_assoc old (canonical (own_symbols node)) (canonical (symbols_of_parts (written nodes) ps)) ∙ ap (λ (t : List Part). old ++ (canonical (own_symbols node) ++ canonical (symbols_of_parts (written nodes) t))) q ∙ ap (λ (t : List ℕ). old ++ t) (sym w)
+    let w : canonical (written nodes id).whole ≡ canonical (own_symbols node)
+    ++ canonical (symbols_of_parts (written nodes) (parts_of node)) =
+    ap (λ (t : Written). canonical t.whole) (written_at nodes id node first e)
+    ∙ canonical-append (own_symbols node) (symbols_of_parts (written nodes) (parts_of node)) in
+    ap (λ (t : List ℕ). t ++ canonical (symbols_of_parts (written nodes) ps)) r
+    ∙ append_assoc old (canonical (own_symbols node)) (canonical (symbols_of_parts (written nodes) ps))
+    ∙ ap
+    (λ (t : List Part). old ++ (canonical (own_symbols node) ++ canonical (symbols_of_parts (written nodes) t))) q
+    ∙ ap (λ (t : List ℕ). old ++ t) (sym w)
 
-pub whole_printed_behind : (nodes : List Node) (id : ℕ) (ps : List Part) → length nodes ≤ id → ps ≡ [] → symbols_of_parts (written nodes) ps ≡ symbols_of_part (written nodes) (Whole id)
+pub whole_printed_behind : (nodes : List Node) (id : ℕ) (ps : List Part) → length nodes ≤ id → ps ≡ [] →
+    symbols_of_parts (written nodes) ps ≡ symbols_of_part (written nodes) (Whole id)
 unfolding symbols_of_part symbols_of_parts
-whole_printed_behind nodes id ps h q = ap (symbols_of_parts (written nodes)) q ∙ sym (ap (λ (t : Written). t.whole) (written_behind nodes id h))
+whole_printed_behind nodes id ps h q = ap (symbols_of_parts (written nodes)) q
+    ∙ sym (ap (λ (t : Written). t.whole) (written_behind nodes id h))
 
-pub bare_printed : (nodes : List Node) (id : ℕ) (node : Node) (ps : List Part) → ChildrenFirst 0 nodes → slice_get nodes id ≡ Some node → ps ≡ bare_parts node → symbols_of_parts (written nodes) ps ≡ symbols_of_part (written nodes) (Bare id)
+pub bare_printed : (nodes : List Node) (id : ℕ) (node : Node) (ps : List Part) → ChildrenFirst 0 nodes →
+    slice_get nodes id ≡ Some node → ps ≡ bare_parts node → symbols_of_parts (written nodes) ps ≡ symbols_of_part
+    (written nodes) (Bare id)
 unfolding symbols_of_part written_node
-bare_printed nodes id node ps first e q = ap (symbols_of_parts (written nodes)) q ∙ sym (ap (λ (t : Written). t.bare) (written_at nodes id node first e))
+bare_printed nodes id node ps first e q = ap (symbols_of_parts (written nodes)) q
+    ∙ sym (ap (λ (t : Written). t.bare) (written_at nodes id node first e))
 
-pub bare_printed_behind : (nodes : List Node) (id : ℕ) (ps : List Part) → length nodes ≤ id → ps ≡ [] → symbols_of_parts (written nodes) ps ≡ symbols_of_part (written nodes) (Bare id)
+pub bare_printed_behind : (nodes : List Node) (id : ℕ) (ps : List Part) → length nodes ≤ id → ps ≡ [] →
+    symbols_of_parts (written nodes) ps ≡ symbols_of_part (written nodes) (Bare id)
 unfolding symbols_of_part symbols_of_parts
-bare_printed_behind nodes id ps h q = ap (symbols_of_parts (written nodes)) q ∙ sym (ap (λ (t : Written). t.bare) (written_behind nodes id h))
+bare_printed_behind nodes id ps h q = ap (symbols_of_parts (written nodes)) q
+    ∙ sym (ap (λ (t : Written). t.bare) (written_behind nodes id h))
 
-pub whole_smaller : (nodes : List Node) (id : ℕ) (node : Node) (ps : List Part) → ChildrenFirst 0 nodes → slice_get nodes id ≡ Some node → ps ≡ parts_of node → work nodes ps < size_of_part (size nodes) (Whole id)
+pub whole_smaller : (nodes : List Node) (id : ℕ) (node : Node) (ps : List Part) → ChildrenFirst 0 nodes →
+    slice_get nodes id ≡ Some node → ps ≡ parts_of node → work nodes ps < size_of_part (size nodes) (Whole id)
 unfolding size_of_part size_of_node work
 whole_smaller nodes id node ps first e q =
-    let is : (size nodes id).whole ≡ size_of_parts (size nodes) (parts_of node) = ap (λ (t : Size). t.whole) (size_at nodes id node first e) in
-    let same : size_of_parts (size nodes) ps ≡ size_of_parts (size nodes) (parts_of node) = ap (size_of_parts (size nodes)) q in
+    let is : (size nodes id).whole ≡ size_of_parts (size nodes) (parts_of node) =
+    ap (λ (t : Size). t.whole) (size_at nodes id node first e) in
+    let same : size_of_parts (size nodes) ps ≡ size_of_parts (size nodes) (parts_of node) =
+    ap (size_of_parts (size nodes)) q in
     omega arith
 
-pub bare_smaller : (nodes : List Node) (id : ℕ) (node : Node) (ps : List Part) → ChildrenFirst 0 nodes → slice_get nodes id ≡ Some node → ps ≡ bare_parts node → work nodes ps < size_of_part (size nodes) (Bare id)
+pub bare_smaller : (nodes : List Node) (id : ℕ) (node : Node) (ps : List Part) → ChildrenFirst 0 nodes →
+    slice_get nodes id ≡ Some node → ps ≡ bare_parts node → work nodes ps < size_of_part (size nodes) (Bare id)
 unfolding size_of_part size_of_node work
 bare_smaller nodes id node ps first e q =
-    let is : (size nodes id).bare ≡ size_of_parts (size nodes) (bare_parts node) = ap (λ (t : Size). t.bare) (size_at nodes id node first e) in
-    let same : size_of_parts (size nodes) ps ≡ size_of_parts (size nodes) (bare_parts node) = ap (size_of_parts (size nodes)) q in
+    let is : (size nodes id).bare ≡ size_of_parts (size nodes) (bare_parts node) =
+    ap (λ (t : Size). t.bare) (size_at nodes id node first e) in
+    let same : size_of_parts (size nodes) ps ≡ size_of_parts (size nodes) (bare_parts node) =
+    ap (size_of_parts (size nodes)) q in
     omega arith
 
 -- where nothing is left to print, some part was smaller work
-pub none_smaller : (nodes : List Node) (part : Part) (ps : List Part) → ps ≡ [] → work nodes ps < size_of_part (size nodes) part
+pub none_smaller : (nodes : List Node) (part : Part) (ps : List Part) → ps ≡ [] →
+    work nodes ps < size_of_part (size nodes) part
 unfolding size_of_part size_of_parts work
-none_smaller nodes (Whole id) ps q = let same : size_of_parts (size nodes) ps ≡ 0 = ap (size_of_parts (size nodes)) q in omega arith
-none_smaller nodes (Bare id) ps q = let same : size_of_parts (size nodes) ps ≡ 0 = ap (size_of_parts (size nodes)) q in omega arith
-none_smaller nodes (Named w) ps q = let same : size_of_parts (size nodes) ps ≡ 0 = ap (size_of_parts (size nodes)) q in omega arith
-none_smaller nodes (Quoted w) ps q = let same : size_of_parts (size nodes) ps ≡ 0 = ap (size_of_parts (size nodes)) q in omega arith
-none_smaller nodes (Word n) ps q = let same : size_of_parts (size nodes) ps ≡ 0 = ap (size_of_parts (size nodes)) q in omega arith
-none_smaller nodes (Sign n) ps q = let same : size_of_parts (size nodes) ps ≡ 0 = ap (size_of_parts (size nodes)) q in omega arith
-none_smaller nodes (Digits n) ps q = let same : size_of_parts (size nodes) ps ≡ 0 = ap (size_of_parts (size nodes)) q in omega arith
+none_smaller nodes (Whole id) ps q = let same : size_of_parts (size nodes) ps ≡ 0 = ap (size_of_parts (size nodes)) q in
+    omega arith
+none_smaller nodes (Bare id) ps q = let same : size_of_parts (size nodes) ps ≡ 0 = ap (size_of_parts (size nodes)) q in
+    omega arith
+none_smaller nodes (Named w) ps q = let same : size_of_parts (size nodes) ps ≡ 0 = ap (size_of_parts (size nodes)) q in
+    omega arith
+none_smaller nodes (Quoted w) ps q = let same : size_of_parts (size nodes) ps ≡ 0 = ap (size_of_parts (size nodes)) q in
+    omega arith
+none_smaller nodes (Word n) ps q = let same : size_of_parts (size nodes) ps ≡ 0 = ap (size_of_parts (size nodes)) q in
+    omega arith
+none_smaller nodes (Sign n) ps q = let same : size_of_parts (size nodes) ps ≡ 0 = ap (size_of_parts (size nodes)) q in
+    omega arith
+none_smaller nodes (Digits n) ps q = let same : size_of_parts (size nodes) ps ≡ 0 = ap (size_of_parts (size nodes)) q in
+    omega arith
 
 -- a part that is one lexeme
-pub lexeme_printed : (w : ℕ → Written) (part : Part) (s : Symbol) (ps : List Part) (old new : List ℕ) → symbols_of_part w part ≡ s ∷ [] → ps ≡ [] → new ≡ old ++ canonical (s ∷ []) → new ++ canonical (symbols_of_parts w ps) ≡ old ++ canonical (symbols_of_part w part)
+pub lexeme_printed : (w : ℕ → Written) (part : Part) (s : Symbol) (ps : List Part) (old new : List ℕ) →
+    symbols_of_part w part ≡ s ∷ [] → ps ≡ [] → new ≡ old ++ canonical (s ∷ []) → new
+    ++ canonical (symbols_of_parts w ps) ≡ old ++ canonical (symbols_of_part w part)
 unfolding symbols_of_parts canonical
-lexeme_printed w part s ps old new is q r = ap (λ (t : List Part). new ++ canonical (symbols_of_parts w t)) q ∙ append-nil new ∙ r ∙ ap (λ (t : List Symbol). old ++ canonical t) (sym is)
+lexeme_printed w part s ps old new is q r = ap (λ (t : List Part). new ++ canonical (symbols_of_parts w t)) q
+    ∙ append-nil new ∙ r ∙ ap (λ (t : List Symbol). old ++ canonical t) (sym is)
 
 -- ---- one step of the printing of all that waits
 
-pub step_printed : (nodes : List Node) (popped waiting : List Part) (part : Part) (ps : List Part) (old new : List ℕ) → popped ≡ waiting ++ part ∷ [] → new ++ canonical (symbols_of_parts (written nodes) ps) ≡ old ++ canonical (symbols_of_part (written nodes) part) → new ++ canonical (pending nodes (waiting ++ reverse ps)) ≡ old ++ canonical (pending nodes popped)
+pub step_printed : (nodes : List Node) (popped waiting : List Part) (part : Part) (ps : List Part) (old new : List ℕ) →
+    popped ≡ waiting ++ part ∷ [] → new ++ canonical (symbols_of_parts (written nodes) ps) ≡ old
+    ++ canonical (symbols_of_part (written nodes) part) → new ++ canonical (pending nodes (waiting ++ reverse ps)) ≡ old
+    ++ canonical (pending nodes popped)
 step_printed nodes popped waiting part ps old new q r =
-    let a : canonical (pending nodes (waiting ++ reverse ps)) ≡ canonical (symbols_of_parts (written nodes) ps) ++ canonical (pending nodes waiting) = ap canonical (pending-turned nodes waiting ps) ∙ canonical-append (symbols_of_parts (written nodes) ps) (pending nodes waiting) in
-    let b : canonical (pending nodes popped) ≡ canonical (symbols_of_part (written nodes) part) ++ canonical (pending nodes waiting) = ap (λ (t : List Part). canonical (pending nodes t)) q ∙ ap canonical (pending-put nodes waiting part) ∙ canonical-append (symbols_of_part (written nodes) part) (pending nodes waiting) in
-    ap (λ (t : List ℕ). new ++ t) a ∙ sym (append_assoc new (canonical (symbols_of_parts (written nodes) ps)) (canonical (pending nodes waiting))) ∙ ap (λ (t : List ℕ). t ++ canonical (pending nodes waiting)) r ∙ append_assoc old (canonical (symbols_of_part (written nodes) part)) (canonical (pending nodes waiting)) ∙ ap (λ (t : List ℕ). old ++ t) (sym b)
+    let a : canonical (pending nodes (waiting ++ reverse ps)) ≡ canonical (symbols_of_parts (written nodes) ps)
+    ++ canonical (pending nodes waiting) = ap canonical (pending-turned nodes waiting ps)
+    ∙ canonical-append (symbols_of_parts (written nodes) ps) (pending nodes waiting) in
+    let b : canonical (pending nodes popped) ≡ canonical (symbols_of_part (written nodes) part)
+    ++ canonical (pending nodes waiting) = ap (λ (t : List Part). canonical (pending nodes t)) q
+    ∙ ap canonical (pending-put nodes waiting part) ∙ canonical-append (symbols_of_part (written nodes) part)
+    (pending nodes waiting) in
+    ap (λ (t : List ℕ). new ++ t) a
+    ∙ sym (append_assoc new (canonical (symbols_of_parts (written nodes) ps)) (canonical (pending nodes waiting)))
+    ∙ ap (λ (t : List ℕ). t ++ canonical (pending nodes waiting)) r
+    ∙ append_assoc old (canonical (symbols_of_part (written nodes) part)) (canonical (pending nodes waiting))
+    ∙ ap (λ (t : List ℕ). old ++ t) (sym b)
 
-pub step_smaller : (nodes : List Node) (popped waiting : List Part) (part : Part) (ps : List Part) → popped ≡ waiting ++ part ∷ [] → work nodes ps < size_of_part (size nodes) part → work nodes (waiting ++ reverse ps) < work nodes popped
+pub step_smaller : (nodes : List Node) (popped waiting : List Part) (part : Part) (ps : List Part) → popped ≡ waiting
+    ++ part ∷ [] → work nodes ps < size_of_part (size nodes) part →
+    work nodes (waiting ++ reverse ps) < work nodes popped
 step_smaller nodes popped waiting part ps q h =
     let a = work-turned nodes waiting ps in
-    let b : work nodes popped ≡ size_of_part (size nodes) part + work nodes waiting = ap (work nodes) q ∙ work-put nodes waiting part in
+    let b : work nodes popped ≡ size_of_part (size nodes) part + work nodes waiting = ap (work nodes) q
+    ∙ work-put nodes waiting part in
     omega arith
 
 -- where nothing waits, all is printed
-pub all_printed : (nodes : List Node) (waiting : List Part) (text whole : List ℕ) → waiting ≡ [] → text ++ canonical (pending nodes waiting) ≡ whole → text ≡ whole
+pub all_printed : (nodes : List Node) (waiting : List Part) (text whole : List ℕ) → waiting ≡ [] → text
+    ++ canonical (pending nodes waiting) ≡ whole → text ≡ whole
 unfolding pending canonical
-all_printed nodes waiting text whole none h = sym (ap (λ (t : List Part). text ++ canonical (pending nodes t)) none ∙ append-nil text) ∙ h
+all_printed nodes waiting text whole none h =
+    sym (ap (λ (t : List Part). text ++ canonical (pending nodes t)) none ∙ append-nil text) ∙ h
 
 -- the text of a file is what its classes leave to be printed
-pub file_printed : (forest : Forest) (file : ℕ) (ids : List ℕ) (parts waiting : List Part) (text : List ℕ) → slice_get forest.files file ≡ Some ids → parts ≡ each ids → waiting ≡ reverse parts → text ≡ canonical (pending forest.nodes waiting) → text ≡ text_of_file forest file
+pub file_printed : (forest : Forest) (file : ℕ) (ids : List ℕ) (parts waiting : List Part) (text : List ℕ) →
+    slice_get forest.files file ≡ Some ids → parts ≡ each ids → waiting ≡ reverse parts →
+    text ≡ canonical (pending forest.nodes waiting) → text ≡ text_of_file forest file
 unfolding text_of_file symbols_of pending
 file_printed forest file ids parts waiting text e p w t =
     let there : slice_index_or forest.files file [] ≡ ids = get_or_from_slice_get forest.files file ids [] e in
-    let turned : pending forest.nodes waiting ≡ symbols_of_parts (written forest.nodes) parts = ap (pending forest.nodes) w ∙ pending-turned forest.nodes [] parts ∙ append-nil (symbols_of_parts (written forest.nodes) parts) in
-    t ∙ ap canonical turned ∙ ap (λ (u : List Part). canonical (symbols_of_parts (written forest.nodes) u)) p ∙ ap (λ (u : List ℕ). canonical (symbols_of_parts (written forest.nodes) (each u))) (sym there)
+    let turned : pending forest.nodes waiting ≡ symbols_of_parts (written forest.nodes) parts =
+    ap (pending forest.nodes) w ∙ pending-turned forest.nodes [] parts
+    ∙ append-nil (symbols_of_parts (written forest.nodes) parts) in
+    t ∙ ap canonical turned ∙ ap (λ (u : List Part). canonical (symbols_of_parts (written forest.nodes) u)) p
+    ∙ ap (λ (u : List ℕ). canonical (symbols_of_parts (written forest.nodes) (each u))) (sym there)

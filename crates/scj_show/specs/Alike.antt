@@ -20,7 +20,8 @@ counted ids = map (λ (id : ℕ). 0) ids
 -- a node without its places and without the numbers of its children
 unfoldable pub shape : Node → Node
 shape (Class place name flags header members) = Class nowhere name (there flags) (there header) (counted members)
-shape (Flags place define_scope scope runs_in is_static is_abstract is_synchronized) = Flags nowhere (there define_scope) (there scope) (there runs_in) is_static is_abstract is_synchronized
+shape (Flags place define_scope scope runs_in is_static is_abstract is_synchronized) =
+    Flags nowhere (there define_scope) (there scope) (there runs_in) is_static is_abstract is_synchronized
 shape (DefineScope place first second parent_first) = DefineScope nowhere 0 0 false
 shape (ScopeName place name) = ScopeName nowhere name
 shape (Supers place superclass interfaces) = Supers nowhere (there superclass) (counted interfaces)
@@ -32,15 +33,18 @@ shape (ClassType place name argument is_array) = ClassType nowhere name (there a
 shape (VoidType place) = VoidType nowhere
 shape (LongType place) = LongType nowhere
 shape (Field place name flags declared_type equals value) = Field nowhere name (there flags) 0 None (there value)
-shape (Method place name flags result_type parameters body) = Method nowhere name (there flags) 0 (there parameters) (there body)
-shape (Constructor place name flags parameters super_call body) = Constructor nowhere name (there flags) (there parameters) (there super_call) 0
+shape (Method place name flags result_type parameters body) =
+    Method nowhere name (there flags) 0 (there parameters) (there body)
+shape (Constructor place name flags parameters super_call body) =
+    Constructor nowhere name (there flags) (there parameters) (there super_call) 0
 shape (Parameters place list) = Parameters nowhere (counted list)
 shape (Parameter place name flags declared_type) = Parameter nowhere name (there flags) 0
 shape (SuperCall place arguments) = SuperCall nowhere (counted arguments)
 shape (Block place statements) = Block nowhere (counted statements)
 shape (Empty place) = Empty nowhere
 shape (Local place name flags declared_type) = Local nowhere name (there flags) 0
-shape (LocalWithValue place name_place name flags declared_type value) = LocalWithValue nowhere nowhere name (there flags) 0 0
+shape (LocalWithValue place name_place name flags declared_type value) =
+    LocalWithValue nowhere nowhere name (there flags) 0 0
 shape (Assign place target value) = Assign nowhere 0 0
 shape (ExpressionStatement place expression) = ExpressionStatement nowhere 0
 shape (If place condition then_part else_part) = If nowhere 0 0 (there else_part)
@@ -72,7 +76,8 @@ in_order node = children node
 mutual
   -- the node x among N and the node y among M are the same, and so are their children in order
   pub data Alike (N M : List Node) : ℕ → ℕ → Type 0 where
-    alike : {x y : ℕ} {a b : Node} → slice_get N x ≡ Some a → slice_get M y ≡ Some b → shape a ≡ shape b → AllAlike N M (in_order a) (in_order b) → Alike N M x y
+    alike : {x y : ℕ} {a b : Node} → slice_get N x ≡ Some a → slice_get M y ≡ Some b → shape a ≡ shape b →
+        AllAlike N M (in_order a) (in_order b) → Alike N M x y
 
   pub data AllAlike (N M : List Node) : List ℕ → List ℕ → Type 0 where
     none_alike : AllAlike N M [] []

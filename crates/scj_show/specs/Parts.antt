@@ -35,10 +35,13 @@ word_if_set true word = Word word ∷ []
 -- an annotation with the name of a scope, which may be missing
 unfoldable pub annotation : List ℕ → Option ℕ → List Part
 annotation name None = []
-annotation name (Some id) = Sign sign_at ∷ Named name ∷ Sign sign_left_parenthesis ∷ Whole id ∷ Sign sign_right_parenthesis ∷ []
+annotation name (Some id) = Sign sign_at ∷ Named name ∷ Sign sign_left_parenthesis ∷ Whole id
+    ∷ Sign sign_right_parenthesis ∷ []
 
 unfoldable pub scope_definition : ℕ → ℕ → List Part
-scope_definition name parent = Sign sign_at ∷ Named (codes "DefineScope") ∷ Sign sign_left_parenthesis ∷ Named (codes "name") ∷ Sign sign_assign ∷ Whole name ∷ Sign sign_comma ∷ Named (codes "parent") ∷ Sign sign_assign ∷ Whole parent ∷ Sign sign_right_parenthesis ∷ []
+scope_definition name parent = Sign sign_at ∷ Named (codes "DefineScope") ∷ Sign sign_left_parenthesis
+    ∷ Named (codes "name") ∷ Sign sign_assign ∷ Whole name ∷ Sign sign_comma ∷ Named (codes "parent") ∷ Sign sign_assign
+    ∷ Whole parent ∷ Sign sign_right_parenthesis ∷ []
 
 -- a type argument with its brackets, which may be missing
 unfoldable pub argument_in_brackets : Option ℕ → List Part
@@ -98,23 +101,33 @@ sign_if_set true sign = Sign sign ∷ []
 -- ---- the productions of more than two steps
 
 unfoldable pub class_parts : List ℕ → Option ℕ → Option ℕ → List ℕ → List Part
-class_parts name flags header members = maybe flags ++ ((Word word_class ∷ Named name ∷ []) ++ (maybe header ++ ((Sign sign_left_brace ∷ []) ++ (each members ++ Sign sign_right_brace ∷ []))))
+class_parts name flags header members =
+    maybe flags
+    ++ ((Word word_class ∷ Named name ∷ [])
+    ++ (maybe header ++ ((Sign sign_left_brace ∷ []) ++ (each members ++ Sign sign_right_brace ∷ []))))
 
 -- flags in one order, whichever stood in the source
 unfoldable pub flag_parts : Option ℕ → Option ℕ → Option ℕ → Bool → Bool → Bool → List Part
-flag_parts define_scope scope runs_in is_static is_abstract is_synchronized = maybe define_scope ++ (annotation (codes "Scope") scope ++ (annotation (codes "RunsIn") runs_in ++ (word_if_set is_static word_static ++ (word_if_set is_abstract word_abstract ++ word_if_set is_synchronized word_synchronized))))
+flag_parts define_scope scope runs_in is_static is_abstract is_synchronized = maybe define_scope
+    ++ (annotation (codes "Scope") scope
+    ++ (annotation (codes "RunsIn") runs_in
+    ++ (word_if_set is_static word_static
+    ++ (word_if_set is_abstract word_abstract ++ word_if_set is_synchronized word_synchronized))))
 
 unfoldable pub class_type_parts : List ℕ → Option ℕ → Bool → List Part
 class_type_parts name argument is_array = (Named name ∷ []) ++ (argument_in_brackets argument ++ brackets is_array)
 
 unfoldable pub field_parts : List ℕ → Option ℕ → ℕ → Option ℕ → List Part
-field_parts name flags declared_type value = maybe flags ++ ((Whole declared_type ∷ Named name ∷ []) ++ (assigned value ++ Sign sign_semicolon ∷ []))
+field_parts name flags declared_type value =
+    maybe flags ++ ((Whole declared_type ∷ Named name ∷ []) ++ (assigned value ++ Sign sign_semicolon ∷ []))
 
 unfoldable pub method_parts : List ℕ → Option ℕ → ℕ → Option ℕ → Option ℕ → List Part
-method_parts name flags result_type parameters body = maybe flags ++ ((Whole result_type ∷ Named name ∷ []) ++ (parameters_or_none parameters ++ body_or_semicolon body))
+method_parts name flags result_type parameters body =
+    maybe flags ++ ((Whole result_type ∷ Named name ∷ []) ++ (parameters_or_none parameters ++ body_or_semicolon body))
 
 unfoldable pub constructor_parts : List ℕ → Option ℕ → Option ℕ → Option ℕ → ℕ → List Part
-constructor_parts name flags parameters super_call body = maybe flags ++ ((Named name ∷ []) ++ (parameters_or_none parameters ++ body_with_call super_call body))
+constructor_parts name flags parameters super_call body =
+    maybe flags ++ ((Named name ∷ []) ++ (parameters_or_none parameters ++ body_with_call super_call body))
 
 unfoldable pub super_call_parts : List ℕ → List Part
 super_call_parts arguments = (Word word_super ∷ []) ++ (in_parentheses arguments ++ Sign sign_semicolon ∷ [])
@@ -134,8 +147,10 @@ call_parts name object arguments = object_and_dot object ++ ((Named name ∷ [])
 -- the parts of a node; an assignment with the `;` that makes it a statement
 unfoldable pub parts_of : Node → List Part
 parts_of (Class place name flags header members) = class_parts name flags header members
-parts_of (Flags place define_scope scope runs_in is_static is_abstract is_synchronized) = flag_parts define_scope scope runs_in is_static is_abstract is_synchronized
-parts_of (DefineScope place first second parent_first) = if parent_first then scope_definition second first else scope_definition first second
+parts_of (Flags place define_scope scope runs_in is_static is_abstract is_synchronized) =
+    flag_parts define_scope scope runs_in is_static is_abstract is_synchronized
+parts_of (DefineScope place first second parent_first) =
+    if parent_first then scope_definition second first else scope_definition first second
 parts_of (ScopeName place name) = Quoted name ∷ []
 parts_of (Supers place superclass interfaces) = extended superclass ++ implemented interfaces
 parts_of (SuperType place name argument) = (Named name ∷ []) ++ argument_in_brackets argument
@@ -147,30 +162,39 @@ parts_of (VoidType place) = Word word_void ∷ []
 parts_of (LongType place) = Word word_long ∷ []
 parts_of (Field place name flags declared_type equals value) = field_parts name flags declared_type value
 parts_of (Method place name flags result_type parameters body) = method_parts name flags result_type parameters body
-parts_of (Constructor place name flags parameters super_call body) = constructor_parts name flags parameters super_call body
+parts_of (Constructor place name flags parameters super_call body) =
+    constructor_parts name flags parameters super_call body
 parts_of (Parameters place list) = in_parentheses list
 parts_of (Parameter place name flags declared_type) = maybe flags ++ (Whole declared_type ∷ Named name ∷ [])
 parts_of (SuperCall place arguments) = super_call_parts arguments
 parts_of (Block place statements) = (Sign sign_left_brace ∷ []) ++ block_end statements
 parts_of (Empty place) = Sign sign_semicolon ∷ []
-parts_of (Local place name flags declared_type) = maybe flags ++ (Whole declared_type ∷ Named name ∷ Sign sign_semicolon ∷ [])
-parts_of (LocalWithValue place name_place name flags declared_type value) = maybe flags ++ (Whole declared_type ∷ Named name ∷ Sign sign_assign ∷ Whole value ∷ Sign sign_semicolon ∷ [])
+parts_of (Local place name flags declared_type) =
+    maybe flags ++ (Whole declared_type ∷ Named name ∷ Sign sign_semicolon ∷ [])
+parts_of (LocalWithValue place name_place name flags declared_type value) =
+    maybe flags ++ (Whole declared_type ∷ Named name ∷ Sign sign_assign ∷ Whole value ∷ Sign sign_semicolon ∷ [])
 parts_of (Assign place target value) = Whole target ∷ Sign sign_assign ∷ Whole value ∷ Sign sign_semicolon ∷ []
 parts_of (ExpressionStatement place expression) = Whole expression ∷ Sign sign_semicolon ∷ []
-parts_of (If place condition then_part else_part) = (Word word_if ∷ Sign sign_left_parenthesis ∷ Whole condition ∷ Sign sign_right_parenthesis ∷ Whole then_part ∷ []) ++ alternative else_part
-parts_of (While place condition body) = Word word_while ∷ Sign sign_left_parenthesis ∷ Whole condition ∷ Sign sign_right_parenthesis ∷ Whole body ∷ []
-parts_of (For place first condition step body) = Word word_for ∷ Sign sign_left_parenthesis ∷ Whole first ∷ Whole condition ∷ Sign sign_semicolon ∷ Bare step ∷ Sign sign_right_parenthesis ∷ Whole body ∷ []
+parts_of (If place condition then_part else_part) =
+    (Word word_if ∷ Sign sign_left_parenthesis ∷ Whole condition ∷ Sign sign_right_parenthesis ∷ Whole then_part ∷ [])
+    ++ alternative else_part
+parts_of (While place condition body) = Word word_while ∷ Sign sign_left_parenthesis ∷ Whole condition
+    ∷ Sign sign_right_parenthesis ∷ Whole body ∷ []
+parts_of (For place first condition step body) = Word word_for ∷ Sign sign_left_parenthesis ∷ Whole first
+    ∷ Whole condition ∷ Sign sign_semicolon ∷ Bare step ∷ Sign sign_right_parenthesis ∷ Whole body ∷ []
 parts_of (Return place value) = return_parts value
 parts_of (Binary place operator left right) = Whole left ∷ Sign operator ∷ Whole right ∷ []
 parts_of (Unary place operator operand) = Sign operator ∷ Whole operand ∷ []
-parts_of (Cast place name_place name operand) = Sign sign_left_parenthesis ∷ Named name ∷ Sign sign_right_parenthesis ∷ Whole operand ∷ []
+parts_of (Cast place name_place name operand) = Sign sign_left_parenthesis ∷ Named name ∷ Sign sign_right_parenthesis
+    ∷ Whole operand ∷ []
 parts_of (Parenthesized place inner) = Sign sign_left_parenthesis ∷ Whole inner ∷ Sign sign_right_parenthesis ∷ []
 parts_of (SimpleName place name) = Named name ∷ []
 parts_of (FieldAccess place name object) = Whole object ∷ Sign sign_dot ∷ Named name ∷ []
 parts_of (Call place name object arguments) = call_parts name object arguments
 parts_of (Element place array index) = Whole array ∷ Sign sign_left_bracket ∷ Whole index ∷ Sign sign_right_bracket ∷ []
 parts_of (New place name_place name arguments) = (Word word_new ∷ Named name ∷ []) ++ in_parentheses arguments
-parts_of (NewArray place element length) = Word word_new ∷ Whole element ∷ Sign sign_left_bracket ∷ Whole length ∷ Sign sign_right_bracket ∷ []
+parts_of (NewArray place element length) = Word word_new ∷ Whole element ∷ Sign sign_left_bracket ∷ Whole length
+    ∷ Sign sign_right_bracket ∷ []
 parts_of (Text place text) = []
 parts_of (Number place value is_negative) = sign_if_set is_negative sign_minus ++ (Digits value ∷ [])
 parts_of (True place) = Word word_true ∷ []

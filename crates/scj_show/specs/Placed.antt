@@ -42,8 +42,10 @@ printed s = bytes_of s ++ separator s ∷ []
 -- the tokens and the lexemes of a canonical text that stands behind some bytes of a file, and the end
 unfoldable pub tokens_behind : ℕ → List ℕ → List Symbol → List Token
 tokens_behind file before [] = token_at file before End 0 ∷ []
-tokens_behind file before (s ∷ ss) = token_at file before (kind_of s) (length (bytes_of s)) ∷ tokens_behind file (before ++ printed s) ss
+tokens_behind file before (s ∷ ss) = token_at file before (kind_of s) (length (bytes_of s))
+    ∷ tokens_behind file (before ++ printed s) ss
 
 unfoldable pub lexemes_behind : ℕ → List ℕ → List Symbol → List Lexeme
 lexemes_behind file before [] = the_end (place_behind file before) ∷ []
-lexemes_behind file before (s ∷ ss) = lexeme_at s (place_behind file before) ∷ lexemes_behind file (before ++ printed s) ss
+lexemes_behind file before (s ∷ ss) = lexeme_at s (place_behind file before)
+    ∷ lexemes_behind file (before ++ printed s) ss

@@ -24,7 +24,8 @@ pub record WasReadFrom (forest : Forest) (file : ℕ) (source : List ℕ) : Type
   pub others : List Node
   pub whole : forest.nodes ≡ nodes ++ others
 
--- the text lexes, and from the nodes `before` its lexemes are a file whose classes are the same as the classes ids among N
+-- the text lexes, and from the nodes `before` its lexemes are a file whose classes are the same as the classes ids
+-- among N
 pub record IsRead (N : List Node) (ids text : List ℕ) (file : ℕ) (before : List Node) : Type 0 where
   pub tokens : List Token
   pub lex : Lex file text tokens
@@ -36,4 +37,5 @@ pub record IsRead (N : List Node) (ids text : List ℕ) (file : ℕ) (before : L
 -- the text is read as the file, from whatever source that was read, whichever number the text's file is given and
 -- whatever nodes there are before
 pub record IsReadAsFile (forest : Forest) (file : ℕ) (text : List ℕ) : Type 0 where
-  pub read : (source : List ℕ) → WasReadFrom forest file source → (number : ℕ) (before : List Node) → IsRead forest.nodes (classes_of forest file) text number before
+  pub read : (source : List ℕ) → WasReadFrom forest file source → (number : ℕ) (before : List Node) →
+      IsRead forest.nodes (classes_of forest file) text number before

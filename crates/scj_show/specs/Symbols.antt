@@ -68,7 +68,12 @@ nothing = record { whole = []; bare = [] }
 
 unfoldable pub written_node : (ℕ → Written) → Option Node → Written
 written_node sub None = nothing
-written_node sub (Some node) = record { whole = own_symbols node ++ symbols_of_parts sub (parts_of node); bare = symbols_of_parts sub (bare_parts node) }
+written_node sub (Some node) =
+    record {
+      whole = own_symbols node ++ symbols_of_parts sub (parts_of node);
+      bare = symbols_of_parts sub
+          (bare_parts node);
+    }
 
 unfoldable pub written : List Node → ℕ → Written
 written nodes = by_smaller nothing (λ id sub. written_node sub (slice_get nodes id))

@@ -32,7 +32,8 @@ size_of_parts sub (part ∷ parts) = size_of_part sub part + size_of_parts sub p
 
 unfoldable pub size_of_node : (ℕ → Size) → Option Node → Size
 size_of_node sub None = record { whole = 0; bare = 0 }
-size_of_node sub (Some node) = record { whole = size_of_parts sub (parts_of node); bare = size_of_parts sub (bare_parts node) }
+size_of_node sub (Some node) =
+    record { whole = size_of_parts sub (parts_of node); bare = size_of_parts sub (bare_parts node) }
 
 unfoldable pub size : List Node → ℕ → Size
 size nodes = by_smaller (record { whole = 0; bare = 0 }) (λ id sub. size_of_node sub (slice_get nodes id))

@@ -68,9 +68,11 @@ fn print_part(
     text: &mut Vec<u8>,
 ) -> Result<(), Memory>
     requires { parts.old.items ≡ [] }
-    ensures printed { OnOk result (text.new.items ++ canonical (symbols_of_parts (written program.now.nodes) parts.new.items)
+    ensures printed { OnOk result
+        (text.new.items ++ canonical (symbols_of_parts (written program.now.nodes) parts.new.items)
         ≡ text.old.items ++ canonical (symbols_of_part (written program.now.nodes) part)) }
-    ensures smaller { OnOk result (work program.now.nodes parts.new.items < size_of_part (size program.now.nodes) part) }
+    ensures smaller { OnOk result
+        (work program.now.nodes parts.new.items < size_of_part (size program.now.nodes) part) }
 {
     match part {
         Part::Whole(id) => print_node(program, id, parts, text)?,
@@ -92,9 +94,11 @@ fn print_node(
     text: &mut Vec<u8>,
 ) -> Result<(), Memory>
     requires { parts.old.items ≡ [] }
-    ensures printed { OnOk result (text.new.items ++ canonical (symbols_of_parts (written program.now.nodes) parts.new.items)
+    ensures printed { OnOk result
+        (text.new.items ++ canonical (symbols_of_parts (written program.now.nodes) parts.new.items)
         ≡ text.old.items ++ canonical (symbols_of_part (written program.now.nodes) (Part.Whole id))) }
-    ensures smaller { OnOk result (work program.now.nodes parts.new.items < size_of_part (size program.now.nodes) (Part.Whole id)) }
+    ensures smaller { OnOk result
+        (work program.now.nodes parts.new.items < size_of_part (size program.now.nodes) (Part.Whole id)) }
 {
     if id.place() >= program.len() {
         return Ok(());
@@ -110,7 +114,8 @@ fn print_bare(program: &Program, id: NodeId, parts: &mut Vec<Part>) -> Result<()
     requires { parts.old.items ≡ [] }
     ensures printed { OnOk result (symbols_of_parts (written program.now.nodes) parts.new.items
         ≡ symbols_of_part (written program.now.nodes) (Part.Bare id)) }
-    ensures smaller { OnOk result (work program.now.nodes parts.new.items < size_of_part (size program.now.nodes) (Part.Bare id)) }
+    ensures smaller { OnOk result
+        (work program.now.nodes parts.new.items < size_of_part (size program.now.nodes) (Part.Bare id)) }
 {
     if id.place() >= program.len() {
         return Ok(());

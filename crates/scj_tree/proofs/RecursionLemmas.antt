@@ -3,12 +3,14 @@ use Rattle.std.proofs.Common.{◌≡◌, ℕ, ◌+◌, ◌-◌, ◌<◌, ◌≤�
 use Rattle.scj_tree.specs.Recursion.{below, above, lookup, listed, bottom_up, by_smaller, top_down, by_larger}
 use Rattle.std.proofs.lemmas.Bool.Decides.{nat_tests}
 
-pub lookup-front : {A : Type 0} (default : A) (xs ys : List A) (n : ℕ) → n < length xs → lookup default (xs ++ ys) n ≡ lookup default xs n
+pub lookup-front : {A : Type 0} (default : A) (xs ys : List A) (n : ℕ) → n < length xs →
+    lookup default (xs ++ ys) n ≡ lookup default xs n
 lookup-front default [] ys n h = absurd (omega (arith, h))
 lookup-front default (x ∷ xs) ys zero h = refl
 lookup-front default (x ∷ xs) ys (suc n) h = lookup-front default xs ys n (omega (arith, h))
 
-pub lookup-next : {A : Type 0} (default : A) (xs : List A) (x : A) (n : ℕ) → length xs ≡ n → lookup default (xs ++ x ∷ []) n ≡ x
+pub lookup-next : {A : Type 0} (default : A) (xs : List A) (x : A) (n : ℕ) → length xs ≡ n →
+    lookup default (xs ++ x ∷ []) n ≡ x
 lookup-next default [] x zero h = refl
 lookup-next default [] x (suc n) h = absurd (omega (arith, h))
 lookup-next default (y ∷ xs) x zero h = absurd (omega (arith, h))
@@ -19,7 +21,8 @@ lookup-behind default [] n h = refl
 lookup-behind default (x ∷ xs) zero h = absurd (omega (arith, h))
 lookup-behind default (x ∷ xs) (suc n) h = lookup-behind default xs n (omega (arith, h))
 
-pub length-bottom_up : {A : Type 0} (default : A) (step : ℕ → (ℕ → A) → A) (n : ℕ) → length (bottom_up default step n) ≡ n
+pub length-bottom_up : {A : Type 0} (default : A) (step : ℕ → (ℕ → A) → A) (n : ℕ) →
+    length (bottom_up default step n) ≡ n
 unfolding bottom_up
 length-bottom_up default step zero = refl
 length-bottom_up default step (suc n) = rw length-append (omega (arith, length-bottom_up default step n))
@@ -32,38 +35,48 @@ below-or-not k n = go (nat_lt k n) refl
     go false e = inr (e, grind (arith, nat_tests))
 
 -- a list that is made bottom up holds at each place what is said of that number alone
-pub bottom_up-at : {A : Type 0} (default : A) (step : ℕ → (ℕ → A) → A) (n k : ℕ) → k < n → lookup default (bottom_up default step n) k ≡ by_smaller default step k
+pub bottom_up-at : {A : Type 0} (default : A) (step : ℕ → (ℕ → A) → A) (n k : ℕ) → k < n →
+    lookup default (bottom_up default step n) k ≡ by_smaller default step k
 unfolding bottom_up
 bottom_up-at default step zero k h = absurd (omega (arith, h))
 bottom_up-at {A} default step (suc n) k h =
     ⊎_elim
-    (λ (l : (nat_lt k n ≡ true) × (k < n)). lookup-front default (bottom_up default step n) _ k (omega (arith, length-bottom_up default step n, l.1)) ∙ bottom_up-at default step n k l.1)
+    (λ (l : (nat_lt k n ≡ true) × (k < n)). lookup-front default (bottom_up default step n) _ k
+    (omega (arith, length-bottom_up default step n, l.1)) ∙ bottom_up-at default step n k l.1)
     (λ (m : (nat_lt k n ≡ false) × (n ≤ k)).
     let e : n ≡ k = omega (arith, h, m.1) in
-    (let P : ℕ → Type 0 = λ (j : ℕ). lookup default (bottom_up default step (suc n)) j ≡ by_smaller default step j in subst P e refl))
+    (let P : ℕ → Type 0 = λ (j : ℕ). lookup default (bottom_up default step (suc n)) j ≡ by_smaller default step j in
+    subst P e refl))
     (below-or-not k n)
 
 -- the whole of such a list, as a function: what is said of the numbers below its length
-pub bottom_up-below : {A : Type 0} (default : A) (step : ℕ → (ℕ → A) → A) (n k : ℕ) → lookup default (bottom_up default step n) k ≡ below default n (by_smaller default step) k
+pub bottom_up-below : {A : Type 0} (default : A) (step : ℕ → (ℕ → A) → A) (n k : ℕ) →
+    lookup default (bottom_up default step n) k ≡ below default n (by_smaller default step) k
 bottom_up-below default step n k =
     ⊎_elim
     (λ (l : (nat_lt k n ≡ true) × (k < n)). rw l.0 (bottom_up-at default step n k l.1))
-    (λ (m : (nat_lt k n ≡ false) × (n ≤ k)). rw m.0 (lookup-behind default (bottom_up default step n) k (omega (arith, length-bottom_up default step n, m.1))))
+    (λ (m : (nat_lt k n ≡ false) × (n ≤ k)). rw m.0
+    (lookup-behind default (bottom_up default step n) k (omega (arith, length-bottom_up default step n, m.1))))
     (below-or-not k n)
 
 -- bottom up, a number is told what is said of the smaller ones
-pub by_smaller-is : {A : Type 0} (default : A) (step : ℕ → (ℕ → A) → A) (n : ℕ) → by_smaller default step n ≡ step n (below default n (by_smaller default step))
+pub by_smaller-is : {A : Type 0} (default : A) (step : ℕ → (ℕ → A) → A) (n : ℕ) →
+    by_smaller default step n ≡ step n (below default n (by_smaller default step))
 unfolding bottom_up
 by_smaller-is default step n =
-    lookup-next default (bottom_up default step n) _ n (length-bottom_up default step n) ∙ ap (step n) (λ i k. bottom_up-below default step n k i)
+    lookup-next default (bottom_up default step n) _ n (length-bottom_up default step n)
+    ∙ ap (step n) (λ i k. bottom_up-below default step n k i)
 
-pub length-top_down : {A : Type 0} (default : A) (step : ℕ → (ℕ → A) → A) (first count : ℕ) → length (top_down default step first count) ≡ count
+pub length-top_down : {A : Type 0} (default : A) (step : ℕ → (ℕ → A) → A) (first count : ℕ) →
+    length (top_down default step first count) ≡ count
 unfolding top_down
 length-top_down default step first zero = refl
 length-top_down default step first (suc count) = ap suc (length-top_down default step (first + 1) count)
 
 -- the rest of a list that is made top down is the list from a later number on
-top_down-drop : {A : Type 0} (default : A) (step : ℕ → (ℕ → A) → A) (first count k j : ℕ) → lookup default (top_down default step first (k + count)) (k + j) ≡ lookup default (top_down default step (first + k) count) j
+top_down-drop : {A : Type 0} (default : A) (step : ℕ → (ℕ → A) → A) (first count k j : ℕ) →
+    lookup default (top_down default step first (k + count)) (k + j) ≡ lookup default
+    (top_down default step (first + k) count) j
 unfolding top_down
 top_down-drop default step first count zero j =
     let e : 0 + count ≡ count = omega arith in
@@ -77,19 +90,22 @@ top_down-drop default step first count (suc k) j =
     rw (e, f, g) (top_down-drop default step (first + 1) count k j)
 
 top_down-later : {A : Type 0} (default : A) (step : ℕ → (ℕ → A) → A) (k m j : ℕ)
-    → above default k (λ (i : ℕ). lookup default (top_down default step (k + 1) m) (i - (k + 1))) j ≡ above default k (by_larger default step ((k + 1) + m)) j
+    → above default k (λ (i : ℕ). lookup default (top_down default step (k + 1) m) (i - (k + 1))) j ≡ above default k
+    (by_larger default step ((k + 1) + m)) j
 top_down-later default step k m j =
     ⊎_elim
     (λ (l : (nat_lt k j ≡ true) × (k < j)).
     let e : (k + 1) + (j - (k + 1)) ≡ j = omega (arith, l.1) in
     let f : 0 + (k + 1) ≡ k + 1 = omega arith in
-    let drop : lookup default (top_down default step 0 ((k + 1) + m)) ((k + 1) + (j - (k + 1))) ≡ lookup default (top_down default step (0 + (k + 1)) m) (j - (k + 1)) = top_down-drop default step 0 m (k + 1) (j - (k + 1)) in
+    let drop : lookup default (top_down default step 0 ((k + 1) + m)) ((k + 1) + (j - (k + 1))) ≡ lookup default
+    (top_down default step (0 + (k + 1)) m) (j - (k + 1)) = top_down-drop default step 0 m (k + 1) (j - (k + 1)) in
     rw l.0 (sym (rw (e, f) at drop)))
     (λ (l : (nat_lt k j ≡ false) × (j ≤ k)). rw l.0 refl)
     (below-or-not k j)
 
 -- top down, a number below the bound is told what is said of the larger ones
-pub by_larger-is : {A : Type 0} (default : A) (step : ℕ → (ℕ → A) → A) (n k : ℕ) → k < n → by_larger default step n k ≡ step k (above default k (by_larger default step n))
+pub by_larger-is : {A : Type 0} (default : A) (step : ℕ → (ℕ → A) → A) (n k : ℕ) → k < n →
+    by_larger default step n k ≡ step k (above default k (by_larger default step n))
 unfolding top_down
 by_larger-is {A} default step n k h =
     let m : ℕ = n - (k + 1) in
@@ -97,8 +113,10 @@ by_larger-is {A} default step n k h =
     let f : (k + 1) + m ≡ n = omega (arith, h) in
     let a : k + 0 ≡ k = omega arith in
     let b : 0 + k ≡ k = omega arith in
-    let first : lookup default (top_down default step 0 (k + suc m)) (k + 0) ≡ lookup default (top_down default step (0 + k) (suc m)) 0 = top_down-drop default step 0 (suc m) k 0 in
-    let later : above default k (λ (i : ℕ). lookup default (top_down default step (k + 1) m) (i - (k + 1))) ≡ above default k (by_larger default step ((k + 1) + m)) = λ i j. top_down-later default step k m j i in
+    let first : lookup default (top_down default step 0 (k + suc m)) (k + 0) ≡ lookup default
+    (top_down default step (0 + k) (suc m)) 0 = top_down-drop default step 0 (suc m) k 0 in
+    let later : above default k (λ (i : ℕ). lookup default (top_down default step (k + 1) m) (i - (k + 1)))
+    ≡ above default k (by_larger default step ((k + 1) + m)) = λ i j. top_down-later default step k m j i in
     (rw (e, a, b) at first) ∙ ap (step k) (rw f at later)
 
 pub length-listed : {A : Type 0} (f : ℕ → A) (n : ℕ) → length (listed f n) ≡ n
@@ -116,16 +134,19 @@ listed-at {A} default f (suc n) k =
     ⊎_elim
     (λ (l : (nat_lt k n ≡ true) × (k < n)).
     let t : nat_lt k (suc n) ≡ true = grind (arith, nat_tests) in
-    rw t (lookup-front default (listed f n) (f n ∷ []) k (omega (arith, length-listed f n, l.1)) ∙ (rw l.0 at (listed-at default f n k))))
+    rw t (lookup-front default (listed f n) (f n ∷ []) k (omega (arith, length-listed f n, l.1))
+    ∙ (rw l.0 at (listed-at default f n k))))
     (λ (m : (nat_lt k n ≡ false) × (n ≤ k)). ⊎_elim
     (λ (u : (nat_lt k (suc n) ≡ true) × (k < suc n)).
     let e : n ≡ k = omega (arith, u.1, m.1) in
     rw u.0 (lookup-next default (listed f n) (f n) k (omega (arith, length-listed f n, e)) ∙ ap f e))
-    (λ (v : (nat_lt k (suc n) ≡ false) × (suc n ≤ k)). rw v.0 (lookup-behind default (listed f (suc n)) k (omega (arith, length-listed f (suc n), v.1))))
+    (λ (v : (nat_lt k (suc n) ≡ false) × (suc n ≤ k)). rw v.0
+    (lookup-behind default (listed f (suc n)) k (omega (arith, length-listed f (suc n), v.1))))
     (below-or-not k (suc n)))
     (below-or-not k n)
 
-below-same : {A : Type 0} (default : A) (f g : ℕ → A) (n : ℕ) → ((k : ℕ) → k < n → f k ≡ g k) → (k : ℕ) → below default n f k ≡ below default n g k
+below-same : {A : Type 0} (default : A) (f g : ℕ → A) (n : ℕ) → ((k : ℕ) → k < n → f k ≡ g k) → (k : ℕ) →
+    below default n f k ≡ below default n g k
 below-same default f g n h k =
     ⊎_elim
     (λ (l : (nat_lt k n ≡ true) × (k < n)). rw l.0 (h k l.1))
@@ -136,6 +157,8 @@ below-same default f g n h k =
 pub bottom_up-is : {A : Type 0} (default : A) (step : ℕ → (ℕ → A) → A) (n k : ℕ) → k < n
     → lookup default (bottom_up default step n) k ≡ step k (below default k (lookup default (bottom_up default step n)))
 bottom_up-is default step n k h =
-    let same : (j : ℕ) → below default k (by_smaller default step) j ≡ below default k (lookup default (bottom_up default step n)) j =
-    below-same default (by_smaller default step) (lookup default (bottom_up default step n)) k (λ j l. sym (bottom_up-at default step n j (omega (arith, l, h)))) in
+    let same : (j : ℕ) → below default k (by_smaller default step) j ≡ below default k
+    (lookup default (bottom_up default step n)) j =
+    below-same default (by_smaller default step) (lookup default (bottom_up default step n)) k
+    (λ j l. sym (bottom_up-at default step n j (omega (arith, l, h)))) in
     bottom_up-at default step n k h ∙ by_smaller-is default step k ∙ ap (step k) (λ i j. same j i)

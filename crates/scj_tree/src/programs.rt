@@ -94,16 +94,6 @@ impl Program {
         Ok(NodeId::at(place as u32))
     }
 
-    /// Forgets the nodes from a place on.
-    pub fn cut(&mut self, n: usize)
-        requires within { n ≤ length self.old.nodes }
-        requires kept { AllBelow n (joined self.old.files) }
-        ensures nodes { self.new.nodes ≡ take n self.old.nodes }
-        ensures files { self.new.files ≡ self.old.files }
-    {
-        self.nodes.truncate(n);
-    }
-
     /// The node of a number, if there is one.
     pub fn get(&self, id: NodeId) -> Option<&Node>
         ensures { option_copied result ≡ slice_get self.now.nodes id }

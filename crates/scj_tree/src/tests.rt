@@ -4,7 +4,7 @@ use std::test::Fail;
 
 #[test]
 #[tactic(auto, unfolding(crate::specs::Forest::joined, crate::specs::Forest::all_children, crate::specs::Forest::AllBelow, crate::specs::Forest::AllClasses, crate::specs::Counts::times, crate::specs::Shape::children))]
-fn a_program_grows_and_is_cut(rt: HostRuntime) -> Result<(), Fail> {
+fn a_program_grows(rt: HostRuntime) -> Result<(), Fail> {
     let mut program = Program::new(rt.alloc());
     let place = Pos {
         file: 0,
@@ -20,8 +20,6 @@ fn a_program_grows_and_is_cut(rt: HostRuntime) -> Result<(), Fail> {
     })?;
     assert_eq!(rt; id.place(), 0);
     assert_eq!(rt; program.len(), 1);
-    program.cut(0);
-    assert_eq!(rt; program.len(), 0);
     program.end_file(Vec::new(rt.alloc()))?;
     assert_eq!(rt; program.file_count(), 1);
     Ok(())

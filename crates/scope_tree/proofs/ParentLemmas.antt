@@ -25,7 +25,13 @@ some_at (x ∷ xs) zero h = (x, refl)
 some_at (x ∷ xs) (suc i) h = some_at xs i (omega (arith, h))
 
 nowhere : Definition
-nowhere = record { class = 0; scope = record { name = []; place = record { file = 0; line = 0; col = 0 } }; parent = record { name = []; place = record { file = 0; line = 0; col = 0 } } }
+nowhere =
+    record {
+      class = 0;
+      scope = record { name = []; place = record { file = 0; line = 0; col = 0 } };
+      parent = record
+          { name = []; place = record { file = 0; line = 0; col = 0 } };
+    }
 
 module _ (ds : List Definition) (name : List ℕ) where
   abbrev is_of_name : Definition → Bool
@@ -40,7 +46,8 @@ module _ (ds : List Definition) (name : List ℕ) where
   position_is h = rw h refl
 
   -- the definition of a scope's number has the scope's name
-  pub named_there : (k : ℕ) → first_index ds name ≡ Some k → (d : Definition) × (slice_get ds k ≡ Some d) × (name ≡ d.scope.name) × (is_reserved name ≡ false)
+  pub named_there : (k : ℕ) → first_index ds name ≡ Some k → (d : Definition) × (slice_get ds k ≡ Some d) ×
+      (name ≡ d.scope.name) × (is_reserved name ≡ false)
   named_there k h =
       ⊎_elim (λ (e : is_reserved name ≡ true). absurd (none-some k (sym (none_of_reserved e) ∙ h)))
       (λ (e : is_reserved name ≡ false).
@@ -55,14 +62,18 @@ module _ (ds : List Definition) (name : List ℕ) where
       slice_get_within ds k there.0 there.1
 
   -- a name that isn't reserved has a scope at its first definition or before
-  pub first_named : (j : ℕ) (d : Definition) → slice_get ds j ≡ Some d → name ≡ d.scope.name → is_reserved name ≡ false → (k : ℕ) × (k ≤ j) × (first_index ds name ≡ Some k)
+  pub first_named : (j : ℕ) (d : Definition) → slice_get ds j ≡ Some d → name ≡ d.scope.name →
+      is_reserved name ≡ false → (k : ℕ) × (k ≤ j) × (first_index ds name ≡ Some k)
   first_named j d here same free =
       let inside : j < length ds = slice_get_within ds j d here in
-      let passes : is_of_name (get_or ds j nowhere) ≡ true = ap is_of_name (get_or_from_slice_get ds j d nowhere here) ∙ same-from name d.scope.name same in
+      let passes : is_of_name (get_or ds j nowhere) ≡ true = ap is_of_name (get_or_from_slice_get ds j d nowhere here)
+      ∙ same-from name d.scope.name same in
       let first : ℕ = position_or_len is_of_name ds in
-      ⊎_elim (λ (before : j < first). absurd (true≢false (sym passes ∙ fails_before_first is_of_name ds j nowhere before)))
+      ⊎_elim
+      (λ (before : j < first). absurd (true≢false (sym passes ∙ fails_before_first is_of_name ds j nowhere before)))
       (λ (after : first ≤ j).
-      let found : position is_of_name ds ≡ Some first = rw (lt-ltb first (length ds) (omega (arith, after, inside))) refl in
+      let found : position is_of_name ds ≡ Some first =
+      rw (lt-ltb first (length ds) (omega (arith, after, inside))) refl in
       (first, after, position_is free ∙ found))
       (cases_lt j first)
 
@@ -77,24 +88,30 @@ module _ (ds : List Definition) (find : List ℕ → Option ℕ) (index : IsInde
 
   pub parents-length : length parents ≡ suc (length ds)
   unfolding parent_steps
-  parents-length = length-append (map (parent_number find (length ds)) ds) (length ds ∷ []) ∙ (let e : length (map (parent_number find (length ds)) ds) ≡ length ds = length-map ds (parent_number find (length ds)) in omega (arith, e))
+  parents-length = length-append (map (parent_number find (length ds)) ds) (length ds ∷ [])
+      ∙ (let e : length (map (parent_number find (length ds)) ds) ≡ length ds = length-map ds
+      (parent_number find (length ds)) in omega (arith, e))
 
   end_stays : slice_index parents (length ds) ≡ length ds
   unfolding parent_steps
   end_stays =
       let all : List ℕ = map (parent_number find (length ds)) ds in
-      ap (λ n. get_or (all ++ length ds ∷ []) n 0) (sym (length-map ds (parent_number find (length ds)))) ∙ get_or-append_seam all (length ds) [] 0
+      ap (λ n. get_or (all ++ length ds ∷ []) n 0) (sym (length-map ds (parent_number find (length ds))))
+      ∙ get_or-append_seam all (length ds) [] 0
 
-  parents-at : (x : ℕ) (d : Definition) → slice_get ds x ≡ Some d → slice_index parents x ≡ unwrap_or (first_index ds d.parent.name) (length ds)
+  parents-at : (x : ℕ) (d : Definition) → slice_get ds x ≡ Some d →
+      slice_index parents x ≡ unwrap_or (first_index ds d.parent.name) (length ds)
   unfolding parent_steps
   parents-at x d h =
       let all : List ℕ = map (parent_number find (length ds)) ds in
       let inside : x < length ds = slice_get_within ds x d h in
       let within : x < length all = rw (length-map ds (parent_number find (length ds))) inside in
-      get_or_append_left all (length ds ∷ []) 0 x within ∙ get_or-map (parent_number find (length ds)) ds x d 0 inside ∙ ap (parent_number find (length ds)) (get_or_from_slice_get ds x d d h)
+      get_or_append_left all (length ds ∷ []) 0 x within ∙ get_or-map (parent_number find (length ds)) ds x d 0 inside
+      ∙ ap (parent_number find (length ds)) (get_or_from_slice_get ds x d d h)
       ∙ ap (λ o. unwrap_or o (length ds)) (index.finds d.parent.name)
 
-  pub parent_there : (x : ℕ) (d : Definition) → slice_get ds x ≡ Some d → parent_index ds x ≡ first_index ds d.parent.name
+  pub parent_there : (x : ℕ) (d : Definition) → slice_get ds x ≡ Some d →
+      parent_index ds x ≡ first_index ds d.parent.name
   unfolding parent_index
   parent_there x d h = rw h refl
 
@@ -107,7 +124,13 @@ module _ (ds : List Definition) (find : List ℕ → Option ℕ) (index : IsInde
       ⊎_elim (λ (inside : x < length ds).
       let there = some_at ds x inside in
       let d : Definition = there.0 in
-      omega (arith, parents-length, parents-at x d there.1, in_range (first_index ds d.parent.name) (length ds) (named_within ds d.parent.name)))
+      omega (
+        arith,
+        parents-length,
+        parents-at x d there.1,
+        in_range (first_index ds d.parent.name) (length ds)
+            (named_within ds d.parent.name),
+      ))
       (λ (at_end : length ds ≤ x).
       let last : x ≡ length ds = omega (arith, at_end, h, parents-length) in
       omega (arith, parents-length, ap (slice_index parents) last, end_stays))
@@ -121,7 +144,11 @@ module _ (ds : List Definition) (find : List ℕ → Option ℕ) (index : IsInde
   unfolding parent_index
   to_parent x y h =
       option_and_then_some (λ d. first_index ds d.parent.name) (slice_get ds x) y h
-      (λ d here named. (slice_get_within ds x d here, parents-at x d here ∙ ap (λ o. unwrap_or o (length ds)) named, named_within ds d.parent.name y named))
+      (λ d here named. (
+        slice_get_within ds x d here,
+        parents-at x d here ∙ ap (λ o. unwrap_or o (length ds)) named,
+        named_within ds d.parent.name y named,
+      ))
 
   some_of : (o : Option ℕ) (n k : ℕ) → unwrap_or o n ≡ k → k < n → o ≡ Some k
   some_of None n k e h = absurd (omega (arith, e, h))
@@ -131,7 +158,8 @@ module _ (ds : List Definition) (find : List ℕ → Option ℕ) (index : IsInde
   from_step x y h e k =
       let there = some_at ds x h in
       let d : Definition = there.0 in
-      parent_there x d there.1 ∙ some_of (first_index ds d.parent.name) (length ds) y (sym (parents-at x d there.1) ∙ e) k
+      parent_there x d there.1 ∙ some_of (first_index ds d.parent.name) (length ds) y (sym (parents-at x d there.1) ∙ e)
+      k
 
   chain_steps : {a b : ℕ} → Follows (parent_index ds) a b → (p : ℕ) × (steps parents (suc p) a ≡ b)
   unfolding steps
@@ -152,7 +180,8 @@ module _ (ds : List Definition) (find : List ℕ → Option ℕ) (index : IsInde
       let next : ℕ = slice_index parents a in
       ⊎_elim (λ (inside : next < length ds). more (from_step a next h refl inside) (step_chain p next b inside k e))
       (λ (at_end : length ds ≤ next).
-      let last : next ≡ length ds = omega (arith, at_end, parents-length, parents-below a (omega (arith, h, parents-length))) in
+      let last : next ≡ length ds =
+      omega (arith, at_end, parents-length, parents-below a (omega (arith, h, parents-length))) in
       let stuck : b ≡ length ds = sym e ∙ ap (steps parents (suc p)) last ∙ end_never_leaves (suc p) in
       absurd (omega (arith, stuck, k)))
       (cases_lt next (length ds))

@@ -21,12 +21,14 @@ use Rattle.scope_tree.specs.declared.trees.ScopeTree.{ScopeTree}
 use Rattle.scope_tree.specs.Trees.{IsTreeOf, chain_from}
 
 -- one step on a chain
-pub chain_here : (next : ℕ → Option ℕ) (left a : ℕ) → 0 < left → chain next left a ≡ a ∷ chain_from next (left - 1) (next a)
+pub chain_here : (next : ℕ → Option ℕ) (left a : ℕ) → 0 < left → chain next left a ≡ a
+    ∷ chain_from next (left - 1) (next a)
 unfolding chain
 chain_here next zero a h = absurd (omega (arith, h))
 chain_here next (suc left) a h = go (next a)
   where
-    go : (o : Option ℕ) → a ∷ (elim o as (λ _. List ℕ) [ None ↦ [] | Some b ↦ chain next left b ]) ≡ a ∷ chain_from next (suc left - 1) o
+    go : (o : Option ℕ) → a ∷ (elim o as (λ _. List ℕ) [ None ↦ [] | Some b ↦ chain next left b ]) ≡ a
+        ∷ chain_from next (suc left - 1) o
     go None = refl
     go (Some b) = (let e : suc left - 1 ≡ left = omega arith in rw e refl)
 
@@ -43,12 +45,14 @@ same_chain f g same zero a = refl
 same_chain f g same (suc left) a = rw (same a) (go (g a) (same_chain f g same left))
   where
     go : (o : Option ℕ) → ((b : ℕ) → chain f left b ≡ chain g left b)
-        → a ∷ (elim o as (λ _. List ℕ) [ None ↦ [] | Some b ↦ chain f left b ]) ≡ a ∷ (elim o as (λ _. List ℕ) [ None ↦ [] | Some b ↦ chain g left b ])
+        → a ∷ (elim o as (λ _. List ℕ) [ None ↦ [] | Some b ↦ chain f left b ]) ≡ a
+        ∷ (elim o as (λ _. List ℕ) [ None ↦ [] | Some b ↦ chain g left b ])
     go None later = refl
     go (Some b) later = ap (λ (t : List ℕ). a ∷ t) (later b)
 
 -- a table of all classes tells what is said of each number, where nothing is said of those behind them
-pub table_tells : {A : Type 0} (default : A) (f : ℕ → A) (n : ℕ) → ((a : ℕ) → n ≤ a → f a ≡ default) → (xs : List A) → xs ≡ listed f n → (a : ℕ) → lookup default xs a ≡ f a
+pub table_tells : {A : Type 0} (default : A) (f : ℕ → A) (n : ℕ) → ((a : ℕ) → n ≤ a → f a ≡ default) → (xs : List A) →
+    xs ≡ listed f n → (a : ℕ) → lookup default xs a ≡ f a
 table_tells default f n past xs e a =
     ap (λ t. lookup default t a) e ∙ listed-at default f n a
     ∙ ⊎_elim (λ (l : a < n). let t : nat_lt a n ≡ true = grind (arith, nat_tests) in rw t refl)
@@ -69,21 +73,28 @@ module _ (p : Declarations) where
   nothing_defined_past a h = rw (no_definition_past a h) refl
 
 pub outer_by_table : (forest : Forest) (tree : ScopeTree) (a b : ℕ) → IsTreeOf forest tree
-    → ((a == immortal_scope) || is_among a (chain (lookup None tree.parents.items) (length tree.parents.items) b)) ≡ is_outer (declarations_of forest) a b
+    → ((a == immortal_scope) || is_among a (chain (lookup None tree.parents.items) (length tree.parents.items) b))
+    ≡ is_outer (declarations_of forest) a b
 unfolding is_outer
 outer_by_table forest tree a b h =
     let p : Declarations = declarations_of forest in
-    let same : (x : ℕ) → lookup None tree.parents.items x ≡ parent_scope p x = table_tells None (parent_scope p) (length p.classes) (no_parent_past p) tree.parents.items h.parents in
-    let long : length tree.parents.items ≡ length p.classes = ap length h.parents ∙ length-listed (parent_scope p) (length p.classes) in
-    ap (λ t. (a == immortal_scope) || is_among a t) (same_chain (lookup None tree.parents.items) (parent_scope p) same (length tree.parents.items) b ∙ ap (λ n. chain (parent_scope p) n b) long)
+    let same : (x : ℕ) → lookup None tree.parents.items x ≡ parent_scope p x =
+    table_tells None (parent_scope p) (length p.classes) (no_parent_past p) tree.parents.items h.parents in
+    let long : length tree.parents.items ≡ length p.classes = ap length h.parents
+    ∙ length-listed (parent_scope p) (length p.classes) in
+    ap (λ t. (a == immortal_scope) || is_among a t)
+    (same_chain (lookup None tree.parents.items) (parent_scope p) same (length tree.parents.items) b
+    ∙ ap (λ n. chain (parent_scope p) n b) long)
 
-pub defined_by_table : (forest : Forest) (tree : ScopeTree) (a : ℕ) → IsTreeOf forest tree → lookup None tree.defined.items a ≡ defined_by (declarations_of forest) a
+pub defined_by_table : (forest : Forest) (tree : ScopeTree) (a : ℕ) → IsTreeOf forest tree →
+    lookup None tree.defined.items a ≡ defined_by (declarations_of forest) a
 defined_by_table forest tree a h =
     let p : Declarations = declarations_of forest in
     table_tells None (defined_by p) (length p.classes) (nothing_defined_past p) tree.defined.items h.defined a
 
 -- a number behind those of the classes has a chain of one, and no scope
-chain_past : (p : Declarations) (a : ℕ) → length p.classes ≤ a → 0 < length p.classes → superclasses p.classes a ≡ a ∷ []
+chain_past : (p : Declarations) (a : ℕ) → length p.classes ≤ a → 0 < length p.classes → superclasses p.classes a ≡ a
+    ∷ []
 unfolding superclasses
 chain_past p a h some =
     chain_here (superclass_in p.classes) (length p.classes) a some
@@ -92,7 +103,8 @@ chain_past p a h some =
 no_interfaces_past : (p : Declarations) (a : ℕ) → length p.classes ≤ a → interfaces_in p.classes a ≡ []
 no_interfaces_past p a h = rw (slice_get_past p.classes a h, interfaces_in) refl
 
-not_implied_past : (p : Declarations) (a : ℕ) → length p.classes ≤ a → first_user_class ≤ length p.classes → is_implied_immortal p a ≡ false
+not_implied_past : (p : Declarations) (a : ℕ) → length p.classes ≤ a → first_user_class ≤ length p.classes →
+    is_implied_immortal p a ≡ false
 unfolding is_implied_immortal all_interfaces
 not_implied_past p a h many =
     let one : superclasses p.classes a ≡ a ∷ [] = chain_past p a h (omega (arith, many)) in
@@ -102,7 +114,8 @@ not_implied_past p a h many =
     let user : nat_lt a first_user_class ≡ false = grind (arith, nat_tests) in
     rw (one, user, third, fourth) (rw none refl)
 
-pub no_scope_past : (p : Declarations) → first_user_class ≤ length p.classes → (a : ℕ) → length p.classes ≤ a → class_scope p a ≡ unannotated
+pub no_scope_past : (p : Declarations) → first_user_class ≤ length p.classes → (a : ℕ) → length p.classes ≤ a →
+    class_scope p a ≡ unannotated
 unfolding class_scope class_scope_on class_scope_under scope_written_in differs_from_above scope_of_right_class
 no_scope_past p many a h =
     let one : superclasses p.classes a ≡ a ∷ [] = chain_past p a h (omega (arith, many)) in
@@ -110,31 +123,42 @@ no_scope_past p many a h =
     let free : is_implied_immortal p a ≡ false = not_implied_past p a h many in
     rw one (rw (none, free) refl)
 
-pub class_scope_by_table : (forest : Forest) (tree : ScopeTree) (a : ℕ) → IsTreeOf forest tree → lookup unannotated tree.class_scopes.items a ≡ class_scope (declarations_of forest) a
+pub class_scope_by_table : (forest : Forest) (tree : ScopeTree) (a : ℕ) → IsTreeOf forest tree →
+    lookup unannotated tree.class_scopes.items a ≡ class_scope (declarations_of forest) a
 class_scope_by_table forest tree a h =
     let p : Declarations = declarations_of forest in
-    table_tells unannotated (class_scope p) (length p.classes) (no_scope_past p (framework_first forest)) tree.class_scopes.items h.class_scopes a
+    table_tells unannotated (class_scope p) (length p.classes) (no_scope_past p (framework_first forest))
+    tree.class_scopes.items h.class_scopes a
 
-pub implied_by_table : (forest : Forest) (rows : List Bool) (a : ℕ) → rows ≡ listed (is_implied_immortal (declarations_of forest)) (length (declarations_of forest).classes)
+pub implied_by_table : (forest : Forest) (rows : List Bool) (a : ℕ) →
+    rows ≡ listed (is_implied_immortal (declarations_of forest)) (length (declarations_of forest).classes)
     → lookup false rows a ≡ is_implied_immortal (declarations_of forest) a
 implied_by_table forest rows a h =
     let p : Declarations = declarations_of forest in
-    table_tells false (is_implied_immortal p) (length p.classes) (λ b past. not_implied_past p b past (framework_first forest)) rows h a
+    table_tells false (is_implied_immortal p) (length p.classes)
+    (λ b past. not_implied_past p b past (framework_first forest)) rows h a
 
-pub implied_by_tree : (forest : Forest) (tree : ScopeTree) (a : ℕ) → IsTreeOf forest tree → lookup false tree.implied.items a ≡ is_implied_immortal (declarations_of forest) a
+pub implied_by_tree : (forest : Forest) (tree : ScopeTree) (a : ℕ) → IsTreeOf forest tree →
+    lookup false tree.implied.items a ≡ is_implied_immortal (declarations_of forest) a
 implied_by_tree forest tree a h = implied_by_table forest tree.implied.items a h.implied
 
 -- a chain that is put into a list, one more, and at its end
-pub chain_more : (next : ℕ → Option ℕ) (left a : ℕ) (all whole : List ℕ) → 0 < left → all ++ chain next left a ≡ whole → (all ++ a ∷ []) ++ chain_from next (left - 1) (next a) ≡ whole
-chain_more next left a all whole h e = append_assoc all (a ∷ []) (chain_from next (left - 1) (next a)) ∙ ap (λ (t : List ℕ). all ++ t) (sym (chain_here next left a h)) ∙ e
+pub chain_more : (next : ℕ → Option ℕ) (left a : ℕ) (all whole : List ℕ) → 0 < left → all ++ chain next left a ≡ whole →
+    (all ++ a ∷ []) ++ chain_from next (left - 1) (next a) ≡ whole
+chain_more next left a all whole h e = append_assoc all (a ∷ []) (chain_from next (left - 1) (next a))
+    ∙ ap (λ (t : List ℕ). all ++ t) (sym (chain_here next left a h)) ∙ e
 
-pub chain_done : (next : ℕ → Option ℕ) (left : ℕ) (o : Option ℕ) (all whole : List ℕ) → left ≤ 0 → all ++ chain_from next left o ≡ whole → all ≡ whole
-chain_done next left o all whole h e = sym (append-nil all) ∙ ap (λ (t : List ℕ). all ++ t) (sym (chain_ended next left o h)) ∙ e
+pub chain_done : (next : ℕ → Option ℕ) (left : ℕ) (o : Option ℕ) (all whole : List ℕ) → left ≤ 0 → all
+    ++ chain_from next left o ≡ whole → all ≡ whole
+chain_done next left o all whole h e = sym (append-nil all)
+    ∙ ap (λ (t : List ℕ). all ++ t) (sym (chain_ended next left o h)) ∙ e
 
 -- the first that f finds in a list, from an element on, and at the end
-along_here : {B : Type 0} (f : ℕ → Option B) (xs : List ℕ) (i x : ℕ) → i < length xs → x ≡ get_or xs i x → along f (drop i xs) ≡ or_else (f x) (along f (drop (i + 1) xs))
+along_here : {B : Type 0} (f : ℕ → Option B) (xs : List ℕ) (i x : ℕ) → i < length xs → x ≡ get_or xs i x →
+    along f (drop i xs) ≡ or_else (f x) (along f (drop (i + 1) xs))
 unfolding along
-along_here {B} f xs i x h e = rw (drop_here xs i x h ∙ ap (λ (y : ℕ). y ∷ drop (i + 1) xs) (sym e)) (go (f x) (along f (drop (i + 1) xs)))
+along_here {B} f xs i x h e = rw (drop_here xs i x h ∙ ap (λ (y : ℕ). y ∷ drop (i + 1) xs) (sym e))
+    (go (f x) (along f (drop (i + 1) xs)))
   where
     go : (o rest : Option B) → elim o as (λ _. Option B) [ None ↦ rest | Some y ↦ Some y ] ≡ or_else o rest
     go None rest = refl
@@ -148,33 +172,41 @@ found_later : {B : Type 0} (o rest : Option B) → is_some o ≡ false → or_el
 found_later None rest h = refl
 found_later (Some y) rest h = absurd (true≢false h)
 
-pub along_found : {B : Type 0} (f : ℕ → Option B) (xs : List ℕ) (i x : ℕ) (o : Option B) → i < length xs → x ≡ get_or xs i x → o ≡ f x → true ≡ is_some o
+pub along_found : {B : Type 0} (f : ℕ → Option B) (xs : List ℕ) (i x : ℕ) (o : Option B) → i < length xs →
+    x ≡ get_or xs i x → o ≡ f x → true ≡ is_some o
     → along f (drop i xs) ≡ along f xs → o ≡ along f xs
 along_found f xs i x o h e k t w =
-    sym (found_first o (along f (drop (i + 1) xs)) (sym t)) ∙ ap (λ z. or_else z (along f (drop (i + 1) xs))) k ∙ sym (along_here f xs i x h e) ∙ w
+    sym (found_first o (along f (drop (i + 1) xs)) (sym t)) ∙ ap (λ z. or_else z (along f (drop (i + 1) xs))) k
+    ∙ sym (along_here f xs i x h e) ∙ w
 
-pub along_more : {B : Type 0} (f : ℕ → Option B) (xs : List ℕ) (i x : ℕ) (o : Option B) → i < length xs → x ≡ get_or xs i x → o ≡ f x → false ≡ is_some o
+pub along_more : {B : Type 0} (f : ℕ → Option B) (xs : List ℕ) (i x : ℕ) (o : Option B) → i < length xs →
+    x ≡ get_or xs i x → o ≡ f x → false ≡ is_some o
     → along f (drop i xs) ≡ along f xs → along f (drop (i + 1) xs) ≡ along f xs
 along_more f xs i x o h e k t w =
-    sym (found_later o (along f (drop (i + 1) xs)) (sym t)) ∙ ap (λ z. or_else z (along f (drop (i + 1) xs))) k ∙ sym (along_here f xs i x h e) ∙ w
+    sym (found_later o (along f (drop (i + 1) xs)) (sym t)) ∙ ap (λ z. or_else z (along f (drop (i + 1) xs))) k
+    ∙ sym (along_here f xs i x h e) ∙ w
 
 pub along_ended : {B : Type 0} (f : ℕ → Option B) (xs : List ℕ) (i : ℕ) → length xs ≤ i → along f (drop i xs) ≡ None
 unfolding along
 along_ended f xs i h = rw (drop_all i xs h) refl
 
-pub parent_by_table : (forest : Forest) (tree : ScopeTree) (a : ℕ) → IsTreeOf forest tree → lookup None tree.parents.items a ≡ parent_scope (declarations_of forest) a
+pub parent_by_table : (forest : Forest) (tree : ScopeTree) (a : ℕ) → IsTreeOf forest tree →
+    lookup None tree.parents.items a ≡ parent_scope (declarations_of forest) a
 parent_by_table forest tree a h =
     let p : Declarations = declarations_of forest in
     table_tells None (parent_scope p) (length p.classes) (no_parent_past p) tree.parents.items h.parents a
 
-nothing_chained_past : (p : Declarations) → first_user_class ≤ length p.classes → (a : ℕ) → length p.classes ≤ a → defined_by_chain p a ≡ None
+nothing_chained_past : (p : Declarations) → first_user_class ≤ length p.classes → (a : ℕ) → length p.classes ≤ a →
+    defined_by_chain p a ≡ None
 unfolding defined_by_chain along
 nothing_chained_past p many a h =
     let one : superclasses p.classes a ≡ a ∷ [] = chain_past p a h (omega (arith, many)) in
     let none : defined_by p a ≡ None = nothing_defined_past p a h in
     rw one (rw (none, along) refl)
 
-pub chained_by_table : (forest : Forest) (tree : ScopeTree) (a : ℕ) → IsTreeOf forest tree → lookup None tree.chained.items a ≡ defined_by_chain (declarations_of forest) a
+pub chained_by_table : (forest : Forest) (tree : ScopeTree) (a : ℕ) → IsTreeOf forest tree →
+    lookup None tree.chained.items a ≡ defined_by_chain (declarations_of forest) a
 chained_by_table forest tree a h =
     let p : Declarations = declarations_of forest in
-    table_tells None (defined_by_chain p) (length p.classes) (nothing_chained_past p (framework_first forest)) tree.chained.items h.chained a
+    table_tells None (defined_by_chain p) (length p.classes) (nothing_chained_past p (framework_first forest))
+    tree.chained.items h.chained a

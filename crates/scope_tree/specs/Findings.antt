@@ -1,5 +1,5 @@
--- What is found at a definition, as a list. `find` tells the number of a scope by its name, and `returns` whether the parents of a
--- scope of a number come back to it.
+-- What is found at a definition, as a list. `find` tells the number of a scope by its name, and `returns` whether the
+-- parents of a scope of a number come back to it.
 use Rattle.std.specs.Prelude.{ℕ, ◌+◌, ◌==◌, ◌++◌, ◌||◌, Bool, false, not, List, [], ◌∷◌, Option, Some, None, if◌then◌else◌, slice_index_or, length, map}
 use Rattle.std.specs.Option.{is_some, unwrap_or}
 use Rattle.scj_base.specs.declared.findings.Found.{Found}

@@ -21,8 +21,8 @@ owner_at p class = if is_some (definition_in p class) then class ∷ [] else []
 unfoldable pub owners_below : Declarations → ℕ → List ℕ
 owners_below p n = joined_below (owner_at p) n
 
--- the names find the scope that the first definition of each name makes: the index has the number of the definition, and
--- the owners have its class at that number
+-- the names find the scope that the first definition of each name makes: the index has the number of the definition,
+-- and the owners have its class at that number
 pub record IsNaming (p : Declarations) (names : ScopeNames) : Type 0 where
   pub finds : (name : List ℕ) → (get (slice_cmp nat_cmp) names.index name >>= slice_get names.owners.items)
       ≡ (first_definition p.scopes name >>= scope_of_definition p)

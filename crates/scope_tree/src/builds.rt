@@ -36,7 +36,8 @@ fn names_of(
 ) -> Result<ScopeNames, Memory>
     requires { IsIndex (declarations_of classes.now).scopes (get (slice_cmp nat_cmp) index) }
     ensures named { IfOk result (λ names. IsNaming (declarations_of classes.now) names) }
-    ensures indexed { IfOk result (λ names. IsIndex (declarations_of classes.now).scopes (get (slice_cmp nat_cmp) names.index)) }
+    ensures indexed { IfOk result
+        (λ names. IsIndex (declarations_of classes.now).scopes (get (slice_cmp nat_cmp) names.index)) }
 {
     is_whole(classes);
     let owners = owners_of(alloc, classes)?;

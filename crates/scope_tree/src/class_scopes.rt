@@ -146,7 +146,8 @@ pub fn class_scope_on(
     chain: &[ClassId],
 ) -> ClassScope
     requires named { IsNaming (declarations_of classes.now) names.now }
-    requires implied { implied.now ≡ listed (is_implied_immortal (declarations_of classes.now)) (length (declarations_of classes.now).classes) }
+    requires implied { implied.now ≡ listed (is_implied_immortal (declarations_of classes.now))
+        (length (declarations_of classes.now).classes) }
     ensures { result ≡ class_scope_on (declarations_of classes.now) chain.now }
 {
     let mut scope = ClassScope::Unannotated;

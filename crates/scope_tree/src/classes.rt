@@ -42,7 +42,8 @@ pub fn definition_in(classes: &Classes, class: ClassId) -> Option<Definition>
 /// The annotations and modifiers of a user class.
 #[tactic(auto, using(crate::proofs::UserLemmas::written_stays))]
 pub fn modifiers_in(classes: &Classes, class: ClassId) -> Option<Modifiers>
-    ensures { result ≡ option_map (λ (c : WrittenClass). c.modifiers) (user_class_in (declarations_of classes.now).classes class) }
+    ensures { result ≡ option_map (λ (c : WrittenClass). c.modifiers)
+        (user_class_in (declarations_of classes.now).classes class) }
 {
     let program = classes.program();
     class_modifiers(program, classes.class_node(class)?)
@@ -51,7 +52,8 @@ pub fn modifiers_in(classes: &Classes, class: ClassId) -> Option<Modifiers>
 /// Where a user class is named.
 #[tactic(auto, using(crate::proofs::UserLemmas::written_stays))]
 pub fn place_in(classes: &Classes, class: ClassId) -> Option<Pos>
-    ensures { result ≡ option_map (λ (c : WrittenClass). c.place) (user_class_in (declarations_of classes.now).classes class) }
+    ensures { result ≡ option_map (λ (c : WrittenClass). c.place)
+        (user_class_in (declarations_of classes.now).classes class) }
 {
     let program = classes.program();
     class_place(program, classes.class_node(class)?)
@@ -78,7 +80,8 @@ fn owner_of(owners: &[ClassId], definition: Option<usize>) -> Option<ScopeId>
 /// The scope that is defined under a name.
 fn defined_scope(classes: &Classes, names: &ScopeNames, name: &Name) -> Option<ScopeId>
     requires { IsNaming (declarations_of classes.now) names.now }
-    ensures { result ≡ option_and_then (scope_of_definition (declarations_of classes.now)) (first_definition (declarations_of classes.now).scopes name.now) }
+    ensures { result ≡ option_and_then (scope_of_definition (declarations_of classes.now))
+        (first_definition (declarations_of classes.now).scopes name.now) }
 {
     let definition = names.index.get(name).copied();
     owner_of(&names.owners, definition)

@@ -37,7 +37,8 @@ fn far_jumps(alloc: Global, next: Vec<usize>) -> Result<Vec<usize>, Memory>
 fn ends(alloc: Global, jumps: &[usize]) -> Result<Vec<bool>, Memory>
     requires { IsStepList jumps.now }
     ensures whole { IfOk result (λ marks. length marks.items ≡ length jumps.now) }
-    ensures exact { IfOk result (λ marks. (x : ℕ) → x < length jumps.now → slice_index_or marks.items x false ≡ list_any (nat_eq x) jumps.now) }
+    ensures exact { IfOk result (λ marks. (x : ℕ) → x < length jumps.now →
+        slice_index_or marks.items x false ≡ list_any (nat_eq x) jumps.now) }
 {
     let mut marks = vec![in alloc; false; jumps.len()]?;
     for end in jumps {

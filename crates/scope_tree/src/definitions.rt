@@ -42,7 +42,8 @@ fn parents_of(
     definitions: &[Definition],
     index: &BTreeMap<Name, usize>,
 ) -> Result<Vec<usize>, Memory>
-    ensures { IfOk result (λ parents. parents.items ≡ parent_steps (get (slice_cmp nat_cmp) index.now) definitions.now) }
+    ensures { IfOk result
+        (λ parents. parents.items ≡ parent_steps (get (slice_cmp nat_cmp) index.now) definitions.now) }
 {
     let none = definitions.len();
     let mut parents = Vec::new(alloc);
@@ -75,7 +76,8 @@ fn note_definition(
     definition: &Definition,
 ) -> Result<(), Memory>
     requires { number < length returns.now }
-    ensures { OnOk result (found.new.items ≡ found.old.items ++ findings_at (get (slice_cmp nat_cmp) index.now) returns.now number definition.now) }
+    ensures { OnOk result (found.new.items ≡ found.old.items
+        ++ findings_at (get (slice_cmp nat_cmp) index.now) returns.now number definition.now) }
 {
     let scope = &definition.scope;
     let parent = &definition.parent;
@@ -95,7 +97,8 @@ fn findings_of(
     returns: &[bool],
 ) -> Result<Vec<Found>, Memory>
     requires { length definitions.now ≤ length returns.now }
-    ensures { IfOk result (λ found. found.items ≡ findings_from (get (slice_cmp nat_cmp) index.now) returns.now 0 definitions.now) }
+    ensures { IfOk result
+        (λ found. found.items ≡ findings_from (get (slice_cmp nat_cmp) index.now) returns.now 0 definitions.now) }
 {
     let mut found = Vec::new(alloc);
     for number in 0..definitions.len() {

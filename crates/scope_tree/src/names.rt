@@ -26,7 +26,9 @@ pub fn is_reserved(name: &Name) -> bool
 
 /// Enters a definition's number under its name, unless the name is reserved or has a scope.
 fn enter(index: &mut BTreeMap<Name, usize>, name: Name, number: usize) -> Result<(), Memory>
-    ensures { OnOk result ((other : List ℕ) → get (slice_cmp nat_cmp) index.new other ≡ entered (get (slice_cmp nat_cmp) index.old) name number other) }
+    ensures { OnOk result
+        ((other : List ℕ) → get (slice_cmp nat_cmp) index.new other ≡ entered (get (slice_cmp nat_cmp) index.old) name
+        number other) }
 {
     if is_reserved(&name) {
         return Ok(());

@@ -7,7 +7,7 @@ ghost use Rattle.scj_rules.specs.Words.{holds, along};
 ghost use Rattle.scj_rules.specs.declared.scopes.Written.{Written};
 ghost use Rattle.scj_rules.specs.Classes.{superclasses, classes_above};
 ghost use Rattle.scj_rules.specs.Contexts.{declarations_of};
-ghost use Rattle.scj_rules.specs.ScopeRules.{definition_in, is_mission, is_handler, scope_written_in, misfits_parent, user_class_in, s4, s5};
+ghost use Rattle.scj_rules.specs.ScopeRules.{definition_in, is_handler, lacks_scope, needs_scope, scope_written_in, misfits_parent, user_class_in, s4, s5};
 ghost use Rattle.scj_rules.specs.Phases.{at_class};
 ghost use Rattle.scope_tree.specs.Rules.{definer_breaks, class_scope_breaks, definer_phase, header_of, s6_at};
 ghost use Rattle.scope_tree.specs.Trees.{IsNaming};
@@ -65,7 +65,8 @@ fn note_wrong_class(
 
 /// Whether the scope in which the instances of a class lie has been written by this name.
 fn lies_in(classes: &Classes, chain: &[ClassId], name: &Name) -> bool
-    ensures { result ≡ holds (along (scope_written_in (declarations_of classes.now)) chain.now) (λ (w : Written). is_same w.name name.now) }
+    ensures { result ≡ holds (along (scope_written_in (declarations_of classes.now)) chain.now)
+        (λ (w : Written). is_same w.name name.now) }
 {
     match scope_written_on(classes, chain) {
         Some(written) => written.name == *name,
@@ -118,14 +119,15 @@ fn note_wrong_parent(
 
 /// Whether a class that isn't abstract has a scope of its own.
 fn needs_scope(classes: &Classes, class: ClassId) -> bool
-    ensures { result ≡ (is_mission (declarations_of classes.now) class || is_handler (declarations_of classes.now) class) }
+    ensures { result ≡ needs_scope (declarations_of classes.now) class }
 {
     classes.is_under(class, MISSION) || is_handler(classes, class)
 }
 
 /// Whether no class of the chain defines the scope that a class needs.
-fn is_missing(classes: &Classes, class: ClassId, is_abstract: bool, chain: &[ClassId]) -> bool
-    ensures { result ≡ (not is_abstract && ((is_mission (declarations_of classes.now) class || is_handler (declarations_of classes.now) class) && not (list_any (λ d. is_some (definition_in (declarations_of classes.now) d)) chain.now))) }
+fn lacks_scope(classes: &Classes, class: ClassId, is_abstract: bool, chain: &[ClassId]) -> bool
+    requires { chain.now ≡ superclasses (declarations_of classes.now).classes class }
+    ensures { result ≡ lacks_scope (declarations_of classes.now) class is_abstract }
 {
     !is_abstract && (needs_scope(classes, class) && !any_defines(classes, chain))
 }
@@ -140,10 +142,11 @@ fn note_missing(
     chain: &[ClassId],
 ) -> Result<(), Memory>
     requires { chain.now ≡ superclasses (declarations_of classes.now).classes class }
-    ensures { OnOk result (found.new.items ≡ found.old.items ++ s6_at (declarations_of classes.now) class header.0 header.1) }
+    ensures { OnOk result (found.new.items ≡ found.old.items
+        ++ s6_at (declarations_of classes.now) class header.0 header.1) }
 {
     let (is_abstract, place) = header;
-    let test = is_missing(classes, class, is_abstract, chain);
+    let test = lacks_scope(classes, class, is_abstract, chain);
     report_if(found, test, Rule::S6, place)
 }
 
@@ -190,7 +193,9 @@ fn note_class(
     class: ClassId,
 ) -> Result<(), Memory>
     requires { IsNaming (declarations_of classes.now) names.now }
-    ensures { OnOk result (found.new.items ≡ found.old.items ++ at_class (declarations_of classes.now) (λ class row c. class_scope_breaks (declarations_of classes.now) class c) class) }
+    ensures { OnOk result (found.new.items ≡ found.old.items
+        ++ at_class (declarations_of classes.now)
+        (λ class row c. class_scope_breaks (declarations_of classes.now) class c) class) }
 {
     let Some(header) = header_in(classes, class) else {
         return Ok(());

@@ -41,7 +41,9 @@ fn add_owner(owners: &mut Vec<ClassId>, classes: &Classes, class: ClassId) -> Re
 /// The classes that write definitions.
 #[tactic(auto, unfolding(crate::specs::Trees::owners_below, scj_tree::specs::Recursion::joined_below))]
 pub fn owners_of(alloc: Global, classes: &Classes) -> Result<Vec<ClassId>, Memory>
-    ensures { IfOk result (λ owners. owners.items ≡ owners_below (declarations_of classes.now) (length (declarations_of classes.now).classes)) }
+    ensures { IfOk result
+        (λ owners. owners.items ≡ owners_below (declarations_of classes.now)
+        (length (declarations_of classes.now).classes)) }
 {
     let mut owners = Vec::new(alloc);
     for number in 0..classes.count() {
@@ -58,7 +60,9 @@ pub fn defined_table(
     names: &ScopeNames,
 ) -> Result<Vec<Option<ScopeId>>, Memory>
     requires { IsNaming (declarations_of classes.now) names.now }
-    ensures { IfOk result (λ table. table.items ≡ listed (defined_by (declarations_of classes.now)) (length (declarations_of classes.now).classes)) }
+    ensures { IfOk result
+        (λ table. table.items ≡ listed (defined_by (declarations_of classes.now))
+        (length (declarations_of classes.now).classes)) }
 {
     let mut table = Vec::new(alloc);
     for number in 0..classes.count() {
@@ -76,7 +80,9 @@ pub fn parent_table(
     names: &ScopeNames,
 ) -> Result<Vec<Option<ScopeId>>, Memory>
     requires { IsNaming (declarations_of classes.now) names.now }
-    ensures { IfOk result (λ table. table.items ≡ listed (parent_scope (declarations_of classes.now)) (length (declarations_of classes.now).classes)) }
+    ensures { IfOk result
+        (λ table. table.items ≡ listed (parent_scope (declarations_of classes.now))
+        (length (declarations_of classes.now).classes)) }
 {
     let mut table = Vec::new(alloc);
     for number in 0..classes.count() {
@@ -109,7 +115,9 @@ pub fn chained_table(
     names: &ScopeNames,
 ) -> Result<Vec<Option<ScopeId>>, Memory>
     requires { IsNaming (declarations_of classes.now) names.now }
-    ensures { IfOk result (λ table. table.items ≡ listed (defined_by_chain (declarations_of classes.now)) (length (declarations_of classes.now).classes)) }
+    ensures { IfOk result
+        (λ table. table.items ≡ listed (defined_by_chain (declarations_of classes.now))
+        (length (declarations_of classes.now).classes)) }
 {
     let mut table = Vec::new(alloc);
     for number in 0..classes.count() {
@@ -122,7 +130,9 @@ pub fn chained_table(
 /// Whether the instances of each class lie in `IMMORTAL` although it doesn't write so.
 #[tactic(auto, unfolding(scj_tree::specs::Recursion::listed))]
 pub fn implied_table(alloc: Global, classes: &Classes) -> Result<Vec<bool>, Memory>
-    ensures { IfOk result (λ table. table.items ≡ listed (is_implied_immortal (declarations_of classes.now)) (length (declarations_of classes.now).classes)) }
+    ensures { IfOk result
+        (λ table. table.items ≡ listed (is_implied_immortal (declarations_of classes.now))
+        (length (declarations_of classes.now).classes)) }
 {
     let mut table = Vec::new(alloc);
     for number in 0..classes.count() {
@@ -142,7 +152,8 @@ fn class_scope(
     class: ClassId,
 ) -> Result<ClassScope, Memory>
     requires named { IsNaming (declarations_of classes.now) names.now }
-    requires implied { implied.now ≡ listed (is_implied_immortal (declarations_of classes.now)) (length (declarations_of classes.now).classes) }
+    requires implied { implied.now ≡ listed (is_implied_immortal (declarations_of classes.now))
+        (length (declarations_of classes.now).classes) }
     ensures { IfOk result (λ scope. scope ≡ class_scope (declarations_of classes.now) class) }
 {
     let chain = superclasses_of(alloc, classes, class)?;
@@ -158,8 +169,11 @@ pub fn class_scope_table(
     implied: &[bool],
 ) -> Result<Vec<ClassScope>, Memory>
     requires named { IsNaming (declarations_of classes.now) names.now }
-    requires implied { implied.now ≡ listed (is_implied_immortal (declarations_of classes.now)) (length (declarations_of classes.now).classes) }
-    ensures { IfOk result (λ table. table.items ≡ listed (class_scope (declarations_of classes.now)) (length (declarations_of classes.now).classes)) }
+    requires implied { implied.now ≡ listed (is_implied_immortal (declarations_of classes.now))
+        (length (declarations_of classes.now).classes) }
+    ensures { IfOk result
+        (λ table. table.items ≡ listed (class_scope (declarations_of classes.now))
+        (length (declarations_of classes.now).classes)) }
 {
     let mut table = Vec::new(alloc);
     for number in 0..classes.count() {

@@ -121,7 +121,8 @@ impl ScopeTree {
     /// The scope in which the instances of a class lie.
     #[tactic(auto, using(crate::proofs::TreeLemmas::class_scope_by_table))]
     pub fn class_scope(&self, class: ClassId) -> Option<ScopeId>
-        ensures { (forest : Forest) → IsTreeOf forest self.now → result ≡ annotated_scope (class_scope (declarations_of forest) class) }
+        ensures { (forest : Forest) → IsTreeOf forest self.now →
+            result ≡ annotated_scope (class_scope (declarations_of forest) class) }
     {
         annotated_scope(&class_entry(&self.class_scopes, class.number()))
     }

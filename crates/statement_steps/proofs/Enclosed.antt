@@ -9,7 +9,8 @@ use Rattle.scj_tree.specs.Lexemes.{Lexeme}
 use Rattle.scj_tree.specs.declared.nodes.Node.{Node}
 use Rattle.statement_steps.specs.Enclosing.{enclosing}
 
-without_else : (b : Bool) (x y : Option State) (node made : Node) → (if b then None else Some made) ≡ Some node → (if b then x else y) ≡ y
+without_else : (b : Bool) (x y : Option State) (node made : Node) → (if b then None else Some made) ≡ Some node →
+    (if b then x else y) ≡ y
 without_else true x y node made e = cc
 without_else false x y node made e = refl
 
@@ -20,7 +21,8 @@ made_is false node made e = cc
 some_is : (node made : Node) → Some made ≡ Some node → made ≡ node
 some_is node made e = cc
 
-pub enclosed : (e : Entry) (id : ℕ) (N : List Node) (s : List Entry) (t : Lexeme) (node : Node) → enclosing e t id ≡ Some node → statement_ended id N (e ∷ s) t ≡ statement_ended (length N) (put N node) s t
+pub enclosed : (e : Entry) (id : ℕ) (N : List Node) (s : List Entry) (t : Lexeme) (node : Node) →
+    enclosing e t id ≡ Some node → statement_ended id N (e ∷ s) t ≡ statement_ended (length N) (put N node) s t
 unfolding enclosing statement_ended
 enclosed (IfThen p c) id N s t node e = rw (← made_is (is_else t) node _ e) (without_else (is_else t) _ _ node _ e)
 enclosed (IfElse p c a) id N s t node e = rw (← some_is node _ e) refl

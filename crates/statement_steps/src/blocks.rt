@@ -34,7 +34,8 @@ pub fn target_start(
     stack: &mut Stack,
     view: &View,
 ) -> Result<Option<Mode>, Memory>
-    ensures step { let awaited = target_start nodes.old.all stack.old (seen view.now) in gives result nodes.new.all stack.new awaited ≡ awaited }
+    ensures step { let awaited = target_start nodes.old.all stack.old (seen view.now) in
+        gives result nodes.new.all stack.new awaited ≡ awaited }
     ensures kept { nodes.new.kept ≡ nodes.old.kept }
 {
     if let View::Sign(sign, place) = view {
@@ -55,7 +56,8 @@ pub fn first_start(
     stack: &mut Stack,
     view: &View,
 ) -> Result<Option<Mode>, Memory>
-    ensures step { let awaited = first_start nodes.old.all stack.old (seen view.now) in gives result nodes.new.all stack.new awaited ≡ awaited }
+    ensures step { let awaited = first_start nodes.old.all stack.old (seen view.now) in
+        gives result nodes.new.all stack.new awaited ≡ awaited }
     ensures kept { nodes.new.kept ≡ nodes.old.kept }
 {
     match view {
@@ -94,7 +96,8 @@ pub fn name_first_sign(
     sign: u8,
     sign_place: Pos,
 ) -> Result<Option<Mode>, Memory>
-    ensures step { let awaited = name_first_step place name.now nodes.old.all stack.old (a_sign sign sign_place) in gives result nodes.new.all stack.new awaited ≡ awaited }
+    ensures step { let awaited = name_first_step place name.now nodes.old.all stack.old (a_sign sign sign_place) in
+        gives result nodes.new.all stack.new awaited ≡ awaited }
     ensures kept { nodes.new.kept ≡ nodes.old.kept }
 {
     if sign == LESS {
@@ -128,7 +131,8 @@ pub fn name_first_step(
     place: Pos,
     name: &SharedName,
 ) -> Result<Option<Mode>, Memory>
-    ensures step { let awaited = name_first_step place name.now nodes.old.all stack.old (seen view.now) in gives result nodes.new.all stack.new awaited ≡ awaited }
+    ensures step { let awaited = name_first_step place name.now nodes.old.all stack.old (seen view.now) in
+        gives result nodes.new.all stack.new awaited ≡ awaited }
     ensures kept { nodes.new.kept ≡ nodes.old.kept }
 {
     match view {
@@ -164,7 +168,9 @@ pub fn name_index(
     name: &SharedName,
     bracket: Pos,
 ) -> Result<Option<Mode>, Memory>
-    ensures step { let awaited = operand_start (put nodes.old.all (SimpleName place name.now)) (IndexOpen bracket (length nodes.old.all) ∷ Target ∷ stack.old) (seen view.now) in gives result nodes.new.all stack.new awaited ≡ awaited }
+    ensures step { let awaited = operand_start (put nodes.old.all (SimpleName place name.now))
+        (IndexOpen bracket (length nodes.old.all) ∷ Target ∷ stack.old) (seen view.now) in
+        gives result nodes.new.all stack.new awaited ≡ awaited }
     ensures kept { nodes.new.kept ≡ nodes.old.kept }
 {
     let array = nodes.put(Node::SimpleName {
@@ -189,7 +195,8 @@ pub fn name_bracket_step(
     name: &SharedName,
     bracket: Pos,
 ) -> Result<Option<Mode>, Memory>
-    ensures step { let awaited = name_bracket_step place name.now bracket nodes.old.all stack.old (seen view.now) in gives result nodes.new.all stack.new awaited ≡ awaited }
+    ensures step { let awaited = name_bracket_step place name.now bracket nodes.old.all stack.old (seen view.now) in
+        gives result nodes.new.all stack.new awaited ≡ awaited }
     ensures kept { nodes.new.kept ≡ nodes.old.kept }
 {
     if let View::Sign(sign, _) = view {
@@ -218,7 +225,8 @@ pub fn local_ended(
     place: Pos,
     name: &SharedName,
 ) -> Result<Option<Mode>, Memory>
-    ensures step { let awaited = local_ended flags declared_type place name.now nodes.old.all stack.old in gives result nodes.new.all stack.new awaited ≡ awaited }
+    ensures step { let awaited = local_ended flags declared_type place name.now nodes.old.all stack.old in
+        gives result nodes.new.all stack.new awaited ≡ awaited }
     ensures kept { nodes.new.kept ≡ nodes.old.kept }
 {
     let Some(entry) = stack.pop() else {
@@ -249,7 +257,8 @@ pub fn local_named_step(
     place: Pos,
     name: &SharedName,
 ) -> Result<Option<Mode>, Memory>
-    ensures step { let awaited = local_named_step flags declared_type place name.now nodes.old.all stack.old (seen view.now) in gives result nodes.new.all stack.new awaited ≡ awaited }
+    ensures step { let awaited = local_named_step flags declared_type place name.now nodes.old.all stack.old
+        (seen view.now) in gives result nodes.new.all stack.new awaited ≡ awaited }
     ensures kept { nodes.new.kept ≡ nodes.old.kept }
 {
     let View::Sign(sign, sign_place) = view else {
@@ -280,7 +289,8 @@ fn test_open_step(
     mode: Mode,
     entry: Entry,
 ) -> Result<Option<Mode>, Memory>
-    ensures step { let awaited = test_open_step mode entry nodes.old.all stack.old (seen view.now) in gives result nodes.new.all stack.new awaited ≡ awaited }
+    ensures step { let awaited = test_open_step mode entry nodes.old.all stack.old (seen view.now) in
+        gives result nodes.new.all stack.new awaited ≡ awaited }
     ensures kept { nodes.new.kept ≡ nodes.old.kept }
 {
     let View::Sign(sign, _) = view else {
@@ -300,7 +310,8 @@ pub fn if_open_step(
     view: &View,
     place: Pos,
 ) -> Result<Option<Mode>, Memory>
-    ensures step { let awaited = test_open_step Operand (IfTest place) nodes.old.all stack.old (seen view.now) in gives result nodes.new.all stack.new awaited ≡ awaited }
+    ensures step { let awaited = test_open_step Operand (IfTest place) nodes.old.all stack.old (seen view.now) in
+        gives result nodes.new.all stack.new awaited ≡ awaited }
     ensures kept { nodes.new.kept ≡ nodes.old.kept }
 {
     test_open_step(nodes, stack, view, Mode::Operand, Entry::IfTest { place })
@@ -313,7 +324,8 @@ pub fn while_open_step(
     view: &View,
     place: Pos,
 ) -> Result<Option<Mode>, Memory>
-    ensures step { let awaited = test_open_step Operand (WhileTest place) nodes.old.all stack.old (seen view.now) in gives result nodes.new.all stack.new awaited ≡ awaited }
+    ensures step { let awaited = test_open_step Operand (WhileTest place) nodes.old.all stack.old (seen view.now) in
+        gives result nodes.new.all stack.new awaited ≡ awaited }
     ensures kept { nodes.new.kept ≡ nodes.old.kept }
 {
     test_open_step(
@@ -332,7 +344,8 @@ pub fn for_open_step(
     view: &View,
     place: Pos,
 ) -> Result<Option<Mode>, Memory>
-    ensures step { let awaited = test_open_step ForFirst (ForHead place) nodes.old.all stack.old (seen view.now) in gives result nodes.new.all stack.new awaited ≡ awaited }
+    ensures step { let awaited = test_open_step ForFirst (ForHead place) nodes.old.all stack.old (seen view.now) in
+        gives result nodes.new.all stack.new awaited ≡ awaited }
     ensures kept { nodes.new.kept ≡ nodes.old.kept }
 {
     test_open_step(nodes, stack, view, Mode::ForFirst, Entry::ForHead { place })
@@ -346,7 +359,8 @@ pub fn return_step(
     view: &View,
     place: Pos,
 ) -> Result<Option<Mode>, Memory>
-    ensures step { let awaited = return_step place nodes.old.all stack.old (seen view.now) in gives result nodes.new.all stack.new awaited ≡ awaited }
+    ensures step { let awaited = return_step place nodes.old.all stack.old (seen view.now) in
+        gives result nodes.new.all stack.new awaited ≡ awaited }
     ensures kept { nodes.new.kept ≡ nodes.old.kept }
 {
     if let View::Sign(sign, _) = view {
@@ -369,7 +383,8 @@ pub fn statement_word(
     word: u8,
     place: Pos,
 ) -> Result<Option<Mode>, Memory>
-    ensures step { let awaited = statement_word word place nodes.old.all stack.old in gives result nodes.new.all stack.new awaited ≡ awaited }
+    ensures step { let awaited = statement_word word place nodes.old.all stack.old in
+        gives result nodes.new.all stack.new awaited ≡ awaited }
     ensures kept { nodes.new.kept ≡ nodes.old.kept }
 {
     match word {
@@ -395,7 +410,8 @@ pub fn statement_sign(
     sign: u8,
     place: Pos,
 ) -> Result<Option<Mode>, Memory>
-    ensures step { let awaited = statement_sign sign place nodes.old.all stack.old in gives result nodes.new.all stack.new awaited ≡ awaited }
+    ensures step { let awaited = statement_sign sign place nodes.old.all stack.old in
+        gives result nodes.new.all stack.new awaited ≡ awaited }
     ensures kept { nodes.new.kept ≡ nodes.old.kept }
 {
     if sign == LEFT_BRACE {
@@ -424,7 +440,8 @@ pub fn statement_start(
     stack: &mut Stack,
     view: &View,
 ) -> Result<Option<Mode>, Memory>
-    ensures step { let awaited = statement_start nodes.old.all stack.old (seen view.now) in gives result nodes.new.all stack.new awaited ≡ awaited }
+    ensures step { let awaited = statement_start nodes.old.all stack.old (seen view.now) in
+        gives result nodes.new.all stack.new awaited ≡ awaited }
     ensures kept { nodes.new.kept ≡ nodes.old.kept }
 {
     match view {
@@ -440,7 +457,8 @@ pub fn statement_start(
 /// Behind the brace that closes a block.
 #[tactic(auto, unfolding(parser_machine::specs::Blocks::block_ended))]
 pub fn block_ended(nodes: &mut Nodes, stack: &mut Stack) -> Result<Option<Mode>, Memory>
-    ensures step { let awaited = block_ended nodes.old.all stack.old in gives result nodes.new.all stack.new awaited ≡ awaited }
+    ensures step { let awaited = block_ended nodes.old.all stack.old in
+        gives result nodes.new.all stack.new awaited ≡ awaited }
     ensures kept { nodes.new.kept ≡ nodes.old.kept }
 {
     let Some(entry) = stack.pop() else {
@@ -462,7 +480,8 @@ pub fn statements_step(
     stack: &mut Stack,
     view: &View,
 ) -> Result<Option<Mode>, Memory>
-    ensures step { let awaited = statements_step nodes.old.all stack.old (seen view.now) in gives result nodes.new.all stack.new awaited ≡ awaited }
+    ensures step { let awaited = statements_step nodes.old.all stack.old (seen view.now) in
+        gives result nodes.new.all stack.new awaited ≡ awaited }
     ensures kept { nodes.new.kept ≡ nodes.old.kept }
 {
     if let View::Sign(sign, _) = view {

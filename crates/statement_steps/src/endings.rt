@@ -23,7 +23,8 @@ use type_steps::flags::no_flags;
 /// Behind the brace that closes a class.
 #[tactic(auto, unfolding(parser_machine::specs::Members::class_ended))]
 pub fn class_ended(nodes: &mut Nodes, stack: &mut Stack) -> Result<Option<Mode>, Memory>
-    ensures step { let awaited = class_ended nodes.old.all stack.old in gives result nodes.new.all stack.new awaited ≡ awaited }
+    ensures step { let awaited = class_ended nodes.old.all stack.old in
+        gives result nodes.new.all stack.new awaited ≡ awaited }
     ensures kept { nodes.new.kept ≡ nodes.old.kept }
 {
     let Some(entry) = stack.pop() else {
@@ -52,7 +53,8 @@ pub fn class_read(
     header: Option<NodeId>,
     members: NodeList,
 ) -> Result<Option<Mode>, Memory>
-    ensures step { let awaited = class_ended nodes.old.all (ClassBody flags place name header members ∷ stack.old) in gives result nodes.new.all stack.new awaited ≡ awaited }
+    ensures step { let awaited = class_ended nodes.old.all (ClassBody flags place name header members ∷ stack.old) in
+        gives result nodes.new.all stack.new awaited ≡ awaited }
     ensures kept { nodes.new.kept ≡ nodes.old.kept }
 {
     let Some(entry) = stack.pop() else {
@@ -82,7 +84,8 @@ pub fn members_step(
     stack: &mut Stack,
     view: &View,
 ) -> Result<Option<Mode>, Memory>
-    ensures step { let awaited = members_step nodes.old.all stack.old (seen view.now) in gives result nodes.new.all stack.new awaited ≡ awaited }
+    ensures step { let awaited = members_step nodes.old.all stack.old (seen view.now) in
+        gives result nodes.new.all stack.new awaited ≡ awaited }
     ensures kept { nodes.new.kept ≡ nodes.old.kept }
 {
     if let View::Sign(sign, _) = view {
@@ -102,7 +105,8 @@ pub fn member_ended(
     view: &View,
     id: NodeId,
 ) -> Result<Option<Mode>, Memory>
-    ensures step { let awaited = member_ended id nodes.old.all stack.old (seen view.now) in gives result nodes.new.all stack.new awaited ≡ awaited }
+    ensures step { let awaited = member_ended id nodes.old.all stack.old (seen view.now) in
+        gives result nodes.new.all stack.new awaited ≡ awaited }
     ensures kept { nodes.new.kept ≡ nodes.old.kept }
 {
     let Some(entry) = stack.pop() else {
@@ -143,7 +147,8 @@ pub fn method_ended(
     name: SharedName,
     parameters: Option<NodeId>,
 ) -> Result<Option<Mode>, Memory>
-    ensures step { let awaited = statement_ended id nodes.old.all (MethodBody flags result_type place name parameters ∷ stack.old) (seen view.now) in gives result nodes.new.all stack.new awaited ≡ awaited }
+    ensures step { let awaited = statement_ended id nodes.old.all (MethodBody flags result_type place name parameters
+        ∷ stack.old) (seen view.now) in gives result nodes.new.all stack.new awaited ≡ awaited }
     ensures kept { nodes.new.kept ≡ nodes.old.kept }
 {
     let id = nodes.put(Node::Method {
@@ -170,7 +175,9 @@ pub fn constructor_ended(
     parameters: Option<NodeId>,
     super_call: Option<NodeId>,
 ) -> Result<Option<Mode>, Memory>
-    ensures step { let awaited = statement_ended id nodes.old.all (ConstructorBody flags place name parameters super_call ∷ stack.old) (seen view.now) in gives result nodes.new.all stack.new awaited ≡ awaited }
+    ensures step { let awaited = statement_ended id nodes.old.all
+        (ConstructorBody flags place name parameters super_call ∷ stack.old) (seen view.now) in
+        gives result nodes.new.all stack.new awaited ≡ awaited }
     ensures kept { nodes.new.kept ≡ nodes.old.kept }
 {
     let id = nodes.put(Node::Constructor {
@@ -194,7 +201,8 @@ pub fn block_statement_ended(
     place: Pos,
     statements: NodeList,
 ) -> Result<Option<Mode>, Memory>
-    ensures step { let awaited = statement_ended id nodes.old.all (BlockOpen place statements ∷ stack.old) (seen view.now) in gives result nodes.new.all stack.new awaited ≡ awaited }
+    ensures step { let awaited = statement_ended id nodes.old.all (BlockOpen place statements ∷ stack.old)
+        (seen view.now) in gives result nodes.new.all stack.new awaited ≡ awaited }
     ensures kept { nodes.new.kept ≡ nodes.old.kept }
 {
     let statements = with_item(statements, id)?;
@@ -212,7 +220,8 @@ pub fn whole_ended(
     id: NodeId,
 ) -> Result<Option<Mode>, Memory>
     requires { enclosing_node entry (seen view.now) id ≡ None }
-    ensures step { let awaited = statement_ended id nodes.old.all (entry ∷ stack.old) (seen view.now) in gives result nodes.new.all stack.new awaited ≡ awaited }
+    ensures step { let awaited = statement_ended id nodes.old.all (entry ∷ stack.old) (seen view.now) in
+        gives result nodes.new.all stack.new awaited ≡ awaited }
     ensures kept { nodes.new.kept ≡ nodes.old.kept }
 {
     match entry {
@@ -268,7 +277,8 @@ pub fn statement_ended(
     view: &View,
     id: NodeId,
 ) -> Result<Option<Mode>, Memory>
-    ensures step { let awaited = statement_ended id nodes.old.all stack.old (seen view.now) in gives result nodes.new.all stack.new awaited ≡ awaited }
+    ensures step { let awaited = statement_ended id nodes.old.all stack.old (seen view.now) in
+        gives result nodes.new.all stack.new awaited ≡ awaited }
     ensures kept { nodes.new.kept ≡ nodes.old.kept }
 {
     let mut id = id;

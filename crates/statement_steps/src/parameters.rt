@@ -32,7 +32,8 @@ pub fn parameters_first(
     view: &View,
     place: Pos,
 ) -> Result<Option<Mode>, Memory>
-    ensures step { let awaited = flags_step false no_flags nodes.old.all (ParametersOpen place [] ∷ stack.old) (seen view.now) in gives result nodes.new.all stack.new awaited ≡ awaited }
+    ensures step { let awaited = flags_step false no_flags nodes.old.all (ParametersOpen place [] ∷ stack.old)
+        (seen view.now) in gives result nodes.new.all stack.new awaited ≡ awaited }
     ensures kept { nodes.new.kept ≡ nodes.old.kept }
 {
     stack.push(Entry::ParametersOpen {
@@ -50,7 +51,8 @@ pub fn parameters_first_step(
     view: &View,
     place: Pos,
 ) -> Result<Option<Mode>, Memory>
-    ensures step { let awaited = parameters_first_step place nodes.old.all stack.old (seen view.now) in gives result nodes.new.all stack.new awaited ≡ awaited }
+    ensures step { let awaited = parameters_first_step place nodes.old.all stack.old (seen view.now) in
+        gives result nodes.new.all stack.new awaited ≡ awaited }
     ensures kept { nodes.new.kept ≡ nodes.old.kept }
 {
     if let View::Sign(sign, _) = view {
@@ -70,7 +72,8 @@ pub fn parameter_ended(
     id: NodeId,
     sign: u8,
 ) -> Result<Option<Mode>, Memory>
-    ensures step { let awaited = parameter_ended id nodes.old.all stack.old sign in gives result nodes.new.all stack.new awaited ≡ awaited }
+    ensures step { let awaited = parameter_ended id nodes.old.all stack.old sign in
+        gives result nodes.new.all stack.new awaited ≡ awaited }
     ensures kept { nodes.new.kept ≡ nodes.old.kept }
 {
     let Some(entry) = stack.pop() else {
@@ -106,7 +109,8 @@ pub fn parameter_end_step(
     view: &View,
     id: NodeId,
 ) -> Result<Option<Mode>, Memory>
-    ensures step { let awaited = parameter_end_step id nodes.old.all stack.old (seen view.now) in gives result nodes.new.all stack.new awaited ≡ awaited }
+    ensures step { let awaited = parameter_end_step id nodes.old.all stack.old (seen view.now) in
+        gives result nodes.new.all stack.new awaited ≡ awaited }
     ensures kept { nodes.new.kept ≡ nodes.old.kept }
 {
     let View::Sign(sign, _) = view else {
@@ -128,7 +132,8 @@ pub fn method_body_step(
     place: Pos,
     name: SharedName,
 ) -> Result<Option<Mode>, Memory>
-    ensures step { let awaited = body_step parameters nodes.old.all (MethodOpen flags result_type place name ∷ stack.old) sign sign_place in gives result nodes.new.all stack.new awaited ≡ awaited }
+    ensures step { let awaited = body_step parameters nodes.old.all (MethodOpen flags result_type place name
+        ∷ stack.old) sign sign_place in gives result nodes.new.all stack.new awaited ≡ awaited }
     ensures kept { nodes.new.kept ≡ nodes.old.kept }
 {
     if sign == LEFT_BRACE {
@@ -168,7 +173,8 @@ pub fn body_step(
     sign: u8,
     sign_place: Pos,
 ) -> Result<Option<Mode>, Memory>
-    ensures step { let awaited = body_step parameters nodes.old.all stack.old sign sign_place in gives result nodes.new.all stack.new awaited ≡ awaited }
+    ensures step { let awaited = body_step parameters nodes.old.all stack.old sign sign_place in
+        gives result nodes.new.all stack.new awaited ≡ awaited }
     ensures kept { nodes.new.kept ≡ nodes.old.kept }
 {
     let Some(entry) = stack.pop() else {
@@ -217,7 +223,8 @@ pub fn parameters_end_step(
     view: &View,
     parameters: Option<NodeId>,
 ) -> Result<Option<Mode>, Memory>
-    ensures step { let awaited = parameters_end_step parameters nodes.old.all stack.old (seen view.now) in gives result nodes.new.all stack.new awaited ≡ awaited }
+    ensures step { let awaited = parameters_end_step parameters nodes.old.all stack.old (seen view.now) in
+        gives result nodes.new.all stack.new awaited ≡ awaited }
     ensures kept { nodes.new.kept ≡ nodes.old.kept }
 {
     let View::Sign(sign, sign_place) = view else {
@@ -234,7 +241,8 @@ pub fn block_start(
     view: &View,
     place: Pos,
 ) -> Result<Option<Mode>, Memory>
-    ensures step { let awaited = statements_step nodes.old.all (BlockOpen place [] ∷ stack.old) (seen view.now) in gives result nodes.new.all stack.new awaited ≡ awaited }
+    ensures step { let awaited = statements_step nodes.old.all (BlockOpen place [] ∷ stack.old) (seen view.now) in
+        gives result nodes.new.all stack.new awaited ≡ awaited }
     ensures kept { nodes.new.kept ≡ nodes.old.kept }
 {
     stack.push(Entry::BlockOpen {
@@ -252,7 +260,8 @@ pub fn constructor_start_step(
     view: &View,
     block_place: Pos,
 ) -> Result<Option<Mode>, Memory>
-    ensures step { let awaited = constructor_start_step block_place nodes.old.all stack.old (seen view.now) in gives result nodes.new.all stack.new awaited ≡ awaited }
+    ensures step { let awaited = constructor_start_step block_place nodes.old.all stack.old (seen view.now) in
+        gives result nodes.new.all stack.new awaited ≡ awaited }
     ensures kept { nodes.new.kept ≡ nodes.old.kept }
 {
     if let View::Word(word, place) = view {
@@ -276,7 +285,8 @@ pub fn super_open_step(
     block_place: Pos,
     place: Pos,
 ) -> Result<Option<Mode>, Memory>
-    ensures step { let awaited = super_open_step block_place place nodes.old.all stack.old (seen view.now) in gives result nodes.new.all stack.new awaited ≡ awaited }
+    ensures step { let awaited = super_open_step block_place place nodes.old.all stack.old (seen view.now) in
+        gives result nodes.new.all stack.new awaited ≡ awaited }
     ensures kept { nodes.new.kept ≡ nodes.old.kept }
 {
     let View::Sign(sign, _) = view else {
@@ -300,7 +310,8 @@ pub fn super_end_step(
     view: &View,
     block_place: Pos,
 ) -> Result<Option<Mode>, Memory>
-    ensures step { let awaited = super_end_step block_place nodes.old.all stack.old (seen view.now) in gives result nodes.new.all stack.new awaited ≡ awaited }
+    ensures step { let awaited = super_end_step block_place nodes.old.all stack.old (seen view.now) in
+        gives result nodes.new.all stack.new awaited ≡ awaited }
     ensures kept { nodes.new.kept ≡ nodes.old.kept }
 {
     let View::Sign(sign, _) = view else {

@@ -30,7 +30,8 @@ true_and : (u : Bool) → (true && u) ≡ u
 true_and true = refl
 true_and false = refl
 
-among_two : (x s : ℕ) (g : ℕ → Bool) (rest : Bool) → ((((x == s) || false) && g x) || (rest && g s)) ≡ (((s == x) || rest) && g s)
+among_two : (x s : ℕ) (g : ℕ → Bool) (rest : Bool) →
+    ((((x == s) || false) && g x) || (rest && g s)) ≡ (((s == x) || rest) && g s)
 among_two x s g rest =
     ⊎_elim (λ (e : (x == s) ≡ true).
     let same : x ≡ s = eqb-true x s e in
@@ -42,28 +43,34 @@ among_two x s g rest =
     (cases_Bool (x == s))
 
 -- one interface that is asked for
-pub one_interface : (s : ℕ) (g : ℕ → Bool) (xs : List ℕ) → list_any (λ i. is_among i (s ∷ []) && g i) xs ≡ (is_among s xs && g s)
+pub one_interface : (s : ℕ) (g : ℕ → Bool) (xs : List ℕ) →
+    list_any (λ i. is_among i (s ∷ []) && g i) xs ≡ (is_among s xs && g s)
 one_interface s g [] = refl
-one_interface s g (x ∷ xs) = ap (λ t. (((x == s) || false) && g x) || t) (one_interface s g xs) ∙ among_two x s g (is_among s xs)
+one_interface s g (x ∷ xs) = ap (λ t. (((x == s) || false) && g x) || t) (one_interface s g xs)
+    ∙ among_two x s g (is_among s xs)
 
 pub inherited_by_parts : (p : Declarations) (node : ℕ) (name : List ℕ) (class : ℕ)
     → inherits_as p (safelet ∷ []) node name class
     ≡ ((is_among safelet (all_interfaces p.classes class) && is_some (own_method p.classes name safelet))
-    && holds (method_named p.classes class name) (λ (f : FoundMethod). not (is_some f.method.builtin) && (f.method.declared.node == node)))
+    && holds (method_named p.classes class name) (λ (f : FoundMethod). not (is_some f.method.builtin)
+    && (f.method.declared.node == node)))
 unfolding inherits_as
 inherited_by_parts p node name class =
-    ap (λ t. t && holds (method_named p.classes class name) (λ (f : FoundMethod). not (is_some f.method.builtin) && (f.method.declared.node == node)))
+    ap (λ t. t && holds (method_named p.classes class name) (λ (f : FoundMethod). not (is_some f.method.builtin)
+    && (f.method.declared.node == node)))
     (one_interface safelet (λ i. is_some (own_method p.classes name i)) (all_interfaces p.classes class))
 
 -- the same, the other part first
 pub declared_and_asked : (p : Declarations) (node : ℕ) (name : List ℕ) (class : ℕ)
     → inherits_as p (safelet ∷ []) node name class
-    ≡ (holds (method_named p.classes class name) (λ (f : FoundMethod). not (is_some f.method.builtin) && (f.method.declared.node == node))
+    ≡ (holds (method_named p.classes class name) (λ (f : FoundMethod). not (is_some f.method.builtin)
+    && (f.method.declared.node == node))
     && (is_among safelet (all_interfaces p.classes class) && is_some (own_method p.classes name safelet)))
 declared_and_asked p node name class =
     inherited_by_parts p node name class
     ∙ and_comm (is_among safelet (all_interfaces p.classes class) && is_some (own_method p.classes name safelet))
-    (holds (method_named p.classes class name) (λ (f : FoundMethod). not (is_some f.method.builtin) && (f.method.declared.node == node)))
+    (holds (method_named p.classes class name) (λ (f : FoundMethod). not (is_some f.method.builtin)
+    && (f.method.declared.node == node)))
 
 -- ---- the classes one after the other
 
@@ -75,32 +82,48 @@ split_at (row ∷ rows) (suc i) h =
     let e : suc i + 1 ≡ suc (i + 1) = omega arith in
     (rest.0, rw e rest.1)
 
-any_here : (f : ℕ → Bool) (rows : List ClassRow) (i : ℕ) → i < length rows → list_any f (numbers_from i (drop i rows)) ≡ (f i || list_any f (numbers_from (i + 1) (drop (i + 1) rows)))
+any_here : (f : ℕ → Bool) (rows : List ClassRow) (i : ℕ) → i < length rows →
+    list_any f (numbers_from i (drop i rows)) ≡ (f i || list_any f (numbers_from (i + 1) (drop (i + 1) rows)))
 unfolding numbers_from
 any_here f rows i h = rw (split_at rows i h).1 refl
 
-pub any_found : (f : ℕ → Bool) (rows : List ClassRow) (i : ℕ) (whole : Bool) → i < length rows → true ≡ f i → list_any f (numbers_from i (drop i rows)) ≡ whole → true ≡ whole
-any_found f rows i whole h e w = (let here = any_here f rows i h in sym (here ∙ ap (λ t. t || list_any f (numbers_from (i + 1) (drop (i + 1) rows))) (sym e))) ∙ w
+pub any_found : (f : ℕ → Bool) (rows : List ClassRow) (i : ℕ) (whole : Bool) → i < length rows → true ≡ f i →
+    list_any f (numbers_from i (drop i rows)) ≡ whole → true ≡ whole
+any_found f rows i whole h e w =
+    (let here = any_here f rows i h in
+    sym (here ∙ ap (λ t. t || list_any f (numbers_from (i + 1) (drop (i + 1) rows))) (sym e))) ∙ w
 
-pub any_more : (f : ℕ → Bool) (rows : List ClassRow) (i : ℕ) (whole : Bool) → i < length rows → false ≡ f i → list_any f (numbers_from i (drop i rows)) ≡ whole → list_any f (numbers_from (i + 1) (drop (i + 1) rows)) ≡ whole
-any_more f rows i whole h e w = (let here = any_here f rows i h in sym (here ∙ ap (λ t. t || list_any f (numbers_from (i + 1) (drop (i + 1) rows))) (sym e))) ∙ w
+pub any_more : (f : ℕ → Bool) (rows : List ClassRow) (i : ℕ) (whole : Bool) → i < length rows → false ≡ f i →
+    list_any f (numbers_from i (drop i rows)) ≡ whole → list_any f (numbers_from (i + 1) (drop (i + 1) rows)) ≡ whole
+any_more f rows i whole h e w =
+    (let here = any_here f rows i h in
+    sym (here ∙ ap (λ t. t || list_any f (numbers_from (i + 1) (drop (i + 1) rows))) (sym e))) ∙ w
 
-pub any_ended : (f : ℕ → Bool) (rows : List ClassRow) (i : ℕ) (whole : Bool) → length rows ≤ i → list_any f (numbers_from i (drop i rows)) ≡ whole → false ≡ whole
+pub any_ended : (f : ℕ → Bool) (rows : List ClassRow) (i : ℕ) (whole : Bool) → length rows ≤ i →
+    list_any f (numbers_from i (drop i rows)) ≡ whole → false ≡ whole
 unfolding numbers_from
-any_ended f rows i whole h w = (let e : drop i rows ≡ [] = drop_all i rows h in sym (ap (λ t. list_any f (numbers_from i t)) e)) ∙ w
+any_ended f rows i whole h w =
+    (let e : drop i rows ≡ [] = drop_all i rows h in sym (ap (λ t. list_any f (numbers_from i t)) e)) ∙ w
 
 -- no class inherits a method of a name that Safelet doesn't have
-not_of_safelet : (p : Declarations) (node : ℕ) (name : List ℕ) (class : ℕ) → is_some (own_method p.classes name safelet) ≡ false → inherits_as p (safelet ∷ []) node name class ≡ false
+not_of_safelet : (p : Declarations) (node : ℕ) (name : List ℕ) (class : ℕ) →
+    is_some (own_method p.classes name safelet) ≡ false → inherits_as p (safelet ∷ []) node name class ≡ false
 not_of_safelet p node name class h =
     inherited_by_parts p node name class
-    ∙ ap (λ t. t && holds (method_named p.classes class name) (λ (f : FoundMethod). not (is_some f.method.builtin) && (f.method.declared.node == node)))
-    (ap (λ t. is_among safelet (all_interfaces p.classes class) && t) h ∙ and_false (is_among safelet (all_interfaces p.classes class)))
-    ∙ false_and (holds (method_named p.classes class name) (λ (f : FoundMethod). not (is_some f.method.builtin) && (f.method.declared.node == node)))
+    ∙ ap (λ t. t && holds (method_named p.classes class name) (λ (f : FoundMethod). not (is_some f.method.builtin)
+    && (f.method.declared.node == node)))
+    (ap (λ t. is_among safelet (all_interfaces p.classes class) && t) h
+    ∙ and_false (is_among safelet (all_interfaces p.classes class)))
+    ∙ false_and
+    (holds (method_named p.classes class name) (λ (f : FoundMethod). not (is_some f.method.builtin)
+    && (f.method.declared.node == node)))
 
-none_inherits : (p : Declarations) (node : ℕ) (name : List ℕ) → is_some (own_method p.classes name safelet) ≡ false → (ids : List ℕ) → list_any (inherits_as p (safelet ∷ []) node name) ids ≡ false
+none_inherits : (p : Declarations) (node : ℕ) (name : List ℕ) → is_some (own_method p.classes name safelet) ≡ false →
+    (ids : List ℕ) → list_any (inherits_as p (safelet ∷ []) node name) ids ≡ false
 none_inherits p node name h [] = refl
 none_inherits p node name h (id ∷ ids) = rw (not_of_safelet p node name id h) (none_inherits p node name h ids)
 
-pub never_inherited : (p : Declarations) (m : DeclaredMethod) → false ≡ is_some (own_method p.classes m.declared.name safelet) → is_inherited_by_safelet p m ≡ false
+pub never_inherited : (p : Declarations) (m : DeclaredMethod) →
+    false ≡ is_some (own_method p.classes m.declared.name safelet) → is_inherited_by_safelet p m ≡ false
 unfolding is_inherited_by_safelet
 never_inherited p m h = none_inherits p m.declared.node m.declared.name (sym h) (numbers_from 0 p.classes)

@@ -28,8 +28,11 @@ class_name_of _ = None
 
 -- the scope of such a variable of a class, where a scope is current
 unfoldable pub bare_scope : Declarations → Option Scope → List ℕ → Option Scope
-bare_scope p current name = elim (type_scope p (class_type name)) [ unannotated ↦ current | annotated s ↦ Some (In s) | unknown ↦ None ]
+bare_scope p current name =
+    elim (type_scope p (class_type name)) [ unannotated ↦ current | annotated s ↦ Some (In s) | unknown ↦ None ]
 
 -- the same, at its node
 abbrev pub bare_scope_at : Declarations → ℕ → List ℕ → Option Scope
-bare_scope_at p id name = option_and_then (λ class. option_and_then (λ member. bare_scope p (current_in p class member) name) (context p id).member) (context p id).class
+bare_scope_at p id name =
+    option_and_then (λ class. option_and_then (λ member. bare_scope p (current_in p class member) name)
+    (context p id).member) (context p id).class

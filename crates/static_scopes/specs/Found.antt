@@ -17,11 +17,17 @@ method_in forest m = (found_method forest.nodes m).method
 
 -- the scope of a thing whose declaration breaks no rule
 abbrev pub right_thing_scope : Declarations → ScopedDeclaration → Option Scope
-right_thing_scope p t = elim (type_scope p t.declared_type) [ unannotated ↦ scope_as_written p t | annotated s ↦ Some (In s) | unknown ↦ None ]
+right_thing_scope p t =
+    elim (type_scope p t.declared_type) [
+      | unannotated ↦ scope_as_written p t
+      | annotated s ↦ Some (In s)
+      | unknown ↦ None
+    ]
 
 -- the scope, where a field of the class may have it
 abbrev pub suited_scope : Declarations → ℕ → Bool → Option Scope → Option Scope
-suited_scope p class is_static scope = option_and_then (λ s. if suits_field p (class_scope p class) is_static s then Some s else None) scope
+suited_scope p class is_static scope =
+    option_and_then (λ s. if suits_field p (class_scope p class) is_static s then Some s else None) scope
 
 -- the row of the method that a node declares, in a class
 abbrev pub at_node : ℕ → ℕ → MethodRef

@@ -47,7 +47,8 @@ fn bare_scope(scopes: &Scopes, class: ClassId, name: &Name) -> Option<Scope>
 /// The scope of a field, by all that is written of it.
 #[tactic(auto, unfolding(class_rows::specs::Fields::found_field))]
 fn written_field_scope(scopes: &Scopes, field: &FieldRef) -> Option<Scope>
-    ensures { let f = found_field scopes.now.nodes field.now in result ≡ field_scope (declarations_of scopes.now) f.on f.field }
+    ensures { let f = found_field scopes.now.nodes field.now in
+        result ≡ field_scope (declarations_of scopes.now) f.on f.field }
 {
     let found = found_field(scopes.classes().program(), field);
     field_scope(scopes, found.on, &found.field)
@@ -57,7 +58,8 @@ fn written_field_scope(scopes: &Scopes, field: &FieldRef) -> Option<Scope>
 #[tactic(auto, using(crate::proofs::BareLemmas::bare_field), unfolding(crate::specs::Bare::class_name_of))]
 fn scope_of_bare(scopes: &Scopes, field: &FieldRef, declared_type: NodeId) -> Option<Scope>
     requires { read scopes.now.nodes bare_field_type_of field.now.node ≡ Some declared_type }
-    ensures { let f = found_field scopes.now.nodes field.now in result ≡ field_scope (declarations_of scopes.now) f.on f.field }
+    ensures { let f = found_field scopes.now.nodes field.now in
+        result ≡ field_scope (declarations_of scopes.now) f.on f.field }
 {
     match scopes.classes().program().get(declared_type) {
         Some(
@@ -76,7 +78,8 @@ fn scope_of_bare(scopes: &Scopes, field: &FieldRef, declared_type: NodeId) -> Op
 
 /// The scope of the field for which a row stands.
 pub fn found_field_scope(scopes: &Scopes, field: &FieldRef) -> Option<Scope>
-    ensures { let f = found_field scopes.now.nodes field.now in result ≡ field_scope (declarations_of scopes.now) f.on f.field }
+    ensures { let f = found_field scopes.now.nodes field.now in
+        result ≡ field_scope (declarations_of scopes.now) f.on f.field }
 {
     match bare_field_type(scopes.classes().program(), field.node) {
         Some(declared_type) => scope_of_bare(scopes, field, declared_type),

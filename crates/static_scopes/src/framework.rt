@@ -59,7 +59,8 @@ fn fixed_runs_in(scopes: &Scopes, class: ClassId, number: MethodId) -> Option<Sc
 
 /// The number of the framework's method that a method of the name in a class overrides.
 fn framework_number(classes: &Classes, class: ClassId, name: &Name) -> Option<MethodId>
-    ensures { result ≡ option_and_then (λ (f : FoundMethod). f.method.builtin) (framework_row_named (declarations_of classes.now).classes class name.now) }
+    ensures { result ≡ option_and_then (λ (f : FoundMethod). f.method.builtin)
+        (framework_row_named (declarations_of classes.now).classes class name.now) }
 {
     match &classes.framework_row_named(class, name) {
         Some(method) => builtin(classes.program(), method),
@@ -80,7 +81,8 @@ pub fn fixed_for(scopes: &Scopes, class: ClassId, name: &Name) -> Option<Scope>
 
 /// Whether the method of a name that a class has is the one at a node.
 fn has_declared(classes: &Classes, class: ClassId, name: &Name, node: NodeId) -> bool
-    ensures { result ≡ holds (method_named (declarations_of classes.now).classes class name.now) (λ (f : FoundMethod). not (is_some f.method.builtin) && (f.method.declared.node == node)) }
+    ensures { result ≡ holds (method_named (declarations_of classes.now).classes class name.now)
+        (λ (f : FoundMethod). not (is_some f.method.builtin) && (f.method.declared.node == node)) }
 {
     match &classes.method_named(class, name) {
         Some(method) => {
@@ -103,7 +105,8 @@ fn safelet_has(classes: &Classes, name: &Name) -> bool
 
 /// Whether a class takes a method of the name from Safelet.
 fn is_asked(classes: &Classes, class: ClassId, name: &Name) -> bool
-    ensures { result ≡ (is_among safelet (all_interfaces (declarations_of classes.now).classes class) && is_some (own_method (declarations_of classes.now).classes name.now safelet)) }
+    ensures { result ≡ (is_among safelet (all_interfaces (declarations_of classes.now).classes class)
+        && is_some (own_method (declarations_of classes.now).classes name.now safelet)) }
 {
     classes.implements(class, SAFELET) && safelet_has(classes, name)
 }
@@ -119,7 +122,8 @@ fn inherits(classes: &Classes, class: ClassId, name: &Name, node: NodeId) -> boo
 
 /// Whether some class inherits the method at a node as one of Safelet's.
 fn any_inherits(scopes: &Scopes, name: &Name, node: NodeId) -> bool
-    ensures { result ≡ list_any (inherits_as (declarations_of scopes.now) (safelet ∷ []) node name.now) (numbers_from 0 (declarations_of scopes.now).classes) }
+    ensures { result ≡ list_any (inherits_as (declarations_of scopes.now) (safelet ∷ []) node name.now)
+        (numbers_from 0 (declarations_of scopes.now).classes) }
 {
     let classes = scopes.classes();
     for number in 0..scopes.class_count() {

@@ -60,7 +60,8 @@ pub fn has_other_runs_in(
     method: &MethodRef,
     written: &Written,
 ) -> bool
-    ensures { result ≡ has_other_runs_in (declarations_of scopes.now) class (method_in scopes.now method.now) written.now }
+    ensures { result ≡ has_other_runs_in (declarations_of scopes.now) class (method_in scopes.now method.now)
+        written.now }
 {
     let method_name = method_rows::name(scopes.classes().program(), method);
     differs_from_fixed(scopes, class, &method_name, &written.name)
@@ -85,7 +86,9 @@ fn has_wrong_runs_in(
     method: &MethodRef,
     written: &Option<Written>,
 ) -> bool
-    ensures { result ≡ holds written.now (λ (w : WrittenName). has_unknown_runs_in (declarations_of scopes.now) (method_in scopes.now method.now) w || has_other_runs_in (declarations_of scopes.now) class (method_in scopes.now method.now) w) }
+    ensures { result ≡ holds written.now
+        (λ (w : WrittenName). has_unknown_runs_in (declarations_of scopes.now) (method_in scopes.now method.now) w
+        || has_other_runs_in (declarations_of scopes.now) class (method_in scopes.now method.now) w) }
 {
     match written {
         Some(written) => {

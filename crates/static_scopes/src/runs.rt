@@ -81,7 +81,8 @@ fn rows_of(
     contexts: &Contexts,
 ) -> Result<Vec<Option<Scope>>, Memory>
     requires { contexts.now ≡ contexts_in scopes.now }
-    ensures { IfOk result (λ rows. rows.items ≡ listed (run_at (declarations_of scopes.now)) (length scopes.now.nodes)) }
+    ensures { IfOk result
+        (λ rows. rows.items ≡ listed (run_at (declarations_of scopes.now)) (length scopes.now.nodes)) }
 {
     let count = scopes.classes().program().len();
     let mut rows = Vec::with_capacity(alloc, count)?;

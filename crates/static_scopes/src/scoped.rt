@@ -110,7 +110,9 @@ impl<'a> Scoped<'a> {
     /// What the table has of a method that stands at a node.
     #[tactic(auto, using(crate::proofs::RunLemmas::told_run))]
     fn told(&self, node: NodeId) -> Option<Scope>
-        ensures { (class : ℕ) → Some class ≡ (context (declarations_of self.now) node).class → true ≡ is_some (method_at self.now.nodes node) → result ≡ runs_in (declarations_of self.now) class (method_in self.now (at_node class node)) }
+        ensures { (class : ℕ) → Some class ≡ (context (declarations_of self.now) node).class →
+            true ≡ is_some (method_at self.now.nodes node) →
+            result ≡ runs_in (declarations_of self.now) class (method_in self.now (at_node class node)) }
     {
         let runs = self.runs;
         run_in_table(&runs.rows, node)
@@ -133,7 +135,8 @@ impl<'a> Scoped<'a> {
     /// The scope in which a method runs.
     #[tactic(auto, unfolding(method_rows::specs::Methods::found_method, method_rows::specs::Methods::method_from))]
     pub fn runs_in(&self, method: &MethodRef) -> Option<Scope>
-        ensures { result ≡ runs_in (declarations_of self.now) (found_method self.now.nodes method.now).on (found_method self.now.nodes method.now).method }
+        ensures { result ≡ runs_in (declarations_of self.now) (found_method self.now.nodes method.now).on
+            (found_method self.now.nodes method.now).method }
     {
         match &method.source {
             MethodSource::Framework(_) => methods::runs_in(&self.scopes, method.on, method),
@@ -173,7 +176,8 @@ impl<'a> Scoped<'a> {
     /// A method's result as a thing.
     #[tactic(auto, unfolding(method_rows::specs::Methods::found_method))]
     pub fn scoped_result(&self, method: &MethodRef) -> ScopedDeclaration
-        ensures { result ≡ scoped_result (declarations_of self.now) (found_method self.now.nodes method.now).on (found_method self.now.nodes method.now).method }
+        ensures { result ≡ scoped_result (declarations_of self.now) (found_method self.now.nodes method.now).on
+            (found_method self.now.nodes method.now).method }
     {
         let declared = methods::declared_of(&self.scopes, method);
         let modifiers = declared.modifiers;
@@ -183,7 +187,8 @@ impl<'a> Scoped<'a> {
 
     /// The scope of a method's result.
     pub fn result_scope(&self, method: &MethodRef) -> Option<Scope>
-        ensures { result ≡ result_scope (declarations_of self.now) (found_method self.now.nodes method.now).on (found_method self.now.nodes method.now).method }
+        ensures { result ≡ result_scope (declarations_of self.now) (found_method self.now.nodes method.now).on
+            (found_method self.now.nodes method.now).method }
     {
         let thing = self.scoped_result(method);
         things::declaration_scope(&self.scopes, &thing)
@@ -192,7 +197,8 @@ impl<'a> Scoped<'a> {
     /// The scope of a method's parameter.
     #[tactic(auto, unfolding(method_rows::specs::Methods::found_method), using(crate::proofs::ThingLemmas::parameter_without_scope))]
     pub fn parameter_scope(&self, method: &MethodRef, parameter: &Declared) -> Option<Scope>
-        ensures { result ≡ parameter_scope (declarations_of self.now) (found_method self.now.nodes method.now).on (found_method self.now.nodes method.now).method parameter.now }
+        ensures { result ≡ parameter_scope (declarations_of self.now) (found_method self.now.nodes method.now).on
+            (found_method self.now.nodes method.now).method parameter.now }
     {
         if has_no_scope(&parameter.declared_type) {
             return None;
@@ -219,7 +225,8 @@ impl<'a> Scoped<'a> {
 
     /// The scope of the field for which a row stands.
     pub fn found_field_scope(&self, field: &FieldRef) -> Option<Scope>
-        ensures { let f = found_field self.now.nodes field.now in result ≡ field_scope (declarations_of self.now) f.on f.field }
+        ensures { let f = found_field self.now.nodes field.now in
+            result ≡ field_scope (declarations_of self.now) f.on f.field }
     {
         fields::found_field_scope(&self.scopes, field)
     }
@@ -233,7 +240,9 @@ impl<'a> Scoped<'a> {
 
     /// The parameter or local that a node declares, as a thing in a member of a class.
     fn variable_in(&self, class: ClassId, member: NodeId, id: NodeId) -> Option<ScopedDeclaration>
-        ensures { result ≡ option_map (λ (d : Declaration). scoped_variable class (current_in (declarations_of self.now) class member) (is_static_member self.now.nodes member) d) (variable_at self.now.nodes id) }
+        ensures { result ≡ option_map
+            (λ (d : Declaration). scoped_variable class (current_in (declarations_of self.now) class member)
+            (is_static_member self.now.nodes member) d) (variable_at self.now.nodes id) }
     {
         let program = self.program();
         let current = self.current_in(class, member);
@@ -273,7 +282,8 @@ impl<'a> Scoped<'a> {
 
     /// The scope of the parameter or local that a node declares, by all that is written of it.
     fn declared_scope(&self, id: NodeId) -> Option<Scope>
-        ensures { result ≡ option_and_then (declaration_scope (declarations_of self.now)) (scoped_variable_at (declarations_of self.now) id) }
+        ensures { result ≡ option_and_then (declaration_scope (declarations_of self.now))
+            (scoped_variable_at (declarations_of self.now) id) }
     {
         match &self.scoped_variable_at(id) {
             Some(thing) => self.declaration_scope(thing),
@@ -285,7 +295,8 @@ impl<'a> Scoped<'a> {
     #[tactic(auto, using(crate::proofs::BareLemmas::bare_variable), unfolding(crate::specs::Bare::class_name_of))]
     fn scope_of_bare(&self, id: NodeId, declared_type: NodeId) -> Option<Scope>
         requires { read self.now.nodes bare_type_of id ≡ Some declared_type }
-        ensures { result ≡ option_and_then (declaration_scope (declarations_of self.now)) (scoped_variable_at (declarations_of self.now) id) }
+        ensures { result ≡ option_and_then (declaration_scope (declarations_of self.now))
+            (scoped_variable_at (declarations_of self.now) id) }
     {
         match self.program().get(declared_type) {
             Some(
@@ -302,7 +313,8 @@ impl<'a> Scoped<'a> {
     /// The scope of the parameter or local that a node declares.
     #[tactic(auto, using(crate::proofs::ThingLemmas::variable_without_scope))]
     pub fn variable_scope(&self, id: NodeId) -> Option<Scope>
-        ensures { result ≡ option_and_then (declaration_scope (declarations_of self.now)) (scoped_variable_at (declarations_of self.now) id) }
+        ensures { result ≡ option_and_then (declaration_scope (declarations_of self.now))
+            (scoped_variable_at (declarations_of self.now) id) }
     {
         if has_plain_type(self.program(), id) {
             return None;

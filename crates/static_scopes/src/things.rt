@@ -70,8 +70,8 @@ fn is_unannotated(scope: &ClassScope) -> bool
     matches!(scope, ClassScope::Unannotated)
 }
 
-/// Whether a name denotes nothing in the annotation of a declaration, though it does elsewhere: `THIS` in a static member
-/// of an unannotated class, and `CALLER` on a field.
+/// Whether a name denotes nothing in the annotation of a declaration, though it does elsewhere: `THIS` in a static
+/// member of an unannotated class, and `CALLER` on a field.
 #[tactic(auto, unfolding(scj_rules::specs::StaticScopes::denotes_nothing))]
 fn denotes_nothing(scopes: &Scopes, thing: &ScopedDeclaration, name: &Name) -> bool
     ensures { result ≡ denotes_nothing (declarations_of scopes.now) thing.now name.now }

@@ -11,7 +11,9 @@ use Rattle.scj_rules.specs.TypeRules.{Types, t1, t2, t3, t4, t5, t6, t7, t8, t9,
 use Rattle.type_check.specs.Kinds.{type_of_kind}
 use Rattle.type_check.specs.Passes.{breaks_at}
 
-told_node : (p : Declarations) (types : Types) (id : ℕ) (node : Node) (t : Option Ty) → type_of_kind (Some (kind_of node)) ≡ Some t → (t ≡ type_of_right p types id node) × (type_breaks p types id node ≡ [])
+told_node : (p : Declarations) (types : Types) (id : ℕ) (node : Node) (t : Option Ty) →
+    type_of_kind (Some (kind_of node)) ≡ Some t → (t ≡ type_of_right p types id node) ×
+    (type_breaks p types id node ≡ [])
 unfolding kind_of is_empty type_of type_of_right type_breaks t1 t2 t3 t4 t5 t6 t7 t8 t9 t10 t11 t12 t13 t14
 told_node p types id (Class place name flags header members) t h = absurd (cc)
 told_node p types id (Field place name flags declared_type equals value) t h = absurd (cc)
@@ -38,11 +40,14 @@ told_node p types id (NewArray place element length) t h = absurd (cc)
 told_node p types id (This place) t h = absurd (cc)
 told_node p types id _ t h = (cc, refl)
 
-pub kind_told : (p : Declarations) (types : Types) (id : ℕ) (t : Option Ty) → type_of_kind (option_map kind_of (slice_get p.nodes id)) ≡ Some t → (t ≡ type_of_next p id types) × (breaks_at p types id ≡ [])
+pub kind_told : (p : Declarations) (types : Types) (id : ℕ) (t : Option Ty) →
+    type_of_kind (option_map kind_of (slice_get p.nodes id)) ≡ Some t → (t ≡ type_of_next p id types) ×
+    (breaks_at p types id ≡ [])
 unfolding type_of_next
 kind_told p types id t = go (slice_get p.nodes id)
   where
     go : (o : Option Node) → type_of_kind (option_map kind_of o) ≡ Some t
-        → (t ≡ option_and_then (type_of_right p types id) o) × (elim o as (λ _. List Found) [ None ↦ [] | Some node ↦ type_breaks p types id node ] ≡ [])
+        → (t ≡ option_and_then (type_of_right p types id) o) ×
+        (elim o as (λ _. List Found) [ None ↦ [] | Some node ↦ type_breaks p types id node ] ≡ [])
     go None h = absurd (cc)
     go (Some node) h = told_node p types id node t h

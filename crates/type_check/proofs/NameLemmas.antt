@@ -22,7 +22,8 @@ abbrev type_by : Declarations → Meaning → Bool → Option Ty
 type_by p m lacks = if lacks then None else type_of_meaning p m
 
 -- of no type, where something is broken
-same_type : (p : Declarations) (m : Meaning) (lacks : Bool) (place : Pos) → type_by p m lacks ≡ (if is_empty (broken_by m lacks place) then type_of_meaning p m else None)
+same_type : (p : Declarations) (m : Meaning) (lacks : Bool) (place : Pos) →
+    type_by p m lacks ≡ (if is_empty (broken_by m lacks place) then type_of_meaning p m else None)
 unfolding denotes_no_declaration type_of_meaning is_empty
 same_type p nothing true place = refl
 same_type p nothing false place = refl
@@ -33,6 +34,8 @@ same_type p (a_field f) false place = refl
 same_type p (a_class c) true place = refl
 same_type p (a_class c) false place = refl
 
-pub right_name : (p : Declarations) (types : Types) (id : ℕ) (place : Pos) (name : List ℕ) → type_of_right_name p id name ≡ type_of_right p types id (SimpleName place name)
+pub right_name : (p : Declarations) (types : Types) (id : ℕ) (place : Pos) (name : List ℕ) →
+    type_of_right_name p id name ≡ type_of_right p types id (SimpleName place name)
 unfolding type_of_right_name type_of_right type_of type_breaks t1 t2 t3 t4 t5 t6 t7 t8 t9 t10 t11 t12 t13 t14
-right_name p types id place name = same_type p (meaning p id name) (is_instance_field (meaning p id name) && not (has_object p id)) place
+right_name p types id place name =
+    same_type p (meaning p id name) (is_instance_field (meaning p id name) && not (has_object p id)) place

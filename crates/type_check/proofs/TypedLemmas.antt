@@ -38,18 +38,22 @@ all-same : (id : ℕ) (t u : Types) (ids : List ℕ) → Same id t u → AllBelo
 unfolding AllBelow all_types
 all-same id t u [] same b = refl
 all-same id t u (c ∷ cs) same b =
-    ap (λ (o : Option Ty). option_and_then (λ (ty : Ty). option_map (λ (ts : List Ty). ty ∷ ts) (all_types t cs)) o) (same c b.0)
-    ∙ ap (λ (o : Option (List Ty)). option_and_then (λ (ty : Ty). option_map (λ (ts : List Ty). ty ∷ ts) o) (u c)) (all-same id t u cs same b.1)
+    ap (λ (o : Option Ty). option_and_then (λ (ty : Ty). option_map (λ (ts : List Ty). ty ∷ ts) (all_types t cs)) o)
+    (same c b.0)
+    ∙ ap (λ (o : Option (List Ty)). option_and_then (λ (ty : Ty). option_map (λ (ts : List Ty). ty ∷ ts) o) (u c))
+    (all-same id t u cs same b.1)
 
 module _ (p : Declarations) where
   abbrev no-int : Types → ℕ → Bool
   no-int t a = not (is_form_part p a) && holds (t a) (λ ty. not (is_int ty))
 
-  ints-same : (id : ℕ) (t u : Types) (ids : List ℕ) → Same id t u → AllBelow id ids → list_any (no-int t) ids ≡ list_any (no-int u) ids
+  ints-same : (id : ℕ) (t u : Types) (ids : List ℕ) → Same id t u → AllBelow id ids →
+      list_any (no-int t) ids ≡ list_any (no-int u) ids
   unfolding AllBelow
   ints-same id t u [] same b = refl
   ints-same id t u (c ∷ cs) same b =
-      ap (λ (o : Option Ty). (not (is_form_part p c) && holds o (λ ty. not (is_int ty))) || list_any (no-int t) cs) (same c b.0)
+      ap (λ (o : Option Ty). (not (is_form_part p c) && holds o (λ ty. not (is_int ty))) || list_any (no-int t) cs)
+      (same c b.0)
       ∙ ap (λ (b : Bool). no-int u c || b) (ints-same id t u cs same b.1)
 
   abbrev untyped : Types → ℕ → Bool
@@ -72,9 +76,11 @@ module _ (p : Declarations) where
   receiver-same : (t u : Types) (object : ℕ) → t object ≡ u object → receiver p t object ≡ receiver p u object
   unfolding receiver
   receiver-same t u object e =
-      ap (λ (o : Option Ty). elim (read p.nodes (class_at_name p object) object) as (λ _. Option Receiver) [ Some class ↦ Some (the_class class) | None ↦ option_map (λ ty. the_value ty) o ]) e
+      ap (λ (o : Option Ty). elim (read p.nodes (class_at_name p object) object) as (λ _. Option Receiver)
+      [ Some class ↦ Some (the_class class) | None ↦ option_map (λ ty. the_value ty) o ]) e
 
-  call-receiver-same : (id : ℕ) (t u : Types) (object : Option ℕ) (arguments : List ℕ) → Same id t u → AllBelow id (optional object ++ arguments) → call_receiver p t id object ≡ call_receiver p u id object
+  call-receiver-same : (id : ℕ) (t u : Types) (object : Option ℕ) (arguments : List ℕ) → Same id t u →
+      AllBelow id (optional object ++ arguments) → call_receiver p t id object ≡ call_receiver p u id object
   unfolding AllBelow call_receiver
   call-receiver-same id t u None arguments same b = refl
   call-receiver-same id t u (Some object) arguments same b = receiver-same t u object (same object b.0)
@@ -83,47 +89,76 @@ module _ (p : Declarations) where
   abbrev BehindChildren : Type 0
   BehindChildren = (k : ℕ) (node : Node) → slice_get p.nodes k ≡ Some node → AllBelow k (children node)
 
-  length-same : BehindChildren → (id : ℕ) (t u : Types) (target : ℕ) → Same id t u → target < id → read p.nodes (is_length_target p t) target ≡ read p.nodes (is_length_target p u) target
+  length-same : BehindChildren → (id : ℕ) (t u : Types) (target : ℕ) → Same id t u → target < id →
+      read p.nodes (is_length_target p t) target ≡ read p.nodes (is_length_target p u) target
   unfolding AllBelow children is_length_target
   length-same first id t u target same l = go (slice_get p.nodes target) refl
     where
       of : (node : Node) → AllBelow target (children node) → is_length_target p t node ≡ is_length_target p u node
       of (FieldAccess place name object) b =
-          ap (λ (o : Option Receiver). Some (holds o (λ r. is_array_value r && is_length name))) (receiver-same t u object (same object (omega (arith, l, b.0))))
+          ap (λ (o : Option Receiver). Some (holds o (λ r. is_array_value r && is_length name)))
+          (receiver-same t u object (same object (omega (arith, l, b.0))))
       of _ b = refl
 
-      go : (o : Option Node) → slice_get p.nodes target ≡ o → option_and_then (is_length_target p t) o ≡ option_and_then (is_length_target p u) o
+      go : (o : Option Node) → slice_get p.nodes target ≡ o → option_and_then (is_length_target p t) o ≡ option_and_then
+          (is_length_target p u) o
       go None there = refl
       go (Some node) there = of node (first target node there)
 
-  breaks-same : BehindChildren → (id : ℕ) (t u : Types) (node : Node) → Same id t u → AllBelow id (children node) → type_breaks p t id node ≡ type_breaks p u id node
+  breaks-same : BehindChildren → (id : ℕ) (t u : Types) (node : Node) → Same id t u → AllBelow id (children node) →
+      type_breaks p t id node ≡ type_breaks p u id node
   unfolding AllBelow children type_breaks t1 t2 t3 t4 t5 t6 t7 t8 t9 t10 t11 t12 t13 t14 misfits_method misfits_new
   breaks-same first id t u (Binary place operator left right) same b =
-      let f : Option Ty → Option Ty → List Found = λ l r. broken (holds l (λ x. holds r (λ y. not (is_some (binary_type p.classes operator x y))))) T3 place ++ [] in
+      let f : Option Ty → Option Ty → List Found =
+      λ l r. broken (holds l (λ x. holds r (λ y. not (is_some (binary_type p.classes operator x y))))) T3 place
+      ++ [] in
       ap (λ l. f l (t right)) (same left b.0) ∙ ap (λ r. f (u left) r) (same right b.1.0)
   breaks-same first id t u (Unary place operator operand) same b =
-      ap (λ (o : Option Ty). broken (holds o (λ x. not (is_some (unary_type operator x)))) T3 place ++ []) (same operand b.0)
+      ap (λ (o : Option Ty). broken (holds o (λ x. not (is_some (unary_type operator x)))) T3 place ++ [])
+      (same operand b.0)
   breaks-same first id t u (Element place array index) same b =
-      let f : Option Ty → Option Ty → List Found = λ l r. broken (holds l (λ x. holds r (λ i. not (is_array x && is_int i)))) T3 place ++ [] in
+      let f : Option Ty → Option Ty → List Found =
+      λ l r. broken (holds l (λ x. holds r (λ i. not (is_array x && is_int i)))) T3 place ++ [] in
       ap (λ l. f l (t index)) (same array b.0) ∙ ap (λ r. f (u array) r) (same index b.1.0)
   breaks-same first id t u (NewArray place element length) same b =
-      ap (λ (o : Option Ty). broken (holds o (λ n. not (is_int n))) T3 place ++ broken (holds (read p.nodes (element_class p) element) (kind_is is_form p)) T14 place) (same length b.1.0)
+      ap (λ (o : Option Ty). broken (holds o (λ n. not (is_int n))) T3 place
+      ++ broken (holds (read p.nodes (element_class p) element) (kind_is is_form p)) T14 place) (same length b.1.0)
   breaks-same first id t u (Cast place name_place name operand) same b =
-      ap (λ (o : Option Ty). broken (holds o (λ x. holds (class_number p.names name) (λ class. not (are_related p.classes x (ClassTy class))))) T12 place ++ []) (same operand b.0)
+      ap (λ (o : Option Ty). broken
+      (holds o (λ x. holds (class_number p.names name) (λ class. not (are_related p.classes x (ClassTy class)))))
+      T12 place ++ []) (same operand b.0)
   breaks-same first id t u (FieldAccess place name object) same b =
-      ap (λ (o : Option Receiver). broken (holds o is_no_reference) T3 place ++ (broken (holds o (λ r. lacks_field p r name)) T4 place ++ (broken (holds o (λ r. lacks_object p id r && holds (accessed_field p r name) (λ (f : FoundField). not f.field.modifiers.is_static))) T13 place ++ [])))
+      ap (λ (o : Option Receiver). broken (holds o is_no_reference) T3 place
+      ++ (broken (holds o (λ r. lacks_field p r name)) T4 place
+      ++ (broken
+      (holds o
+      (λ r. lacks_object p id r
+      && holds (accessed_field p r name) (λ (f : FoundField). not f.field.modifiers.is_static))) T13 place ++ [])))
       (receiver-same t u object (same object b.0))
   breaks-same first id t u (Call place name object arguments) same b =
       let f : Option Receiver → Option (List Ty) → List Found = λ o ts.
       broken (holds o (λ r. holds ts (λ _. is_no_reference r))) T3 place
       ++ (broken (holds o (λ r. holds ts (λ _. lacks_method p r name))) T5 place
-      ++ (broken (holds o (λ r. not (lacks_method p r name) && holds (called_method p r name) (λ (m : FoundMethod). holds ts (λ xs. not (accepts_arguments p m.method.parameters xs))))) T6 place
-      ++ (broken (holds o (λ r. holds ts (λ _. lacks_object p id r && (not (lacks_method p r name) && holds (called_method p r name) (λ (m : FoundMethod). not m.method.declared.modifiers.is_static))))) T13 place ++ []))) in
+      ++ (broken
+      (holds o (λ r. not (lacks_method p r name)
+      && holds (called_method p r name)
+      (λ (m : FoundMethod). holds ts (λ xs. not (accepts_arguments p m.method.parameters xs))))) T6 place
+      ++ (broken
+      (holds o
+      (λ r. holds ts
+      (λ _. lacks_object p id r
+      && (not (lacks_method p r name)
+      && holds (called_method p r name) (λ (m : FoundMethod). not m.method.declared.modifiers.is_static))))) T13
+      place ++ []))) in
       ap (λ o. f o (all_types t arguments)) (call-receiver-same id t u object arguments same b)
-      ∙ ap (λ ts. f (call_receiver p u id object) ts) (all-same id t u arguments same (below-right id (optional object) arguments b))
+      ∙ ap (λ ts. f (call_receiver p u id object) ts)
+      (all-same id t u arguments same (below-right id (optional object) arguments b))
   breaks-same first id t u (New place name_place name arguments) same b =
       let f : Bool → Option (List Ty) → List Found = λ part ts.
-      broken (if is_form_part p id then part else holds (class_number p.names name) (λ class. (is_user_class class || (class == 0)) && holds ts (λ xs. not (accepts_arguments p (constructor_parameters p.classes class) xs)))) T6 place
+      broken
+      (if is_form_part p id then part else holds (class_number p.names name)
+      (λ class. (is_user_class class || (class == 0))
+      && holds ts (λ xs. not (accepts_arguments p (constructor_parameters p.classes class) xs)))) T6 place
       ++ (broken (holds ts (λ _. holds (class_number p.names name) (kind_is is_never_made p))) T11 place
       ++ broken (holds (class_number p.names name) (kind_is is_form p) && not (is_form_part p id)) T14 place) in
       ap (λ part. f part (all_types t arguments)) (part-same id t u arguments same b)
@@ -131,38 +166,51 @@ module _ (p : Declarations) where
   breaks-same first id t u (Field place name flags declared_type None value) same b = refl
   breaks-same first id t u (Field place name flags declared_type (Some equals) None) same b = refl
   breaks-same first id t u (Field place name flags declared_type (Some equals) (Some value)) same b =
-      ap (λ (o : Option Ty). broken (misfits_value p (written_type p declared_type) o) T7 equals ++ []) (same value (below-right id (optional flags) (declared_type ∷ value ∷ []) b).1.0)
+      ap (λ (o : Option Ty). broken (misfits_value p (written_type p declared_type) o) T7 equals ++ [])
+      (same value (below-right id (optional flags) (declared_type ∷ value ∷ []) b).1.0)
   breaks-same first id t u (Method place name flags result_type parameters None) same b = refl
   breaks-same first id t u (Method place name flags result_type parameters (Some body)) same b = refl
   breaks-same first id t u (SuperCall place arguments) same b =
-      ap (λ (o : Option (List Ty)). broken (holds (superclass_at p id) (λ superclass. not (has_form superclass) && holds o (λ ts. not (accepts_arguments p (constructor_parameters p.classes superclass) ts)))) T6 place ++ [])
+      ap (λ (o : Option (List Ty)). broken
+      (holds (superclass_at p id) (λ superclass. not (has_form superclass)
+      && holds o (λ ts. not (accepts_arguments p (constructor_parameters p.classes superclass) ts)))) T6 place
+      ++ [])
       (all-same id t u arguments same b)
   breaks-same first id t u (LocalWithValue place name_place name flags declared_type value) same b =
-      ap (λ (o : Option Ty). broken (is_some (variable_named p id name)) T2 name_place ++ (broken (misfits_value p (written_type p declared_type) o) T7 place ++ []))
+      ap (λ (o : Option Ty). broken (is_some (variable_named p id name)) T2 name_place
+      ++ (broken (misfits_value p (written_type p declared_type) o) T7 place ++ []))
       (same value (below-right id (optional flags) (declared_type ∷ value ∷ []) b).1.0)
   breaks-same first id t u (Assign place target value) same b =
-      let f : Option Ty → Option Ty → Option Bool → List Found = λ a v o. broken (is_some a && (is_some v && (misfits_value p a v || holds o (λ h. h)))) T7 place ++ [] in
+      let f : Option Ty → Option Ty → Option Bool → List Found =
+      λ a v o. broken (is_some a && (is_some v && (misfits_value p a v || holds o (λ h. h)))) T7 place ++ [] in
       ap (λ a. f a (t value) (read p.nodes (is_length_target p t) target)) (same target b.0)
       ∙ ap (λ v. f (u target) v (read p.nodes (is_length_target p t) target)) (same value b.1.0)
       ∙ ap (λ o. f (u target) (u value) o) (length-same first id t u target same b.0)
   breaks-same first id t u (If place condition then_part else_part) same b =
-      ap (λ (o : Option Ty). broken (holds o (λ ty. not (is_boolean ty))) T8 (place_at p.nodes condition) ++ []) (same condition b.0)
+      ap (λ (o : Option Ty). broken (holds o (λ ty. not (is_boolean ty))) T8 (place_at p.nodes condition) ++ [])
+      (same condition b.0)
   breaks-same first id t u (While place condition body) same b =
-      ap (λ (o : Option Ty). broken (holds o (λ ty. not (is_boolean ty))) T8 (place_at p.nodes condition) ++ []) (same condition b.0)
+      ap (λ (o : Option Ty). broken (holds o (λ ty. not (is_boolean ty))) T8 (place_at p.nodes condition) ++ [])
+      (same condition b.0)
   breaks-same first id t u (For place start condition step body) same b =
-      ap (λ (o : Option Ty). broken (holds o (λ ty. not (is_boolean ty))) T8 (place_at p.nodes condition) ++ []) (same condition b.1.0)
+      ap (λ (o : Option Ty). broken (holds o (λ ty. not (is_boolean ty))) T8 (place_at p.nodes condition) ++ [])
+      (same condition b.1.0)
   breaks-same first id t u (Return place None) same b = refl
   breaks-same first id t u (Return place (Some value)) same b =
-      ap (λ (o : Option Ty). broken (holds o (λ ty. not (fits_result p (result_at p id) ty))) T9 place ++ []) (same value b.0)
+      ap (λ (o : Option Ty). broken (holds o (λ ty. not (fits_result p (result_at p id) ty))) T9 place ++ [])
+      (same value b.0)
   breaks-same first id t u _ same b = refl
 
   -- the types so far are those of all nodes
-  same-so-far : (id : ℕ) → id < length p.nodes → Same id (lookup None (bottom_up None (type_of_next p) id)) (lookup None (types_in p))
+  same-so-far : (id : ℕ) → id < length p.nodes → Same id (lookup None (bottom_up None (type_of_next p) id))
+      (lookup None (types_in p))
   unfolding types_in
-  same-so-far id inside c l = bottom_up-at None (type_of_next p) id c l ∙ sym (bottom_up-at None (type_of_next p) (length p.nodes) c (omega (arith, inside, l)))
+  same-so-far id inside c l = bottom_up-at None (type_of_next p) id c l
+      ∙ sym (bottom_up-at None (type_of_next p) (length p.nodes) c (omega (arith, inside, l)))
 
   -- what has a type breaks nothing
-  pub right_typed : (t : Types) (id : ℕ) (node : Node) → is_some (type_of_right p t id node) ≡ true → type_breaks p t id node ≡ []
+  pub right_typed : (t : Types) (id : ℕ) (node : Node) → is_some (type_of_right p t id node) ≡ true →
+      type_breaks p t id node ≡ []
   unfolding type_of_right is_empty
   right_typed t id node h = go (type_breaks p t id node) h
     where
@@ -170,7 +218,8 @@ module _ (p : Declarations) where
       go [] h = refl
       go (f ∷ fs) h = absurd (true≢false (sym h))
 
-children-below : (from : ℕ) (nodes : List Node) (k : ℕ) (node : Node) → ChildrenFirst from nodes → slice_get nodes k ≡ Some node → AllBelow (from + k) (children node)
+children-below : (from : ℕ) (nodes : List Node) (k : ℕ) (node : Node) → ChildrenFirst from nodes →
+    slice_get nodes k ≡ Some node → AllBelow (from + k) (children node)
 unfolding ChildrenFirst
 children-below from [] k node f e = cc
 children-below from (n ∷ ns) zero node f e =
@@ -193,7 +242,8 @@ behind-children forest whole k node there =
 
 -- with the types of the nodes before a node the same is broken there as with those of all nodes
 pub breaks_so_far : (forest : Forest) → IsForest forest → (id : ℕ)
-    → breaks_at (declarations_of forest) (lookup None (bottom_up None (type_of_next (declarations_of forest)) id)) id ≡ breaks_at (declarations_of forest) (lookup None (types_in (declarations_of forest))) id
+    → breaks_at (declarations_of forest) (lookup None (bottom_up None (type_of_next (declarations_of forest)) id)) id
+    ≡ breaks_at (declarations_of forest) (lookup None (types_in (declarations_of forest))) id
 breaks_so_far forest whole id = go (slice_get p.nodes id) refl
   where
     p : Declarations
@@ -206,7 +256,9 @@ breaks_so_far forest whole id = go (slice_get p.nodes id) refl
     all = lookup None (types_in p)
 
     go : (o : Option Node) → slice_get p.nodes id ≡ o
-        → elim o as (λ _. List Found) [ None ↦ [] | Some node ↦ type_breaks p before id node ] ≡ elim o as (λ _. List Found) [ None ↦ [] | Some node ↦ type_breaks p all id node ]
+        → elim o as (λ _. List Found) [ None ↦ [] | Some node ↦ type_breaks p before id node ] ≡ elim o as
+        (λ _. List Found) [ None ↦ [] | Some node ↦ type_breaks p all id node ]
     go None there = refl
     go (Some node) there =
-        breaks-same p (behind-children forest whole) id before all node (same-so-far p id (slice_get_within p.nodes id node there)) (behind-children forest whole id node there)
+        breaks-same p (behind-children forest whole) id before all node
+        (same-so-far p id (slice_get_within p.nodes id node there)) (behind-children forest whole id node there)

@@ -11,4 +11,5 @@ breaks_at p types id = elim (slice_get p.nodes id) [ None ↦ [] | Some node ↦
 
 -- what stands for nothing has no type; an instance field has one where there is an object
 unfoldable pub type_of_right_name : Declarations → ℕ → List ℕ → Option Ty
-type_of_right_name p id name = if is_instance_field (meaning p id name) && not (has_object p id) then None else type_of_meaning p (meaning p id name)
+type_of_right_name p id name = if is_instance_field (meaning p id name)
+    && not (has_object p id) then None else type_of_meaning p (meaning p id name)

@@ -32,7 +32,9 @@ fn note_local(
     value: NodeId,
     found: &mut Vec<Found>,
 ) -> Result<(), Memory>
-    ensures { OnOk result (found.new.items ≡ found.old.items ++ (variable_breaks (declarations_of known.now) id name_place name.now ++ value_breaks (declarations_of known.now) (lookup None types.now) place declared_type value)) }
+    ensures { OnOk result (found.new.items ≡ found.old.items
+        ++ (variable_breaks (declarations_of known.now) id name_place name.now
+        ++ value_breaks (declarations_of known.now) (lookup None types.now) place declared_type value)) }
 {
     note_variable(known, id, name_place, name, found)?;
     note_value(known, types, place, declared_type, value, found)?;
@@ -49,7 +51,9 @@ fn note_method(
     body: NodeId,
     found: &mut Vec<Found>,
 ) -> Result<(), Memory>
-    ensures { OnOk result (found.new.items ≡ found.old.items ++ (end_breaks (declarations_of known.now) place result_type body ++ size_breaks (declarations_of known.now) id place name.now result_type (Some body))) }
+    ensures { OnOk result (found.new.items ≡ found.old.items
+        ++ (end_breaks (declarations_of known.now) place result_type body
+        ++ size_breaks (declarations_of known.now) id place name.now result_type (Some body))) }
 {
     note_end(known, place, result_type, body, found)?;
     note_size(known, id, place, name, result_type, &Some(body), found)?;
@@ -65,7 +69,8 @@ pub fn note_breaks(
     node: &Node,
     found: &mut Vec<Found>,
 ) -> Result<(), Memory>
-    ensures { OnOk result (found.new.items ≡ found.old.items ++ type_breaks (declarations_of known.now) (lookup None types.now) id node.now) }
+    ensures { OnOk result (found.new.items ≡ found.old.items
+        ++ type_breaks (declarations_of known.now) (lookup None types.now) id node.now) }
 {
     match node {
         Node::Class { place, name, .. } => note_class(known, *place, name.get(), found),

@@ -26,8 +26,10 @@ fn noted_type(
     node: &Node,
     found: &mut Vec<Found>,
 ) -> Result<Option<Ty>, Memory>
-    ensures type_of { IfOk result (λ t. t ≡ type_of_right (declarations_of known.now) (lookup None types.now) id node.now) }
-    ensures found { OnOk result (found.new.items ≡ found.old.items ++ type_breaks (declarations_of known.now) (lookup None types.now) id node.now) }
+    ensures type_of { IfOk result
+        (λ t. t ≡ type_of_right (declarations_of known.now) (lookup None types.now) id node.now) }
+    ensures found { OnOk result (found.new.items ≡ found.old.items
+        ++ type_breaks (declarations_of known.now) (lookup None types.now) id node.now) }
 {
     let count = found.len();
     note_breaks(known, types, id, node, found)?;
@@ -47,7 +49,8 @@ fn note_untyped(
     found: &mut Vec<Found>,
 ) -> Result<(), Memory>
     requires { t.now ≡ type_of_right (declarations_of known.now) (lookup None types.now) id node.now }
-    ensures { OnOk result (found.new.items ≡ found.old.items ++ type_breaks (declarations_of known.now) (lookup None types.now) id node.now) }
+    ensures { OnOk result (found.new.items ≡ found.old.items
+        ++ type_breaks (declarations_of known.now) (lookup None types.now) id node.now) }
 {
     if t.is_some() {
         return Ok(());
@@ -66,8 +69,10 @@ fn node_type(
     found: &mut Vec<Found>,
 ) -> Result<Option<Ty>, Memory>
     requires { slice_get known.now.nodes id ≡ Some node.now }
-    ensures type_of { IfOk result (λ t. t ≡ type_of_right (declarations_of known.now) (lookup None types.now) id node.now) }
-    ensures found { OnOk result (found.new.items ≡ found.old.items ++ type_breaks (declarations_of known.now) (lookup None types.now) id node.now) }
+    ensures type_of { IfOk result
+        (λ t. t ≡ type_of_right (declarations_of known.now) (lookup None types.now) id node.now) }
+    ensures found { OnOk result (found.new.items ≡ found.old.items
+        ++ type_breaks (declarations_of known.now) (lookup None types.now) id node.now) }
 {
     match node {
         Node::SimpleName { place, name } => {
@@ -88,7 +93,8 @@ fn type_at(
     found: &mut Vec<Found>,
 ) -> Result<Option<Ty>, Memory>
     ensures type_of { IfOk result (λ t. t ≡ type_of_next (declarations_of known.now) id (lookup None types.now)) }
-    ensures found { OnOk result (found.new.items ≡ found.old.items ++ breaks_at (declarations_of known.now) (lookup None types.now) id) }
+    ensures found { OnOk result (found.new.items ≡ found.old.items
+        ++ breaks_at (declarations_of known.now) (lookup None types.now) id) }
 {
     match known.program().get(id) {
         Some(node) => node_type(known, types, id, node, found),
@@ -104,7 +110,8 @@ fn next_type(
     found: &mut Vec<Found>,
 ) -> Result<Option<Ty>, Memory>
     ensures type_of { IfOk result (λ t. t ≡ type_of_next (declarations_of known.now) id (lookup None types.now)) }
-    ensures found { OnOk result (found.new.items ≡ found.old.items ++ breaks_at (declarations_of known.now) (lookup None types.now) id) }
+    ensures found { OnOk result (found.new.items ≡ found.old.items
+        ++ breaks_at (declarations_of known.now) (lookup None types.now) id) }
 {
     match type_by_kind(known, id) {
         Some(t) => Ok(t),
@@ -112,8 +119,8 @@ fn next_type(
     }
 }
 
-/// The types of all nodes, and what breaks the rules on types there. What is broken at a node hangs on the types of those
-/// before it alone, so one pass tells both.
+/// The types of all nodes, and what breaks the rules on types there. What is broken at a node hangs on the types of
+/// those before it alone, so one pass tells both.
 pub fn types_and_breaks(
     alloc: Global,
     known: &Known<'_>,

@@ -20,7 +20,8 @@ use type_words::{array_of, element_type, unary_type};
 
 /// The type of a class where it is named.
 fn class_named(known: &Known<'_>, name: &Name) -> Option<Ty>
-    ensures { result ≡ option_map (λ class. class_type class) (class_number (declarations_of known.now).names name.now) }
+    ensures { result ≡ option_map (λ class. class_type class)
+        (class_number (declarations_of known.now).names name.now) }
 {
     let class = known.class_of(name)?;
     Some(Ty::Class(class))
@@ -42,7 +43,9 @@ fn type_of_binary(
     left: NodeId,
     right: NodeId,
 ) -> Option<Ty>
-    ensures { result ≡ option_and_then (λ a. option_and_then (binary_type (declarations_of known.now).classes operator a) (lookup None types.now right)) (lookup None types.now left) }
+    ensures { result ≡ option_and_then
+        (λ a. option_and_then (binary_type (declarations_of known.now).classes operator a)
+        (lookup None types.now right)) (lookup None types.now left) }
 {
     let a = told(types, left)?;
     let b = told(types, right)?;
@@ -59,7 +62,9 @@ fn type_of_unary(types: &[Option<Ty>], operator: u8, operand: NodeId) -> Option<
 
 /// The type of a cast.
 fn type_of_cast(known: &Known<'_>, types: &[Option<Ty>], name: &Name, operand: NodeId) -> Option<Ty>
-    ensures { result ≡ option_and_then (λ t. option_map (λ class. class_type class) (class_number (declarations_of known.now).names name.now)) (lookup None types.now operand) }
+    ensures { result ≡ option_and_then
+        (λ t. option_map (λ class. class_type class) (class_number (declarations_of known.now).names name.now))
+        (lookup None types.now operand) }
 {
     let _operand = told(types, operand)?;
     class_named(known, name)
@@ -72,7 +77,8 @@ fn type_of_access(
     name: &Name,
     object: NodeId,
 ) -> Option<Ty>
-    ensures { result ≡ option_and_then (λ r. access_type (declarations_of known.now) r name.now) (receiver (declarations_of known.now) (lookup None types.now) object) }
+    ensures { result ≡ option_and_then (λ r. access_type (declarations_of known.now) r name.now)
+        (receiver (declarations_of known.now) (lookup None types.now) object) }
 {
     let r = receiver(known, types, object)?;
     access_type(known, &r, name)
@@ -88,7 +94,10 @@ fn type_of_call(
     object: &Option<NodeId>,
     arguments: &[NodeId],
 ) -> Option<Ty>
-    ensures { result ≡ option_and_then (λ r. option_and_then (λ ts. call_type (declarations_of known.now) r name.now) (all_types (lookup None types.now) arguments.now)) (call_receiver (declarations_of known.now) (lookup None types.now) id object.now) }
+    ensures { result ≡ option_and_then
+        (λ r. option_and_then (λ ts. call_type (declarations_of known.now) r name.now)
+        (all_types (lookup None types.now) arguments.now))
+        (call_receiver (declarations_of known.now) (lookup None types.now) id object.now) }
 {
     let r = call_receiver(known, types, id, object)?;
     if !are_typed(types, arguments) {
@@ -99,7 +108,8 @@ fn type_of_call(
 
 /// The type of an element of an array.
 fn type_of_element(types: &[Option<Ty>], array: NodeId, index: NodeId) -> Option<Ty>
-    ensures { result ≡ option_and_then (λ a. option_and_then (λ i. element_type a) (lookup None types.now index)) (lookup None types.now array) }
+    ensures { result ≡ option_and_then (λ a. option_and_then (λ i. element_type a) (lookup None types.now index))
+        (lookup None types.now array) }
 {
     let a = told(types, array)?;
     let _index = told(types, index)?;
@@ -115,7 +125,9 @@ fn type_of_new(
     name: &Name,
     arguments: &[NodeId],
 ) -> Option<Ty>
-    ensures { result ≡ (if is_form_part (declarations_of known.now) id then None else option_and_then (λ ts. option_map (λ class. class_type class) (class_number (declarations_of known.now).names name.now)) (all_types (lookup None types.now) arguments.now)) }
+    ensures { result ≡ (if is_form_part (declarations_of known.now) id then None else option_and_then
+        (λ ts. option_map (λ class. class_type class) (class_number (declarations_of known.now).names name.now))
+        (all_types (lookup None types.now) arguments.now)) }
 {
     if is_form_part(known, id) {
         return None;
@@ -133,7 +145,9 @@ fn type_of_new_array(
     element: NodeId,
     length: NodeId,
 ) -> Option<Ty>
-    ensures { result ≡ option_and_then (λ n. option_and_then array_of (written_type (declarations_of known.now) element)) (lookup None types.now length) }
+    ensures { result ≡ option_and_then
+        (λ n. option_and_then array_of (written_type (declarations_of known.now) element))
+        (lookup None types.now length) }
 {
     let _length = told(types, length)?;
     let t = written_type(known, element)?;

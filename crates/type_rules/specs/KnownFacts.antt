@@ -8,7 +8,8 @@ use Rattle.type_rules.specs.declared.meanings.NameMeaning.{NameMeaning}
 use Rattle.type_rules.specs.Meanings.{AreMeanings}
 
 -- the contexts and the nodes that always return are those of the program, and names stand for what is told of them
-pub record IsKnownOf (forest : Forest) (contexts : List Context) (returns : List Bool) (meanings : List NameMeaning) : Type 0 where
+pub record IsKnownOf (forest : Forest) (contexts : List Context) (returns : List Bool)
+    (meanings : List NameMeaning) : Type 0 where
   pub contexts_are : contexts ≡ contexts_in forest
   pub returns_are : returns ≡ all_returns forest.nodes
   pub meanings_are : AreMeanings forest meanings

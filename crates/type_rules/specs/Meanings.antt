@@ -27,7 +27,8 @@ meant nodes no_row = nothing
 
 -- the row tells what the name stands for at a node, if that is one
 abbrev pub IsMeaningAt : Forest → ℕ → NameMeaning → Type 0
-IsMeaningAt forest id row = (place : Pos) (name : List ℕ) → slice_get forest.nodes id ≡ Some (SimpleName place name) → meant forest.nodes row ≡ meaning (declarations_of forest) id name
+IsMeaningAt forest id row = (place : Pos) (name : List ℕ) → slice_get forest.nodes id ≡ Some (SimpleName place name) →
+    meant forest.nodes row ≡ meaning (declarations_of forest) id name
 
 -- the rows that are there tell it of the first nodes
 abbrev pub AreMeanings : Forest → List NameMeaning → Type 0

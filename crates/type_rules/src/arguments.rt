@@ -51,7 +51,8 @@ fn count(known: &Known<'_>, takes: &Takes) -> usize
 /// The type of the parameter of a number.
 #[tactic(auto, unfolding(crate::specs::Parameters::taken))]
 fn parameter_type(known: &Known<'_>, takes: &Takes, i: usize) -> Option<WrittenType>
-    ensures { result ≡ option_map (λ (d : Declaration). d.declared_type) (slice_get (taken known.now.nodes takes.now) i) }
+    ensures { result ≡ option_map (λ (d : Declaration). d.declared_type)
+        (slice_get (taken known.now.nodes takes.now) i) }
 {
     match takes {
         Takes::Method(method) => method_rows::parameter_type(known.program(), method, i),
@@ -62,7 +63,8 @@ fn parameter_type(known: &Known<'_>, takes: &Takes, i: usize) -> Option<WrittenT
 /// Whether the parameter of a number takes a value of the type.
 #[tactic(auto, using(crate::proofs::ArgumentLemmas::taken_by_type, crate::proofs::ArgumentLemmas::taken_by_none))]
 fn fits(known: &Known<'_>, takes: &Takes, i: usize, t: &Ty) -> bool
-    ensures { result ≡ holds (slice_get (taken known.now.nodes takes.now) i) (takes_type (declarations_of known.now) t.now) }
+    ensures { result ≡ holds (slice_get (taken known.now.nodes takes.now) i)
+        (takes_type (declarations_of known.now) t.now) }
 {
     let Some(declared_type) = parameter_type(known, takes, i) else {
         return false;
@@ -75,7 +77,8 @@ fn fits(known: &Known<'_>, takes: &Takes, i: usize, t: &Ty) -> bool
 
 /// Whether the arguments have types, and their number or types don't fit (JLS 15.9.3, 15.12.2, 8.8.7).
 pub fn misfit(known: &Known<'_>, types: &[Option<Ty>], takes: &Takes, ids: &[NodeId]) -> bool
-    ensures { result ≡ misfit (declarations_of known.now) (lookup None types.now) (taken known.now.nodes takes.now) ids.now }
+    ensures { result ≡ misfit (declarations_of known.now) (lookup None types.now) (taken known.now.nodes takes.now)
+        ids.now }
 {
     if !are_typed(types, ids) {
         return false;

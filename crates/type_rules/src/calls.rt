@@ -44,7 +44,8 @@ fn is_callable(known: &Known<'_>, method: &MethodRef) -> bool
 
 /// Whether no method was found for a receiver that a program may call, or a static one through a value.
 fn lacks_found(known: &Known<'_>, receiver: &Receiver, method: &Option<MethodRef>) -> bool
-    ensures { result ≡ lacks_found (declarations_of known.now) receiver.now (option_map (found_method known.now.nodes) method.now) }
+    ensures { result ≡ lacks_found (declarations_of known.now) receiver.now
+        (option_map (found_method known.now.nodes) method.now) }
 {
     if is_no_reference(receiver) {
         return false;
@@ -66,7 +67,8 @@ fn misfits_found(
     method: &Option<MethodRef>,
     arguments: &[NodeId],
 ) -> bool
-    ensures { result ≡ misfits_found (declarations_of known.now) (lookup None types.now) (option_map (found_method known.now.nodes) method.now) arguments.now }
+    ensures { result ≡ misfits_found (declarations_of known.now) (lookup None types.now)
+        (option_map (found_method known.now.nodes) method.now) arguments.now }
 {
     match method {
         Some(method) => misfit(known, types, &Takes::Method(*method), arguments),
@@ -96,7 +98,9 @@ fn note_called(
     arguments: &[NodeId],
     found: &mut Vec<Found>,
 ) -> Result<(), Memory>
-    ensures { OnOk result (found.new.items ≡ found.old.items ++ called_breaks (declarations_of known.now) (lookup None types.now) id place name.now receiver.now arguments.now) }
+    ensures { OnOk result (found.new.items ≡ found.old.items
+        ++ called_breaks (declarations_of known.now) (lookup None types.now) id place name.now receiver.now
+        arguments.now) }
 {
     let method = called_method(known, receiver, name);
     let lacks = lacks_found(known, receiver, &method);
@@ -121,7 +125,8 @@ pub fn note_call(
     arguments: &[NodeId],
     found: &mut Vec<Found>,
 ) -> Result<(), Memory>
-    ensures { OnOk result (found.new.items ≡ found.old.items ++ call_breaks (declarations_of known.now) (lookup None types.now) id place name.now object.now arguments.now) }
+    ensures { OnOk result (found.new.items ≡ found.old.items
+        ++ call_breaks (declarations_of known.now) (lookup None types.now) id place name.now object.now arguments.now) }
 {
     let Some(receiver) = call_receiver(known, types, id, object) else {
         return Ok(());
@@ -165,7 +170,8 @@ fn misfits_form_part(known: &Known<'_>, types: &[Option<Ty>], arguments: &[NodeI
 
 /// Whether this argument in a form has a type that isn't int.
 fn no_int(known: &Known<'_>, types: &[Option<Ty>], id: NodeId) -> bool
-    ensures { result ≡ (not (is_form_part (declarations_of known.now) id) && holds (lookup None types.now id) (λ t. not (is_int t))) }
+    ensures { result ≡ (not (is_form_part (declarations_of known.now) id)
+        && holds (lookup None types.now id) (λ t. not (is_int t))) }
 {
     if is_form_part(known, id) {
         return false;
@@ -217,7 +223,9 @@ fn is_never_made_class(known: &Known<'_>, class: ClassId) -> bool
 
 /// Whether a `new` with arguments that have types makes what has no objects.
 fn makes_none(known: &Known<'_>, types: &[Option<Ty>], name: &Name, arguments: &[NodeId]) -> bool
-    ensures { result ≡ holds (all_types (lookup None types.now) arguments.now) (λ ts. holds (class_number (declarations_of known.now).names name.now) (kind_is is_never_made (declarations_of known.now))) }
+    ensures { result ≡ holds (all_types (lookup None types.now) arguments.now)
+        (λ ts. holds (class_number (declarations_of known.now).names name.now)
+        (kind_is is_never_made (declarations_of known.now))) }
 {
     if !are_typed(types, arguments) {
         return false;
@@ -230,7 +238,8 @@ fn makes_none(known: &Known<'_>, types: &[Option<Ty>], name: &Name, arguments: &
 
 /// Whether a part of a form is made outside of one.
 fn is_misplaced(known: &Known<'_>, id: NodeId, name: &Name) -> bool
-    ensures { result ≡ (holds (class_number (declarations_of known.now).names name.now) (kind_is is_form (declarations_of known.now)) && not (is_form_part (declarations_of known.now) id)) }
+    ensures { result ≡ (holds (class_number (declarations_of known.now).names name.now)
+        (kind_is is_form (declarations_of known.now)) && not (is_form_part (declarations_of known.now) id)) }
 {
     match known.class_of(name) {
         Some(class) => is_form_class(known, class) && !is_form_part(known, id),
@@ -248,7 +257,8 @@ pub fn note_new(
     arguments: &[NodeId],
     found: &mut Vec<Found>,
 ) -> Result<(), Memory>
-    ensures { OnOk result (found.new.items ≡ found.old.items ++ new_breaks (declarations_of known.now) (lookup None types.now) id place name.now arguments.now) }
+    ensures { OnOk result (found.new.items ≡ found.old.items
+        ++ new_breaks (declarations_of known.now) (lookup None types.now) id place name.now arguments.now) }
 {
     report_if(
         found,
@@ -286,7 +296,9 @@ fn is_concrete_safelet(known: &Known<'_>, class: ClassId) -> bool
 
 /// Whether the unwritten super call of a class has arguments missing.
 fn misfits_super(known: &Known<'_>, class: ClassId) -> bool
-    ensures { result ≡ (calls_unwritten (declarations_of known.now) class && holds (superclass_in (declarations_of known.now).classes class) (λ superclass. not (is_empty (constructor_parameters (declarations_of known.now).classes superclass)))) }
+    ensures { result ≡ (calls_unwritten (declarations_of known.now) class
+        && holds (superclass_in (declarations_of known.now).classes class)
+        (λ superclass. not (is_empty (constructor_parameters (declarations_of known.now).classes superclass)))) }
 {
     if !calls_unwritten(known, class) {
         return false;
@@ -309,7 +321,8 @@ fn misfits_class(known: &Known<'_>, class: ClassId) -> bool
 
 /// Whether the form is missing with which the constructor of a class has to begin.
 fn lacks_form(known: &Known<'_>, class: ClassId) -> bool
-    ensures { result ≡ (holds (superclass_in (declarations_of known.now).classes class) has_form && not (is_some (form_in (declarations_of known.now) class))) }
+    ensures { result ≡ (holds (superclass_in (declarations_of known.now).classes class) has_form
+        && not (is_some (form_in (declarations_of known.now) class))) }
 {
     match known.superclass(class) {
         Some(superclass) => has_form(superclass) && !has_right_form(known, class),
@@ -324,7 +337,8 @@ pub fn note_class(
     name: &Name,
     found: &mut Vec<Found>,
 ) -> Result<(), Memory>
-    ensures { OnOk result (found.new.items ≡ found.old.items ++ class_breaks (declarations_of known.now) place name.now) }
+    ensures { OnOk result (found.new.items ≡ found.old.items
+        ++ class_breaks (declarations_of known.now) place name.now) }
 {
     let Some(class) = known.class_of(name) else {
         return Ok(());

@@ -27,7 +27,8 @@ use type_words::{
 
 /// Whether both operands have types that don't fit.
 fn misfits_binary(known: &Known<'_>, operator: u8, left: &Option<Ty>, right: &Option<Ty>) -> bool
-    ensures { result ≡ holds left.now (λ a. holds right.now (λ b. not (is_some (binary_type (declarations_of known.now).classes operator a b)))) }
+    ensures { result ≡ holds left.now
+        (λ a. holds right.now (λ b. not (is_some (binary_type (declarations_of known.now).classes operator a b)))) }
 {
     match left {
         Some(a) => match right {
@@ -48,7 +49,8 @@ pub fn note_binary(
     right: NodeId,
     found: &mut Vec<Found>,
 ) -> Result<(), Memory>
-    ensures { OnOk result (found.new.items ≡ found.old.items ++ binary_breaks (declarations_of known.now) (lookup None types.now) place operator left right) }
+    ensures { OnOk result (found.new.items ≡ found.old.items
+        ++ binary_breaks (declarations_of known.now) (lookup None types.now) place operator left right) }
 {
     let left = told(types, left);
     let right = told(types, right);
@@ -69,7 +71,8 @@ pub fn note_unary(
     operand: NodeId,
     found: &mut Vec<Found>,
 ) -> Result<(), Memory>
-    ensures { OnOk result (found.new.items ≡ found.old.items ++ unary_breaks (declarations_of known.now) (lookup None types.now) place operator operand) }
+    ensures { OnOk result (found.new.items ≡ found.old.items
+        ++ unary_breaks (declarations_of known.now) (lookup None types.now) place operator operand) }
 {
     let _ = known;
     let test = match told(types, operand) {
@@ -101,7 +104,8 @@ pub fn note_element(
     index: NodeId,
     found: &mut Vec<Found>,
 ) -> Result<(), Memory>
-    ensures { OnOk result (found.new.items ≡ found.old.items ++ element_breaks (declarations_of known.now) (lookup None types.now) place array index) }
+    ensures { OnOk result (found.new.items ≡ found.old.items
+        ++ element_breaks (declarations_of known.now) (lookup None types.now) place array index) }
 {
     let _ = known;
     let array = told(types, array);
@@ -140,7 +144,8 @@ pub fn note_new_array(
     length: NodeId,
     found: &mut Vec<Found>,
 ) -> Result<(), Memory>
-    ensures { OnOk result (found.new.items ≡ found.old.items ++ array_breaks (declarations_of known.now) (lookup None types.now) place element length) }
+    ensures { OnOk result (found.new.items ≡ found.old.items
+        ++ array_breaks (declarations_of known.now) (lookup None types.now) place element length) }
 {
     let no_int = match told(types, length) {
         Some(t) => !are_same(&t, &Ty::Int),
@@ -172,7 +177,8 @@ pub fn note_cast(
     operand: NodeId,
     found: &mut Vec<Found>,
 ) -> Result<(), Memory>
-    ensures { OnOk result (found.new.items ≡ found.old.items ++ cast_breaks (declarations_of known.now) (lookup None types.now) place name.now operand) }
+    ensures { OnOk result (found.new.items ≡ found.old.items
+        ++ cast_breaks (declarations_of known.now) (lookup None types.now) place name.now operand) }
 {
     let test = match told(types, operand) {
         Some(t) => match known.class_of(name) {
@@ -192,7 +198,8 @@ pub fn note_name(
     name: &Name,
     found: &mut Vec<Found>,
 ) -> Result<(), Memory>
-    ensures { OnOk result (found.new.items ≡ found.old.items ++ name_breaks (declarations_of known.now) id place name.now) }
+    ensures { OnOk result (found.new.items ≡ found.old.items
+        ++ name_breaks (declarations_of known.now) id place name.now) }
 {
     let meaning = meaning(known, id, name);
     report_if(found, denotes_no_declaration(&meaning), Rule::T1, place)?;
@@ -260,7 +267,8 @@ pub fn note_access(
     object: NodeId,
     found: &mut Vec<Found>,
 ) -> Result<(), Memory>
-    ensures { OnOk result (found.new.items ≡ found.old.items ++ access_breaks (declarations_of known.now) (lookup None types.now) id place name.now object) }
+    ensures { OnOk result (found.new.items ≡ found.old.items
+        ++ access_breaks (declarations_of known.now) (lookup None types.now) id place name.now object) }
 {
     let Some(r) = receiver(known, types, object) else {
         return Ok(());

@@ -35,7 +35,8 @@ pub struct Form {
 /// The arguments of `new class(..)` at this node, where they are so many.
 #[tactic(auto, unfolding(scj_rules::specs::Types::new_of, scj_rules::specs::Contexts::declarations_of))]
 fn new_of<'a>(known: &Known<'a>, class: ClassId, count: usize, id: NodeId) -> Option<&'a [NodeId]>
-    ensures { option_copied result ≡ read (declarations_of known.now).nodes (new_of (declarations_of known.now) class count) id }
+    ensures { option_copied result ≡ read (declarations_of known.now).nodes
+        (new_of (declarations_of known.now) class count) id }
 {
     match known.program().get(id)? {
         Node::New {
@@ -100,7 +101,8 @@ fn release_part(known: &Known<'_>, superclass: ClassId, id: NodeId) -> Option<Mi
 
 /// Whether the first and the last argument are those of a form.
 fn has_ends(known: &Known<'_>, priority: NodeId, storage: NodeId) -> bool
-    ensures { result ≡ (is_new (declarations_of known.now) priority_parameters 1 priority && is_new (declarations_of known.now) storage_parameters 1 storage) }
+    ensures { result ≡ (is_new (declarations_of known.now) priority_parameters 1 priority
+        && is_new (declarations_of known.now) storage_parameters 1 storage) }
 {
     is_new(known, PRIORITY_PARAMETERS, 1, priority) && is_new(known, STORAGE_PARAMETERS, 1, storage)
 }
@@ -149,7 +151,8 @@ pub fn has_form(class: ClassId) -> bool
 
 /// The arguments of the super call of a class's constructor.
 pub fn super_arguments<'a>(known: &Known<'a>, class: ClassId) -> Option<&'a [NodeId]>
-    ensures { option_copied result ≡ option_and_then (λ (c : DeclaredConstructor). c.super_call) (constructor_in (declarations_of known.now).classes class) }
+    ensures { option_copied result ≡ option_and_then (λ (c : DeclaredConstructor). c.super_call)
+        (constructor_in (declarations_of known.now).classes class) }
 {
     let node = known.constructor_in(class)?;
     node_views::super_call_arguments(known.program(), node)

@@ -142,14 +142,16 @@ impl<'a> Known<'a> {
 
     /// The framework's own method of a name, for a class.
     pub fn framework_row_named(&self, class: ClassId, name: &Name) -> Option<MethodRef>
-        ensures { option_map (found_method self.now.nodes) result ≡ framework_row_named (declarations_of self.now).classes class name.now }
+        ensures { option_map (found_method self.now.nodes) result ≡ framework_row_named
+            (declarations_of self.now).classes class name.now }
     {
         self.classes.framework_row_named(class, name)
     }
 
     /// What a class may be used for.
     pub fn kind(&self, class: ClassId) -> Option<ClassKind>
-        ensures { result ≡ option_map (λ (row : ClassRow). row.kind) (slice_get (declarations_of self.now).classes class) }
+        ensures { result ≡ option_map (λ (row : ClassRow). row.kind)
+            (slice_get (declarations_of self.now).classes class) }
     {
         self.classes.kind(class)
     }
@@ -163,7 +165,8 @@ impl<'a> Known<'a> {
 
     /// The node of the first constructor of a class.
     pub fn constructor_in(&self, class: ClassId) -> Option<NodeId>
-        ensures { option_and_then (constructor_at self.now.nodes) result ≡ constructor_in (declarations_of self.now).classes class }
+        ensures { option_and_then (constructor_at self.now.nodes) result ≡ constructor_in
+            (declarations_of self.now).classes class }
     {
         self.classes.constructor_in(class)
     }

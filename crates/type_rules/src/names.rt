@@ -127,7 +127,9 @@ fn are_booleans(a: &Ty, b: &Ty) -> bool
 
 /// Whether both types are references of which one may be assigned to the other.
 fn are_related(known: &Known<'_>, a: &Ty, b: &Ty) -> bool
-    ensures { let rows = (declarations_of known.now).classes in result ≡ (is_reference a.now && (is_reference b.now && (assigns rows a.now b.now || assigns rows b.now a.now))) }
+    ensures { let rows = (declarations_of known.now).classes in
+        result ≡ (is_reference a.now
+        && (is_reference b.now && (assigns rows a.now b.now || assigns rows b.now a.now))) }
 {
     is_reference(a) && is_reference(b) && (assigns(known, a, b) || assigns(known, b, a))
 }
@@ -180,7 +182,9 @@ pub fn binary_type(known: &Known<'_>, operator: u8, a: &Ty, b: &Ty) -> Option<Ty
 
 /// The field of a name that the class has in which a node stands.
 fn field_here(known: &Known<'_>, id: NodeId, name: &Name) -> Option<FieldRef>
-    ensures { option_map (found_field known.now.nodes) result ≡ option_and_then (λ class. field_named (declarations_of known.now).classes class name.now) (context (declarations_of known.now) id).class }
+    ensures { option_map (found_field known.now.nodes) result ≡ option_and_then
+        (λ class. field_named (declarations_of known.now).classes class name.now)
+        (context (declarations_of known.now) id).class }
 {
     let class = known.context(id).class?;
     known.classes.field_named(class, name)
@@ -279,7 +283,8 @@ pub fn meanings_of(alloc: Global, known: &Known<'_>) -> Result<Vec<NameMeaning>,
 /// The class that a node names, where it is a simple name that stands for a class.
 #[tactic(auto, unfolding(scj_rules::specs::Types::class_at_name, scj_rules::specs::Contexts::declarations_of))]
 fn class_at_name(known: &Known<'_>, object: NodeId) -> Option<ClassId>
-    ensures { result ≡ read (declarations_of known.now).nodes (class_at_name (declarations_of known.now) object) object }
+    ensures { result ≡ read (declarations_of known.now).nodes (class_at_name (declarations_of known.now) object)
+        object }
 {
     match known.program().get(object)? {
         Node::SimpleName { name, .. } => class_in(&meaning(known, object, name.get())),
@@ -322,7 +327,8 @@ pub fn call_receiver(
 
 /// The field of a name that a receiver has.
 pub fn accessed_field(known: &Known<'_>, receiver: &Receiver, name: &Name) -> Option<FieldRef>
-    ensures { option_map (found_field known.now.nodes) result ≡ accessed_field (declarations_of known.now) receiver.now name.now }
+    ensures { option_map (found_field known.now.nodes) result ≡ accessed_field (declarations_of known.now) receiver.now
+        name.now }
 {
     let class = class_of_receiver(receiver)?;
     known.classes.field_named(class, name)
@@ -330,7 +336,8 @@ pub fn accessed_field(known: &Known<'_>, receiver: &Receiver, name: &Name) -> Op
 
 /// The method of a name that a receiver has.
 pub fn called_method(known: &Known<'_>, receiver: &Receiver, name: &Name) -> Option<MethodRef>
-    ensures { option_map (found_method known.now.nodes) result ≡ called_method (declarations_of known.now) receiver.now name.now }
+    ensures { option_map (found_method known.now.nodes) result ≡ called_method (declarations_of known.now) receiver.now
+        name.now }
 {
     let class = class_of_receiver(receiver)?;
     known.classes.method_named(class, name)

@@ -24,7 +24,9 @@ use type_words::{is_array_value, is_length};
 /// The type of a variable.
 #[tactic(auto, unfolding(scj_rules::specs::Views::variable_of, scj_rules::specs::Contexts::declarations_of))]
 fn type_of_variable(known: &Known<'_>, variable: NodeId) -> Option<Ty>
-    ensures { result ≡ option_and_then (λ (d : Declaration). type_written (declarations_of known.now).names d.declared_type) (variable_at known.now.nodes variable) }
+    ensures { result ≡ option_and_then
+        (λ (d : Declaration). type_written (declarations_of known.now).names d.declared_type)
+        (variable_at known.now.nodes variable) }
 {
     match known.program().get(variable)? {
         Node::Parameter { declared_type, .. } => written_type(known, *declared_type),
@@ -48,7 +50,9 @@ pub fn type_of_meaning(known: &Known<'_>, meaning: &NameMeaning) -> Option<Ty>
 
 /// The type of a field, if there is one.
 fn field_type(known: &Known<'_>, found: &Option<FieldRef>) -> Option<Ty>
-    ensures { result ≡ option_and_then (λ (f : Row). type_written (declarations_of known.now).names f.field.declared_type) (option_map (found_field known.now.nodes) found.now) }
+    ensures { result ≡ option_and_then
+        (λ (f : Row). type_written (declarations_of known.now).names f.field.declared_type)
+        (option_map (found_field known.now.nodes) found.now) }
 {
     match found {
         Some(field) => type_written(known, &written_of(known.program(), field)),

@@ -30,7 +30,8 @@ pub fn note_variable(
     name: &Name,
     found: &mut Vec<Found>,
 ) -> Result<(), Memory>
-    ensures { OnOk result (found.new.items ≡ found.old.items ++ variable_breaks (declarations_of known.now) id place name.now) }
+    ensures { OnOk result (found.new.items ≡ found.old.items
+        ++ variable_breaks (declarations_of known.now) id place name.now) }
 {
     report_if(
         found,
@@ -62,7 +63,8 @@ pub fn note_value(
     value: NodeId,
     found: &mut Vec<Found>,
 ) -> Result<(), Memory>
-    ensures { OnOk result (found.new.items ≡ found.old.items ++ value_breaks (declarations_of known.now) (lookup None types.now) place declared_type value) }
+    ensures { OnOk result (found.new.items ≡ found.old.items
+        ++ value_breaks (declarations_of known.now) (lookup None types.now) place declared_type value) }
 {
     let target = written_type(known, declared_type);
     let value = told(types, value);
@@ -77,7 +79,9 @@ pub fn note_value(
 /// Whether the target is the length of an array.
 #[tactic(auto, unfolding(scj_rules::specs::TypeRules::is_length_target, scj_rules::specs::Contexts::declarations_of))]
 fn is_length_target(known: &Known<'_>, types: &[Option<Ty>], target: NodeId) -> bool
-    ensures { result ≡ holds (read (declarations_of known.now).nodes (is_length_target (declarations_of known.now) (lookup None types.now)) target) (λ b. b) }
+    ensures { result ≡ holds
+        (read (declarations_of known.now).nodes (is_length_target (declarations_of known.now) (lookup None types.now))
+        target) (λ b. b) }
 {
     match known.program().get(target) {
         Some(Node::FieldAccess { name, object, .. }) => match receiver(known, types, *object) {
@@ -97,7 +101,8 @@ pub fn note_assign(
     value: NodeId,
     found: &mut Vec<Found>,
 ) -> Result<(), Memory>
-    ensures { OnOk result (found.new.items ≡ found.old.items ++ assign_breaks (declarations_of known.now) (lookup None types.now) place target value) }
+    ensures { OnOk result (found.new.items ≡ found.old.items
+        ++ assign_breaks (declarations_of known.now) (lookup None types.now) place target value) }
 {
     let old = told(types, target);
     let new = told(types, value);
@@ -115,7 +120,8 @@ pub fn note_condition(
     condition: NodeId,
     found: &mut Vec<Found>,
 ) -> Result<(), Memory>
-    ensures { OnOk result (found.new.items ≡ found.old.items ++ condition_breaks (declarations_of known.now) (lookup None types.now) condition) }
+    ensures { OnOk result (found.new.items ≡ found.old.items
+        ++ condition_breaks (declarations_of known.now) (lookup None types.now) condition) }
 {
     let test = match told(types, condition) {
         Some(t) => !are_same(&t, &Ty::Bool),
@@ -149,7 +155,8 @@ pub fn note_return(
     value: &Option<NodeId>,
     found: &mut Vec<Found>,
 ) -> Result<(), Memory>
-    ensures { OnOk result (found.new.items ≡ found.old.items ++ return_breaks (declarations_of known.now) (lookup None types.now) id place value.now) }
+    ensures { OnOk result (found.new.items ≡ found.old.items
+        ++ return_breaks (declarations_of known.now) (lookup None types.now) id place value.now) }
 {
     let result_type = known.result_at(id);
     let test = match value {
@@ -171,7 +178,8 @@ pub fn note_end(
     body: NodeId,
     found: &mut Vec<Found>,
 ) -> Result<(), Memory>
-    ensures { OnOk result (found.new.items ≡ found.old.items ++ end_breaks (declarations_of known.now) place result_type body) }
+    ensures { OnOk result (found.new.items ≡ found.old.items
+        ++ end_breaks (declarations_of known.now) place result_type body) }
 {
     let written = type_at(known.program(), result_type);
     report_if(
@@ -184,7 +192,8 @@ pub fn note_end(
 
 /// Whether the framework has a method of the name for the class, whose result is `long`.
 pub fn is_long_row(known: &Known<'_>, class: ClassId, name: &Name) -> bool
-    ensures { result ≡ holds (framework_row_named (declarations_of known.now).classes class name.now) (λ (row : FoundMethod). is_same_type row.method.declared.declared_type long_type) }
+    ensures { result ≡ holds (framework_row_named (declarations_of known.now).classes class name.now)
+        (λ (row : FoundMethod). is_same_type row.method.declared.declared_type long_type) }
 {
     match known.framework_row_named(class, name) {
         Some(row) => is_long(&result_type(known.program(), &row)),
@@ -221,7 +230,8 @@ pub fn note_size(
     body: &Option<NodeId>,
     found: &mut Vec<Found>,
 ) -> Result<(), Memory>
-    ensures { OnOk result (found.new.items ≡ found.old.items ++ size_breaks (declarations_of known.now) id place name.now result_type body.now) }
+    ensures { OnOk result (found.new.items ≡ found.old.items
+        ++ size_breaks (declarations_of known.now) id place name.now result_type body.now) }
 {
     let written = type_at(known.program(), result_type);
     report_if(
@@ -249,7 +259,8 @@ pub fn note_super_call(
     arguments: &[NodeId],
     found: &mut Vec<Found>,
 ) -> Result<(), Memory>
-    ensures { OnOk result (found.new.items ≡ found.old.items ++ super_breaks (declarations_of known.now) (lookup None types.now) id place arguments.now) }
+    ensures { OnOk result (found.new.items ≡ found.old.items
+        ++ super_breaks (declarations_of known.now) (lookup None types.now) id place arguments.now) }
 {
     let test = match superclass_at(known, id) {
         Some(superclass) => {

@@ -25,7 +25,8 @@ pub fn member_word(
     word: u8,
     place: Pos,
 ) -> Result<Option<Mode>, Memory>
-    ensures step { let awaited = member_word flags word place nodes.old.all stack.old in gives result nodes.new.all stack.new awaited ≡ awaited }
+    ensures step { let awaited = member_word flags word place nodes.old.all stack.old in
+        gives result nodes.new.all stack.new awaited ≡ awaited }
     ensures kept { nodes.new.kept ≡ nodes.old.kept }
 {
     let node = match word {
@@ -46,7 +47,8 @@ pub fn member_type(
     word: u8,
     place: Pos,
 ) -> Result<Option<Mode>, Memory>
-    ensures step { let awaited = type_start nodes.old.all (MemberOpen flags ∷ stack.old) (a_word word place) in gives result nodes.new.all stack.new awaited ≡ awaited }
+    ensures step { let awaited = type_start nodes.old.all (MemberOpen flags ∷ stack.old) (a_word word place) in
+        gives result nodes.new.all stack.new awaited ≡ awaited }
     ensures kept { nodes.new.kept ≡ nodes.old.kept }
 {
     stack.push(Entry::MemberOpen { flags })?;
@@ -62,7 +64,8 @@ pub fn member_start(
     view: &View,
     flags: Option<NodeId>,
 ) -> Result<Option<Mode>, Memory>
-    ensures step { let awaited = member_start flags nodes.old.all stack.old (seen view.now) in gives result nodes.new.all stack.new awaited ≡ awaited }
+    ensures step { let awaited = member_start flags nodes.old.all stack.old (seen view.now) in
+        gives result nodes.new.all stack.new awaited ≡ awaited }
     ensures kept { nodes.new.kept ≡ nodes.old.kept }
 {
     if let View::Word(word, place) = view {
@@ -80,7 +83,8 @@ pub fn class_start(
     view: &View,
     flags: Option<NodeId>,
 ) -> Result<Option<Mode>, Memory>
-    ensures step { let awaited = class_start flags nodes.old.all stack.old (seen view.now) in gives result nodes.new.all stack.new awaited ≡ awaited }
+    ensures step { let awaited = class_start flags nodes.old.all stack.old (seen view.now) in
+        gives result nodes.new.all stack.new awaited ≡ awaited }
     ensures kept { nodes.new.kept ≡ nodes.old.kept }
 {
     let View::Word(word, _) = view else {
@@ -100,7 +104,8 @@ pub fn declaration_start(
     view: &View,
     flags: Option<NodeId>,
 ) -> Result<Option<Mode>, Memory>
-    ensures step { let awaited = declaration_start flags nodes.old.all stack.old (seen view.now) in gives result nodes.new.all stack.new awaited ≡ awaited }
+    ensures step { let awaited = declaration_start flags nodes.old.all stack.old (seen view.now) in
+        gives result nodes.new.all stack.new awaited ≡ awaited }
     ensures kept { nodes.new.kept ≡ nodes.old.kept }
 {
     let Some(entry) = stack.pop() else {
@@ -149,7 +154,8 @@ pub fn flags_ended(
     view: &View,
     flags: FlagSet,
 ) -> Result<Option<Mode>, Memory>
-    ensures step { let awaited = flags_ended flags nodes.old.all stack.old (seen view.now) in gives result nodes.new.all stack.new awaited ≡ awaited }
+    ensures step { let awaited = flags_ended flags nodes.old.all stack.old (seen view.now) in
+        gives result nodes.new.all stack.new awaited ≡ awaited }
     ensures kept { nodes.new.kept ≡ nodes.old.kept }
 {
     if let Some(node) = flags_node(&flags) {
@@ -168,7 +174,8 @@ pub fn flags_step(
     is_local: bool,
     flags: FlagSet,
 ) -> Result<Option<Mode>, Memory>
-    ensures step { let awaited = flags_step is_local flags nodes.old.all stack.old (seen view.now) in gives result nodes.new.all stack.new awaited ≡ awaited }
+    ensures step { let awaited = flags_step is_local flags nodes.old.all stack.old (seen view.now) in
+        gives result nodes.new.all stack.new awaited ≡ awaited }
     ensures kept { nodes.new.kept ≡ nodes.old.kept }
 {
     match view {

@@ -25,7 +25,8 @@ pub fn typed(
     view: &View,
     id: NodeId,
 ) -> Result<Option<Mode>, Memory>
-    ensures step { let awaited = typed id nodes.old.all stack.old (seen view.now) in gives result nodes.new.all stack.new awaited ≡ awaited }
+    ensures step { let awaited = typed id nodes.old.all stack.old (seen view.now) in
+        gives result nodes.new.all stack.new awaited ≡ awaited }
     ensures kept { nodes.new.kept ≡ nodes.old.kept }
 {
     let View::Name(name, place) = view else {
@@ -69,7 +70,8 @@ pub fn type_end_step(
     place: Pos,
     element: &ElementType,
 ) -> Result<Option<Mode>, Memory>
-    ensures step { let awaited = type_end_step place element.now nodes.old.all stack.old (seen view.now) in gives result nodes.new.all stack.new awaited ≡ awaited }
+    ensures step { let awaited = type_end_step place element.now nodes.old.all stack.old (seen view.now) in
+        gives result nodes.new.all stack.new awaited ≡ awaited }
     ensures kept { nodes.new.kept ≡ nodes.old.kept }
 {
     if let View::Sign(sign, _) = view {
@@ -95,7 +97,8 @@ pub fn type_bracket_step(
     place: Pos,
     element: &ElementType,
 ) -> Result<Option<Mode>, Memory>
-    ensures step { let awaited = type_bracket_step place element.now nodes.old.all stack.old (seen view.now) in gives result nodes.new.all stack.new awaited ≡ awaited }
+    ensures step { let awaited = type_bracket_step place element.now nodes.old.all stack.old (seen view.now) in
+        gives result nodes.new.all stack.new awaited ≡ awaited }
     ensures kept { nodes.new.kept ≡ nodes.old.kept }
 {
     let View::Sign(sign, _) = view else {
@@ -118,7 +121,8 @@ pub fn constructor_step(
     name: &SharedName,
     parenthesis: Pos,
 ) -> Result<Option<Mode>, Memory>
-    ensures step { let awaited = constructor_step place name.now parenthesis nodes.old.all stack.old in gives result nodes.new.all stack.new awaited ≡ awaited }
+    ensures step { let awaited = constructor_step place name.now parenthesis nodes.old.all stack.old in
+        gives result nodes.new.all stack.new awaited ≡ awaited }
     ensures kept { nodes.new.kept ≡ nodes.old.kept }
 {
     let Some(entry) = stack.pop() else {
@@ -147,7 +151,8 @@ pub fn type_name_sign(
     sign: u8,
     sign_place: Pos,
 ) -> Result<Option<Mode>, Memory>
-    ensures step { let awaited = type_name_step place name.now nodes.old.all stack.old (a_sign sign sign_place) in gives result nodes.new.all stack.new awaited ≡ awaited }
+    ensures step { let awaited = type_name_step place name.now nodes.old.all stack.old (a_sign sign sign_place) in
+        gives result nodes.new.all stack.new awaited ≡ awaited }
     ensures kept { nodes.new.kept ≡ nodes.old.kept }
 {
     if sign == LESS {
@@ -183,7 +188,8 @@ pub fn type_name_step(
     place: Pos,
     name: &SharedName,
 ) -> Result<Option<Mode>, Memory>
-    ensures step { let awaited = type_name_step place name.now nodes.old.all stack.old (seen view.now) in gives result nodes.new.all stack.new awaited ≡ awaited }
+    ensures step { let awaited = type_name_step place name.now nodes.old.all stack.old (seen view.now) in
+        gives result nodes.new.all stack.new awaited ≡ awaited }
     ensures kept { nodes.new.kept ≡ nodes.old.kept }
 {
     if let View::Sign(sign, sign_place) = view {
@@ -207,7 +213,8 @@ pub fn type_argument_name_step(
     place: Pos,
     name: &SharedName,
 ) -> Result<Option<Mode>, Memory>
-    ensures step { let awaited = type_argument_name_step place name.now nodes.old.all stack.old (seen view.now) in gives result nodes.new.all stack.new awaited ≡ awaited }
+    ensures step { let awaited = type_argument_name_step place name.now nodes.old.all stack.old (seen view.now) in
+        gives result nodes.new.all stack.new awaited ≡ awaited }
     ensures kept { nodes.new.kept ≡ nodes.old.kept }
 {
     let View::Name(argument, argument_place) = view else {
@@ -234,7 +241,8 @@ pub fn type_argument_end_step(
     name: &SharedName,
     argument: NodeId,
 ) -> Result<Option<Mode>, Memory>
-    ensures step { let awaited = type_argument_end_step place name.now argument nodes.old.all stack.old (seen view.now) in gives result nodes.new.all stack.new awaited ≡ awaited }
+    ensures step { let awaited = type_argument_end_step place name.now argument nodes.old.all stack.old (seen view.now)
+        in gives result nodes.new.all stack.new awaited ≡ awaited }
     ensures kept { nodes.new.kept ≡ nodes.old.kept }
 {
     let View::Sign(sign, _) = view else {
@@ -255,7 +263,8 @@ pub fn type_argument_end_step(
 /// Where a type is due.
 #[tactic(auto, unfolding(parser_machine::specs::Declarations::type_start))]
 pub fn type_start(nodes: &mut Nodes, stack: &mut Stack, view: &View) -> Result<Option<Mode>, Memory>
-    ensures step { let awaited = type_start nodes.old.all stack.old (seen view.now) in gives result nodes.new.all stack.new awaited ≡ awaited }
+    ensures step { let awaited = type_start nodes.old.all stack.old (seen view.now) in
+        gives result nodes.new.all stack.new awaited ≡ awaited }
     ensures kept { nodes.new.kept ≡ nodes.old.kept }
 {
     match view {

@@ -8,7 +8,8 @@ use Rattle.annotation_rules.proofs.checks.check_scoped_annotations.Goals as goal
 pub returns : goal.returns
 returns c =
     let p = declarations_of c.args.scoped.now in
-    let all : c.note_annotations.new.found.items ≡ over_nodes p (annotation_breaks p) = rw (c.new-found.ensures.items) at c.in_ok-note_annotations.ensures in
+    let all : c.note_annotations.new.found.items ≡ over_nodes p (annotation_breaks p) =
+    rw (c.new-found.ensures.items) at c.in_ok-note_annotations.ensures in
     record {
       in_order = c.put_in_order.ensures.in_order;
       exact = λ f. (

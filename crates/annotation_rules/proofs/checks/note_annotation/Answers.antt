@@ -6,5 +6,6 @@ use Rattle.annotation_rules.proofs.checks.note_annotation.Goals as goal
 
 pub returns-then-not-may_break : goal.returns-then-not-may_break
 returns-then-not-may_break c =
-    let nothing = breaks_nothing (declarations_of c.args.scoped.now) c.args.id c.args.node.now c.requires (sym c.may_break.ensures ∙ c.if-not-may_break.true) in
+    let nothing = breaks_nothing (declarations_of c.args.scoped.now) c.args.id c.args.node.now c.requires
+    (sym c.may_break.ensures ∙ c.if-not-may_break.true) in
     sym (append-nil c.args.found.now.items) ∙ ap (λ (fs : List Found). c.args.found.now.items ++ fs) (sym nothing)

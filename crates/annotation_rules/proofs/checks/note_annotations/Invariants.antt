@@ -5,4 +5,5 @@ use Rattle.annotation_rules.specs.Parts.{found_at}
 use Rattle.annotation_rules.proofs.checks.note_annotations.Given as goal
 
 abbrev pub invariant-loop-place : goal.invariant-loop-place
-invariant-loop-place l = l.found.items ≡ l.initial.found.items ++ joined_below (found_at (declarations_of l.scoped)) l.place
+invariant-loop-place l = l.found.items ≡ l.initial.found.items
+    ++ joined_below (found_at (declarations_of l.scoped)) l.place

@@ -13,4 +13,5 @@ returns c =
     let others : List Found = a6_to_a8 p c.args.id c.args.node.now in
     c.in_ok-note_runs_in.ensures ∙ ap (λ (fs : List Found). fs ++ others) c.in_ok-note_misfit.ensures
     ∙ append_assoc old misfits others
-    ∙ ap (λ (fs : List Found). old ++ fs) (sym (bare_breaks p c.args.id c.args.node.now c.requires.there c.requires.bare))
+    ∙ ap (λ (fs : List Found). old ++ fs)
+    (sym (bare_breaks p c.args.id c.args.node.now c.requires.there c.requires.bare))

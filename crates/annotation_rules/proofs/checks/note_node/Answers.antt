@@ -9,6 +9,8 @@ use Rattle.annotation_rules.proofs.checks.note_node.Goals as goal
 
 pub returns-then-not-may_break_at : goal.returns-then-not-may_break_at
 returns-then-not-may_break_at c =
-    let kindless = sym c.if-not-may_break_at.true ∙ c.may_break_at.ensures ∙ ap (λ (f : Forest). holds (option_map kind_of (slice_get f.nodes c.args.id)) may_break_kind) c.program.ensures in
+    let kindless = sym c.if-not-may_break_at.true ∙ c.may_break_at.ensures
+    ∙ ap (λ (f : Forest). holds (option_map kind_of (slice_get f.nodes c.args.id)) may_break_kind) c.program.ensures
+    in
     let nothing = nothing_of_kind c.args.scoped.now c.args.id kindless in
     sym (append-nil c.args.found.now.items) ∙ ap (λ (fs : List Found). c.args.found.now.items ++ fs) (sym nothing)

@@ -9,8 +9,10 @@ use Rattle.class_headers.proofs.filling.add_headers.Given as goal
 -- those that are left are still to come
 abbrev pub invariant-loop-others : goal.invariant-loop-others
 invariant-loop-others l =
-    l.headers.items ++ map (header_by l.program.nodes (get is_same l.names)) (filter_map (class_at l.program.nodes) l.others)
-    ≡ l.initial.headers.items ++ map (header_by l.program.nodes (get is_same l.names)) (filter_map (class_at l.program.nodes) l.initial.others)
+    l.headers.items ++ map (header_by l.program.nodes (get is_same l.names))
+    (filter_map (class_at l.program.nodes) l.others)
+    ≡ l.initial.headers.items ++ map (header_by l.program.nodes (get is_same l.names))
+    (filter_map (class_at l.program.nodes) l.initial.others)
 
 abbrev pub decreases-loop-others : goal.decreases-loop-others
 decreases-loop-others l = length l.others

@@ -9,8 +9,11 @@ use Rattle.class_headers.proofs.filling.add_interfaces.Given as goal
 -- those that are left are still to come
 abbrev pub invariant-loop-others : goal.invariant-loop-others
 invariant-loop-others l =
-    map (λ v. v.items) l.lists.items ++ map (λ (c : WrittenClass). interfaces_by (get is_same l.names) c.implements) (filter_map (class_at l.program.nodes) l.others)
-    ≡ map (λ v. v.items) l.initial.lists.items ++ map (λ (c : WrittenClass). interfaces_by (get is_same l.names) c.implements) (filter_map (class_at l.program.nodes) l.initial.others)
+    map (λ v. v.items) l.lists.items ++ map (λ (c : WrittenClass). interfaces_by (get is_same l.names) c.implements)
+    (filter_map (class_at l.program.nodes) l.others)
+    ≡ map (λ v. v.items) l.initial.lists.items
+    ++ map (λ (c : WrittenClass). interfaces_by (get is_same l.names) c.implements)
+    (filter_map (class_at l.program.nodes) l.initial.others)
 
 abbrev pub decreases-loop-others : goal.decreases-loop-others
 decreases-loop-others l = length l.others

@@ -7,7 +7,8 @@ use Rattle.class_headers.proofs.names.add_names.Given as goal
 abbrev pub invariant-loop-others : goal.invariant-loop-others
 invariant-loop-others l =
     l.names.items ++ map (λ (c : WrittenClass). c.name) (filter_map (class_at l.program.nodes) l.others)
-    ≡ l.initial.names.items ++ map (λ (c : WrittenClass). c.name) (filter_map (class_at l.program.nodes) l.initial.others)
+    ≡ l.initial.names.items
+    ++ map (λ (c : WrittenClass). c.name) (filter_map (class_at l.program.nodes) l.initial.others)
 
 abbrev pub decreases-loop-others : goal.decreases-loop-others
 decreases-loop-others l = length l.others

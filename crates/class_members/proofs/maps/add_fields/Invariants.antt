@@ -8,8 +8,10 @@ use Rattle.class_members.proofs.maps.add_fields.Given as goal
 -- those that are left are still to be entered
 abbrev pub invariant-loop-others : goal.invariant-loop-others
 invariant-loop-others l =
-    (key : MemberKey) → option_or (get is_same_member l.map key) (in_class l.class key (field_among l.program.nodes key.name l.others))
-    ≡ option_or (get is_same_member l.initial.map key) (in_class l.class key (field_among l.program.nodes key.name l.initial.others))
+    (key : MemberKey) →
+    option_or (get is_same_member l.map key) (in_class l.class key (field_among l.program.nodes key.name l.others))
+    ≡ option_or (get is_same_member l.initial.map key)
+    (in_class l.class key (field_among l.program.nodes key.name l.initial.others))
 
 abbrev pub decreases-loop-others : goal.decreases-loop-others
 decreases-loop-others l = length l.others

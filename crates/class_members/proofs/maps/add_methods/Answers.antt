@@ -5,10 +5,30 @@ use Rattle.class_members.proofs.maps.add_methods.Goals as goal
 
 pub loop-others-preserved-in_ok-enter : goal.loop-others-preserved-in_ok-enter
 loop-others-preserved-in_ok-enter c =
-    λ key. grind (arith, common_steps, method_more c.args.program.now.nodes c.args.class c.id-item.result key c.in-Some.name, c.loop-others.invariant key, c.in_ok-enter.ensures key, c.in-Some.ensures)
+    λ key. grind (
+      arith,
+      common_steps,
+      method_more c.args.program.now.nodes c.args.class c.id-item.result key c.in-Some.name,
+      c.loop-others.invariant key,
+      c.in_ok-enter.ensures key,
+      c.in-Some.ensures,
+    )
 
 pub loop-others-preserved : goal.loop-others-preserved
-loop-others-preserved c = λ key. grind (arith, common_steps, method_none c.args.program.now.nodes c.id-item.result key.name, c.loop-others.invariant key, c.in_default-method_name.ensures)
+loop-others-preserved c =
+    λ key. grind (
+      arith,
+      common_steps,
+      method_none c.args.program.now.nodes c.id-item.result key.name,
+      c.loop-others.invariant key,
+      c.in_default-method_name.ensures,
+    )
 
 pub returns : goal.returns
-returns c = λ key. grind (arith, common_steps, no_method_among c.args.program.now.nodes c.args.class key, c.loop-others.invariant key)
+returns c =
+    λ key. grind (
+      arith,
+      common_steps,
+      no_method_among c.args.program.now.nodes c.args.class key,
+      c.loop-others.invariant key,
+    )

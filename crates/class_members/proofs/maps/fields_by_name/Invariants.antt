@@ -9,4 +9,6 @@ use Rattle.class_members.proofs.maps.fields_by_name.Given as goal
 -- the classes so far are entered
 abbrev pub invariant-loop-number : goal.invariant-loop-number
 invariant-loop-number l =
-    (key : MemberKey) → get is_same_member l.map key ≡ (if nat_lt key.class l.number then field_among l.classes.nodes key.name (members_in (declarations_of l.classes) key.class) else None)
+    (key : MemberKey) →
+    get is_same_member l.map key ≡ (if nat_lt key.class l.number then field_among l.classes.nodes key.name
+    (members_in (declarations_of l.classes) key.class) else None)

@@ -4,4 +4,6 @@ use Rattle.class_members.proofs.EntryLemmas.{methods_entered}
 use Rattle.class_members.proofs.maps.methods_by_name.Goals as goal
 
 pub returns : goal.returns
-returns c = λ class name. c.loop-number.invariant (member_key class name) ∙ methods_entered c.args.classes.now class c.loop-number.number name (omega (arith, c.loop-number-test.false, c.count-count.ensures))
+returns c = λ class name. c.loop-number.invariant (member_key class name)
+    ∙ methods_entered c.args.classes.now class c.loop-number.number name
+    (omega (arith, c.loop-number-test.false, c.count-count.ensures))

@@ -7,7 +7,8 @@ use Rattle.class_rules.proofs.fields.has_too_many.Given as goal
 -- the fields of the other classes are still to be counted
 abbrev pub invariant-loop-on : goal.invariant-loop-on
 invariant-loop-on l =
-    nat_lt l.allowed (length (flat_map (own_instance_fields (declarations_of l.classes).classes) l.chain)) ≡ nat_lt most_fields (length (instance_fields (declarations_of l.classes).classes l.fn.class))
+    nat_lt l.allowed (length (flat_map (own_instance_fields (declarations_of l.classes).classes) l.chain))
+    ≡ nat_lt most_fields (length (instance_fields (declarations_of l.classes).classes l.fn.class))
 
 abbrev pub decreases-loop-on : goal.decreases-loop-on
 decreases-loop-on l = length l.chain

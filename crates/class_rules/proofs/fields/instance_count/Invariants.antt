@@ -6,7 +6,8 @@ use Rattle.class_rules.proofs.fields.instance_count.Given as goal
 -- the other members are still to be counted
 abbrev pub invariant-loop-others : goal.invariant-loop-others
 invariant-loop-others l =
-    (l.count + length (filter is_instance (filter_map (field_at l.program.nodes) l.others)) ≡ length (filter is_instance (filter_map (field_at l.program.nodes) l.members)))
+    (l.count + length (filter is_instance (filter_map (field_at l.program.nodes) l.others)) ≡ length
+    (filter is_instance (filter_map (field_at l.program.nodes) l.members)))
     × (l.count + length l.others ≤ length l.members)
 
 abbrev pub decreases-loop-others : goal.decreases-loop-others

@@ -11,8 +11,13 @@ use Rattle.class_rules.proofs.headers.note_unknown_interfaces.Given as goal
 -- the other names are still to be noted
 abbrev pub invariant-loop-others : goal.invariant-loop-others
 invariant-loop-others l =
-    l.found.items ++ broken_at C2 (filter (is_unknown (declarations_of l.classes).names) (filter_map (read l.classes.nodes named_super) l.others))
-    ≡ l.initial.found.items ++ broken_at C2 (filter (is_unknown (declarations_of l.classes).names) (filter_map (read l.classes.nodes named_super) l.interfaces))
+    l.found.items
+    ++ broken_at C2
+    (filter (is_unknown (declarations_of l.classes).names) (filter_map (read l.classes.nodes named_super) l.others))
+    ≡ l.initial.found.items
+    ++ broken_at C2
+    (filter (is_unknown (declarations_of l.classes).names)
+    (filter_map (read l.classes.nodes named_super) l.interfaces))
 
 abbrev pub decreases-loop-others : goal.decreases-loop-others
 decreases-loop-others l = length l.others

@@ -7,7 +7,9 @@ use Rattle.class_rules.proofs.members.note_hidings.Given as goal
 -- the other members are still to be looked at
 abbrev pub invariant-loop-others : goal.invariant-loop-others
 invariant-loop-others l =
-    l.found.items ++ flat_map (hiding_break (declarations_of l.classes) l.class) (filter_map (field_at l.classes.nodes) l.others) ≡ l.initial.found.items ++ flat_map (hiding_break (declarations_of l.classes) l.class) (filter_map (field_at l.classes.nodes) l.members)
+    l.found.items ++ flat_map (hiding_break (declarations_of l.classes) l.class)
+    (filter_map (field_at l.classes.nodes) l.others) ≡ l.initial.found.items
+    ++ flat_map (hiding_break (declarations_of l.classes) l.class) (filter_map (field_at l.classes.nodes) l.members)
 
 abbrev pub decreases-loop-others : goal.decreases-loop-others
 decreases-loop-others l = length l.others

@@ -9,7 +9,8 @@ pub returns-then-leaves_builtin : goal.returns-then-leaves_builtin
 returns-then-leaves_builtin c =
     let q = is_left_open (declarations_of c.args.classes.now) c.args.class in
     let found = rw c.at.ensures at (sym c.if-leaves_builtin.true ∙ c.leaves_builtin.ensures) in
-    row_found (is_row_left q c.args.on) c.loop-number.number _ found c.loop-number.invariant ∙ sym (all_left q c.args.on)
+    row_found (is_row_left q c.args.on) c.loop-number.number _ found c.loop-number.invariant
+    ∙ sym (all_left q c.args.on)
 
 pub loop-number-preserved : goal.loop-number-preserved
 loop-number-preserved c =
@@ -20,4 +21,5 @@ loop-number-preserved c =
 pub returns : goal.returns
 returns c =
     let q = is_left_open (declarations_of c.args.classes.now) c.args.class in
-    rows_ended (is_row_left q c.args.on) c.loop-number.number _ (omega arith) c.loop-number.invariant ∙ sym (all_left q c.args.on)
+    rows_ended (is_row_left q c.args.on) c.loop-number.number _ (omega arith) c.loop-number.invariant
+    ∙ sym (all_left q c.args.on)

@@ -9,8 +9,10 @@ use Rattle.class_rules.proofs.openings.leaves_members.Given as goal
 -- the other members are still to be looked at
 abbrev pub invariant-loop-others : goal.invariant-loop-others
 invariant-loop-others l =
-    list_any (is_left_open (declarations_of l.classes) l.class) (filter is_abstract (filter_map (method_at l.classes.nodes) l.others))
-    ≡ list_any (is_left_open (declarations_of l.classes) l.class) (filter is_abstract (filter_map (method_at l.classes.nodes) l.members))
+    list_any (is_left_open (declarations_of l.classes) l.class)
+    (filter is_abstract (filter_map (method_at l.classes.nodes) l.others))
+    ≡ list_any (is_left_open (declarations_of l.classes) l.class)
+    (filter is_abstract (filter_map (method_at l.classes.nodes) l.members))
 
 abbrev pub decreases-loop-others : goal.decreases-loop-others
 decreases-loop-others l = length l.others

@@ -8,8 +8,10 @@ use Rattle.class_rules.proofs.openings.leaves_open.Given as goal
 -- the other classes are still to be looked at
 abbrev pub invariant-loop-on : goal.invariant-loop-on
 invariant-loop-on l =
-    list_any (is_left_open (declarations_of l.classes) l.class) (flat_map (own_abstract (declarations_of l.classes).classes) l.ancestors)
-    ≡ list_any (is_left_open (declarations_of l.classes) l.class) (abstract_methods (declarations_of l.classes).classes l.class)
+    list_any (is_left_open (declarations_of l.classes) l.class)
+    (flat_map (own_abstract (declarations_of l.classes).classes) l.ancestors)
+    ≡ list_any (is_left_open (declarations_of l.classes) l.class)
+    (abstract_methods (declarations_of l.classes).classes l.class)
 
 abbrev pub decreases-loop-on : goal.decreases-loop-on
 decreases-loop-on l = length l.ancestors

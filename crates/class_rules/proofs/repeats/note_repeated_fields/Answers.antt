@@ -10,5 +10,7 @@ use Rattle.class_rules.proofs.repeats.note_repeated_fields.Goals as goal
 
 pub returns : goal.returns
 returns c =
-    c.in_ok-note_twice.ensures ∙ ap (λ names. c.args.found.now.items ++ broken_at C4 (named_twice name_of [] names)) (c.deref.ensures.value ∙ c.in_ok-names.ensures)
-    ∙ ap (λ xs. c.args.found.now.items ++ xs) (repeated_names (filter_map (field_at c.args.program.now.nodes) c.args.c.now.members.now))
+    c.in_ok-note_twice.ensures ∙ ap (λ names. c.args.found.now.items ++ broken_at C4 (named_twice name_of [] names))
+    (c.deref.ensures.value ∙ c.in_ok-names.ensures)
+    ∙ ap (λ xs. c.args.found.now.items ++ xs)
+    (repeated_names (filter_map (field_at c.args.program.now.nodes) c.args.c.now.members.now))

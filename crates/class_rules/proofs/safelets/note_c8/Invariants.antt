@@ -6,4 +6,5 @@ use Rattle.class_rules.proofs.safelets.note_c8.Given as goal
 
 -- the other safelets are still to be noted
 abbrev pub invariant-loop-number : goal.invariant-loop-number
-invariant-loop-number l = l.found.items ++ left_over l.is_seen (safelets_left (declarations_of l.classes) l.number) ≡ l.initial.found.items ++ c8 (declarations_of l.classes)
+invariant-loop-number l = l.found.items ++ left_over l.is_seen (safelets_left (declarations_of l.classes) l.number)
+    ≡ l.initial.found.items ++ c8 (declarations_of l.classes)

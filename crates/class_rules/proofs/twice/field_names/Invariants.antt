@@ -6,7 +6,8 @@ use Rattle.class_rules.proofs.twice.field_names.Given as goal
 
 -- the names of the other fields are still to come
 abbrev pub invariant-loop-others : goal.invariant-loop-others
-invariant-loop-others l = l.names.items ++ map naming (filter_map (field_at l.program.nodes) l.others) ≡ map naming (filter_map (field_at l.program.nodes) l.members)
+invariant-loop-others l = l.names.items ++ map naming (filter_map (field_at l.program.nodes) l.others) ≡ map naming
+    (filter_map (field_at l.program.nodes) l.members)
 
 abbrev pub decreases-loop-others : goal.decreases-loop-others
 decreases-loop-others l = length l.others

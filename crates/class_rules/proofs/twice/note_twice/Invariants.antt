@@ -11,7 +11,8 @@ use Rattle.class_rules.proofs.twice.note_twice.Given as goal
 -- the names so far are known, and the others still to be noted
 abbrev pub invariant-loop-others : goal.invariant-loop-others
 invariant-loop-others l =
-    StillTwice (λ name. is_some (get (slice_cmp nat_cmp) l.earlier name)) l.found.items (l.initial.found.items ++ broken_at l.rule (named_twice name_of [] l.fn.names)) l.rule l.others
+    StillTwice (λ name. is_some (get (slice_cmp nat_cmp) l.earlier name)) l.found.items
+    (l.initial.found.items ++ broken_at l.rule (named_twice name_of [] l.fn.names)) l.rule l.others
 
 abbrev pub decreases-loop-others : goal.decreases-loop-others
 decreases-loop-others l = length l.others

@@ -7,7 +7,8 @@ use Rattle.class_rules.proofs.types.have_same_declared.Given as goal
 -- the others are still to be compared
 abbrev pub invariant-loop-left : goal.invariant-loop-left
 invariant-loop-left l =
-    pointwise is_same_type (types_among l.program.nodes l.left) (types_among l.program.nodes l.right) ≡ pointwise is_same_type (types_among l.program.nodes l.fn.list) (types_among l.program.nodes l.fn.other)
+    pointwise is_same_type (types_among l.program.nodes l.left) (types_among l.program.nodes l.right)
+    ≡ pointwise is_same_type (types_among l.program.nodes l.fn.list) (types_among l.program.nodes l.fn.other)
 
 abbrev pub decreases-loop-left : goal.decreases-loop-left
 decreases-loop-left l = length l.left

@@ -11,13 +11,24 @@ use Rattle.class_table.proofs.classes.note_class.Goals as goal
 
 pub returns-in_default : goal.returns-in_default
 returns-in_default c =
-    let none : class_written (declarations_of c.args.classes.now) c.args.class ≡ None = sym c.class_node.ensures.class ∙ ap (option_and_then (class_at c.args.classes.now.nodes)) c.in_default.is in
-    added_nothing c.args.found.now.items (at_class (declarations_of c.args.classes.now) (class_found (declarations_of c.args.classes.now)) c.args.class) (at_other c.args.classes.now c.args.class none)
+    let none : class_written (declarations_of c.args.classes.now) c.args.class ≡ None = sym c.class_node.ensures.class
+    ∙ ap (option_and_then (class_at c.args.classes.now.nodes)) c.in_default.is in
+    added_nothing c.args.found.now.items
+    (at_class (declarations_of c.args.classes.now) (class_found (declarations_of c.args.classes.now)) c.args.class)
+    (at_other c.args.classes.now c.args.class none)
 
 pub returns : goal.returns
 returns c =
-    let there : class_at c.args.classes.now.nodes c.in-Some.node ≡ Some (written_class c.args.classes.now.nodes c.in-Some-class_parts.c) =
-    subst (λ (forest : Forest). class_at forest.nodes c.in-Some.node ≡ Some (written_class forest.nodes c.in-Some-class_parts.c)) c.program.ensures (sym c.in-Some-class_parts.ensures) in
-    let written : class_written (declarations_of c.args.classes.now) c.args.class ≡ Some (written_class c.args.classes.now.nodes c.in-Some-class_parts.c) =
+    let there : class_at c.args.classes.now.nodes c.in-Some.node ≡ Some
+    (written_class c.args.classes.now.nodes c.in-Some-class_parts.c) =
+    subst
+    (λ (forest : Forest). class_at forest.nodes c.in-Some.node ≡ Some
+    (written_class forest.nodes c.in-Some-class_parts.c)) c.program.ensures (sym c.in-Some-class_parts.ensures) in
+    let written : class_written (declarations_of c.args.classes.now) c.args.class ≡ Some
+    (written_class c.args.classes.now.nodes c.in-Some-class_parts.c) =
     sym c.class_node.ensures.class ∙ ap (option_and_then (class_at c.args.classes.now.nodes)) c.in-Some.is ∙ there in
-    c.in_ok-note_parts.ensures ∙ ap (λ xs. c.args.found.now.items ++ xs) (sym (at_user c.args.classes.now c.args.class (written_class c.args.classes.now.nodes c.in-Some-class_parts.c) written))
+    c.in_ok-note_parts.ensures
+    ∙ ap (λ xs. c.args.found.now.items ++ xs)
+    (sym
+    (at_user c.args.classes.now c.args.class (written_class c.args.classes.now.nodes c.in-Some-class_parts.c)
+    written))

@@ -7,11 +7,21 @@ use Rattle.class_table.proofs.classes.note_classes.Goals as goal
 
 pub loop-number-preserved : goal.loop-number-preserved
 loop-number-preserved c =
-    let l : c.loop-number.number < length (declarations_of c.args.classes.now).classes = omega (arith, c.loop-number-test.true, c.in_ok-count.ensures) in
-    one_class (at_class (declarations_of c.args.classes.now) (class_found (declarations_of c.args.classes.now))) c.loop-number.number (declarations_of c.args.classes.now).classes c.loop-number.found.items c.note_class.new.found.items _
-    l (c.in_ok-note_class.ensures ∙ ap (λ n. c.loop-number.found.items ++ at_class (declarations_of c.args.classes.now) (class_found (declarations_of c.args.classes.now)) n) c.at.ensures) c.loop-number.invariant
+    let l : c.loop-number.number < length (declarations_of c.args.classes.now).classes =
+    omega (arith, c.loop-number-test.true, c.in_ok-count.ensures) in
+    one_class (at_class (declarations_of c.args.classes.now) (class_found (declarations_of c.args.classes.now)))
+    c.loop-number.number (declarations_of c.args.classes.now).classes c.loop-number.found.items
+    c.note_class.new.found.items _
+    l (c.in_ok-note_class.ensures
+    ∙ ap
+    (λ n. c.loop-number.found.items
+    ++ at_class (declarations_of c.args.classes.now) (class_found (declarations_of c.args.classes.now)) n)
+    c.at.ensures) c.loop-number.invariant
 
 pub returns : goal.returns
 returns c =
-    let l : length (declarations_of c.args.classes.now).classes ≤ c.loop-number.number = omega (arith, c.loop-number-test.false, c.in_ok-count.ensures) in
-    last_class (at_class (declarations_of c.args.classes.now) (class_found (declarations_of c.args.classes.now))) c.loop-number.number (declarations_of c.args.classes.now).classes c.loop-number.found.items _ l c.loop-number.invariant
+    let l : length (declarations_of c.args.classes.now).classes ≤ c.loop-number.number =
+    omega (arith, c.loop-number-test.false, c.in_ok-count.ensures) in
+    last_class (at_class (declarations_of c.args.classes.now) (class_found (declarations_of c.args.classes.now)))
+    c.loop-number.number (declarations_of c.args.classes.now).classes c.loop-number.found.items _ l
+    c.loop-number.invariant

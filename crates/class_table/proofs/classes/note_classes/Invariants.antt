@@ -8,5 +8,6 @@ use Rattle.class_table.proofs.classes.note_classes.Given as goal
 -- the other classes are still to be looked at
 abbrev pub invariant-loop-number : goal.invariant-loop-number
 invariant-loop-number l =
-    l.found.items ++ flat_map (at_class (declarations_of l.classes) (class_found (declarations_of l.classes))) (numbers_from l.number (drop l.number (declarations_of l.classes).classes))
+    l.found.items ++ flat_map (at_class (declarations_of l.classes) (class_found (declarations_of l.classes)))
+    (numbers_from l.number (drop l.number (declarations_of l.classes).classes))
     ≡ l.initial.found.items ++ over_classes (declarations_of l.classes) (class_found (declarations_of l.classes))

@@ -8,5 +8,6 @@ use Rattle.command_line.proofs.modes.are_file_names.Goals as goal
 
 pub returns : goal.returns
 returns c =
-    all_from_yields_List (λ (s : Bor (List ℕ)). is_file_name s.now) _ _ _ c.all.ensures.ran (YieldsList-from_slice c.args.names.now cc) (λ x b q k. search (rules, tests))
+    all_from_yields_List (λ (s : Bor (List ℕ)). is_file_name s.now) _ _ _ c.all.ensures.ran
+    (YieldsList-from_slice c.args.names.now cc) (λ x b q k. search (rules, tests))
     ∙ sym (list_all-map is_file_name (λ (s : Bor (List ℕ)). s.now) c.args.names.now)

@@ -5,4 +5,5 @@ pub returns-clause-place : goal.returns-clause-place
 returns-clause-place c = λ before lexemes one other r s. one_place before lexemes one other r s
 
 pub returns-clause-file : goal.returns-clause-file
-returns-clause-file c = λ before after lexemes classes place d r. tree_not_refused before after lexemes classes place d r
+returns-clause-file c =
+    λ before after lexemes classes place d r. tree_not_refused before after lexemes classes place d r

@@ -13,5 +13,6 @@ unfolding declarations_of
 returns-then-not-can_stand c =
     let other : can_stand (option_map kind_of (slice_get c.args.known.now.nodes c.args.id)) ≡ false =
     ap (λ (f : Forest). can_stand (option_map kind_of (slice_get f.nodes c.args.id))) (sym c.program.ensures)
-    ∙ ap (λ (o : Option NodeKind). can_stand o) (sym c.kind.ensures) ∙ sym c.can_stand.ensures ∙ c.if-not-can_stand.true in
+    ∙ ap (λ (o : Option NodeKind). can_stand o) (sym c.kind.ensures) ∙ sym c.can_stand.ensures ∙ c.if-not-can_stand.true
+    in
     plain (declarations_of c.args.known.now) (lookup None c.args.types.now) c.args.id other

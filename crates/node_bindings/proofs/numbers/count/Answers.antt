@@ -9,8 +9,13 @@ count_variable-requires-clause-variable c = sym c.is_variable.ensures ∙ c.if-i
 
 pub returns-else-is_variable-clause-value : goal.returns-else-is_variable-clause-value
 unfolding declarations_of
-returns-else-is_variable-clause-value c = sym (number_of_other (declarations_of c.args.program.now) c.args.id (sym c.is_variable.ensures ∙ c.if-is_variable.false))
+returns-else-is_variable-clause-value c =
+    sym
+    (number_of_other (declarations_of c.args.program.now) c.args.id
+    (sym c.is_variable.ensures ∙ c.if-is_variable.false))
 
 pub returns-else-is_variable-clause-counted : goal.returns-else-is_variable-clause-counted
 unfolding declarations_of
-returns-else-is_variable-clause-counted c = no_variable (declarations_of c.args.program.now) c.args.id _ (sym c.is_variable.ensures ∙ c.if-is_variable.false) c.requires.counted
+returns-else-is_variable-clause-counted c =
+    no_variable (declarations_of c.args.program.now) c.args.id _ (sym c.is_variable.ensures ∙ c.if-is_variable.false)
+    c.requires.counted

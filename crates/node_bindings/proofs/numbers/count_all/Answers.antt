@@ -14,12 +14,15 @@ loop-place-preserved c =
     let p = declarations_of c.args.program.now in
     let Q : ℕ → Type 0 = λ k. AreCounted p (k + 1) c.count-number.new.counts in
     record {
-      numbered = c.in_ok-push.ensures.items ∙ listed_more (number_before p) c.loop-place.place c.loop-place.numbers.items c.count-number.result c.loop-place.invariant.numbered (c.count-number.ensures.value ∙ ap (number_before p) c.at-id.ensures);
+      numbered = c.in_ok-push.ensures.items
+          ∙ listed_more (number_before p) c.loop-place.place c.loop-place.numbers.items c.count-number.result
+          c.loop-place.invariant.numbered (c.count-number.ensures.value ∙ ap (number_before p) c.at-id.ensures);
       counted = subst Q c.at-id.ensures c.count-number.ensures.counted;
     }
 
 pub returns : goal.returns
 unfolding numbers_before declarations_of
 returns c =
-    let full : c.loop-place.place ≡ length c.args.program.now.nodes = omega (arith, c.loop-place-test.false, c.loop-place.auto.place-end, c.len-place-end.ensures.value) in
+    let full : c.loop-place.place ≡ length c.args.program.now.nodes =
+    omega (arith, c.loop-place-test.false, c.loop-place.auto.place-end, c.len-place-end.ensures.value) in
     c.loop-place.invariant.numbered ∙ ap (listed (number_before (declarations_of c.args.program.now))) full

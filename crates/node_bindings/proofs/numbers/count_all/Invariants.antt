@@ -6,4 +6,8 @@ use Rattle.node_bindings.proofs.numbers.count_all.Given as goal
 
 -- the nodes so far are counted
 abbrev pub invariant-loop-place : goal.invariant-loop-place
-invariant-loop-place l = record { numbered : l.numbers.items ≡ listed (number_before (declarations_of l.program)) l.place; counted : AreCounted (declarations_of l.program) l.place l.counts }
+invariant-loop-place l = record {
+  numbered : l.numbers.items ≡ listed (number_before (declarations_of l.program))
+      l.place;
+  counted : AreCounted (declarations_of l.program) l.place l.counts;
+}

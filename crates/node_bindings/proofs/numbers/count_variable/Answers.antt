@@ -9,7 +9,11 @@ count_in-requires-clause-within c =
     let P : ℕ → Type 0 = λ n. c.in-Some.member < n in subst P (sym c.requires.room) l
 
 pub returns-in-None-clause-value : goal.returns-in-None-clause-value
-returns-in-None-clause-value c = sym (number_without_member (declarations_of c.args.program.now) c.args.id c.requires.variable (sym c.member_of.ensures ∙ c.in-None.is))
+returns-in-None-clause-value c =
+    sym (number_without_member (declarations_of c.args.program.now) c.args.id c.requires.variable
+    (sym c.member_of.ensures ∙ c.in-None.is))
 
 pub returns-in-None-clause-counted : goal.returns-in-None-clause-counted
-returns-in-None-clause-counted c = no_member (declarations_of c.args.program.now) c.args.id _ (sym c.member_of.ensures ∙ c.in-None.is) c.requires.counted
+returns-in-None-clause-counted c =
+    no_member (declarations_of c.args.program.now) c.args.id _ (sym c.member_of.ensures ∙ c.in-None.is)
+    c.requires.counted

@@ -14,11 +14,15 @@ loop-place-init c = c.requires.none
 pub loop-place-preserved : goal.loop-place-preserved
 loop-place-preserved c =
     let f = binding_at (declarations_of c.args.known.now) (lookup None c.args.types.now) in
-    c.in_ok-add.ensures.ok ∙ listed_more f c.loop-place.place c.loop-place.bindings c.in_ok-b.b c.loop-place.invariant (c.in_ok-b.ensures ∙ ap f c.at-id.ensures)
+    c.in_ok-add.ensures.ok ∙ listed_more f c.loop-place.place c.loop-place.bindings c.in_ok-b.b c.loop-place.invariant
+    (c.in_ok-b.ensures ∙ ap f c.at-id.ensures)
 
 pub returns : goal.returns
 unfolding bound_by declarations_of
 returns c =
-    let same : length c.program-program.result.now.nodes ≡ length c.args.known.now.nodes = ap (λ (f : Forest). length f.nodes) c.program-program.ensures in
-    let full : c.loop-place.place ≡ length c.args.known.now.nodes = omega (arith, same, c.loop-place-test.false, c.loop-place.auto.place-end, c.len-place-end.ensures.value) in
-    c.loop-place.invariant ∙ ap (listed (binding_at (declarations_of c.args.known.now) (lookup None c.args.types.now))) full
+    let same : length c.program-program.result.now.nodes ≡ length c.args.known.now.nodes =
+    ap (λ (f : Forest). length f.nodes) c.program-program.ensures in
+    let full : c.loop-place.place ≡ length c.args.known.now.nodes =
+    omega (arith, same, c.loop-place-test.false, c.loop-place.auto.place-end, c.len-place-end.ensures.value) in
+    c.loop-place.invariant ∙ ap (listed (binding_at (declarations_of c.args.known.now) (lookup None c.args.types.now)))
+    full

@@ -8,7 +8,8 @@ abbrev pub invariant-loop-place : goal.invariant-loop-place
 invariant-loop-place l = record {
   within : l.place ≤ length l.all.items;
   whole : length l.numbers.items ≡ length l.program.nodes;
-  exact : (id : ℕ) → lookup None l.numbers.items id ≡ option_map (λ k. (first_user_class + l.place) + k) (position (λ other. id == other) (drop l.place l.all.items));
+  exact : (id : ℕ) → lookup None l.numbers.items id ≡ option_map (λ k. (first_user_class + l.place) + k)
+      (position (λ other. id == other) (drop l.place l.all.items));
 }
 
 abbrev pub decreases-loop-place : goal.decreases-loop-place

@@ -10,8 +10,11 @@ loop-id-init c = refl
 
 pub loop-id-preserved : goal.loop-id-preserved
 loop-id-preserved c =
-    let more = last_variable-more c.args.program.now.nodes c.args.before c.args.ids.now c.loop-id.id-index c.id-item.result (omega (arith, c.loop-id-test.true)) c.id-item.is in
+    let more =
+    last_variable-more c.args.program.now.nodes c.args.before c.args.ids.now c.loop-id.id-index c.id-item.result
+    (omega (arith, c.loop-id-test.true)) c.id-item.is in
     elim c.if-is_variable.branch [
       | then-is_variable w ↦ w.known-is ∙ sym (rw (sym c.is_variable.ensures ∙ w.if-is_variable.true) at more)
-      | else-is_variable w ↦ w.known-is ∙ c.loop-id.invariant ∙ sym (rw (sym c.is_variable.ensures ∙ w.if-is_variable.false) at more)
+      | else-is_variable w ↦ w.known-is ∙ c.loop-id.invariant
+          ∙ sym (rw (sym c.is_variable.ensures ∙ w.if-is_variable.false) at more)
     ]

@@ -18,13 +18,22 @@ returns-in-InTurn-clause-exact c = λ id.
     let node = c.args.node.now in
     let old = c.args.rows.now.items in
     let above : Context = lookup outermost old c.args.parent in
-    let here : c.index.result.now ≡ above = get_or_read old c.place.result c.index.result.now (omega (arith, c.place.ensures, c.requires.inside)) c.index.ensures outermost ∙ ap (λ k. lookup outermost old k) c.place.ensures in
-    let base : c.shared-base.result ≡ shared classes c.args.parent node above = c.shared-base.ensures classes c.requires.number ∙ ap (shared classes c.args.parent node) here in
+    let here : c.index.result.now ≡ above =
+    get_or_read old c.place.result c.index.result.now (omega (arith, c.place.ensures, c.requires.inside))
+    c.index.ensures outermost ∙ ap (λ k. lookup outermost old k) c.place.ensures in
+    let base : c.shared-base.result ≡ shared classes c.args.parent node above =
+    c.shared-base.ensures classes c.requires.number ∙ ap (shared classes c.args.parent node) here in
     let known : those_before id c.args.ids.now ≡ declared_before nodes node id =
-    ap (those_before id) c.requires.children ∙ sym (c.known_to.ensures nodes id ∙ ap (λ (k : Knows). declared_by nodes (children node) k id) c.in-InTurn.is) in
+    ap (those_before id) c.requires.children
+    ∙ sym (c.known_to.ensures nodes id ∙ ap (λ (k : Knows). declared_by nodes (children node) k id) c.in-InTurn.is)
+    in
     c.spread_in_turn.ensures.exact id
-    ∙ ap (λ (t : List ℕ). if is_among id t then of_child c.shared-base.result c.object_of-object.result (last_variable nodes c.shared-base.result.last (those_before id c.args.ids.now)) id else lookup outermost old id) c.requires.children
-    ∙ ap (λ (v : Context). if is_among id (children node) then v else lookup outermost old id) (child-from nodes classes c.args.parent node above c.shared-base.result c.object_of-object.result (those_before id c.args.ids.now) id base c.object_of-object.ensures known)
+    ∙ ap (λ (t : List ℕ). if is_among id t then of_child c.shared-base.result c.object_of-object.result
+    (last_variable nodes c.shared-base.result.last (those_before id c.args.ids.now)) id else lookup outermost old
+    id) c.requires.children
+    ∙ ap (λ (v : Context). if is_among id (children node) then v else lookup outermost old id)
+    (child-from nodes classes c.args.parent node above c.shared-base.result c.object_of-object.result
+    (those_before id c.args.ids.now) id base c.object_of-object.ensures known)
 
 pub returns-in-Parameters-clause-exact : goal.returns-in-Parameters-clause-exact
 returns-in-Parameters-clause-exact c = λ id.
@@ -33,10 +42,18 @@ returns-in-Parameters-clause-exact c = λ id.
     let node = c.args.node.now in
     let old = c.args.rows.now.items in
     let above : Context = lookup outermost old c.args.parent in
-    let here : c.index.result.now ≡ above = get_or_read old c.place.result c.index.result.now (omega (arith, c.place.ensures, c.requires.inside)) c.index.ensures outermost ∙ ap (λ k. lookup outermost old k) c.place.ensures in
-    let base : c.shared-base.result ≡ shared classes c.args.parent node above = c.shared-base.ensures classes c.requires.number ∙ ap (shared classes c.args.parent node) here in
+    let here : c.index.result.now ≡ above =
+    get_or_read old c.place.result c.index.result.now (omega (arith, c.place.ensures, c.requires.inside))
+    c.index.ensures outermost ∙ ap (λ k. lookup outermost old k) c.place.ensures in
+    let base : c.shared-base.result ≡ shared classes c.args.parent node above =
+    c.shared-base.ensures classes c.requires.number ∙ ap (shared classes c.args.parent node) here in
     let seen : List ℕ = parameters_before nodes c.in-Parameters.parameters id in
-    let known : seen ≡ declared_before nodes node id = sym (c.known_to.ensures nodes id ∙ ap (λ (k : Knows). declared_by nodes (children node) k id) c.in-Parameters.is) in
+    let known : seen ≡ declared_before nodes node id =
+    sym
+    (c.known_to.ensures nodes id ∙ ap (λ (k : Knows). declared_by nodes (children node) k id) c.in-Parameters.is) in
     c.spread_apart.ensures.exact id
-    ∙ ap (λ (t : List ℕ). if is_among id t then of_child c.shared-base.result c.object_of-object.result (last_variable nodes c.shared-base.result.last seen) id else lookup outermost old id) c.requires.children
-    ∙ ap (λ (v : Context). if is_among id (children node) then v else lookup outermost old id) (child-from nodes classes c.args.parent node above c.shared-base.result c.object_of-object.result seen id base c.object_of-object.ensures known)
+    ∙ ap (λ (t : List ℕ). if is_among id t then of_child c.shared-base.result c.object_of-object.result
+    (last_variable nodes c.shared-base.result.last seen) id else lookup outermost old id) c.requires.children
+    ∙ ap (λ (v : Context). if is_among id (children node) then v else lookup outermost old id)
+    (child-from nodes classes c.args.parent node above c.shared-base.result c.object_of-object.result seen id base
+    c.object_of-object.ensures known)

@@ -9,5 +9,9 @@ use Rattle.node_contexts.proofs.rows.spread_apart.Given as goal
 abbrev pub invariant-loop-i : goal.invariant-loop-i
 invariant-loop-i l = record {
   whole : length l.rows.items ≡ length l.initial.rows.items;
-  exact : (id : ℕ) → lookup outermost l.rows.items id ≡ (if is_among id (take l.i l.ids) then of_child l.base l.object (last_variable l.program.nodes l.base.last (parameters_before l.program.nodes l.parameters id)) id else lookup outermost l.initial.rows.items id);
+  exact : (id : ℕ) →
+      lookup outermost l.rows.items id
+      ≡ (if is_among id (take l.i l.ids) then of_child l.base l.object
+      (last_variable l.program.nodes l.base.last (parameters_before l.program.nodes l.parameters id)) id else lookup
+      outermost l.initial.rows.items id);
 }

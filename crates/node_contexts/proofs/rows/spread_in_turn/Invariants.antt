@@ -10,5 +10,9 @@ abbrev pub invariant-loop-i : goal.invariant-loop-i
 invariant-loop-i l = record {
   known : l.known ≡ last_variable l.program.nodes l.base.last (take l.i l.ids);
   whole : length l.rows.items ≡ length l.initial.rows.items;
-  exact : (id : ℕ) → lookup outermost l.rows.items id ≡ (if is_among id (take l.i l.ids) then of_child l.base l.object (last_variable l.program.nodes l.base.last (those_before id l.ids)) id else lookup outermost l.initial.rows.items id);
+  exact : (id : ℕ) →
+      lookup outermost l.rows.items id
+      ≡ (if is_among id (take l.i l.ids) then of_child l.base l.object
+      (last_variable l.program.nodes l.base.last (those_before id l.ids)) id else lookup outermost l.initial.rows.items
+      id);
 }

@@ -5,4 +5,5 @@ use Rattle.node_contexts.proofs.variables.variable_named.Given as goal
 
 -- the rest of the variables has the one of the name
 abbrev pub invariant-loop : goal.invariant-loop
-invariant-loop l = variable_named (declarations_of l.program) l.fn.id l.name ≡ find (declares l.program.nodes l.name) (on_from (declarations_of l.program) (l.end - l.counter) l.next)
+invariant-loop l = variable_named (declarations_of l.program) l.fn.id l.name ≡ find (declares l.program.nodes l.name)
+    (on_from (declarations_of l.program) (l.end - l.counter) l.next)

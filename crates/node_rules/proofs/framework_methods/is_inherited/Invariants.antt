@@ -8,5 +8,7 @@ use Rattle.node_rules.proofs.framework_methods.is_inherited.Given as goal
 -- the other classes are still to be asked
 abbrev pub invariant-loop-number : goal.invariant-loop-number
 invariant-loop-number l =
-    list_any (inherits_as (declarations_of l.classes) (safelet ∷ runnable ∷ []) l.node l.name) (numbers_from l.number (drop l.number (declarations_of l.classes).classes))
-    ≡ list_any (inherits_as (declarations_of l.classes) (safelet ∷ runnable ∷ []) l.node l.name) (numbers_from 0 (declarations_of l.classes).classes)
+    list_any (inherits_as (declarations_of l.classes) (safelet ∷ runnable ∷ []) l.node l.name)
+    (numbers_from l.number (drop l.number (declarations_of l.classes).classes))
+    ≡ list_any (inherits_as (declarations_of l.classes) (safelet ∷ runnable ∷ []) l.node l.name)
+    (numbers_from 0 (declarations_of l.classes).classes)

@@ -8,11 +8,13 @@ pub returns-then-not-is_variable-clause-found : goal.returns-then-not-is_variabl
 unfolding declarations_of
 returns-then-not-is_variable-clause-found c =
     let p = declarations_of c.args.program.now in
-    let n = undeclared_late p c.args.id c.args.counts.now.items (sym c.is_variable.ensures ∙ c.if-not-is_variable.true) c.requires.counts in
+    let n = undeclared_late p c.args.id c.args.counts.now.items (sym c.is_variable.ensures ∙ c.if-not-is_variable.true)
+    c.requires.counts in
     nothing_added c.args.found.now.items (late_variable p c.args.id) n.0
 
 pub returns-then-not-is_variable-clause-counts : goal.returns-then-not-is_variable-clause-counts
 unfolding declarations_of
 returns-then-not-is_variable-clause-counts c =
     let p = declarations_of c.args.program.now in
-    (undeclared_late p c.args.id c.args.counts.now.items (sym c.is_variable.ensures ∙ c.if-not-is_variable.true) c.requires.counts).1
+    (undeclared_late p c.args.id c.args.counts.now.items (sym c.is_variable.ensures ∙ c.if-not-is_variable.true)
+    c.requires.counts).1

@@ -6,4 +6,5 @@ use Rattle.node_rules.proofs.late.note_late.Given as goal
 
 -- the variables so far are counted and noted
 abbrev pub invariant-loop-place : goal.invariant-loop-place
-invariant-loop-place l = AreCounts (declarations_of l.program) l.place l.counts.items × (l.found.items ≡ l.initial.found.items ++ joined_below (late_variable (declarations_of l.program)) l.place)
+invariant-loop-place l = AreCounts (declarations_of l.program) l.place l.counts.items ×
+    (l.found.items ≡ l.initial.found.items ++ joined_below (late_variable (declarations_of l.program)) l.place)

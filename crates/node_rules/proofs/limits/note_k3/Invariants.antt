@@ -9,7 +9,8 @@ use Rattle.node_rules.proofs.limits.note_k3.Given as goal
 -- the other parameters are still to be noted
 abbrev pub invariant-loop-others : goal.invariant-loop-others
 invariant-loop-others l =
-    l.found.items ++ map too_many (drop l.allowed (filter_map (variable_at l.program.nodes) l.others)) ≡ l.initial.found.items ++ k3 (declarations_of l.fn.program) l.fn.parameters
+    l.found.items ++ map too_many (drop l.allowed (filter_map (variable_at l.program.nodes) l.others))
+    ≡ l.initial.found.items ++ k3 (declarations_of l.fn.program) l.fn.parameters
 
 abbrev pub decreases-loop-others : goal.decreases-loop-others
 decreases-loop-others l = length l.others

@@ -13,11 +13,14 @@ loop-place-init c = sym (append-nil c.args.found.now.items)
 
 pub loop-place-preserved : goal.loop-place-preserved
 loop-place-preserved c =
-    joined_next (λ id. found_at (declarations_of c.args.classes.now) (slice_get c.args.classes.now.nodes id) id) c.loop-place.place c.at.result c.loop-place.found.items c.note_node.new.found.items c.args.found.now.items
+    joined_next (λ id. found_at (declarations_of c.args.classes.now) (slice_get c.args.classes.now.nodes id) id)
+    c.loop-place.place c.at.result c.loop-place.found.items c.note_node.new.found.items c.args.found.now.items
     c.at.ensures c.loop-place.invariant c.in_ok-note_node.ensures
 
 pub returns : goal.returns
 returns c =
     let l = ap (λ (forest : Forest). length forest.nodes) c.program.ensures in
-    let at : c.loop-place.place ≡ length c.args.classes.now.nodes = omega (arith, c.loop-place.auto.place-end, c.loop-place-test.false, c.len-place-end.ensures.value, l) in
-    c.loop-place.invariant ∙ ap (λ xs. c.args.found.now.items ++ xs) (all_nodes c.args.classes.now c.loop-place.place at)
+    let at : c.loop-place.place ≡ length c.args.classes.now.nodes =
+    omega (arith, c.loop-place.auto.place-end, c.loop-place-test.false, c.len-place-end.ensures.value, l) in
+    c.loop-place.invariant
+    ∙ ap (λ xs. c.args.found.now.items ++ xs) (all_nodes c.args.classes.now c.loop-place.place at)

@@ -6,4 +6,5 @@ use Rattle.node_rules.proofs.nodes.note_each.Given as goal
 
 -- the nodes so far are looked at
 abbrev pub invariant-loop-place : goal.invariant-loop-place
-invariant-loop-place l = l.found.items ≡ l.initial.found.items ++ joined_below (λ id. found_at (declarations_of l.classes) (slice_get l.classes.nodes id) id) l.place
+invariant-loop-place l = l.found.items ≡ l.initial.found.items
+    ++ joined_below (λ id. found_at (declarations_of l.classes) (slice_get l.classes.nodes id) id) l.place

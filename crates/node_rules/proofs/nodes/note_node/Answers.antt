@@ -11,4 +11,7 @@ pub returns-then-not-is_asked_kind : goal.returns-then-not-is_asked_kind
 returns-then-not-is_asked_kind c =
     let p = declarations_of c.args.classes.now in
     let found = slice_get c.args.classes.now.nodes c.args.id in
-    nothing_added c.args.found.now.items (found_at p found c.args.id) (unasked_at p c.args.id found c.kind-kind.result (c.kind-kind.ensures ∙ ap (λ (f : Forest). option_map kind_of (slice_get f.nodes c.args.id)) c.program.ensures) (sym c.is_asked_kind.ensures ∙ c.if-not-is_asked_kind.true))
+    nothing_added c.args.found.now.items (found_at p found c.args.id)
+    (unasked_at p c.args.id found c.kind-kind.result
+    (c.kind-kind.ensures ∙ ap (λ (f : Forest). option_map kind_of (slice_get f.nodes c.args.id)) c.program.ensures)
+    (sym c.is_asked_kind.ensures ∙ c.if-not-is_asked_kind.true))

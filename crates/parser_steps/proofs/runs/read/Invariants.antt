@@ -7,7 +7,8 @@ use Rattle.parser_steps.proofs.runs.read.Given as goal
 
 abbrev pub invariant-loop-rest : goal.invariant-loop-rest
 invariant-loop-rest l = record {
-  same : way (at FileStart l.fn.stack l.fn.nodes.all) (lexemes_of l.bytes l.fn.tokens) ≡ way (at l.mode l.stack l.nodes.all) (lexemes_of l.bytes l.rest);
+  same : way (at FileStart l.fn.stack l.fn.nodes.all) (lexemes_of l.bytes l.fn.tokens) ≡ way
+      (at l.mode l.stack l.nodes.all) (lexemes_of l.bytes l.rest);
   kept : l.nodes.kept ≡ l.fn.nodes.kept;
   fit : AllFit l.bytes l.rest;
 }

@@ -19,11 +19,15 @@ loop-i-preserved c =
     let ids : List ℕ = c.args.arguments.now in
     let i : ℕ = c.loop-i.i in
     let id : ℕ = c.index-arguments-i.result in
-    ap (λ (fs : List Found). fs ++ misfit_arguments (declarations_of forest) scopes seen (drop (i + 1) ds) (drop (i + 1) ids)) c.in_ok-note_argument.ensures
-    ∙ arguments_more forest scopes seen c.loop-i.found.items c.args.found.now.items (arguments_breaks forest scopes c.args.callee.now ids) ds ids i id c.loop-i-test.true c.index-arguments-i.is c.loop-i.invariant
+    ap (λ (fs : List Found). fs ++ misfit_arguments (declarations_of forest) scopes seen (drop (i + 1) ds)
+    (drop (i + 1) ids)) c.in_ok-note_argument.ensures
+    ∙ arguments_more forest scopes seen c.loop-i.found.items c.args.found.now.items
+    (arguments_breaks forest scopes c.args.callee.now ids) ds ids i id c.loop-i-test.true c.index-arguments-i.is
+    c.loop-i.invariant
 
 pub returns : goal.returns
 returns c =
     let forest : Forest = c.args.uses.now in
-    sym (arguments_all forest (lookup None c.args.scopes.now) (seen_scope forest c.args.callee.now) c.loop-i.found.items (parameters_of forest c.args.callee.now.called) c.args.arguments.now c.loop-i.i c.loop-i-test.false)
+    sym (arguments_all forest (lookup None c.args.scopes.now) (seen_scope forest c.args.callee.now) c.loop-i.found.items
+    (parameters_of forest c.args.callee.now.called) c.args.arguments.now c.loop-i.i c.loop-i-test.false)
     ∙ c.loop-i.invariant

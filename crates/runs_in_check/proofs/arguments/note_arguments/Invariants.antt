@@ -8,5 +8,6 @@ use Rattle.runs_in_check.proofs.arguments.note_arguments.Given as goal
 -- the arguments so far are noted
 abbrev pub invariant-loop-i : goal.invariant-loop-i
 invariant-loop-i l =
-    l.found.items ++ misfit_arguments (declarations_of l.uses) (lookup None l.scopes) (seen_scope l.uses l.callee) (drop l.i (parameters_of l.uses l.callee.called)) (drop l.i l.arguments)
+    l.found.items ++ misfit_arguments (declarations_of l.uses) (lookup None l.scopes) (seen_scope l.uses l.callee)
+    (drop l.i (parameters_of l.uses l.callee.called)) (drop l.i l.arguments)
     ≡ l.initial.found.items ++ arguments_breaks l.uses (lookup None l.scopes) l.callee l.arguments

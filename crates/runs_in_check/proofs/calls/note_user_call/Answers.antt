@@ -21,8 +21,15 @@ returns c =
     let old : List Found = c.args.found.now.items in
     let ids : List ℕ = c.args.arguments.now in
     let place : Pos = c.args.place in
-    let first : List Found = broken (misfits_call (declarations_of forest) scopes c.args.id c.args.object.now (found_method forest.nodes c.args.method.now)) E2 place in
+    let first : List Found =
+    broken
+    (misfits_call (declarations_of forest) scopes c.args.id c.args.object.now
+    (found_method forest.nodes c.args.method.now)) E2 place in
     let second : List Found = arguments_breaks forest scopes c.callee_of-callee.result ids in
-    c.in_ok-note_arguments.ensures ∙ ap (λ (fs : List Found). fs ++ second) (c.in_ok-report_if.ensures ∙ ap (λ (b : Bool). old ++ broken b E2 place) c.misfits_call-is_wrong.ensures)
-    ∙ append_assoc old first second ∙ ap (λ (k : Callee). old ++ (first ++ arguments_breaks forest scopes k ids)) c.callee_of-callee.ensures
-    ∙ ap (λ (fs : List Found). old ++ fs) (user_call_is forest scopes c.args.id place c.args.object.now c.args.method.now ids)
+    c.in_ok-note_arguments.ensures
+    ∙ ap (λ (fs : List Found). fs ++ second)
+    (c.in_ok-report_if.ensures ∙ ap (λ (b : Bool). old ++ broken b E2 place) c.misfits_call-is_wrong.ensures)
+    ∙ append_assoc old first second
+    ∙ ap (λ (k : Callee). old ++ (first ++ arguments_breaks forest scopes k ids)) c.callee_of-callee.ensures
+    ∙ ap (λ (fs : List Found). old ++ fs)
+    (user_call_is forest scopes c.args.id place c.args.object.now c.args.method.now ids)

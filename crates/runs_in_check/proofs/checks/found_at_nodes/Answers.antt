@@ -25,6 +25,10 @@ pub returns : goal.returns
 unfolding over_nodes declarations_of
 returns c =
     let p : Declarations = declarations_of c.args.uses.now in
-    let same : length c.program-program.result.now.nodes ≡ length c.args.uses.now.nodes = ap (λ (f : Forest). length f.nodes) c.program-program.ensures in
-    let full : c.loop-place.place ≡ length c.args.uses.now.nodes = omega (arith, c.loop-place-test.false, c.loop-place.auto.place-end, c.len-place-end.ensures.value, same) in
-    c.loop-place.invariant ∙ ap (joined_below (at_node p (use_breaks p (lookup None c.args.types.now) (lookup None c.args.scopes.now)))) full
+    let same : length c.program-program.result.now.nodes ≡ length c.args.uses.now.nodes =
+    ap (λ (f : Forest). length f.nodes) c.program-program.ensures in
+    let full : c.loop-place.place ≡ length c.args.uses.now.nodes =
+    omega (arith, c.loop-place-test.false, c.loop-place.auto.place-end, c.len-place-end.ensures.value, same) in
+    c.loop-place.invariant
+    ∙ ap (joined_below (at_node p (use_breaks p (lookup None c.args.types.now) (lookup None c.args.scopes.now))))
+    full

@@ -8,4 +8,6 @@ use Rattle.runs_in_check.proofs.checks.found_at_nodes.Given as goal
 -- what is broken at the nodes so far is found
 abbrev pub invariant-loop-place : goal.invariant-loop-place
 invariant-loop-place l =
-    l.found.items ≡ joined_below (at_node (declarations_of l.uses) (use_breaks (declarations_of l.uses) (lookup None l.types) (lookup None l.scopes))) l.place
+    l.found.items ≡ joined_below
+    (at_node (declarations_of l.uses)
+    (use_breaks (declarations_of l.uses) (lookup None l.types) (lookup None l.scopes))) l.place

@@ -6,5 +6,7 @@ use Rattle.runs_in_check.proofs.checks.note_node.Goals as goal
 
 pub returns-then-not-may_break_at : goal.returns-then-not-may_break_at
 returns-then-not-may_break_at c =
-    let nothing = nothing_of_kind c.args.uses.now (lookup None c.args.types.now) (lookup None c.args.scopes.now) c.args.id (sym c.if-not-may_break_at.true ∙ c.may_break_at.ensures) in
+    let nothing =
+    nothing_of_kind c.args.uses.now (lookup None c.args.types.now) (lookup None c.args.scopes.now) c.args.id
+    (sym c.if-not-may_break_at.true ∙ c.may_break_at.ensures) in
     sym (append-nil c.args.found.now.items) ∙ ap (λ (fs : List Found). c.args.found.now.items ++ fs) (sym nothing)

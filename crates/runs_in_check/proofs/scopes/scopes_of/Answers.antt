@@ -20,13 +20,18 @@ loop-place-preserved c =
     let k : ℕ = c.loop-place.place in
     let said : List (Option Scope) = c.loop-place.scopes.items in
     let value : c.scope_at-scope.result ≡ scope_of_next p types k (lookup None said) =
-    c.scope_at-scope.ensures ∙ ap (λ (rs : List (Option Scope)). scope_of_next p types c.at-id.result (lookup None rs)) c.deref.ensures.value
+    c.scope_at-scope.ensures ∙ ap (λ (rs : List (Option Scope)). scope_of_next p types c.at-id.result (lookup None rs))
+    c.deref.ensures.value
     ∙ ap (λ n. scope_of_next p types n (lookup None said)) c.at-id.ensures in
-    c.in_ok-push.ensures.items ∙ bottom_up-more None (scope_of_next p types) k said c.scope_at-scope.result c.loop-place.invariant value
+    c.in_ok-push.ensures.items
+    ∙ bottom_up-more None (scope_of_next p types) k said c.scope_at-scope.result c.loop-place.invariant value
 
 pub returns : goal.returns
 unfolding scopes_in declarations_of
 returns c =
-    let same : length c.program-program.result.now.nodes ≡ length c.args.uses.now.nodes = ap (λ (f : Forest). length f.nodes) c.program-program.ensures in
-    let full : c.loop-place.place ≡ length c.args.uses.now.nodes = omega (arith, c.loop-place-test.false, c.loop-place.auto.place-end, c.len-place-end.ensures.value, same) in
-    c.loop-place.invariant ∙ ap (bottom_up None (scope_of_next (declarations_of c.args.uses.now) (lookup None c.args.types.now))) full
+    let same : length c.program-program.result.now.nodes ≡ length c.args.uses.now.nodes =
+    ap (λ (f : Forest). length f.nodes) c.program-program.ensures in
+    let full : c.loop-place.place ≡ length c.args.uses.now.nodes =
+    omega (arith, c.loop-place-test.false, c.loop-place.auto.place-end, c.len-place-end.ensures.value, same) in
+    c.loop-place.invariant
+    ∙ ap (bottom_up None (scope_of_next (declarations_of c.args.uses.now) (lookup None c.args.types.now))) full

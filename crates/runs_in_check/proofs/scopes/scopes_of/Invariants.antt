@@ -6,4 +6,5 @@ use Rattle.runs_in_check.proofs.scopes.scopes_of.Given as goal
 
 -- the scopes so far are told
 abbrev pub invariant-loop-place : goal.invariant-loop-place
-invariant-loop-place l = l.scopes.items ≡ bottom_up None (scope_of_next (declarations_of l.uses) (lookup None l.types)) l.place
+invariant-loop-place l =
+    l.scopes.items ≡ bottom_up None (scope_of_next (declarations_of l.uses) (lookup None l.types)) l.place

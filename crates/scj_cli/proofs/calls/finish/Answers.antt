@@ -6,7 +6,9 @@ pub returns-in-Ok-clause-ends : goal.returns-in-Ok-clause-ends
 returns-in-Ok-clause-ends g c = Ends-answered c.in-Ok.ensures.ok (PutWhole-nothing _ _)
 
 pub returns-in-Err-Told-clause-ends : goal.returns-in-Err-Told-clause-ends
-returns-in-Err-Told-clause-ends g c = Ends-told (rw c.in-Err-Told.field-0-is at c.in-Err-Told.ensures.stop) c.tell.ensures
+returns-in-Err-Told-clause-ends g c =
+    Ends-told (rw c.in-Err-Told.field-0-is at c.in-Err-Told.ensures.stop) c.tell.ensures
 
 pub returns-in-Err-Broken-clause-ends : goal.returns-in-Err-Broken-clause-ends
-returns-in-Err-Broken-clause-ends g c = Ends-broken (rw c.in-Err-Broken.field-0-is at c.in-Err-Broken.ensures.stop) (PutWhole-nothing _ _)
+returns-in-Err-Broken-clause-ends g c = Ends-broken (rw c.in-Err-Broken.field-0-is at c.in-Err-Broken.ensures.stop)
+    (PutWhole-nothing _ _)

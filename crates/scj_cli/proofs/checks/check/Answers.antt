@@ -18,7 +18,9 @@ returns-in_err-told-clause-stop g c =
 pub returns-in_err-put_all-clause-stop : goal.returns-in_err-put_all-clause-stop
 returns-in_err-put_all-clause-stop g c =
     let p = err_from_is_err_and c.from_residual-in_err-put_all.result c.from_residual-in_err-put_all.ensures.1 in
-    rw (p.1, p.2) (broken (answered c.in_ok-sources.ensures.ok c.in_ok-told.ensures.ok) (rw c.as_bytes.ensures.value at c.in_err-put_all.ensures.failed))
+    rw (p.1, p.2)
+    (broken (answered c.in_ok-sources.ensures.ok c.in_ok-told.ensures.ok)
+    (rw c.as_bytes.ensures.value at c.in_err-put_all.ensures.failed))
 
 pub returns-clause-ok : goal.returns-clause-ok
 returns-clause-ok g c = record {

@@ -17,7 +17,8 @@ returns-in_err-bytes-clause-refusal g c =
     let held = g.H.Shelf.held c.args.shelf.now in
     let faults = g.H.Shelf.faults c.args.shelf.now in
     let at =
-    reached_at (shelf_run held faults faults faults) string_bytes c.args.names.now c.loop-name.name-index c.name-item.result
+    reached_at (shelf_run held faults faults faults) string_bytes c.args.names.now c.loop-name.name-index
+    c.name-item.result
     (texts_of c.loop-name.sources) c.loop-name-test.true (c.loop-name.invariant.1 faults faults faults) in
     let reached : IsReached held c.deref.result.now (map string_bytes c.args.names.now) =
     rw (c.deref.ensures, c.name-item.is) at in
@@ -26,9 +27,14 @@ returns-in_err-bytes-clause-refusal g c =
 pub loop-name-preserved : goal.loop-name-preserved
 loop-name-preserved g c =
     let bytes = c.in_ok-bytes.bytes.items in
-    let first = held_first (g.H.Shelf.held c.args.shelf.now) (g.H.Shelf.held c.loop-name.shelf) _ _ _ _ c.deref.result.now bytes c.loop-name.invariant.0 c.in_ok-bytes.ensures.ok.content in (
+    let first =
+    held_first (g.H.Shelf.held c.args.shelf.now) (g.H.Shelf.held c.loop-name.shelf) _ _ _ _ c.deref.result.now bytes
+    c.loop-name.invariant.0 c.in_ok-bytes.ensures.ok.content in (
       goes_then _ _ _ _ _ _ _ _ _ c.loop-name.invariant.0 c.load.ensures.goes,
-      λ f n m. stands_more (shelf_run (g.H.Shelf.held c.args.shelf.now) f n m) string_bytes c.args.names.now c.loop-name.name-index c.name-item.result c.loop-name.sources c.add.new.self _ bytes c.loop-name-test.true (c.loop-name.invariant.1 f n m) c.in_ok-add.ensures.ok (rw (c.deref.ensures, c.name-item.is) at first) c.in_ok-bytes.ensures.ok.within,
+      λ f n m. stands_more (shelf_run (g.H.Shelf.held c.args.shelf.now) f n m) string_bytes c.args.names.now
+          c.loop-name.name-index c.name-item.result c.loop-name.sources c.add.new.self _ bytes c.loop-name-test.true
+          (c.loop-name.invariant.1 f n m) c.in_ok-add.ensures.ok (rw (c.deref.ensures, c.name-item.is) at first)
+          c.in_ok-bytes.ensures.ok.within,
       one_more_source _ _ _ _ c.in_ok-add.ensures.ok c.loop-name.invariant.2,
     )
 
@@ -37,4 +43,7 @@ returns-clause-ok g c =
     let faults = g.H.Shelf.faults c.args.shelf.now in
     let faults_now = g.H.Shelf.faults c.loop-name.shelf in
     let most = g.H.Shelf.most c.loop-name.shelf in
-    subst (λ names. MayStand (shelf_run (g.H.Shelf.held c.args.shelf.now) faults faults_now most) (map string_bytes names) (texts_of c.loop-name.sources)) (take_all c.loop-name.name-index c.args.names.now c.loop-name-test.false) (c.loop-name.invariant.1 faults faults_now most)
+    subst (λ names. MayStand (shelf_run (g.H.Shelf.held c.args.shelf.now) faults faults_now most)
+    (map string_bytes names) (texts_of c.loop-name.sources))
+    (take_all c.loop-name.name-index c.args.names.now c.loop-name-test.false)
+    (c.loop-name.invariant.1 faults faults_now most)

@@ -6,6 +6,8 @@ use Rattle.scj_cli.proofs.loads.load_all.Given as goal
 
 abbrev pub invariant-loop-name : goal.invariant-loop-name
 invariant-loop-name g l =
-    ShelfGoes (g.H.Shelf.held l.fn.shelf) (g.H.Shelf.held l.shelf) (g.H.Shelf.faults l.fn.shelf) (g.H.Shelf.faults l.shelf) (g.H.Shelf.most l.fn.shelf) (g.H.Shelf.most l.shelf)
-    × ((f n m : List ℕ → ℕ) → MayStand (shelf_run (g.H.Shelf.held l.fn.shelf) f n m) (map string_bytes (take l.name-index l.names)) (texts_of l.sources))
+    ShelfGoes (g.H.Shelf.held l.fn.shelf) (g.H.Shelf.held l.shelf) (g.H.Shelf.faults l.fn.shelf)
+    (g.H.Shelf.faults l.shelf) (g.H.Shelf.most l.fn.shelf) (g.H.Shelf.most l.shelf)
+    × ((f n m : List ℕ → ℕ) → MayStand (shelf_run (g.H.Shelf.held l.fn.shelf) f n m)
+    (map string_bytes (take l.name-index l.names)) (texts_of l.sources))
     × (length l.sources ≡ l.name-index)

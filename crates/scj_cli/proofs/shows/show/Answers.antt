@@ -18,7 +18,9 @@ returns-in_err-showing-clause-stop g c =
 pub returns-in_err-put_each-clause-stop : goal.returns-in_err-put_each-clause-stop
 returns-in_err-put_each-clause-stop g c =
     let p = err_from_is_err_and c.from_residual-in_err-put_each.result c.from_residual-in_err-put_each.ensures.1 in
-    rw (p.1, p.2) (broken (answered c.in_ok-sources.ensures.ok c.in_ok-showing.ensures.ok) (rw c.deref.ensures.value at c.in_err-put_each.ensures.failed))
+    rw (p.1, p.2)
+    (broken (answered c.in_ok-sources.ensures.ok c.in_ok-showing.ensures.ok)
+    (rw c.deref.ensures.value at c.in_err-put_each.ensures.failed))
 
 pub returns-clause-ok : goal.returns-clause-ok
 returns-clause-ok g c = record {

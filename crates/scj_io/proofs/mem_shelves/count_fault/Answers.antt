@@ -12,7 +12,8 @@ returns-in-Some-clause-held c = λ other. grind (arith, text_keys)
 pub returns-in-Some-clause-spared : goal.returns-in-Some-clause-spared
 returns-in-Some-clause-spared c = λ other differs. grind (arith, text_keys)
 
-same_or_after : (old new : Option Stored) (before after : Stored) (others : ℕ) → before.faults ≤ after.faults → (new ≡ old) ⊎ ((old ≡ Some before) × (new ≡ Some after)) → counter_of old others ≤ counter_of new others
+same_or_after : (old new : Option Stored) (before after : Stored) (others : ℕ) → before.faults ≤ after.faults →
+    (new ≡ old) ⊎ ((old ≡ Some before) × (new ≡ Some after)) → counter_of old others ≤ counter_of new others
 same_or_after old new before after others rises (inl same) = rw same (omega arith)
 same_or_after old new before after others rises (inr changed) = rw (changed.0, changed.1) rises
 

@@ -9,16 +9,27 @@ use Rattle.scj_tree.specs.Lexemes.{lexemes_of}
 use Rattle.scj_parser.proofs.parses.read_classes.Goals as goal
 
 pub unreachable-requires : goal.unreachable-requires
-unreachable-requires c = never_unfinished c.args.nodes.now.all (lexemes_of c.args.bytes.now c.args.tokens.now) c.requires.ends (c.read_file.ensures.unfinished (c.in_ok-classes.was ∙ ap (λ (r : FileRead). Ok r) c.in-Unfinished.is))
+unreachable-requires c =
+    never_unfinished c.args.nodes.now.all (lexemes_of c.args.bytes.now c.args.tokens.now) c.requires.ends
+    (c.read_file.ensures.unfinished (c.in_ok-classes.was ∙ ap (λ (r : FileRead). Ok r) c.in-Unfinished.is))
 
 pub returns-in-Whole-clause-ok : goal.returns-in-Whole-clause-ok
 returns-in-Whole-clause-ok c = λ classes e.
     let same : c.in-Whole.classes ≡ classes = cc e in
-    let P : List ℕ → Type 0 = λ ids. Tree c.args.nodes.now.all (lexemes_of c.args.bytes.now c.args.tokens.now) c.read_file.new.nodes.all ids in
-    subst P same (whole_tree c.args.nodes.now.all c.read_file.new.nodes.all (lexemes_of c.args.bytes.now c.args.tokens.now) c.in-Whole.classes (c.read_file.ensures.whole c.in-Whole.classes (c.in_ok-classes.was ∙ ap (λ (r : FileRead). Ok r) c.in-Whole.is)))
+    let P : List ℕ → Type 0 =
+    λ ids. Tree c.args.nodes.now.all (lexemes_of c.args.bytes.now c.args.tokens.now) c.read_file.new.nodes.all ids
+    in
+    subst P same
+    (whole_tree c.args.nodes.now.all c.read_file.new.nodes.all (lexemes_of c.args.bytes.now c.args.tokens.now)
+    c.in-Whole.classes
+    (c.read_file.ensures.whole c.in-Whole.classes
+    (c.in_ok-classes.was ∙ ap (λ (r : FileRead). Ok r) c.in-Whole.is)))
 
 pub returns-in-Stopped-clause-bad : goal.returns-in-Stopped-clause-bad
 returns-in-Stopped-clause-bad c = λ found e.
     let same = same_found (record { pos = c.in-Stopped.pos; rule = P1 }) found e in
-    let P : Found → Type 0 = λ f. BreaksGrammar c.args.nodes.now.all (lexemes_of c.args.bytes.now c.args.tokens.now) f in
-    subst P same (refused_stop c.args.nodes.now.all (lexemes_of c.args.bytes.now c.args.tokens.now) c.in-Stopped.pos (c.read_file.ensures.stopped c.in-Stopped.pos (c.in_ok-classes.was ∙ ap (λ (r : FileRead). Ok r) c.in-Stopped.is)))
+    let P : Found → Type 0 = λ f. BreaksGrammar c.args.nodes.now.all (lexemes_of c.args.bytes.now c.args.tokens.now) f
+    in
+    subst P same (refused_stop c.args.nodes.now.all (lexemes_of c.args.bytes.now c.args.tokens.now) c.in-Stopped.pos
+    (c.read_file.ensures.stopped c.in-Stopped.pos
+    (c.in_ok-classes.was ∙ ap (λ (r : FileRead). Ok r) c.in-Stopped.is)))

@@ -7,20 +7,32 @@ use Rattle.scj_show.proofs.shows.print.Goals as goal
 
 pub loop-part-smaller : goal.loop-part-smaller
 loop-part-smaller c =
-    let less : work c.args.program.now.nodes (c.pop.new.self.items ++ reverse c.print_part.new.parts.items) < work c.args.program.now.nodes c.loop-part.waiting.items = step_smaller c.args.program.now.nodes c.loop-part.waiting.items c.pop.new.self.items c.in-Some.part c.print_part.new.parts.items c.in-Some.ensures.items c.in_ok-print_part.ensures.smaller in
-    let moved : c.pop.new.self.items ++ reverse c.print_part.new.parts.items ≡ c.turn_over.new.waiting.items = sym c.in_ok-turn_over.ensures.moved in
+    let less : work c.args.program.now.nodes (c.pop.new.self.items ++ reverse c.print_part.new.parts.items) < work
+    c.args.program.now.nodes c.loop-part.waiting.items =
+    step_smaller c.args.program.now.nodes c.loop-part.waiting.items c.pop.new.self.items c.in-Some.part
+    c.print_part.new.parts.items c.in-Some.ensures.items c.in_ok-print_part.ensures.smaller in
+    let moved : c.pop.new.self.items ++ reverse c.print_part.new.parts.items ≡ c.turn_over.new.waiting.items =
+    sym c.in_ok-turn_over.ensures.moved in
     rw moved at less
 
 pub loop-part-preserved : goal.loop-part-preserved
 loop-part-preserved c =
-    let one : c.print_part.new.text.items ++ canonical (pending c.args.program.now.nodes (c.pop.new.self.items ++ reverse c.print_part.new.parts.items)) ≡ c.loop-part.text.items ++ canonical (pending c.args.program.now.nodes c.loop-part.waiting.items) = step_printed c.args.program.now.nodes c.loop-part.waiting.items c.pop.new.self.items c.in-Some.part c.print_part.new.parts.items c.loop-part.text.items c.print_part.new.text.items c.in-Some.ensures.items c.in_ok-print_part.ensures.printed in
-    let moved : c.turn_over.new.waiting.items ≡ c.pop.new.self.items ++ reverse c.print_part.new.parts.items = c.in_ok-turn_over.ensures.moved in
+    let one : c.print_part.new.text.items
+    ++ canonical (pending c.args.program.now.nodes (c.pop.new.self.items ++ reverse c.print_part.new.parts.items))
+    ≡ c.loop-part.text.items ++ canonical (pending c.args.program.now.nodes c.loop-part.waiting.items) =
+    step_printed c.args.program.now.nodes c.loop-part.waiting.items c.pop.new.self.items c.in-Some.part
+    c.print_part.new.parts.items c.loop-part.text.items c.print_part.new.text.items c.in-Some.ensures.items
+    c.in_ok-print_part.ensures.printed in
+    let moved : c.turn_over.new.waiting.items ≡ c.pop.new.self.items ++ reverse c.print_part.new.parts.items =
+    c.in_ok-turn_over.ensures.moved in
     record {
-      whole = ap (λ (t : List Part). c.print_part.new.text.items ++ canonical (pending c.args.program.now.nodes t)) moved ∙ one ∙ c.loop-part.invariant.whole;
+      whole = ap (λ (t : List Part). c.print_part.new.text.items ++ canonical (pending c.args.program.now.nodes t))
+          moved ∙ one ∙ c.loop-part.invariant.whole;
       empty = c.in_ok-turn_over.ensures.empty;
     }
 
 pub returns : goal.returns
 returns c =
     let none : c.loop-part.waiting.items ≡ [] = search rules in
-    all_printed c.args.program.now.nodes c.loop-part.waiting.items c.loop-part.text.items _ none c.loop-part.invariant.whole
+    all_printed c.args.program.now.nodes c.loop-part.waiting.items c.loop-part.text.items _ none
+    c.loop-part.invariant.whole

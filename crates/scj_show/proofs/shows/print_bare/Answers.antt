@@ -13,10 +13,12 @@ returns-then-place-len-clause-smaller c = none_smaller _ _ _ c.requires
 
 pub returns-clause-printed : goal.returns-clause-printed
 returns-clause-printed c =
-    let put : c.put_bare_parts.new.parts.items ≡ bare_parts c.node.result.now = rw c.requires at c.in_ok-put_bare_parts.ensures in
+    let put : c.put_bare_parts.new.parts.items ≡ bare_parts c.node.result.now =
+    rw c.requires at c.in_ok-put_bare_parts.ensures in
     bare_printed _ _ _ _ c.len.ensures.whole.children_first c.node.ensures put
 
 pub returns-clause-smaller : goal.returns-clause-smaller
 returns-clause-smaller c =
-    let put : c.put_bare_parts.new.parts.items ≡ bare_parts c.node.result.now = rw c.requires at c.in_ok-put_bare_parts.ensures in
+    let put : c.put_bare_parts.new.parts.items ≡ bare_parts c.node.result.now =
+    rw c.requires at c.in_ok-put_bare_parts.ensures in
     bare_smaller _ _ _ _ c.len.ensures.whole.children_first c.node.ensures put

@@ -11,6 +11,7 @@ returns-clause-named c =
     let forest = c.args.classes.now in
     let whole = c.is_whole.ensures in
     record {
-      finds = naming (declarations_of forest) (all_written forest whole) (owner_there forest whole) (root_unwritten forest whole)
+      finds = naming (declarations_of forest) (all_written forest whole) (owner_there forest whole)
+          (root_unwritten forest whole)
           (get (slice_cmp nat_cmp) c.args.index) c.in_ok-owners.owners.items c.requires c.in_ok-owners.ensures;
     }

@@ -12,4 +12,5 @@ pub returns : goal.returns
 returns c =
     let first = rw c.program-program.ensures at c.in_ok-found.ensures in
     joined_report c.args.classes.now c.note_classes.new.found.items c.put_in_order.new.found.items
-    (c.in_ok-note_classes.ensures ∙ ap (λ t. t ++ definer_phase (declarations_of c.args.classes.now)) first) c.put_in_order.ensures.in_order c.put_in_order.ensures.same
+    (c.in_ok-note_classes.ensures ∙ ap (λ t. t ++ definer_phase (declarations_of c.args.classes.now)) first)
+    c.put_in_order.ensures.in_order c.put_in_order.ensures.same

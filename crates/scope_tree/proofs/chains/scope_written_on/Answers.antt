@@ -6,8 +6,14 @@ use Rattle.scope_tree.proofs.chains.scope_written_on.Goals as goal
 
 pub returns-then-is_some : goal.returns-then-is_some
 returns-then-is_some c =
-    along_found (scope_written_in (declarations_of c.args.classes.now)) c.args.chain.now c.loop-class.class-index c.class-item.result c.scope_written_in-written.result (omega arith) c.class-item.is c.scope_written_in-written.ensures (sym c.if-is_some.true ∙ c.is_some.ensures) c.loop-class.invariant
+    along_found (scope_written_in (declarations_of c.args.classes.now)) c.args.chain.now c.loop-class.class-index
+    c.class-item.result c.scope_written_in-written.result
+    (omega arith) c.class-item.is c.scope_written_in-written.ensures (sym c.if-is_some.true ∙ c.is_some.ensures)
+    c.loop-class.invariant
 
 pub loop-class-preserved : goal.loop-class-preserved
 loop-class-preserved c =
-    along_more (scope_written_in (declarations_of c.args.classes.now)) c.args.chain.now c.loop-class.class-index c.class-item.result c.scope_written_in-written.result (omega arith) c.class-item.is c.scope_written_in-written.ensures (sym c.if-is_some.false ∙ c.is_some.ensures) c.loop-class.invariant
+    along_more (scope_written_in (declarations_of c.args.classes.now)) c.args.chain.now c.loop-class.class-index
+    c.class-item.result c.scope_written_in-written.result
+    (omega arith) c.class-item.is c.scope_written_in-written.ensures (sym c.if-is_some.false ∙ c.is_some.ensures)
+    c.loop-class.invariant

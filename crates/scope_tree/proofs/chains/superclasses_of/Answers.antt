@@ -8,8 +8,12 @@ pub loop-left-preserved : goal.loop-left-preserved
 loop-left-preserved c =
     let next = superclass_in (declarations_of c.args.classes.now).classes in
     rw (c.in_ok-push.ensures.items, c.superclass-next.ensures)
-    (chain_more next c.loop-left.left c.in-Some.here c.loop-left.all.items (superclasses (declarations_of c.args.classes.now).classes c.args.class) (omega arith) (rw c.in-Some.is at c.loop-left.invariant))
+    (chain_more next c.loop-left.left c.in-Some.here c.loop-left.all.items
+    (superclasses (declarations_of c.args.classes.now).classes c.args.class) (omega arith)
+    (rw c.in-Some.is at c.loop-left.invariant))
 
 pub returns : goal.returns
 returns c =
-    chain_done (superclass_in (declarations_of c.args.classes.now).classes) c.loop-left.left c.loop-left.next c.loop-left.all.items (superclasses (declarations_of c.args.classes.now).classes c.args.class) (omega arith) c.loop-left.invariant
+    chain_done (superclass_in (declarations_of c.args.classes.now).classes) c.loop-left.left c.loop-left.next
+    c.loop-left.all.items (superclasses (declarations_of c.args.classes.now).classes c.args.class)
+    (omega arith) c.loop-left.invariant

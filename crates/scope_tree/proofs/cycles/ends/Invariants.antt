@@ -6,5 +6,6 @@ use Rattle.scope_tree.proofs.cycles.ends.Given as goal
 abbrev pub invariant-loop-end : goal.invariant-loop-end
 invariant-loop-end l = record {
   whole : length l.marks.items ≡ length l.jumps;
-  exact : (x : ℕ) → x < length l.jumps → slice_index_or l.marks.items x false ≡ list_any (nat_eq x) (take l.end-index l.jumps);
+  exact : (x : ℕ) → x < length l.jumps → slice_index_or l.marks.items x false ≡ list_any (nat_eq x)
+      (take l.end-index l.jumps);
 }

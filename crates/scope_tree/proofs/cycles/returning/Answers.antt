@@ -4,12 +4,16 @@ use Rattle.scope_tree.proofs.JumpLemmas.{steps_of_jumps, marks_are}
 use Rattle.scope_tree.proofs.cycles.returning.Goals as goal
 
 pub ends-requires : goal.ends-requires
-ends-requires c = rw c.deref.ensures.value (steps_of_jumps c.args.next.items c.in_ok-jumps.jumps.items c.requires (length c.args.next.items) c.in_ok-jumps.ensures)
+ends-requires c =
+    rw c.deref.ensures.value
+    (steps_of_jumps c.args.next.items c.in_ok-jumps.jumps.items c.requires
+    (length c.args.next.items) c.in_ok-jumps.ensures)
 
 pub returns : goal.returns
 returns c =
     let marks = c.in_ok-marks.marks.items in
     let jumps = c.in_ok-jumps.jumps.items in
     let whole : length marks ≡ length jumps = rw c.deref.ensures.value at c.in_ok-marks.ensures.whole in
-    let exact : (x : ℕ) → x < length jumps → slice_index_or marks x false ≡ list_any (eqb x) jumps = rw c.deref.ensures.value at c.in_ok-marks.ensures.exact in
+    let exact : (x : ℕ) → x < length jumps → slice_index_or marks x false ≡ list_any (eqb x) jumps =
+    rw c.deref.ensures.value at c.in_ok-marks.ensures.exact in
     marks_are c.args.next.items jumps c.requires marks c.in_ok-jumps.ensures whole exact

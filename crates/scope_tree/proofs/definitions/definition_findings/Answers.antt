@@ -13,15 +13,18 @@ use Rattle.scope_tree.proofs.definitions.definition_findings.Goals as goal
 pub returning-requires : goal.returning-requires
 returning-requires c =
     let find = get (slice_cmp nat_cmp) c.args.index.now in
-    let parents : c.in_ok-parents.parents.items ≡ parent_steps find (definitions c.args.program.now) = rw c.requires.whole at c.in_ok-parents.ensures in
+    let parents : c.in_ok-parents.parents.items ≡ parent_steps find (definitions c.args.program.now) =
+    rw c.requires.whole at c.in_ok-parents.ensures in
     rw parents (parents_are_steps (definitions c.args.program.now) find c.requires.indexed)
 
 pub findings_of-requires : goal.findings_of-requires
 findings_of-requires c =
     let find = get (slice_cmp nat_cmp) c.args.index.now in
     let ds = definitions c.args.program.now in
-    let parents : c.in_ok-parents.parents.items ≡ parent_steps find ds = rw c.requires.whole at c.in_ok-parents.ensures in
-    let whole : length c.in_ok-returns.returns.items ≡ suc (length ds) = c.in_ok-returns.ensures.whole ∙ ap length parents ∙ parents-length ds find c.requires.indexed in
+    let parents : c.in_ok-parents.parents.items ≡ parent_steps find ds = rw c.requires.whole at c.in_ok-parents.ensures
+    in
+    let whole : length c.in_ok-returns.returns.items ≡ suc (length ds) = c.in_ok-returns.ensures.whole
+    ∙ ap length parents ∙ parents-length ds find c.requires.indexed in
     rw (c.requires.whole, c.deref.ensures.value) (omega (arith, whole))
 
 pub returns : goal.returns
@@ -30,7 +33,10 @@ returns c =
     let forest = c.args.program.now in
     let find = get (slice_cmp nat_cmp) c.args.index.now in
     let marks = c.in_ok-returns.returns.items in
-    let parents : c.in_ok-parents.parents.items ≡ parent_steps find (definitions forest) = rw c.requires.whole at c.in_ok-parents.ensures in
-    let exact : AreMarks (parent_steps find (definitions forest)) marks = subst (λ t. AreMarks t marks) parents c.in_ok-returns.ensures in
-    let found : c.in_ok-found.found.items ≡ findings_from find marks 0 (definitions forest) = rw (c.deref.ensures.value, c.requires.whole) at c.in_ok-found.ensures in
+    let parents : c.in_ok-parents.parents.items ≡ parent_steps find (definitions forest) =
+    rw c.requires.whole at c.in_ok-parents.ensures in
+    let exact : AreMarks (parent_steps find (definitions forest)) marks =
+    subst (λ t. AreMarks t marks) parents c.in_ok-returns.ensures in
+    let found : c.in_ok-found.found.items ≡ findings_from find marks 0 (definitions forest) =
+    rw (c.deref.ensures.value, c.requires.whole) at c.in_ok-found.ensures in
     found ∙ found_at_classes forest c.is_whole.ensures find marks c.requires.indexed exact

@@ -7,11 +7,14 @@ use Rattle.scope_tree.proofs.definitions.findings_of.Goals as goal
 
 pub loop-number-preserved : goal.loop-number-preserved
 loop-number-preserved c =
-    let here = findings_more (get (slice_cmp nat_cmp) c.args.index.now) c.args.returns.now c.args.definitions.now c.loop-number.number c.index-definitions-number.result c.loop-number.found.items
+    let here =
+    findings_more (get (slice_cmp nat_cmp) c.args.index.now) c.args.returns.now c.args.definitions.now
+    c.loop-number.number c.index-definitions-number.result c.loop-number.found.items
     (omega (arith, c.loop-number-test.true)) c.index-definitions-number.is in
     rw c.in_ok-note_definition.ensures (here ∙ c.loop-number.invariant)
 
 pub returns : goal.returns
 returns c =
-    sym (findings_all (get (slice_cmp nat_cmp) c.args.index.now) c.args.returns.now c.args.definitions.now c.loop-number.number c.loop-number.found.items (omega (arith, c.loop-number-test.false)))
+    sym (findings_all (get (slice_cmp nat_cmp) c.args.index.now) c.args.returns.now c.args.definitions.now
+    c.loop-number.number c.loop-number.found.items (omega (arith, c.loop-number-test.false)))
     ∙ c.loop-number.invariant

@@ -14,6 +14,8 @@ loop-definition-preserved c =
     let i : ℕ = c.loop-definition.definition-index in
     let d : Definition = c.definition-item.result in
     let parent : Definition → ℕ = parent_number (get (slice_cmp nat_cmp) c.args.index.now) (length ds) in
-    let value : c.unwrap_or.result ≡ parent d = c.unwrap_or.ensures ∙ ap (λ o. unwrap_or o (length ds)) (c.copied-parent.ensures ∙ c.get.ensures.value) in
-    rw c.in_ok-push.ensures.items (ap (λ t. t ++ c.unwrap_or.result ∷ []) c.loop-definition.invariant ∙ ap (λ x. map parent (take i ds) ++ x ∷ []) (value ∙ ap parent c.definition-item.is)
+    let value : c.unwrap_or.result ≡ parent d = c.unwrap_or.ensures
+    ∙ ap (λ o. unwrap_or o (length ds)) (c.copied-parent.ensures ∙ c.get.ensures.value) in
+    rw c.in_ok-push.ensures.items (ap (λ t. t ++ c.unwrap_or.result ∷ []) c.loop-definition.invariant
+    ∙ ap (λ x. map parent (take i ds) ++ x ∷ []) (value ∙ ap parent c.definition-item.is)
     ∙ sym (map_more parent ds i d (omega (arith, c.loop-definition-test.true))))

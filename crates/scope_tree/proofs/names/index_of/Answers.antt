@@ -10,5 +10,6 @@ loop-number-init c = no_index (get (slice_cmp nat_cmp) c.new-index.result) (λ o
 
 pub loop-number-preserved : goal.loop-number-preserved
 loop-number-preserved c =
-    index_more c.args.definitions.now c.loop-number.number c.index-definitions-number.result (get (slice_cmp nat_cmp) c.loop-number.index) (get (slice_cmp nat_cmp) c.enter.new.index)
+    index_more c.args.definitions.now c.loop-number.number c.index-definitions-number.result
+    (get (slice_cmp nat_cmp) c.loop-number.index) (get (slice_cmp nat_cmp) c.enter.new.index)
     (omega (arith, c.loop-number-test.true)) c.loop-number.invariant c.in_ok-enter.ensures

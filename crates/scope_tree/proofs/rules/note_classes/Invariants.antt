@@ -7,4 +7,7 @@ use Rattle.scope_tree.proofs.rules.note_classes.Given as goal
 
 abbrev pub invariant-loop-number : goal.invariant-loop-number
 invariant-loop-number l =
-    l.found.items ≡ l.initial.found.items ++ joined_below (at_class (declarations_of l.classes) (λ class row c. class_scope_breaks (declarations_of l.classes) class c)) l.number
+    l.found.items ≡ l.initial.found.items
+    ++ joined_below
+    (at_class (declarations_of l.classes) (λ class row c. class_scope_breaks (declarations_of l.classes) class c))
+    l.number

@@ -3,6 +3,4 @@ use Rattle.scope_tree.proofs.rules.note_missing.Goals as goal
 
 pub returns : goal.returns
 unfolding s6_at
-returns c =
-    let test = rw c.requires at c.is_missing-test.ensures in
-    rw test at c.report_if.ensures
+returns c = rw c.lacks_scope-test.ensures at c.report_if.ensures

@@ -5,7 +5,8 @@ use Rattle.statement_steps.proofs.endings.statement_ended.Given as goal
 
 abbrev pub invariant-loop-entry : goal.invariant-loop-entry
 invariant-loop-entry l = record {
-  same : statement_ended l.fn.id l.fn.nodes.all l.fn.stack (seen l.view) ≡ statement_ended l.id l.nodes.all l.stack (seen l.view);
+  same : statement_ended l.fn.id l.fn.nodes.all l.fn.stack (seen l.view) ≡ statement_ended l.id l.nodes.all l.stack
+      (seen l.view);
   kept : l.nodes.kept ≡ l.fn.nodes.kept;
 }
 

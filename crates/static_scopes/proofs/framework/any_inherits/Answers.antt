@@ -9,15 +9,18 @@ pub returns-then-inherits : goal.returns-then-inherits
 returns-then-inherits c =
     let p = declarations_of c.args.scopes.now in
     let found = rw (c.classes-classes.ensures, c.at.ensures) at (sym c.if-inherits.true ∙ c.inherits.ensures) in
-    any_found (inherits_as p (safelet ∷ []) c.args.node c.args.name.now) p.classes c.loop-number.number _ (omega arith) found c.loop-number.invariant
+    any_found (inherits_as p (safelet ∷ []) c.args.node c.args.name.now) p.classes c.loop-number.number _
+    (omega arith) found c.loop-number.invariant
 
 pub loop-number-preserved : goal.loop-number-preserved
 loop-number-preserved c =
     let p = declarations_of c.args.scopes.now in
     let missed = rw (c.classes-classes.ensures, c.at.ensures) at (sym c.if-inherits.false ∙ c.inherits.ensures) in
-    any_more (inherits_as p (safelet ∷ []) c.args.node c.args.name.now) p.classes c.loop-number.number _ (omega arith) missed c.loop-number.invariant
+    any_more (inherits_as p (safelet ∷ []) c.args.node c.args.name.now) p.classes c.loop-number.number _
+    (omega arith) missed c.loop-number.invariant
 
 pub returns : goal.returns
 returns c =
     let p = declarations_of c.args.scopes.now in
-    any_ended (inherits_as p (safelet ∷ []) c.args.node c.args.name.now) p.classes c.loop-number.number _ (omega arith) c.loop-number.invariant
+    any_ended (inherits_as p (safelet ∷ []) c.args.node c.args.name.now) p.classes c.loop-number.number _
+    (omega arith) c.loop-number.invariant

@@ -7,5 +7,7 @@ use Rattle.static_scopes.proofs.framework.any_inherits.Given as goal
 
 abbrev pub invariant-loop-number : goal.invariant-loop-number
 invariant-loop-number l =
-    list_any (inherits_as (declarations_of l.scopes) (safelet ∷ []) l.node l.name) (numbers_from l.number (drop l.number (declarations_of l.scopes).classes))
-    ≡ list_any (inherits_as (declarations_of l.scopes) (safelet ∷ []) l.node l.name) (numbers_from 0 (declarations_of l.scopes).classes)
+    list_any (inherits_as (declarations_of l.scopes) (safelet ∷ []) l.node l.name)
+    (numbers_from l.number (drop l.number (declarations_of l.scopes).classes))
+    ≡ list_any (inherits_as (declarations_of l.scopes) (safelet ∷ []) l.node l.name)
+    (numbers_from 0 (declarations_of l.scopes).classes)

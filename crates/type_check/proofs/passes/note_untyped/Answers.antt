@@ -11,5 +11,7 @@ pub returns-then-is_some : goal.returns-then-is_some
 returns-then-is_some c =
     let p = declarations_of c.args.known.now in
     let types : Types = lookup None c.args.types.now in
-    let typed : is_some (type_of_right p types c.args.id c.args.node.now) ≡ true = ap (λ (o : Option Ty). is_some o) (sym c.requires) ∙ sym c.is_some.ensures ∙ c.if-is_some.true in
-    sym (ap (λ (fs : List Found). c.args.found.now.items ++ fs) (right_typed p types c.args.id c.args.node.now typed) ∙ append-nil c.args.found.now.items)
+    let typed : is_some (type_of_right p types c.args.id c.args.node.now) ≡ true =
+    ap (λ (o : Option Ty). is_some o) (sym c.requires) ∙ sym c.is_some.ensures ∙ c.if-is_some.true in
+    sym (ap (λ (fs : List Found). c.args.found.now.items ++ fs) (right_typed p types c.args.id c.args.node.now typed)
+    ∙ append-nil c.args.found.now.items)

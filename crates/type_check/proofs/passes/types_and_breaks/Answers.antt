@@ -23,28 +23,38 @@ loop-place-preserved c =
     let place : ℕ = c.loop-place.place in
     let so_far : List (Option Ty) → List Found = λ ts. breaks_at p (lookup None ts) place in
     let f : ℕ → List Found = breaks_at p (lookup None (types_in p)) in
-    let whole : IsForest c.args.known.now = let P : Forest → Type 0 = λ forest. IsForest forest in subst P c.program-program.ensures c.len-place-end.ensures.whole in
+    let whole : IsForest c.args.known.now = let P : Forest → Type 0 = λ forest. IsForest forest in
+    subst P c.program-program.ensures c.len-place-end.ensures.whole in
     let value : c.in_ok-t.t ≡ type_of_next p place (lookup None types) =
-    c.in_ok-t.ensures.type_of ∙ ap (λ (ts : List (Option Ty)). type_of_next p c.at.result (lookup None ts)) c.deref.ensures.value ∙ ap (λ (n : ℕ). type_of_next p n (lookup None types)) c.at.ensures in
+    c.in_ok-t.ensures.type_of
+    ∙ ap (λ (ts : List (Option Ty)). type_of_next p c.at.result (lookup None ts)) c.deref.ensures.value
+    ∙ ap (λ (n : ℕ). type_of_next p n (lookup None types)) c.at.ensures in
     let broken_here : breaks_at p (lookup None c.deref.result.now) c.at.result ≡ f place =
-    ap (λ (ts : List (Option Ty)). breaks_at p (lookup None ts) c.at.result) c.deref.ensures.value ∙ ap (λ (n : ℕ). breaks_at p (lookup None types) n) c.at.ensures
+    ap (λ (ts : List (Option Ty)). breaks_at p (lookup None ts) c.at.result) c.deref.ensures.value
+    ∙ ap (λ (n : ℕ). breaks_at p (lookup None types) n) c.at.ensures
     ∙ ap so_far c.loop-place.invariant.typed ∙ breaks_so_far c.args.known.now whole place in
     record {
-      typed = c.in_ok-push.ensures.items ∙ bottom_up-more None (type_of_next p) place types c.in_ok-t.t c.loop-place.invariant.typed value;
-      noted = c.in_ok-t.ensures.found ∙ ap (λ (fs : List Found). c.loop-place.found.items ++ fs) broken_here ∙ joined-more f place c.loop-place.found.items c.loop-place.invariant.noted;
+      typed = c.in_ok-push.ensures.items
+          ∙ bottom_up-more None (type_of_next p) place types c.in_ok-t.t c.loop-place.invariant.typed value;
+      noted = c.in_ok-t.ensures.found ∙ ap (λ (fs : List Found). c.loop-place.found.items ++ fs) broken_here
+          ∙ joined-more f place c.loop-place.found.items c.loop-place.invariant.noted;
     }
 
 pub returns-clause-types : goal.returns-clause-types
 unfolding types_in declarations_of
 returns-clause-types c =
-    let size : c.len-place-end.result ≡ length c.args.known.now.nodes = c.len-place-end.ensures.value ∙ ap (λ (f : Forest). length f.nodes) c.program-program.ensures in
-    let full : c.loop-place.place ≡ length c.args.known.now.nodes = omega (arith, c.loop-place-test.false, c.loop-place.auto.place-end, size) in
+    let size : c.len-place-end.result ≡ length c.args.known.now.nodes = c.len-place-end.ensures.value
+    ∙ ap (λ (f : Forest). length f.nodes) c.program-program.ensures in
+    let full : c.loop-place.place ≡ length c.args.known.now.nodes =
+    omega (arith, c.loop-place-test.false, c.loop-place.auto.place-end, size) in
     c.loop-place.invariant.typed ∙ ap (bottom_up None (type_of_next (declarations_of c.args.known.now))) full
 
 pub returns-clause-breaks : goal.returns-clause-breaks
 unfolding type_phase over_nodes
 returns-clause-breaks c =
     let p : Declarations = declarations_of c.args.known.now in
-    let size : c.len-place-end.result ≡ length p.nodes = c.len-place-end.ensures.value ∙ ap (λ (f : Forest). length f.nodes) c.program-program.ensures ∙ nodes-are c.args.known.now in
-    let full : c.loop-place.place ≡ length p.nodes = omega (arith, c.loop-place-test.false, c.loop-place.auto.place-end, size) in
+    let size : c.len-place-end.result ≡ length p.nodes = c.len-place-end.ensures.value
+    ∙ ap (λ (f : Forest). length f.nodes) c.program-program.ensures ∙ nodes-are c.args.known.now in
+    let full : c.loop-place.place ≡ length p.nodes =
+    omega (arith, c.loop-place-test.false, c.loop-place.auto.place-end, size) in
     c.loop-place.invariant.noted ∙ ap (joined_below (breaks_at p (lookup None (types_in p)))) full

@@ -9,5 +9,6 @@ use Rattle.type_check.proofs.passes.types_and_breaks.Given as goal
 abbrev pub invariant-loop-place : goal.invariant-loop-place
 invariant-loop-place l = record {
   typed : l.types.items ≡ bottom_up None (type_of_next (declarations_of l.known)) l.place;
-  noted : l.found.items ≡ joined_below (breaks_at (declarations_of l.known) (lookup None (types_in (declarations_of l.known)))) l.place;
+  noted : l.found.items ≡ joined_below
+      (breaks_at (declarations_of l.known) (lookup None (types_in (declarations_of l.known)))) l.place;
 }

@@ -7,7 +7,9 @@ pub returns-clause-report : goal.returns-clause-report
 returns-clause-report c = record {
   in_order = c.put_in_order.ensures.in_order;
   exact = λ f. (
-    (λ h. let P : List Found → Type 0 = λ t. Contains t f in subst P c.in_ok-types.ensures.breaks ((c.put_in_order.ensures.same f).0 h)),
-    (λ b. (c.put_in_order.ensures.same f).1 (let P : List Found → Type 0 = λ t. Contains t f in subst P (sym c.in_ok-types.ensures.breaks) b)),
+    (λ h. let P : List Found → Type 0 = λ t. Contains t f in
+        subst P c.in_ok-types.ensures.breaks ((c.put_in_order.ensures.same f).0 h)),
+    (λ b. (c.put_in_order.ensures.same f).1 (let P : List Found → Type 0 = λ t. Contains t f in
+        subst P (sym c.in_ok-types.ensures.breaks) b)),
   );
 }

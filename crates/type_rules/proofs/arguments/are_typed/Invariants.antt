@@ -5,4 +5,5 @@ use Rattle.type_rules.proofs.arguments.are_typed.Given as goal
 
 -- those so far have types
 abbrev pub invariant-loop-id : goal.invariant-loop-id
-invariant-loop-id l = is_some (all_types (lookup None l.types) l.ids) ≡ is_some (all_types (lookup None l.types) (drop l.id-index l.ids))
+invariant-loop-id l =
+    is_some (all_types (lookup None l.types) l.ids) ≡ is_some (all_types (lookup None l.types) (drop l.id-index l.ids))

@@ -11,10 +11,14 @@ use Rattle.type_rules.proofs.arguments.constructor_parameters.Goals as goal
 pub returns-in-Some : goal.returns-in-Some
 unfolding taken constructor_parameters
 returns-in-Some c =
-    let P : Forest → Type 0 = λ f. parameters_at f.nodes c.constructor_parameters.result ≡ unwrap_or (option_map (λ (d : DeclaredConstructor). d.parameters) (constructor_at f.nodes c.in-Some.node)) [] in
+    let P : Forest → Type 0 = λ f. parameters_at f.nodes c.constructor_parameters.result ≡ unwrap_or
+    (option_map (λ (d : DeclaredConstructor). d.parameters) (constructor_at f.nodes c.in-Some.node)) [] in
     subst P c.program.ensures c.constructor_parameters.ensures
-    ∙ ap (λ (o : Option DeclaredConstructor). unwrap_or (option_map (λ (d : DeclaredConstructor). d.parameters) o) []) c.in-Some.ensures ∙ parameters_of (constructor_in (declarations_of c.args.known.now).classes c.args.class)
+    ∙ ap (λ (o : Option DeclaredConstructor). unwrap_or (option_map (λ (d : DeclaredConstructor). d.parameters) o) [])
+    c.in-Some.ensures ∙ parameters_of (constructor_in (declarations_of c.args.known.now).classes c.args.class)
 
 pub returns-in-None : goal.returns-in-None
 unfolding taken constructor_parameters
-returns-in-None c = ap (λ (o : Option DeclaredConstructor). elim o as (λ _. List Declared) [ None ↦ [] | Some d ↦ d.parameters ]) c.in-None.ensures
+returns-in-None c =
+    ap (λ (o : Option DeclaredConstructor). elim o as (λ _. List Declared) [ None ↦ [] | Some d ↦ d.parameters ])
+    c.in-None.ensures

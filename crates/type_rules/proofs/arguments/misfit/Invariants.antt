@@ -9,5 +9,6 @@ use Rattle.type_rules.proofs.arguments.misfit.Given as goal
 abbrev pub invariant-loop-i : goal.invariant-loop-i
 invariant-loop-i l = record {
   typed : is_some (all_types (lookup None l.types) (drop l.i l.ids)) ≡ true;
-  exact : fit_each (declarations_of l.known) (lookup None l.types) (taken l.known.nodes l.takes) l.ids ≡ fit_each (declarations_of l.known) (lookup None l.types) (drop l.i (taken l.known.nodes l.takes)) (drop l.i l.ids);
+  exact : fit_each (declarations_of l.known) (lookup None l.types) (taken l.known.nodes l.takes) l.ids ≡ fit_each
+      (declarations_of l.known) (lookup None l.types) (drop l.i (taken l.known.nodes l.takes)) (drop l.i l.ids);
 }

@@ -7,4 +7,5 @@ use Rattle.type_words.proofs.returns.always_returns.Goals as goal
 
 pub returns : goal.returns
 unfolding all_returns declarations_of
-returns c = c.told.ensures ∙ ap (λ (rs : List Bool). lookup false rs c.args.body) c.requires ∙ lookup-all c.args.program.now.nodes c.args.body
+returns c = c.told.ensures ∙ ap (λ (rs : List Bool). lookup false rs c.args.body) c.requires
+    ∙ lookup-all c.args.program.now.nodes c.args.body

@@ -7,4 +7,12 @@ use Rattle.class_marks.proofs.classes.WrittenClasses.forbidden_supers.Goals as g
 
 pub returns : goal.returns
 returns c =
-    grind (arith, common_steps, forbidden_parts (declarations_of c.args.self.now) (class_at c.args.self.now.nodes c.args.node), c.in_ok-note_interfaces.ensures, c.in_ok-note_extends.ensures, c.in_ok-there.ensures, c.interface_nodes-interfaces.ensures)
+    grind (
+      arith,
+      common_steps,
+      forbidden_parts (declarations_of c.args.self.now) (class_at c.args.self.now.nodes c.args.node),
+      c.in_ok-note_interfaces.ensures,
+      c.in_ok-note_extends.ensures,
+      c.in_ok-there.ensures,
+      c.interface_nodes-interfaces.ensures,
+    )

@@ -7,6 +7,9 @@ use Rattle.class_marks.proofs.classes.WrittenClasses.interfaces.Goals as goal
 
 pub returns : goal.returns
 returns c =
-    let there : c.args.class < length c.self.inside.headers.now.interfaces.items = omega (arith, c.len.ensures, c.if-at-len.false, c.number-at.ensures) in
-    c.as_slice.ensures.value ∙ list_there (λ v. v.items) c.self.inside.headers.now.interfaces.items c.args.class c.index-interfaces.result.now there (rw c.number-at.ensures at c.index-interfaces.ensures)
-    ∙ interfaces_is c.self.inside.program.now c.self.inside.headers.now c.args.class c.self.invariant ∙ ap (λ (f : Forest). interfaces_in (declarations_of f).written c.args.class) c.self.view_is
+    let there : c.args.class < length c.self.inside.headers.now.interfaces.items =
+    omega (arith, c.len.ensures, c.if-at-len.false, c.number-at.ensures) in
+    c.as_slice.ensures.value ∙ list_there (λ v. v.items) c.self.inside.headers.now.interfaces.items c.args.class
+    c.index-interfaces.result.now there (rw c.number-at.ensures at c.index-interfaces.ensures)
+    ∙ interfaces_is c.self.inside.program.now c.self.inside.headers.now c.args.class c.self.invariant
+    ∙ ap (λ (f : Forest). interfaces_in (declarations_of f).written c.args.class) c.self.view_is

@@ -6,7 +6,8 @@ use Rattle.class_marks.proofs.classes.WrittenClasses.is_cyclic.Given as goal
 
 -- what is left tells it
 abbrev pub invariant-loop-at : goal.invariant-loop-at
-invariant-loop-at l = is_among l.class l.chain ≡ is_among l.class (classes_above (declarations_of l.fn.self).written l.class)
+invariant-loop-at l =
+    is_among l.class l.chain ≡ is_among l.class (classes_above (declarations_of l.fn.self).written l.class)
 
 abbrev pub decreases-loop-at : goal.decreases-loop-at
 decreases-loop-at l = length l.chain

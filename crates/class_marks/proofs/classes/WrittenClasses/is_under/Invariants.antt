@@ -6,7 +6,8 @@ use Rattle.class_marks.proofs.classes.WrittenClasses.is_under.Given as goal
 
 -- what is left tells it
 abbrev pub invariant-loop-at : goal.invariant-loop-at
-invariant-loop-at l = is_among l.above l.chain ≡ is_among l.above (superclasses (declarations_of l.fn.self).written l.fn.class)
+invariant-loop-at l =
+    is_among l.above l.chain ≡ is_among l.above (superclasses (declarations_of l.fn.self).written l.fn.class)
 
 abbrev pub decreases-loop-at : goal.decreases-loop-at
 decreases-loop-at l = length l.chain

@@ -5,7 +5,8 @@ use Rattle.class_marks.proofs.classes.WrittenClasses.kinds_of.Given as goal
 
 -- those among what is left are still to come
 abbrev pub invariant-loop-at : goal.invariant-loop-at
-invariant-loop-at l = l.kinds.items ++ filter is_kind l.ancestors ≡ kinds_of (declarations_of l.fn.self).written l.fn.class
+invariant-loop-at l =
+    l.kinds.items ++ filter is_kind l.ancestors ≡ kinds_of (declarations_of l.fn.self).written l.fn.class
 
 abbrev pub decreases-loop-at : goal.decreases-loop-at
 decreases-loop-at l = length l.ancestors

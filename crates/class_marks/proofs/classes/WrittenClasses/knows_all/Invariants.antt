@@ -9,7 +9,8 @@ use Rattle.class_marks.proofs.classes.WrittenClasses.knows_all.Given as goal
 -- what is left tells it
 abbrev pub invariant-loop-others : goal.invariant-loop-others
 invariant-loop-others l =
-    are_known (declarations_of l.self).names (filter_map (read l.self.nodes named_super) l.others) ≡ are_known (declarations_of l.self).names (filter_map (read l.self.nodes named_super) l.initial.others)
+    are_known (declarations_of l.self).names (filter_map (read l.self.nodes named_super) l.others) ≡ are_known
+    (declarations_of l.self).names (filter_map (read l.self.nodes named_super) l.initial.others)
 
 abbrev pub decreases-loop-others : goal.decreases-loop-others
 decreases-loop-others l = length l.others

@@ -6,7 +6,14 @@ use Rattle.class_marks.proofs.classes.WrittenClasses.note_interfaces.Goals as go
 
 pub loop-others-preserved-in_ok-add_kinds : goal.loop-others-preserved-in_ok-add_kinds
 loop-others-preserved-in_ok-add_kinds c =
-    grind (arith, common_steps, one_forbidden (declarations_of c.args.self.now), c.in_ok-kinds.ensures, c.in_ok-note_interface.ensures, c.in_ok-add_kinds.ensures)
+    grind (
+      arith,
+      common_steps,
+      one_forbidden (declarations_of c.args.self.now),
+      c.in_ok-kinds.ensures,
+      c.in_ok-note_interface.ensures,
+      c.in_ok-add_kinds.ensures,
+    )
 
 pub returns : goal.returns
 returns c = grind (arith, common_steps, none_forbidden (declarations_of c.args.self.now))

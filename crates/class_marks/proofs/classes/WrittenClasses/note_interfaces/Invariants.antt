@@ -9,8 +9,11 @@ use Rattle.class_marks.proofs.classes.WrittenClasses.note_interfaces.Given as go
 -- what is forbidden among the rest is still to come
 abbrev pub invariant-loop-others : goal.invariant-loop-others
 invariant-loop-others l =
-    l.found.items ++ forbidden_interfaces (declarations_of l.self).names (declarations_of l.self).written l.there.items (filter_map (read l.self.nodes named_super) l.others)
-    ≡ l.initial.found.items ++ forbidden_interfaces (declarations_of l.self).names (declarations_of l.self).written l.initial.there.items (filter_map (read l.self.nodes named_super) l.initial.others)
+    l.found.items ++ forbidden_interfaces (declarations_of l.self).names (declarations_of l.self).written l.there.items
+    (filter_map (read l.self.nodes named_super) l.others)
+    ≡ l.initial.found.items ++ forbidden_interfaces (declarations_of l.self).names
+    (declarations_of l.self).written l.initial.there.items
+    (filter_map (read l.self.nodes named_super) l.initial.others)
 
 abbrev pub decreases-loop-others : goal.decreases-loop-others
 decreases-loop-others l = length l.others

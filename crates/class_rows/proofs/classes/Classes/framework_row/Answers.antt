@@ -3,7 +3,8 @@ use Rattle.class_rows.proofs.MemberLemmas.{framework_row_is}
 use Rattle.class_rows.proofs.classes.Classes.framework_row.Goals as goal
 
 pub returns-in-Some : goal.returns-in-Some
-returns-in-Some c = framework_row_is c.args.self.now c.args.class c.args.name.now (Some c.in-Some.id) c.requires c.in-Some.ensures
+returns-in-Some c =
+    framework_row_is c.args.self.now c.args.class c.args.name.now (Some c.in-Some.id) c.requires c.in-Some.ensures
 
 pub returns-in-None : goal.returns-in-None
 returns-in-None c = framework_row_is c.args.self.now c.args.class c.args.name.now None c.requires c.in-None.ensures

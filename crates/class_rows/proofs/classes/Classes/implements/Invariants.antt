@@ -6,7 +6,9 @@ use Rattle.class_rows.proofs.classes.Classes.implements.Given as goal
 
 -- what is left tells it
 abbrev pub invariant-loop-at : goal.invariant-loop-at
-invariant-loop-at l = is_among l.interface l.interfaces ≡ is_among l.interface (all_interfaces (declarations_of l.fn.self).classes l.fn.class)
+invariant-loop-at l =
+    is_among l.interface l.interfaces ≡ is_among l.interface
+    (all_interfaces (declarations_of l.fn.self).classes l.fn.class)
 
 abbrev pub decreases-loop-at : goal.decreases-loop-at
 decreases-loop-at l = length l.interfaces

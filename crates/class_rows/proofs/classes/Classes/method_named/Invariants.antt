@@ -6,7 +6,8 @@ use Rattle.class_rows.proofs.classes.Classes.method_named.Given as goal
 
 -- what is left tells it
 abbrev pub invariant-loop-at : goal.invariant-loop-at
-invariant-loop-at l = along (own_method (declarations_of l.self).classes l.name) l.ancestors ≡ method_named (declarations_of l.self).classes l.fn.class l.name
+invariant-loop-at l = along (own_method (declarations_of l.self).classes l.name) l.ancestors ≡ method_named
+    (declarations_of l.self).classes l.fn.class l.name
 
 abbrev pub decreases-loop-at : goal.decreases-loop-at
 decreases-loop-at l = length l.ancestors

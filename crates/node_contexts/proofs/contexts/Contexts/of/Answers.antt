@@ -13,11 +13,13 @@ pub loop-place-init : goal.loop-place-init
 loop-place-init c =
     let forest = c.args.program.now in
     let full : c.len-place.result ≡ length forest.nodes = c.len-place.ensures.value in
-    let rows : c.in_ok-rows.rows.items ≡ replicate (length forest.nodes) outermost = rw c.len.ensures.value at c.in_ok-rows.ensures in
+    let rows : c.in_ok-rows.rows.items ≡ replicate (length forest.nodes) outermost =
+    rw c.len.ensures.value at c.in_ok-rows.ensures in
     record {
       within = omega (arith, full);
       whole = ap length rows ∙ length-replicate (length forest.nodes) outermost;
-      exact = let P : ℕ → Type 0 = λ k. (id : ℕ) → id < length forest.nodes → lookup outermost c.in_ok-rows.rows.items id ≡ told_from forest k id in
+      exact = let P : ℕ → Type 0 = λ k. (id : ℕ) → id < length forest.nodes →
+          lookup outermost c.in_ok-rows.rows.items id ≡ told_from forest k id in
           subst P (sym full) (init forest c.len.ensures.whole c.in_ok-rows.rows.items rows);
     }
 
@@ -25,7 +27,8 @@ pub spread_children-requires-clause-within : goal.spread_children-requires-claus
 spread_children-requires-clause-within c =
     let node = c.node-node.result.now in
     let Q : ℕ → Type 0 = λ n. AllBelow n (children node) in
-    subst Q (sym c.loop-place.invariant.whole) (children_within c.args.program.now c.len.ensures.whole c.at-parent.result node c.node-node.ensures)
+    subst Q (sym c.loop-place.invariant.whole)
+    (children_within c.args.program.now c.len.ensures.whole c.at-parent.result node c.node-node.ensures)
 
 pub spread_children-requires-clause-apart : goal.spread_children-requires-clause-apart
 spread_children-requires-clause-apart c = λ x.
@@ -43,7 +46,8 @@ loop-place-preserved c =
       within = omega (arith, c.loop-place.invariant.within);
       whole = c.in_ok-spread_children.ensures.whole ∙ c.loop-place.invariant.whole;
       exact = λ id l.
-          step forest c.len.ensures.whole parent c.node-node.result.now rows c.spread_children.new.rows.items c.node-node.ensures (subst P up c.loop-place.invariant.exact) c.in_ok-spread_children.ensures.exact id l
+          step forest c.len.ensures.whole parent c.node-node.result.now rows c.spread_children.new.rows.items
+          c.node-node.ensures (subst P up c.loop-place.invariant.exact) c.in_ok-spread_children.ensures.exact id l
           ∙ ap (λ k. told_from forest k id) c.at-parent.ensures;
     }
 
@@ -51,5 +55,7 @@ pub returns : goal.returns
 returns c =
     let forest = c.args.program.now in
     let zero : c.loop-place.place ≡ 0 = omega (arith, c.loop-place-test.false) in
-    let P : ℕ → Type 0 = λ k. (id : ℕ) → id < length forest.nodes → lookup outermost c.loop-place.rows.items id ≡ told_from forest k id in
-    done forest c.len.ensures.whole c.loop-place.rows.items c.loop-place.invariant.whole (subst P zero c.loop-place.invariant.exact)
+    let P : ℕ → Type 0 = λ k. (id : ℕ) → id < length forest.nodes →
+    lookup outermost c.loop-place.rows.items id ≡ told_from forest k id in
+    done forest c.len.ensures.whole c.loop-place.rows.items c.loop-place.invariant.whole
+    (subst P zero c.loop-place.invariant.exact)

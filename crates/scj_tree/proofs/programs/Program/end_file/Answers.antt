@@ -10,5 +10,7 @@ invariant_of-self-2 c =
     let P : Forest → Type 0 = λ f. AreFreshClasses f c.args.classes.items in
     let Q : Forest → Type 0 = λ f. length f.files < 16 in
     let room = subst Q (sym c.self.view_is) c.requires.few in
-    let whole = IsForest-with_file old c.args.classes.items c.self.invariant (subst P (sym c.self.view_is) c.requires.fresh) room in
+    let whole =
+    IsForest-with_file old c.args.classes.items c.self.invariant (subst P (sym c.self.view_is) c.requires.fresh)
+    room in
     rw (c.in_ok-push.ensures.items, map-append) whole
