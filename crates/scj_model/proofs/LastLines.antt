@@ -12,41 +12,42 @@ use Rattle.scj_model.specs.declared.events.Event.{Event}
 use Rattle.scj_model.specs.declared.events.Event.TheVariants.{Drop, Prio, Stopped}
 use Rattle.scj_model.specs.declared.phases.Phase.{Phase}
 use Rattle.scj_model.specs.Code.{Code}
-use Rattle.scj_model.specs.State.{Frame, Activity, Progress, waiting, started, ended, dropped, Release, Job, sequencer, release, State, with_activity, is_waiting, object_at}
-use Rattle.scj_model.specs.Memory.{closed, has_room, has_store_for, area_with_scope, new_slots}
-use Rattle.scj_model.specs.Apply.{Result, silently, telling, of_release, closed_all, job_ended, fault_in, tell_priority, called, opened_in, left, release_taken, registered, released, termination, end_asked, applied, is_full, monitor_of, waiting_of, most_waiting, most_handlers, handler_number, is_init, is_exec, takes_releases, is_sequencer, handler_row, with_frame, for_each}
-use Rattle.scj_model.specs.Effects.{Effect, goes, prints, makes, stores, stores_static, sets_hidden, sets_ceiling, calls, opens, leaves, registers, releases, terminates, faults, stuck}
+use Rattle.scj_model.specs.Plan.{Plan}
+use Rattle.scj_model.specs.State.{Frame, Activity, ReleaseStatus, Waits, Started, Ended, Dropped, Release, Job, TheSequencer, ReleaseAt, State, with_activity, is_waiting, object_at, is_init, is_exec, Turn, IdleTurn, TurnOf, is_over}
+use Rattle.scj_model.specs.Registry.{most_handlers, handler_number, handler_row}
+use Rattle.scj_model.specs.Memory.{closed, has_room, has_store_for, area_with_scope, new_slots, with_area, with_object}
+use Rattle.scj_model.specs.Steps.{Step, silently, telling, of_release, closed_all, job_ended, fault_in, for_each, then_try, allocating, opening}
+use Rattle.scj_model.specs.Effects.{Effect, Goes, Prints, Makes, Stores, StoresStatic, SetsHidden, SetsCeiling, Calls, Opens, Leaves, AsksRegistration, AsksRelease, AsksTermination, Faults, Stuck}
+use Rattle.scj_model.specs.Apply.{tell_priority, called, opened_in, frame_left, release_taken, registered, released, termination, termination_asked, applied, is_full, waiting_of, most_waiting, takes_releases, is_sequencer, with_frame, asks_for_end, ceiling_entered}
+use Rattle.scj_model.specs.Sequencer.{innermost, area_opened, safelet_made, body_called, method_called, sequencer_op, after_operation, has_started, after_execution, phase_after, ClosesMission, EndsExecution, Transition, goes_to, seq_applied, transition, transition_done, after_initialize}
+use Rattle.scj_model.specs.Arrivals.{due_handlers, fired_handler, fired, arrivals, fired_at, fires_due}
+use Rattle.scj_model.specs.Choice.{Policy}
+use Rattle.scj_model.specs.Run.{tell_turn, turn_taken, turn_acts, acts, next_unit, one_unit, empty_state, RunSoFar, has_ended, continued, one_more_unit, run, told_by, frame_op, effect_at, place_of_op, start_op, started_with, no_activity, release_op_of, sequencer_turn, ref_op, is_same_turn}
+use Rattle.scj_model.specs.LastLine.{is_last_line, HasNoLastLine, EndsInLastLine}
 use Rattle.scj_model.specs.declared.events.Event.TheVariants.{Miss, Run as RunEvent}
 use Rattle.scj_model.specs.declared.plans.Fire.{Fire}
-use Rattle.scj_model.specs.Plan.{Plan}
-use Rattle.scj_model.specs.Arrivals.{due_handlers, fired_handler, fired, fires_at, arrivals}
-use Rattle.scj_model.specs.Choice.{Turn, idle_turn, turn_of, Policy}
-use Rattle.scj_model.specs.Run.{is_last_choice, tell_turn, turn_taken, turn_acts, then_try, acts, next_unit, one_unit, empty_state, Progressed, has_ended, continued, one_more_unit, run, told_by, is_over, frame_op, effect_at, place_of_op, start_op, started_with, no_activity, release_op_of, sequencer_turn, ref_op}
-use Rattle.scj_model.specs.Sequencer.{innermost, area_opened, safelet_made, body_called, method_called, sequencer_op, sequencer_given, mission_given, initialized, mission_closed, after_operation, has_started, after_execution, phase_after}
 use Rattle.scj_model.specs.declared.operations.Op.{Op}
 use Rattle.scj_model.specs.declared.operations.SeqOp.{SeqOp}
 use Rattle.scj_model.specs.declared.operations.SeqOp.TheVariants.{OpenImmortal, AllocSafelet, ConstructSafelet, InitializeApplication, GetSequencer, GetNextMission, OpenMission, Initialize, CleanUp, Execute, Finished}
 use Rattle.scj_model.specs.declared.phases.Phase.TheVariants.{Boot, Next, Init, Exec, Cleanup, Over}
 use Rattle.scj_model.specs.declared.plans.ReadingRow.{ReadingRow}
-use Rattle.scj_base.specs.declared.faults.RunFault.TheVariants.{StoreFull, MemoryFull}
 use Rattle.scj_base.specs.declared.values.Value.TheVariants.{Int, Bool as Truth, Null, At}
 use Rattle.scj_rules.specs.Classes.{is_empty}
 use Rattle.scj_rules.specs.ScopeRules.{immortal_scope, defined_by_chain}
-use Rattle.scj_rules.specs.Bodies.{body_named, constructor_of, immortal_size, mission_size, safelet_class, class_place}
-use Rattle.scj_model.specs.LastLine.{is_last_line, HasNoLastLine, EndsInLastLine}
+use Rattle.scj_rules.specs.Bodies.{body_named, constructor_body, size_of, safelet_class, class_place}
 
 -- the run is not over, and no last line is told
-pub record IsQuiet (r : Result) : Type 0 where
+pub record IsQuiet (r : Step) : Type 0 where
   pub goes_on : is_over r.state.phase ≡ false
   pub no_last : HasNoLastLine r.events
 
 -- the run is over, nothing is left for the sequencer, and the last event says so
-pub record IsEnd (r : Result) : Type 0 where
+pub record IsEnd (r : Step) : Type 0 where
   pub over : is_over r.state.phase ≡ true
   pub nothing_left : r.state.outcome ≡ None
   pub ends : EndsInLastLine r.events
 
-abbrev pub IsFine : Result → Type 0
+abbrev pub IsFine : Step → Type 0
 IsFine r = IsQuiet r ⊎ IsEnd r
 
 -- ---- lists of events
@@ -76,8 +77,8 @@ Keeps s after = after.phase ≡ s.phase
 
 keeps_activity : (s : State) (job : Job) (activity : Activity) → Keeps s (with_activity s job activity)
 unfolding with_activity
-keeps_activity s sequencer activity = refl
-keeps_activity s (release place) activity = refl
+keeps_activity s TheSequencer activity = refl
+keeps_activity s (ReleaseAt place) activity = refl
 
 keeps_closed : (s : State) (a : Option ℕ) → Keeps s (closed s a)
 unfolding closed
@@ -92,12 +93,12 @@ keeps_closed_all s (f ∷ fs) = keeps_closed_all (closed s f.opened) fs ∙ keep
 still : (s after : State) → is_over s.phase ≡ false → Keeps s after → is_over after.phase ≡ false
 still s after h k = ap is_over k ∙ h
 
-abbrev quiet : (s : State) → is_over s.phase ≡ false → (r : Result) → Keeps s r.state → HasNoLastLine r.events → IsFine r
+abbrev quiet : (s : State) → is_over s.phase ≡ false → (r : Step) → Keeps s r.state → HasNoLastLine r.events → IsFine r
 quiet s h r k n = inl (record { goes_on = ap is_over k ∙ h; no_last = n })
 
 no_last_of : (s : State) (job : Job) (tell : Release → List Event) → ((r : Release) → HasNoLastLine (tell r)) → HasNoLastLine (of_release s job tell)
-no_last_of s sequencer tell h = refl
-no_last_of s (release place) tell h = go (slice_get s.releases place)
+no_last_of s TheSequencer tell h = refl
+no_last_of s (ReleaseAt place) tell h = go (slice_get s.releases place)
   where
     go : (o : Option Release) → HasNoLastLine (elim o [ None ↦ [] | Some r ↦ tell r ])
     go None = refl
@@ -107,11 +108,11 @@ no_last_of s (release place) tell h = go (slice_get s.releases place)
 
 fine_fault : (s : State) (job : Job) (activity : Activity) (place : Pos) (fault : RunFault) → is_over s.phase ≡ false → IsFine (fault_in s job activity place fault)
 unfolding fault_in is_last_line is_over
-fine_fault s sequencer activity place fault h =
+fine_fault s TheSequencer activity place fault h =
     inr (record { over = refl; nothing_left = refl; ends = record { before = _ ∷ []; last = _; are = refl; ends = refl; none_before = refl } })
-fine_fault s (release n) activity place fault h =
-    quiet s h (fault_in s (release n) activity place fault) (keeps_closed_all s activity.frames)
-    (no_last_of s (release n) _ (λ r. refl))
+fine_fault s (ReleaseAt n) activity place fault h =
+    quiet s h (fault_in s (ReleaseAt n) activity place fault) (keeps_closed_all s activity.frames)
+    (no_last_of s (ReleaseAt n) _ (λ r. refl))
 
 -- ---- effects
 
@@ -125,22 +126,22 @@ tells_no_last s job before after = go (before == after)
 
 -- ---- tools
 
-fine_if : (b : Bool) (x y : Result) → IsFine x → IsFine y → IsFine (if b then x else y)
+fine_if : (b : Bool) (x y : Step) → IsFine x → IsFine y → IsFine (if b then x else y)
 fine_if true x y h k = h
 fine_if false x y h k = k
 
-fine_option : {A : Type 0} (o : Option A) (x : Result) (f : A → Result) → IsFine x → ((a : A) → IsFine (f a)) → IsFine (elim o [ None ↦ x | Some a ↦ f a ])
+fine_option : {A : Type 0} (o : Option A) (x : Step) (f : A → Step) → IsFine x → ((a : A) → IsFine (f a)) → IsFine (elim o [ None ↦ x | Some a ↦ f a ])
 fine_option None x f h k = h
 fine_option (Some a) x f h k = k a
 
-end_behind : (first second : Result) → HasNoLastLine first.events → IsEnd second → IsEnd (telling second.state (first.events ++ second.events))
+end_behind : (first second : Step) → HasNoLastLine first.events → IsEnd second → IsEnd (telling second.state (first.events ++ second.events))
 end_behind first second n e =
     record { over = e.over; nothing_left = e.nothing_left; ends = ends_append first.events second.events n e.ends }
 
-quiet_behind : (first second : Result) → HasNoLastLine first.events → IsQuiet second → IsQuiet (telling second.state (first.events ++ second.events))
+quiet_behind : (first second : Step) → HasNoLastLine first.events → IsQuiet second → IsQuiet (telling second.state (first.events ++ second.events))
 quiet_behind first second n q = record { goes_on = q.goes_on; no_last = any_append first.events second.events n q.no_last }
 
-fine_behind : (first second : Result) → HasNoLastLine first.events → IsFine second → IsFine (telling second.state (first.events ++ second.events))
+fine_behind : (first second : Step) → HasNoLastLine first.events → IsFine second → IsFine (telling second.state (first.events ++ second.events))
 fine_behind first second n h =
     ⊎_elim (λ (q : IsQuiet second). inl (quiet_behind first second n q)) (λ (e : IsEnd second). inr (end_behind first second n e)) h
 
@@ -150,26 +151,35 @@ fine_called : (code : Code) (s : State) (job : Job) (activity : Activity) (frame
 unfolding called
 fine_called code s job activity frames place g h =
     fine_if (is_full frames) _ _ (fine_fault s job activity place _ h)
-    (fine_option (monitor_of code s g) _ _
+    (fine_option (ceiling_entered code s g) _ _
     (quiet s h _ (keeps_activity s job _) refl)
     (λ ceiling. fine_if (nat_lt ceiling activity.priority) _ _ (fine_fault s job activity place _ h)
     (quiet s h _ (keeps_activity s job _) (tells_no_last s job activity.priority ceiling))))
+
+fine_opening : (s : State) (job : Job) (activity : Activity) (place : Pos) (scope : ℕ) (parent : Option ℕ) (bytes : ℕ) (next : State → ℕ → Step) → is_over s.phase ≡ false → ((t : State) (a : ℕ) → is_over t.phase ≡ false → IsFine (next t a)) → IsFine (opening s job activity place scope parent bytes next)
+unfolding opening
+fine_opening s job activity place scope parent bytes next h k =
+    fine_if (has_store_for s bytes) _ _ (k (with_area s scope parent bytes) (length s.areas) h) (fine_fault s job activity place _ h)
+
+fine_allocating : (s : State) (job : Job) (activity : Activity) (place : Pos) (class area : ℕ) (slots : List Value) (next : State → ℕ → Step) → is_over s.phase ≡ false → ((t : State) (r : ℕ) → is_over t.phase ≡ false → IsFine (next t r)) → IsFine (allocating s job activity place class area slots next)
+unfolding allocating
+fine_allocating s job activity place class area slots next h k =
+    fine_if (has_room s area (length slots)) _ _ (k (with_object s class area slots) (length s.objects) h) (fine_fault s job activity place _ h)
 
 fine_opened : (s : State) (job : Job) (activity : Activity) (frames : List Frame) (place : Pos) (g : Frame) (scope bytes : ℕ) → is_over s.phase ≡ false → IsFine (opened_in s job activity frames place g scope bytes)
 unfolding opened_in
 fine_opened s job activity frames place g scope bytes h =
     fine_if (is_some (area_with_scope s scope activity.areas)) _ _ (fine_fault s job activity place _ h)
     (fine_if (is_full frames) _ _ (fine_fault s job activity place _ h)
-    (fine_if (not (has_store_for s bytes)) _ _ (fine_fault s job activity place _ h)
-    (quiet s h _ (keeps_activity _ job _) refl)))
+    (fine_opening s job activity place scope (Some g.area) bytes _ h (λ t a k. quiet t k _ (keeps_activity t job _) refl)))
 
 fine_ended : (s : State) (job : Job) (activity : Activity) (value : Option Value) → is_over s.phase ≡ false → IsFine (job_ended s job activity value)
 unfolding job_ended is_last_line
-fine_ended s sequencer activity value h = quiet s h _ refl refl
-fine_ended s (release place) activity value h = quiet s h _ refl (no_last_of s (release place) _ (λ r. refl))
+fine_ended s TheSequencer activity value h = quiet s h _ refl refl
+fine_ended s (ReleaseAt place) activity value h = quiet s h _ refl (no_last_of s (ReleaseAt place) _ (λ r. refl))
 
-fine_left : (s : State) (job : Job) (activity : Activity) (f : Frame) (below : List Frame) (value : Option Value) → is_over s.phase ≡ false → IsFine (left s job activity f below value)
-unfolding left
+fine_left : (s : State) (job : Job) (activity : Activity) (f : Frame) (below : List Frame) (value : Option Value) → is_over s.phase ≡ false → IsFine (frame_left s job activity f below value)
+unfolding frame_left
 fine_left s job activity f below value h =
     fine_behind (telling (closed s f.opened) (tell_priority s job activity.priority (unwrap_or f.saved activity.priority))) _
     (tells_no_last s job activity.priority (unwrap_or f.saved activity.priority))
@@ -191,80 +201,77 @@ fine_registered : (code : Code) (s : State) (job : Job) (activity : Activity) (p
 unfolding registered is_last_line
 fine_registered code s job activity place r o after h k =
     fine_if (not (is_init s.phase)) _ _ (fine_fault s job activity place _ h)
-    (fine_if (is_some (handler_number s r)) _ _ (quiet s h (silently after) k refl)
+    (fine_if (is_some (handler_number s.registry r)) _ _ (quiet s h (silently after) k refl)
     (fine_if (not (nat_lt (length s.registry) most_handlers)) _ _ (fine_fault s job activity place _ h) (quiet s h _ k refl)))
 
 fine_released : (s : State) (r : ℕ) → is_over s.phase ≡ false → IsFine (released s r)
 unfolding released
 fine_released s r h =
-    fine_if (takes_releases s) _ _ (fine_option (handler_number s r) _ _ (quiet s h (silently s) refl refl) (λ handler. fine_taken s handler h)) (quiet s h (silently s) refl refl)
+    fine_if (takes_releases s) _ _ (fine_option (handler_number s.registry r) _ _ (quiet s h (silently s) refl refl) (λ handler. fine_taken s handler h)) (quiet s h (silently s) refl refl)
 
 drops_no_last : (unit : ℕ) (rs : List Release) → HasNoLastLine (map (λ (r : Release). Drop unit r.handler r.number) rs)
 unfolding is_last_line
 drops_no_last unit [] = refl
 drops_no_last unit (r ∷ rs) = drops_no_last unit rs
 
-fine_termination : (s : State) → is_over s.phase ≡ false → IsFine (termination s)
-unfolding termination is_last_line
-fine_termination s h =
-    fine_if s.is_end_asked _ _ (quiet s h (silently s) refl refl)
-    (fine_if (is_init s.phase) _ _ (quiet s h _ refl refl)
-    (fine_if (is_exec s.phase) _ _ (quiet s h _ refl (drops_no_last s.unit (filter (λ (r : Release). is_waiting r.progress) s.releases))) (quiet s h (silently s) refl refl)))
-
-fine_asked : (s : State) (r : ℕ) → is_over s.phase ≡ false → IsFine (end_asked s r)
-fine_asked s r h = fine_if (holds s.mission (λ m. m == r)) _ _ (fine_termination s h) (quiet s h (silently s) refl refl)
+fine_asked : (s : State) (r : ℕ) → is_over s.phase ≡ false → IsFine (termination_asked s r)
+unfolding termination_asked termination is_last_line
+fine_asked s r h =
+    fine_if (asks_for_end s.mission s.phase s.is_end_asked r) _ _
+    (fine_if (is_exec s.phase) _ _ (quiet s h _ refl (drops_no_last s.unit (filter (λ (r : Release). is_waiting r.status) s.releases))) (quiet s h _ refl refl))
+    (quiet s h (silently s) refl refl)
 
 -- ---- operations, which may have no result
 
-pub record IsFineIf (o : Option Result) : Type 0 where
-  pub is : (r : Result) → o ≡ Some r → IsFine r
+pub record IsFineIf (o : Option Step) : Type 0 where
+  pub is : (r : Step) → o ≡ Some r → IsFine r
 
-some_same : (a b : Result) → Some a ≡ Some b → a ≡ b
-some_same a b e = ap (λ (o : Option Result). unwrap_or o a) e
+some_same : (a b : Step) → Some a ≡ Some b → a ≡ b
+some_same a b e = ap (λ (o : Option Step). unwrap_or o a) e
 
-fine_some : (r : Result) → IsFine r → IsFineIf (Some r)
+fine_some : (r : Step) → IsFine r → IsFineIf (Some r)
 fine_some r h = record { is = λ q e. subst IsFine (some_same r q e) h }
 
 fine_none : IsFineIf None
 fine_none = record { is = λ q e. absurd (cc (e)) }
 
-fine_bind : {A : Type 0} (o : Option A) (f : A → Option Result) → ((a : A) → IsFineIf (f a)) → IsFineIf (o >>= f)
+fine_bind : {A : Type 0} (o : Option A) (f : A → Option Step) → ((a : A) → IsFineIf (f a)) → IsFineIf (o >>= f)
 fine_bind None f h = fine_none
 fine_bind (Some a) f h = h a
 
-fine_mapped : {A : Type 0} (o : Option A) (f : A → Result) → ((a : A) → IsFine (f a)) → IsFineIf (option_map f o)
+fine_mapped : {A : Type 0} (o : Option A) (f : A → Step) → ((a : A) → IsFine (f a)) → IsFineIf (option_map f o)
 fine_mapped None f h = fine_none
 fine_mapped (Some a) f h = fine_some (f a) (h a)
 
-fine_either : (b : Bool) (x y : Option Result) → IsFineIf x → IsFineIf y → IsFineIf (if b then x else y)
+fine_either : (b : Bool) (x y : Option Step) → IsFineIf x → IsFineIf y → IsFineIf (if b then x else y)
 fine_either true x y h k = h
 fine_either false x y h k = k
 
 fine_applied : (code : Code) (s : State) (job : Job) (activity : Activity) (below : List Frame) (place : Pos) (effect : Effect) → is_over s.phase ≡ false → IsFineIf (applied code s job activity below place effect)
 unfolding applied is_last_line
-fine_applied code s job activity below place (goes f) h = fine_some _ (quiet s h _ (keeps_activity s job _) refl)
-fine_applied code s job activity below place (prints f label value) h = fine_some _ (quiet s h _ (keeps_activity s job _) refl)
-fine_applied code s job activity below place (makes f class slots) h =
-    fine_either (has_room s f.area (length slots)) _ _ (fine_some _ (quiet s h _ (keeps_activity _ job _) refl)) (fine_some _ (fine_fault s job activity place _ h))
-fine_applied code s job activity below place (stores f r slot value) h = fine_some _ (quiet s h _ (keeps_activity _ job _) refl)
-fine_applied code s job activity below place (stores_static f n value) h = fine_some _ (quiet s h _ (keeps_activity _ job _) refl)
-fine_applied code s job activity below place (sets_hidden f r values) h = fine_some _ (quiet s h _ (keeps_activity _ job _) refl)
-fine_applied code s job activity below place (sets_ceiling f r ceiling) h =
+fine_applied code s job activity below place (Goes f) h = fine_some _ (quiet s h _ (keeps_activity s job _) refl)
+fine_applied code s job activity below place (Prints f label value) h = fine_some _ (quiet s h _ (keeps_activity s job _) refl)
+fine_applied code s job activity below place (Makes f class slots) h =
+    fine_some _ (fine_allocating s job activity place class f.area slots _ h (λ t r k. quiet t k _ (keeps_activity t job _) refl))
+fine_applied code s job activity below place (Stores f r slot value) h = fine_some _ (quiet s h _ (keeps_activity _ job _) refl)
+fine_applied code s job activity below place (StoresStatic f n value) h = fine_some _ (quiet s h _ (keeps_activity _ job _) refl)
+fine_applied code s job activity below place (SetsHidden f r values) h = fine_some _ (quiet s h _ (keeps_activity _ job _) refl)
+fine_applied code s job activity below place (SetsCeiling f r ceiling) h =
     fine_either (is_sequencer job) _ _ (fine_some _ (quiet s h _ (keeps_activity _ job _) refl)) (fine_some _ (fine_fault s job activity place _ h))
-fine_applied code s job activity below place (calls f g) h = fine_some _ (fine_called code s job activity (f ∷ below) place g h)
-fine_applied code s job activity below place (opens f g scope bytes) h =
+fine_applied code s job activity below place (Calls f g) h = fine_some _ (fine_called code s job activity (f ∷ below) place g h)
+fine_applied code s job activity below place (Opens f g scope bytes) h =
     fine_some _ (fine_opened s job activity (f ∷ below) place g scope bytes h)
-fine_applied code s job activity below place (leaves f value) h = fine_some _ (fine_left s job activity f below value h)
-fine_applied code s job activity below place (registers f r) h =
+fine_applied code s job activity below place (Leaves f value) h = fine_some _ (fine_left s job activity f below value h)
+fine_applied code s job activity below place (AsksRegistration f r) h =
     fine_mapped (object_at s r) _ (λ o. fine_registered code s job activity place r o _ h (keeps_activity s job _))
-fine_applied code s job activity below place (releases f r) h =
+fine_applied code s job activity below place (AsksRelease f r) h =
     fine_some _ (fine_released (with_frame s job activity f below) r
     (still s (with_frame s job activity f below) h (keeps_activity s job (record activity { frames = f ∷ below }))))
-fine_applied code s job activity below place (terminates f r) h =
+fine_applied code s job activity below place (AsksTermination f r) h =
     fine_some _ (fine_asked (with_frame s job activity f below) r
     (still s (with_frame s job activity f below) h (keeps_activity s job (record activity { frames = f ∷ below }))))
-fine_applied code s job activity below place (faults fault) h = fine_some _ (fine_fault s job activity place fault h)
-fine_applied code s job activity below place stuck h = fine_none
+fine_applied code s job activity below place (Faults fault) h = fine_some _ (fine_fault s job activity place fault h)
+fine_applied code s job activity below place Stuck h = fine_none
 
 -- ---- the operations of jobs
 
@@ -283,30 +290,30 @@ fine_frame code rows s job activity h = go activity.frames
 fine_start : (code : Code) (s : State) (place : ℕ) (r : Release) → is_over s.phase ≡ false → IsFineIf (start_op code s place r)
 unfolding start_op started_with
 fine_start code s place r h =
-    fine_bind (handler_row s r.handler) _ (λ row. fine_bind (defined_by_chain code.program row.class) _ (λ scope.
+    fine_bind (handler_row s.registry r.handler) _ (λ row. fine_bind (defined_by_chain code.program row.class) _ (λ scope.
     fine_bind (body_named code.program row.class (codes "handleAsyncEvent")) _ (λ body.
-    fine_some _ (fine_if (not (has_store_for s row.bytes)) _ _ (fine_fault s (release place) no_activity (class_place code.program row.class) StoreFull h)
-    (quiet s h _ (keeps_activity _ (release place) _) refl)))))
+    fine_some _ (fine_opening s (ReleaseAt place) no_activity (class_place code.program row.class) scope (innermost s.activity.areas) row.bytes _ h
+    (λ t a k. quiet t k _ (keeps_activity t (ReleaseAt place) _) refl)))))
 
 fine_release : (code : Code) (rows : List ReadingRow) (s : State) (place : ℕ) (r : Release) → is_over s.phase ≡ false → IsFineIf (release_op_of code rows s place r)
 unfolding release_op_of
-fine_release code rows s place r h = go r.progress
+fine_release code rows s place r h = go r.status
   where
-    go : (p : Progress) → IsFineIf (elim p [ waiting ↦ start_op code s place r | started activity ↦ frame_op code rows s (release place) activity | ended ↦ None | dropped ↦ None ])
-    go waiting = fine_start code s place r h
-    go (started activity) = fine_frame code rows s (release place) activity h
-    go ended = fine_none
-    go dropped = fine_none
+    go : (p : ReleaseStatus) → IsFineIf (elim p [ Waits ↦ start_op code s place r | Started activity ↦ frame_op code rows s (ReleaseAt place) activity | Ended ↦ None | Dropped ↦ None ])
+    go Waits = fine_start code s place r h
+    go (Started activity) = fine_frame code rows s (ReleaseAt place) activity h
+    go Ended = fine_none
+    go Dropped = fine_none
 
-fine_opening : (s : State) (place : Pos) (scope bytes : ℕ) (events : List Event) → is_over s.phase ≡ false → HasNoLastLine events → IsFine (area_opened s place scope bytes events)
+fine_area : (s : State) (place : Pos) (scope bytes : ℕ) → is_over s.phase ≡ false → IsFine (area_opened s place scope bytes)
 unfolding area_opened
-fine_opening s place scope bytes events h n =
-    fine_if (not (has_store_for s bytes)) _ _ (fine_fault s sequencer s.activity place StoreFull h) (quiet s h _ refl n)
+fine_area s place scope bytes h =
+    fine_opening s TheSequencer s.activity place scope (innermost s.activity.areas) bytes _ h (λ t a k. quiet t k _ refl refl)
 
-fine_making : (code : Code) (s : State) (place : Pos) (class area : ℕ) → is_over s.phase ≡ false → IsFine (safelet_made code s place class area)
+fine_safelet : (code : Code) (s : State) (place : Pos) (class area : ℕ) → is_over s.phase ≡ false → IsFine (safelet_made code s place class area)
 unfolding safelet_made
-fine_making code s place class area h =
-    fine_if (has_room s area (length (new_slots code.program class))) _ _ (quiet s h _ refl refl) (fine_fault s sequencer s.activity place MemoryFull h)
+fine_safelet code s place class area h =
+    fine_allocating s TheSequencer s.activity place class area (new_slots code.program class) _ h (λ t r k. quiet t k _ refl refl)
 
 fine_body : (code : Code) (s : State) (r : ℕ) (body : Body) → is_over s.phase ≡ false → IsFineIf (body_called code s r body)
 unfolding body_called
@@ -319,19 +326,19 @@ fine_method code s r name h =
 fine_sequencer_op : (code : Code) (s : State) (op : SeqOp) → is_over s.phase ≡ false → IsFineIf (sequencer_op code s op)
 unfolding sequencer_op is_last_line
 fine_sequencer_op code s OpenImmortal h =
-    fine_bind (safelet_class code.program) _ (λ class. fine_bind (immortal_size code.program class) _ (λ bytes.
-    fine_some _ (fine_opening s _ immortal_scope bytes [] h refl)))
+    fine_bind (safelet_class code.program) _ (λ class. fine_bind (size_of code.program class) _ (λ bytes.
+    fine_some _ (fine_area s _ immortal_scope bytes h)))
 fine_sequencer_op code s AllocSafelet h =
     fine_bind (safelet_class code.program) _ (λ class. fine_bind (innermost s.activity.areas) _ (λ area.
-    fine_some _ (fine_making code s _ class area h)))
+    fine_some _ (fine_safelet code s _ class area h)))
 fine_sequencer_op code s (ConstructSafelet r) h =
-    fine_bind (object_at s r) _ (λ o. fine_bind (constructor_of code.program o.class) _ (λ body. fine_body code s r body h))
+    fine_bind (object_at s r) _ (λ o. fine_bind (constructor_body code.program o.class) _ (λ body. fine_body code s r body h))
 fine_sequencer_op code s (InitializeApplication r) h = fine_method code s r _ h
 fine_sequencer_op code s (GetSequencer r) h = fine_method code s r _ h
 fine_sequencer_op code s (GetNextMission r) h = fine_method code s r _ h
 fine_sequencer_op code s (OpenMission r) h =
     fine_bind (object_at s r) _ (λ o. fine_bind (defined_by_chain code.program o.class) _ (λ scope.
-    fine_bind (mission_size code.program o.class) _ (λ bytes. fine_some _ (fine_opening s _ scope bytes _ h refl))))
+    fine_bind (size_of code.program o.class) _ (λ bytes. fine_some _ (fine_area s _ scope bytes h))))
 fine_sequencer_op code s (Initialize r) h = fine_method code s r _ h
 fine_sequencer_op code s (CleanUp r) h = fine_method code s r _ h
 fine_sequencer_op code s Execute h = fine_none
@@ -341,67 +348,72 @@ fine_turn : (code : Code) (rows : List ReadingRow) (s : State) → is_over s.pha
 unfolding sequencer_turn
 fine_turn code rows s h = go s.activity.frames
   where
-    go : (fs : List Frame) → IsFineIf (elim fs [ [] ↦ sequencer_op code s s.operation | f ∷ below ↦ frame_op code rows s sequencer s.activity ])
+    go : (fs : List Frame) → IsFineIf (elim fs [ [] ↦ sequencer_op code s s.operation | f ∷ below ↦ frame_op code rows s TheSequencer s.activity ])
     go [] = fine_sequencer_op code s s.operation h
-    go (f ∷ below) = fine_frame code rows s sequencer s.activity h
+    go (f ∷ below) = fine_frame code rows s TheSequencer s.activity h
 
 pub fine_ref_op : (code : Code) (rows : List ReadingRow) (s : State) (job : Job) → is_over s.phase ≡ false → IsFineIf (ref_op code rows s job)
 unfolding ref_op
-fine_ref_op code rows s sequencer h = fine_turn code rows s h
-fine_ref_op code rows s (release place) h = fine_bind (slice_get s.releases place) _ (λ r. fine_release code rows s place r h)
+fine_ref_op code rows s TheSequencer h = fine_turn code rows s h
+fine_ref_op code rows s (ReleaseAt place) h = fine_bind (slice_get s.releases place) _ (λ r. fine_release code rows s place r h)
 
 -- ---- what follows an operation
 
-fine_given : (code : Code) (s : State) (safelet : ℕ) (value : Value) → IsFine (sequencer_given code s safelet value)
-unfolding sequencer_given is_last_line is_over
-fine_given code s safelet (Int z) = inr (record { over = refl; nothing_left = refl; ends = record { before = _ ∷ []; last = _; are = refl; ends = refl; none_before = refl } })
-fine_given code s safelet (Truth b) = inr (record { over = refl; nothing_left = refl; ends = record { before = _ ∷ []; last = _; are = refl; ends = refl; none_before = refl } })
-fine_given code s safelet Null = inr (record { over = refl; nothing_left = refl; ends = record { before = _ ∷ []; last = _; are = refl; ends = refl; none_before = refl } })
-fine_given code s safelet (At r) = inl (record { goes_on = refl; no_last = refl })
+abbrev FineTransition : Code → State → Option Transition → Type 0
+FineTransition code s o = IsFineIf (option_map (transition_done code s) o)
 
-fine_mission : (s : State) (value : Value) → IsFine (mission_given s value)
-unfolding mission_given is_last_line is_over
-fine_mission s (Int z) = inr (record { over = refl; nothing_left = refl; ends = record { before = []; last = _; are = refl; ends = refl; none_before = refl } })
-fine_mission s (Truth b) = inr (record { over = refl; nothing_left = refl; ends = record { before = []; last = _; are = refl; ends = refl; none_before = refl } })
-fine_mission s Null = inr (record { over = refl; nothing_left = refl; ends = record { before = []; last = _; are = refl; ends = refl; none_before = refl } })
-fine_mission s (At r) = inl (record { goes_on = refl; no_last = refl })
+fine_after_initialize : (code : Code) (s : State) (skips : Bool) (r : ℕ) → FineTransition code s (after_initialize skips r)
+unfolding seq_applied is_last_line is_over
+fine_after_initialize code s true r = fine_some _ (inl (record { goes_on = refl; no_last = refl }))
+fine_after_initialize code s false r = fine_some _ (inl (record { goes_on = refl; no_last = refl }))
 
-fine_initialized : (s : State) (r : ℕ) → IsFine (initialized s r)
-unfolding initialized is_last_line is_over
-fine_initialized s r =
-    fine_if (is_empty s.registry || s.is_end_asked) _ _ (inl (record { goes_on = refl; no_last = refl })) (inl (record { goes_on = refl; no_last = refl }))
+fine_closing : (code : Code) (s : State) (known : Option ℕ) → FineTransition code s (known >>= (λ q. goes_to Next (GetNextMission q) ClosesMission))
+unfolding seq_applied is_over
+fine_closing code s None = fine_none
+fine_closing code s (Some q) =
+    let t : State = record s { phase = Next; operation = GetNextMission q; outcome = None } in
+    fine_some _ (inl (record { goes_on = ap is_over (keeps_closed t (innermost s.activity.areas)); no_last = refl }))
 
-fine_after : (code : Code) (s : State) (op : SeqOp) (value : Value) → IsFineIf (after_operation code s op value)
-unfolding after_operation mission_closed is_over
-fine_after code s OpenImmortal value = fine_some _ (inl (record { goes_on = refl; no_last = refl }))
-fine_after code s AllocSafelet (At r) = fine_some _ (inl (record { goes_on = refl; no_last = refl }))
-fine_after code s AllocSafelet (Int z) = fine_none
-fine_after code s AllocSafelet (Truth b) = fine_none
-fine_after code s AllocSafelet Null = fine_none
-fine_after code s (ConstructSafelet r) value = fine_some _ (inl (record { goes_on = refl; no_last = refl }))
-fine_after code s (InitializeApplication r) value = fine_some _ (inl (record { goes_on = refl; no_last = refl }))
-fine_after code s (GetSequencer r) value = fine_some _ (fine_given code s r value)
-fine_after code s (GetNextMission r) value = fine_some _ (fine_mission s value)
-fine_after code s (OpenMission r) value = fine_some _ (inl (record { goes_on = refl; no_last = refl }))
-fine_after code s (Initialize r) value = fine_some _ (fine_initialized s r)
-fine_after code s (CleanUp r) value = fine_bind s.mission_sequencer _ (λ q. fine_some _ (inl (record { goes_on = refl; no_last = refl })))
-fine_after code s Execute value = fine_none
-fine_after code s Finished value = fine_none
+fine_transition : (code : Code) (s : State) (known : Option ℕ) (skips : Bool) (op : SeqOp) (value : Value) → FineTransition code s (transition known skips op value)
+unfolding transition seq_applied fault_in is_last_line is_over
+fine_transition code s known skips OpenImmortal value = fine_some _ (inl (record { goes_on = refl; no_last = refl }))
+fine_transition code s known skips AllocSafelet (At r) = fine_some _ (inl (record { goes_on = refl; no_last = refl }))
+fine_transition code s known skips AllocSafelet (Int z) = fine_none
+fine_transition code s known skips AllocSafelet (Truth b) = fine_none
+fine_transition code s known skips AllocSafelet Null = fine_none
+fine_transition code s known skips (ConstructSafelet r) value = fine_some _ (inl (record { goes_on = refl; no_last = refl }))
+fine_transition code s known skips (InitializeApplication r) value = fine_some _ (inl (record { goes_on = refl; no_last = refl }))
+fine_transition code s known skips (GetSequencer r) (Int z) = fine_some _ (inr (record { over = refl; nothing_left = refl; ends = record { before = _ ∷ []; last = _; are = refl; ends = refl; none_before = refl } }))
+fine_transition code s known skips (GetSequencer r) (Truth b) = fine_some _ (inr (record { over = refl; nothing_left = refl; ends = record { before = _ ∷ []; last = _; are = refl; ends = refl; none_before = refl } }))
+fine_transition code s known skips (GetSequencer r) Null = fine_some _ (inr (record { over = refl; nothing_left = refl; ends = record { before = _ ∷ []; last = _; are = refl; ends = refl; none_before = refl } }))
+fine_transition code s known skips (GetSequencer r) (At q) = fine_some _ (inl (record { goes_on = refl; no_last = refl }))
+fine_transition code s known skips (GetNextMission r) (Int z) = fine_some _ (inr (record { over = refl; nothing_left = refl; ends = record { before = []; last = _; are = refl; ends = refl; none_before = refl } }))
+fine_transition code s known skips (GetNextMission r) (Truth b) = fine_some _ (inr (record { over = refl; nothing_left = refl; ends = record { before = []; last = _; are = refl; ends = refl; none_before = refl } }))
+fine_transition code s known skips (GetNextMission r) Null = fine_some _ (inr (record { over = refl; nothing_left = refl; ends = record { before = []; last = _; are = refl; ends = refl; none_before = refl } }))
+fine_transition code s known skips (GetNextMission r) (At m) = fine_some _ (inl (record { goes_on = refl; no_last = refl }))
+fine_transition code s known skips (OpenMission r) value = fine_some _ (inl (record { goes_on = refl; no_last = refl }))
+fine_transition code s known skips (Initialize r) value = fine_after_initialize code s skips r
+fine_transition code s known skips (CleanUp r) value = fine_closing code s known
+fine_transition code s known skips Execute value = fine_none
+fine_transition code s known skips Finished value = fine_none
 
-fine_execution : (s : State) → is_over s.phase ≡ false → IsFine (after_execution s)
-unfolding after_execution is_last_line is_over
-fine_execution s h =
-    fine_if (s.is_end_asked && not (has_started s)) _ _
-    (fine_option s.mission _ _ (quiet s h (silently s) refl refl) (λ r. inl (record { goes_on = refl; no_last = refl })))
-    (quiet s h (silently s) refl refl)
+fine_ending : (code : Code) (s : State) (mission : Option ℕ) → FineTransition code s (mission >>= (λ r. goes_to Cleanup (CleanUp r) EndsExecution))
+unfolding seq_applied is_last_line is_over
+fine_ending code s None = fine_none
+fine_ending code s (Some r) = fine_some _ (inl (record { goes_on = refl; no_last = refl }))
+
+fine_execution : (code : Code) (s : State) → is_over s.phase ≡ false → IsFineIf (after_execution code s)
+fine_execution code s h =
+    fine_either (s.is_end_asked && not (has_started s)) _ _ (fine_ending code s s.mission)
+    (fine_some _ (quiet s h (silently s) refl refl))
 
 fine_phase : (code : Code) (s : State) → is_over s.phase ≡ false → IsFineIf (phase_after code s)
 unfolding phase_after
-fine_phase code s h = fine_either (is_exec s.phase) _ _ (fine_some _ (fine_execution s h)) (go s.outcome)
+fine_phase code s h = fine_either (is_exec s.phase) _ _ (fine_execution code s h) (go s.outcome)
   where
-    go : (o : Option Value) → IsFineIf (elim o [ None ↦ Some (silently s) | Some value ↦ after_operation code s s.operation value ])
+    go : (o : Option Value) → IsFineIf (elim o [ None ↦ Some (silently s) | Some value ↦ after_operation code s value ])
     go None = fine_some _ (quiet s h (silently s) refl refl)
-    go (Some value) = fine_after code s s.operation value
+    go (Some value) = fine_transition code s s.mission_sequencer (is_empty s.registry || s.is_end_asked) s.operation value
 
 -- after the end nothing follows
 over_not_exec : (p : Phase) → is_over p ≡ true → is_exec p ≡ false
@@ -416,12 +428,12 @@ over_not_exec Over h = refl
 nothing_follows : (code : Code) (s : State) → is_over s.phase ≡ true → s.outcome ≡ None → phase_after code s ≡ Some (silently s)
 unfolding phase_after
 nothing_follows code s h k =
-    ap (λ (b : Bool). if b then Some (after_execution s) else (elim s.outcome [ None ↦ Some (silently s) | Some value ↦ after_operation code s s.operation value ])) (over_not_exec s.phase h)
-    ∙ ap (λ (o : Option Value). elim o [ None ↦ Some (silently s) | Some value ↦ after_operation code s s.operation value ]) k
+    ap (λ (b : Bool). if b then after_execution code s else (elim s.outcome [ None ↦ Some (silently s) | Some value ↦ after_operation code s value ])) (over_not_exec s.phase h)
+    ∙ ap (λ (o : Option Value). elim o [ None ↦ Some (silently s) | Some value ↦ after_operation code s value ]) k
 
 -- ---- arrivals and the choice are quiet
 
-quiet_if : (b : Bool) (x y : Result) → IsQuiet x → IsQuiet y → IsQuiet (if b then x else y)
+quiet_if : (b : Bool) (x y : Step) → IsQuiet x → IsQuiet y → IsQuiet (if b then x else y)
 quiet_if true x y h k = h
 quiet_if false x y h k = k
 
@@ -431,7 +443,7 @@ quiet_taken s handler h =
     quiet_if (not (nat_lt (length (waiting_of s handler)) most_waiting)) _ _
     (record { goes_on = h; no_last = refl }) (record { goes_on = h; no_last = refl })
 
-quiet_each : {A : Type 0} (step : State → A → Result) → ((s : State) (x : A) → is_over s.phase ≡ false → IsQuiet (step s x)) → (xs : List A) (s : State) → is_over s.phase ≡ false → IsQuiet (for_each step xs s)
+quiet_each : {A : Type 0} (step : State → A → Step) → ((s : State) (x : A) → is_over s.phase ≡ false → IsQuiet (step s x)) → (xs : List A) (s : State) → is_over s.phase ≡ false → IsQuiet (for_each step xs s)
 unfolding for_each
 quiet_each step q [] s h = record { goes_on = h; no_last = refl }
 quiet_each step q (x ∷ xs) s h =
@@ -445,17 +457,24 @@ quiet_fired code s fire h = go (fired_handler code s fire.handler)
     go None = record { goes_on = h; no_last = refl }
     go (Some handler) = quiet_taken s handler h
 
-quiet_arrivals : (code : Code) (plan : Plan) (s : State) → is_over s.phase ≡ false → IsQuiet (arrivals code plan s)
+quiet_fired_at : (code : Code) (fires : List Fire) (s : State) (place : ℕ) → is_over s.phase ≡ false → IsQuiet (fired_at code fires s place)
+quiet_fired_at code fires s place h = go (slice_get fires place)
+  where
+    go : (o : Option Fire) → IsQuiet (elim o [ None ↦ silently s | Some fire ↦ fired code s fire ])
+    go None = record { goes_on = h; no_last = refl }
+    go (Some fire) = quiet_fired code s fire h
+
+pub quiet_arrivals : (code : Code) (plan : Plan) (s : State) → is_over s.phase ≡ false → IsQuiet (arrivals code plan s)
 unfolding arrivals
 quiet_arrivals code plan s h =
     let first : IsQuiet (for_each release_taken (due_handlers s) s) = quiet_each release_taken quiet_taken (due_handlers s) s h in
     quiet_behind (for_each release_taken (due_handlers s) s) _ first.no_last
-    (quiet_each (fired code) (quiet_fired code) (fires_at plan s.unit) (for_each release_taken (due_handlers s) s).state first.goes_on)
+    (quiet_each (fired_at code plan.fires) (quiet_fired_at code plan.fires) (fires_due s.unit plan.fires) (for_each release_taken (due_handlers s) s).state first.goes_on)
 
 tells_turn : (s : State) (turn : Turn) → HasNoLastLine (tell_turn s turn)
 unfolding tell_turn is_last_line
-tells_turn s idle_turn = refl
-tells_turn s (turn_of place) = go (slice_get s.releases place)
+tells_turn s IdleTurn = refl
+tells_turn s (TurnOf place) = go (slice_get s.releases place)
   where
     go : (o : Option Release) → HasNoLastLine (elim o [ None ↦ [] | Some r ↦ RunEvent s.unit r.handler r.number ∷ [] ])
     go None = refl
@@ -463,7 +482,7 @@ tells_turn s (turn_of place) = go (slice_get s.releases place)
 
 quiet_turn : (s : State) (turn : Turn) → is_over s.phase ≡ false → IsQuiet (turn_taken s turn)
 unfolding turn_taken
-quiet_turn s turn h = record { goes_on = h; no_last = go (is_last_choice s.last_choice turn) }
+quiet_turn s turn h = record { goes_on = h; no_last = go (holds s.last_choice (is_same_turn turn)) }
   where
     go : (b : Bool) → HasNoLastLine (if b then [] else tell_turn s turn)
     go true = refl
@@ -471,14 +490,14 @@ quiet_turn s turn h = record { goes_on = h; no_last = go (is_last_choice s.last_
 
 -- ---- a unit
 
-fine_told : (first : Result) (o : Option Result) → HasNoLastLine first.events → IsFineIf o → IsFineIf (option_map (λ (second : Result). telling second.state (first.events ++ second.events)) o)
+fine_told : (first : Step) (o : Option Step) → HasNoLastLine first.events → IsFineIf o → IsFineIf (option_map (λ (second : Step). telling second.state (first.events ++ second.events)) o)
 fine_told first None n h = fine_none
 fine_told first (Some second) n h = fine_some _ (fine_behind first second n (h.is second refl))
 
 fine_turn_acts : (code : Code) (rows : List ReadingRow) (turn : Turn) (s : State) → is_over s.phase ≡ false → IsFineIf (turn_acts code rows turn s)
 unfolding turn_acts
-fine_turn_acts code rows idle_turn s h = fine_some _ (quiet s h (silently s) refl refl)
-fine_turn_acts code rows (turn_of place) s h = fine_ref_op code rows s (release place) h
+fine_turn_acts code rows IdleTurn s h = fine_some _ (quiet s h (silently s) refl refl)
+fine_turn_acts code rows (TurnOf place) s h = fine_ref_op code rows s (ReleaseAt place) h
 
 fine_acts : (code : Code) (rows : List ReadingRow) (policy : Policy) (s : State) → is_over s.phase ≡ false → IsFineIf (acts code rows policy s)
 unfolding acts
@@ -488,20 +507,20 @@ fine_acts code rows policy s h =
     (fine_turn_acts code rows turn (turn_taken s turn).state (quiet_turn s turn h).goes_on)))
     (fine_turn code rows s h)
 
-fine_on : (o : Option Result) (f : Result → Option Result) → IsFineIf o → ((r : Result) → IsFine r → IsFineIf (f r)) → IsFineIf (o >>= f)
+fine_on : (o : Option Step) (f : Step → Option Step) → IsFineIf o → ((r : Step) → IsFine r → IsFineIf (f r)) → IsFineIf (o >>= f)
 fine_on None f h k = fine_none
 fine_on (Some r) f h k = k r (h.is r refl)
 
-fine_follows : (code : Code) (r : Result) → IsFine r → IsFineIf (then_try r (phase_after code))
+fine_follows : (code : Code) (r : Step) → IsFine r → IsFineIf (then_try r (phase_after code))
 fine_follows code r h =
     ⊎_elim
     (λ (q : IsQuiet r). fine_told r (phase_after code r.state) q.no_last (fine_phase code r.state q.goes_on))
-    (λ (e : IsEnd r). subst (λ (o : Option Result). IsFineIf (option_map (λ (second : Result). telling second.state (r.events ++ second.events)) o))
+    (λ (e : IsEnd r). subst (λ (o : Option Step). IsFineIf (option_map (λ (second : Step). telling second.state (r.events ++ second.events)) o))
     (sym (nothing_follows code r.state e.over e.nothing_left))
     (fine_some _ (inr (record { over = e.over; nothing_left = e.nothing_left; ends = subst EndsInLastLine (sym (append-nil r.events)) e.ends }))))
     h
 
-fine_next : (r : Result) → IsFine r → IsFine (telling (next_unit r.state) r.events)
+fine_next : (r : Step) → IsFine r → IsFine (telling (next_unit r.state) r.events)
 fine_next r h =
     ⊎_elim
     (λ (q : IsQuiet r). inl (record { goes_on = q.goes_on; no_last = q.no_last }))
@@ -520,19 +539,19 @@ fine_unit code plan policy s h =
 
 -- ---- a run
 
-pub record IsOpen (r : Progressed) : Type 0 where
+pub record IsOpen (r : RunSoFar) : Type 0 where
   pub goes_on : is_over r.state.phase ≡ false
   pub no_last : HasNoLastLine r.events
 
-pub record IsClosed (r : Progressed) : Type 0 where
+pub record IsClosed (r : RunSoFar) : Type 0 where
   pub over : is_over r.state.phase ≡ true
   pub not_stuck : r.is_stuck ≡ false
   pub ends : EndsInLastLine r.events
 
-abbrev pub IsTold : Progressed → Type 0
+abbrev pub IsTold : RunSoFar → Type 0
 IsTold r = IsOpen r ⊎ IsClosed r
 
-told_continued : (r : Progressed) (o : Option Result) → IsOpen r → IsFineIf o → IsTold (continued r o)
+told_continued : (r : RunSoFar) (o : Option Step) → IsOpen r → IsFineIf o → IsTold (continued r o)
 unfolding continued
 told_continued r None p h = inl (record { goes_on = p.goes_on; no_last = p.no_last })
 told_continued r (Some result) p h =
@@ -541,11 +560,11 @@ told_continued r (Some result) p h =
     (λ (e : IsEnd result). inr (record { over = e.over; not_stuck = refl; ends = ends_append r.events result.events p.no_last e.ends }))
     (h.is result refl)
 
-told_if : (b : Bool) (r next : Progressed) → IsTold r → IsTold next → IsTold (if b then r else next)
+told_if : (b : Bool) (r next : RunSoFar) → IsTold r → IsTold next → IsTold (if b then r else next)
 told_if true r next h k = h
 told_if false r next h k = k
 
-told_more : (code : Code) (plan : Plan) (policy : Policy) (r : Progressed) → IsTold r → IsTold (one_more_unit code plan policy r)
+told_more : (code : Code) (plan : Plan) (policy : Policy) (r : RunSoFar) → IsTold r → IsTold (one_more_unit code plan policy r)
 unfolding one_more_unit
 told_more code plan policy r h =
     ⊎_elim
@@ -562,7 +581,7 @@ told_run code plan policy (suc n) = told_more code plan policy (run code plan po
 -- ---- the trace
 
 -- a run that isn't stuck ends in one last line; a stuck one has none, unless it is over
-pub trace_ends : (n : ℕ) (r : Progressed) → IsTold r → r.is_stuck ≡ false → EndsInLastLine (told_by n r)
+pub trace_ends : (n : ℕ) (r : RunSoFar) → IsTold r → r.is_stuck ≡ false → EndsInLastLine (told_by n r)
 unfolding is_last_line
 trace_ends n r h k =
     ⊎_elim
@@ -574,7 +593,7 @@ trace_ends n r h k =
     (subst EndsInLastLine (sym (append-nil r.events)) c.ends))
     h
 
-pub stuck_trace : (n : ℕ) (r : Progressed) → IsTold r → r.is_stuck ≡ true → HasNoLastLine (told_by n r)
+pub stuck_trace : (n : ℕ) (r : RunSoFar) → IsTold r → r.is_stuck ≡ true → HasNoLastLine (told_by n r)
 stuck_trace n r h k =
     ⊎_elim
     (λ (p : IsOpen r). subst (λ (b : Bool). HasNoLastLine (r.events ++ (if b then [] else Stopped n ∷ [])))

@@ -1,6 +1,10 @@
 pub mod AcceptedPrograms
 pub mod Computing
+pub mod Following
+pub mod IdleUnits
+pub mod LastChoices
 pub mod LastLines
+pub mod ListedRuns
 pub mod Orders
 pub mod Printed
 pub mod ProgramA
@@ -20,6 +24,7 @@ pub mod ProgramW
 pub mod ProgramWithoutHandlers
 pub mod ProgramZ
 pub mod ProgramZSmall
+pub mod Reaching
 pub mod RowOfNoHandlers
 pub mod RowOfOrdinaryUse
 pub mod RowOfTermination
@@ -29,3 +34,5 @@ pub mod RowsOfLimits
 pub mod RowsOfObjects
 pub mod RowsOfSafelets
 pub mod RunLemmas
+pub mod Slots
+pub mod Units

@@ -1,4 +1,4 @@
--- As many waiting releases as may wait, and as many frames as a job may have; and a store for a thousand bytes.
+-- As many waiting releases as may wait, and one more; and as many frames as a job may have, and one more.
 use Rattle.std.proofs.Common.{◌≡◌, ◌++◌, [], ◌∷◌, refl, codes}
 use Rattle.scj_model.specs.declared.plans.Fire.{Fire}
 use Rattle.std.specs.Prelude.{ℕ, ◌+◌, ◌*◌, List, replicate, decimal, zero, suc}

@@ -9,34 +9,34 @@ use Rattle.scj_model.specs.declared.handlers.HandlerRow.{HandlerRow}
 use Rattle.scj_model.specs.Code.{Code}
 use Rattle.scj_model.specs.Plan.{Plan}
 use Rattle.scj_model.specs.State.{State}
-use Rattle.scj_model.specs.Apply.{Result, telling}
+use Rattle.scj_model.specs.Steps.{Step, telling}
 use Rattle.scj_model.specs.Arrivals.{is_due}
 use Rattle.scj_model.specs.Choice.{Policy}
-use Rattle.scj_model.specs.Run.{Progressed, has_ended, continued, one_more_unit, one_unit, run}
+use Rattle.scj_model.specs.Run.{RunSoFar, has_ended, continued, one_more_unit, one_unit, run}
 
 -- ---- one result
 
-pub one_of : (o : Option Result) (a b : State) (es fs : List Event) → o ≡ Some (telling a es) → o ≡ Some (telling b fs) → (a ≡ b) × (es ≡ fs)
+pub one_of : (o : Option Step) (a b : State) (es fs : List Event) → o ≡ Some (telling a es) → o ≡ Some (telling b fs) → (a ≡ b) × (es ≡ fs)
 one_of o a b es fs h k =
     let e : Some (telling a es) ≡ Some (telling b fs) = sym h ∙ k in
-    (ap (λ (r : Option Result). (unwrap_or r (telling a es)).state) e, ap (λ (r : Option Result). (unwrap_or r (telling a es)).events) e)
+    (ap (λ (r : Option Step). (unwrap_or r (telling a es)).state) e, ap (λ (r : Option Step). (unwrap_or r (telling a es)).events) e)
 
 -- ---- more units tell more
 
-abbrev pub Grows : Progressed → Progressed → Type 0
+abbrev pub Grows : RunSoFar → RunSoFar → Type 0
 Grows before after = (more : List Event) × (after.events ≡ before.events ++ more)
 
-continued_grows : (ended : Bool) (r : Progressed) (o : Option Result) → Grows r (if ended then r else continued r o)
+continued_grows : (is_over : Bool) (r : RunSoFar) (o : Option Step) → Grows r (if is_over then r else continued r o)
 unfolding continued
 continued_grows true r o = ([], sym (append-nil r.events))
 continued_grows false r None = ([], sym (append-nil r.events))
 continued_grows false r (Some result) = (result.events, refl)
 
-unit_grows : (code : Code) (plan : Plan) (policy : Policy) (r : Progressed) → Grows r (one_more_unit code plan policy r)
+unit_grows : (code : Code) (plan : Plan) (policy : Policy) (r : RunSoFar) → Grows r (one_more_unit code plan policy r)
 unfolding one_more_unit
 unit_grows code plan policy r = continued_grows (has_ended r) r (one_unit code plan policy r.state)
 
-grows_on : (a b c : Progressed) → Grows a b → Grows b c → Grows a c
+grows_on : (a b c : RunSoFar) → Grows a b → Grows b c → Grows a c
 grows_on a b c h k = (h.0 ++ k.0, k.1 ∙ (ap (λ (es : List Event). es ++ k.0) h.1 ∙ append_assoc a.events h.0 k.0))
 
 pub run_grows : (code : Code) (plan : Plan) (policy : Policy) (n k : ℕ) → Grows (run code plan policy n) (run code plan policy (n + k))

@@ -1,91 +1,35 @@
 -- What an effect does to the state, with what the trace tells of it (JSR 302: memory areas, priority ceiling emulation,
 -- event handlers, Mission). Where memory, frames, priorities or the registry don't allow an effect, a fault is its
 -- result.
-use Rattle.std.specs.Prelude.{ℕ, zero, suc, ◌+◌, ◌==◌, nat_lt, Bool, true, false, not, ◌&&◌, List, [], ◌∷◌, ◌++◌, length, map, filter, position, drop, slice_get, slice_set, unsigned_abs, Option, Some, None, if◌then◌else◌, is_some, option_map, unwrap_or}
+use Rattle.std.specs.Prelude.{ℕ, ◌+◌, ◌==◌, nat_lt, Bool, true, false, not, ◌&&◌, List, [], ◌∷◌, ◌++◌, length, map, filter, drop, slice_get, slice_set, Option, Some, None, if◌then◌else◌, is_some, option_map, unwrap_or, ◌||◌}
 use Rattle.scj_base.specs.declared.places.Pos.{Pos}
-use Rattle.scj_base.specs.declared.faults.RunFault.{RunFault}
-use Rattle.scj_base.specs.declared.faults.RunFault.TheVariants.{MemoryFull, StoreFull, ScopedCycle, CeilingViolation, NotInitializing, TooManyHandlers, DepthFull}
+use Rattle.scj_base.specs.declared.faults.RunFault.TheVariants.{ScopedCycle, CeilingViolation, NotInitializing, TooManyHandlers, DepthFull}
 use Rattle.scj_base.specs.declared.values.Value.{Value}
-use Rattle.scj_base.specs.declared.values.Value.TheVariants.{Int, Null, At}
-use Rattle.scj_rules.specs.declared.views.Body.TheVariants.{Written, Empty}
+use Rattle.scj_base.specs.declared.values.Value.TheVariants.{At}
 use Rattle.scj_rules.specs.Words.{holds, ◌>>=◌}
-use Rattle.scj_rules.specs.Classes.{hidden_fields}
-use Rattle.scj_rules.specs.Contexts.{Declarations}
-use Rattle.scj_rules.specs.Layout.{priority_slot, storage_slot, start_slot, period_slot}
-use Rattle.scj_rules.specs.Bodies.{is_synchronized_body}
 use Rattle.scj_model.specs.declared.events.Event.{Event}
-use Rattle.scj_model.specs.declared.events.Event.TheVariants.{Register, Arrive, Lost, Prio, Print, Fault, End, Terminate, Drop, Halted}
-use Rattle.scj_model.specs.declared.handlers.HandlerRow.{HandlerRow}
-use Rattle.scj_model.specs.declared.operations.SeqOp.TheVariants.{Finished}
+use Rattle.scj_model.specs.declared.events.Event.TheVariants.{Register, Arrive, Lost, Prio, Print, Terminate, Drop}
 use Rattle.scj_model.specs.declared.phases.Phase.{Phase}
-use Rattle.scj_model.specs.declared.phases.Phase.TheVariants.{Init, Exec, Over}
 use Rattle.scj_model.specs.Code.{Code}
-use Rattle.scj_model.specs.State.{Object, Frame, Activity, waiting, ended, dropped, Release, Job, sequencer, release, State, changed, is_waiting, with_progress, with_activity, object_at}
-use Rattle.scj_model.specs.Memory.{has_room, has_store_for, with_object, with_slot, with_area, closed, area_with_scope}
-use Rattle.scj_model.specs.Effects.{Effect, goes, prints, makes, stores, stores_static, sets_hidden, sets_ceiling, calls, opens, leaves, registers, releases, terminates, faults, stuck}
+use Rattle.scj_model.specs.State.{Object, Frame, Activity, Waits, Dropped, Release, Job, TheSequencer, ReleaseAt, State, changed, is_waiting, with_activity, object_at, is_exec, is_init}
+use Rattle.scj_model.specs.Registry.{handler_number, most_handlers, new_row}
+use Rattle.scj_model.specs.Memory.{with_slot, closed, area_with_scope}
+use Rattle.scj_model.specs.Steps.{Step, allocating, fault_in, job_ended, of_release, opening, silently, telling, then_do}
+use Rattle.scj_model.specs.Effects.{Effect, Goes, Prints, Makes, Stores, StoresStatic, SetsHidden, SetsCeiling, Calls, Opens, Leaves, AsksRegistration, AsksRelease, AsksTermination, Faults, Stuck, monitor_of}
 
--- a state, and what the trace tells on the way to it
-pub record Result : Type 0 where
-  pub state : State
-  pub events : List Event
-
-abbrev pub silently : State → Result
-silently s = record { state = s; events = [] }
-
-abbrev pub telling : State → List Event → Result
-telling s events = record { state = s; events = events }
-
--- one step after the other
-abbrev pub then_do : Result → (State → Result) → Result
-then_do first step = let second = step first.state in telling second.state (first.events ++ second.events)
-
--- a step for each element, in order
-unfoldable pub for_each : {A : Type 0} → (State → A → Result) → List A → State → Result
-for_each step [] s = silently s
-for_each step (x ∷ xs) s = then_do (step s x) (for_each step xs)
-
--- ---- names
-
--- the name of a class
+-- the name of a class, and that of an object's
 abbrev pub class_name : Code → ℕ → List ℕ
 class_name code class = elim (slice_get code.program.classes class) [ None ↦ [] | Some row ↦ row.name ]
 
--- what the trace tells of a job that is a release
-abbrev pub of_release : State → Job → (Release → List Event) → List Event
-of_release s sequencer tell = []
-of_release s (release place) tell = elim (slice_get s.releases place) [ None ↦ [] | Some r ↦ tell r ]
+abbrev pub class_name_at : Code → State → ℕ → List ℕ
+class_name_at code s r = elim (object_at s r) [ None ↦ [] | Some o ↦ class_name code o.class ]
 
--- ---- ends and faults
-
--- the areas that frames opened are closed
-unfoldable pub closed_all : State → List Frame → State
-closed_all s [] = s
-closed_all s (f ∷ fs) = closed_all (closed s f.opened) fs
-
--- a job that ends: a release has ended, and the operation of the sequencer is done, with this value or null
-unfoldable pub job_ended : State → Job → Activity → Option Value → Result
-job_ended s sequencer activity value =
-    silently (record s { activity = activity; outcome = Some (unwrap_or value Null) })
-job_ended s (release place) activity value =
-    telling (with_progress s place ended)
-    (of_release s (release place) (λ r. End s.unit r.handler r.number ∷ []))
-
--- a fault: it ends a release, whose frames are dropped and whose areas are closed, and it halts the run of the
--- sequencer
-unfoldable pub fault_in : State → Job → Activity → Pos → RunFault → Result
-fault_in s sequencer activity place fault =
-    telling (record s { phase = Over; operation = Finished; outcome = None })
-    (Fault s.unit fault place ∷ Halted s.unit ∷ [])
-fault_in s (release n) activity place fault =
-    telling (with_progress (closed_all s activity.frames) n ended)
-    (Fault s.unit fault place ∷ of_release s (release n) (λ r. End s.unit r.handler r.number ∷ []))
+-- ---- calls and leaving
 
 -- the active priority of a release is another one than before
 abbrev pub tell_priority : State → Job → ℕ → ℕ → List Event
 tell_priority s job before after =
     if before == after then [] else of_release s job (λ r. Prio s.unit r.handler after ∷ [])
-
--- ---- calls and leaving
 
 abbrev pub most_frames : ℕ
 most_frames = 64
@@ -93,20 +37,15 @@ most_frames = 64
 abbrev pub is_full : List Frame → Bool
 is_full frames = not (nat_lt (length frames) most_frames)
 
--- the ceiling of the monitor that a frame enters: that of its object, where its method is synchronized
-unfoldable pub monitor_of : Code → State → Frame → Option ℕ
-monitor_of code s f =
-    elim f.body [
-      | Written node ↦
-          if is_synchronized_body code.program node then f.this >>= object_at s >>= (λ o. Some o.ceiling) else None
-      | Empty ↦ None
-    ]
+-- the ceiling of the monitor that a frame enters: that of its object
+unfoldable pub ceiling_entered : Code → State → Frame → Option ℕ
+ceiling_entered code s f = monitor_of code f >>= object_at s >>= (λ o. Some o.ceiling)
 
 -- a call on top of these frames: the active priority becomes the ceiling of the monitor that is entered
-unfoldable pub called : Code → State → Job → Activity → List Frame → Pos → Frame → Result
+unfoldable pub called : Code → State → Job → Activity → List Frame → Pos → Frame → Step
 called code s job activity frames place g =
     if is_full frames then fault_in s job activity place DepthFull
-    else (elim (monitor_of code s g) [
+    else (elim (ceiling_entered code s g) [
       | None ↦ silently (with_activity s job (record activity { frames = g ∷ frames }))
       | Some ceiling ↦
           if nat_lt ceiling activity.priority then fault_in s job activity place CeilingViolation
@@ -118,17 +57,16 @@ called code s job activity frames place g =
           (tell_priority s job activity.priority ceiling)
     ])
 
--- a new area inside the caller's, in which the called frame runs
-unfoldable pub opened_in : State → Job → Activity → List Frame → Pos → Frame → ℕ → ℕ → Result
+-- a call in a new area inside the caller's
+unfoldable pub opened_in : State → Job → Activity → List Frame → Pos → Frame → ℕ → ℕ → Step
 opened_in s job activity frames place g scope bytes =
     if is_some (area_with_scope s scope activity.areas) then fault_in s job activity place ScopedCycle
     else (if is_full frames then fault_in s job activity place DepthFull
-    else (if not (has_store_for s bytes) then fault_in s job activity place StoreFull
-    else (let area = length s.areas in
-    silently (with_activity (with_area s scope (Some g.area) bytes) job (record activity {
+    else opening s job activity place scope (Some g.area) bytes (λ s area.
+    silently (with_activity s job (record activity {
       frames = record g { area = area; opened = Some area } ∷ frames;
       areas = area ∷ activity.areas;
-    })))))
+    }))))
 
 -- the frame below gets the value that the one above left with
 unfoldable pub returned : Option Value → List Frame → List Frame
@@ -141,8 +79,8 @@ without None areas = areas
 without (Some a) areas = filter (λ b. not (b == a)) areas
 
 -- a frame leaves: its area is closed, the priority that it saved comes back, and with the last frame the job ends
-unfoldable pub left : State → Job → Activity → Frame → List Frame → Option Value → Result
-left s job activity f below value =
+unfoldable pub frame_left : State → Job → Activity → Frame → List Frame → Option Value → Step
+frame_left s job activity f below value =
     let priority = unwrap_or f.saved activity.priority in
     let areas = without f.opened activity.areas in
     let after = record activity { frames = returned value below; areas = areas; priority = priority } in
@@ -153,24 +91,10 @@ left s job activity f below value =
 
 -- ---- handlers and releases
 
-abbrev pub most_handlers : ℕ
-most_handlers = 64
-
 abbrev pub most_waiting : ℕ
 most_waiting = 64
 
--- the number of a registered handler: its place in the registry, from 1
-unfoldable pub handler_number : State → ℕ → Option ℕ
-handler_number s r = option_map (λ k. k + 1) (position (λ (row : HandlerRow). row.at == r) s.registry)
-
-abbrev pub handler_row : State → ℕ → Option HandlerRow
-handler_row s handler = elim handler [ zero ↦ None | suc k ↦ slice_get s.registry k ]
-
 -- releases are taken in while the mission executes and no end was asked
-unfoldable pub is_exec : Phase → Bool
-is_exec Exec = true
-is_exec _ = false
-
 abbrev pub takes_releases : State → Bool
 takes_releases s = is_exec s.phase && not s.is_end_asked
 
@@ -179,80 +103,56 @@ abbrev pub releases_of : State → ℕ → List Release
 releases_of s handler = filter (λ (r : Release). r.handler == handler) (drop s.earlier_releases s.releases)
 
 abbrev pub waiting_of : State → ℕ → List Release
-waiting_of s handler = filter (λ (r : Release). is_waiting r.progress) (releases_of s handler)
+waiting_of s handler = filter (λ (r : Release). is_waiting r.status) (releases_of s handler)
 
 -- one more release of a handler waits, unless as many wait as may
-unfoldable pub release_taken : State → ℕ → Result
+unfoldable pub release_taken : State → ℕ → Step
 release_taken s handler =
     if not (nat_lt (length (waiting_of s handler)) most_waiting) then telling s (Lost s.unit handler ∷ [])
     else (let number = length (releases_of s handler) + 1 in
-    let taken : Release = record { handler = handler; number = number; progress = waiting } in
+    let taken : Release = record { handler = handler; number = number; status = Waits } in
     telling (record s { releases = s.releases ++ taken ∷ [] }) (Arrive s.unit handler number ∷ []))
 
--- the number that a value is
-unfoldable pub number_in : Value → ℕ
-number_in (Int z) = unsigned_abs z
-number_in _ = 0
-
--- a handler object as a row of the registry, by its hidden fields; an aperiodic handler has no start and no period
-unfoldable pub hidden_number : Declarations → Object → ℕ → ℕ
-hidden_number p o slot =
-    if nat_lt slot (hidden_fields p.classes o.class)
-    then (elim (slice_get o.slots slot) [ None ↦ 0 | Some value ↦ number_in value ])
-    else 0
-
-abbrev pub new_row : Declarations → ℕ → Object → HandlerRow
-new_row p r o =
-    record {
-      at = r;
-      class = o.class;
-      priority = hidden_number p o priority_slot;
-      start = hidden_number p o start_slot;
-      period = hidden_number p o period_slot;
-      bytes = hidden_number p o storage_slot;
-    }
-
-unfoldable pub is_init : Phase → Bool
-is_init Init = true
-is_init _ = false
-
 -- a handler is registered during the mission's initialisation, and once
-unfoldable pub registered : Code → State → Job → Activity → Pos → ℕ → Object → State → Result
+unfoldable pub registered : Code → State → Job → Activity → Pos → ℕ → Object → State → Step
 registered code s job activity place r o after =
     if not (is_init s.phase) then fault_in s job activity place NotInitializing
-    else (if is_some (handler_number s r) then silently after
+    else (if is_some (handler_number s.registry r) then silently after
     else (if not (nat_lt (length s.registry) most_handlers) then fault_in s job activity place TooManyHandlers
     else (let row = new_row code.program r o in
     telling (record after { registry = after.registry ++ row ∷ [] })
     (Register s.unit (length s.registry + 1) (class_name code o.class) row.priority ∷ []))))
 
 -- `release` has an effect on a registered handler alone
-unfoldable pub released : State → ℕ → Result
+unfoldable pub released : State → ℕ → Step
 released s r =
-    if takes_releases s then (elim (handler_number s r) [ None ↦ silently s | Some handler ↦ release_taken s handler ])
+    if takes_releases s
+    then (elim (handler_number s.registry r) [ None ↦ silently s | Some handler ↦ release_taken s handler ])
     else silently s
 
 -- the waiting releases are dropped, in the order in which they arrived
 unfoldable pub dropped_release : Release → Release
-dropped_release r = if is_waiting r.progress then record r { progress = dropped } else r
+dropped_release r = if is_waiting r.status then record r { status = Dropped } else r
 
 abbrev pub tell_dropped : State → List Event
 tell_dropped s =
-    map (λ (r : Release). Drop s.unit r.handler r.number) (filter (λ (r : Release). is_waiting r.progress) s.releases)
+    map (λ (r : Release). Drop s.unit r.handler r.number) (filter (λ (r : Release). is_waiting r.status) s.releases)
 
--- `requestTermination` has an effect on the current mission alone: during initialisation it is kept, and during
--- execution it drops the waiting releases
-unfoldable pub termination : State → Result
+-- `requestTermination` has an effect on the current mission alone, in its initialisation and its execution, and once
+abbrev pub asks_for_end : Option ℕ → Phase → Bool → ℕ → Bool
+asks_for_end mission phase is_end_asked r =
+    holds mission (λ m. m == r) && ((is_init phase || is_exec phase) && not is_end_asked)
+
+-- during initialisation it is kept, and during execution it drops the waiting releases
+unfoldable pub termination : State → Step
 termination s =
-    if s.is_end_asked then silently s
-    else (if is_init s.phase then silently (record s { is_end_asked = true })
-    else (if is_exec s.phase
+    if is_exec s.phase
     then telling (record s { is_end_asked = true; releases = map dropped_release s.releases })
     (Terminate s.unit ∷ tell_dropped s)
-    else silently s))
+    else silently (record s { is_end_asked = true })
 
-abbrev pub end_asked : State → ℕ → Result
-end_asked s r = if holds s.mission (λ m. m == r) then termination s else silently s
+unfoldable pub termination_asked : State → ℕ → Step
+termination_asked s r = if asks_for_end s.mission s.phase s.is_end_asked r then termination s else silently s
 
 -- an object with other hidden fields, or with another ceiling
 abbrev pub with_first : List Value → Object → Object
@@ -264,41 +164,40 @@ with_ceiling ceiling o = record o { ceiling = ceiling }
 -- ---- all effects. `below` are the frames under the frame that acts, and `place` is where its operation stands
 
 abbrev pub is_sequencer : Job → Bool
-is_sequencer sequencer = true
-is_sequencer (release place) = false
+is_sequencer TheSequencer = true
+is_sequencer (ReleaseAt place) = false
 
 abbrev pub with_frame : State → Job → Activity → Frame → List Frame → State
 with_frame s job activity f below = with_activity s job (record activity { frames = f ∷ below })
 
-unfoldable pub applied : Code → State → Job → Activity → List Frame → Pos → Effect → Option Result
-applied code s job activity below place (goes f) = Some (silently (with_frame s job activity f below))
-applied code s job activity below place (prints f label value) =
+unfoldable pub applied : Code → State → Job → Activity → List Frame → Pos → Effect → Option Step
+applied code s job activity below place (Goes f) = Some (silently (with_frame s job activity f below))
+applied code s job activity below place (Prints f label value) =
     Some (telling (with_frame s job activity f below) (Print s.unit label value ∷ []))
-applied code s job activity below place (makes f class slots) =
-    if has_room s f.area (length slots)
-    then Some (silently (with_frame (with_object s class f.area slots) job activity
-    (record f { operands = At (length s.objects) ∷ f.operands }) below))
-    else Some (fault_in s job activity place MemoryFull)
-applied code s job activity below place (stores f r slot value) =
+applied code s job activity below place (Makes f class slots) =
+    Some (allocating s job activity place class f.area slots (λ s r.
+    silently (with_frame s job activity (record f { operands = At r ∷ f.operands }) below)))
+applied code s job activity below place (Stores f r slot value) =
     Some (silently (with_frame (with_slot s r slot value) job activity f below))
-applied code s job activity below place (stores_static f n value) =
+applied code s job activity below place (StoresStatic f n value) =
     Some (silently (with_frame (record s { statics = slice_set s.statics n value }) job activity f below))
-applied code s job activity below place (sets_hidden f r values) =
+applied code s job activity below place (SetsHidden f r values) =
     Some (silently (with_frame (record s { objects = changed (with_first values) r s.objects }) job activity f below))
-applied code s job activity below place (sets_ceiling f r ceiling) =
+applied code s job activity below place (SetsCeiling f r ceiling) =
     if is_sequencer job
     then Some (silently
     (with_frame (record s { objects = changed (with_ceiling ceiling) r s.objects }) job activity f below))
     else Some (fault_in s job activity place NotInitializing)
-applied code s job activity below place (calls f g) = Some (called code s job activity (f ∷ below) place g)
-applied code s job activity below place (opens f g scope bytes) =
+applied code s job activity below place (Calls f g) = Some (called code s job activity (f ∷ below) place g)
+applied code s job activity below place (Opens f g scope bytes) =
     Some (opened_in s job activity (f ∷ below) place g scope bytes)
-applied code s job activity below place (leaves f value) = Some (left s job activity f below value)
-applied code s job activity below place (registers f r) =
+applied code s job activity below place (Leaves f value) = Some (frame_left s job activity f below value)
+applied code s job activity below place (AsksRegistration f r) =
     option_map
     (λ (o : Object). registered code s job activity place r o (with_frame s job activity f below))
     (object_at s r)
-applied code s job activity below place (releases f r) = Some (released (with_frame s job activity f below) r)
-applied code s job activity below place (terminates f r) = Some (end_asked (with_frame s job activity f below) r)
-applied code s job activity below place (faults fault) = Some (fault_in s job activity place fault)
-applied code s job activity below place stuck = None
+applied code s job activity below place (AsksRelease f r) = Some (released (with_frame s job activity f below) r)
+applied code s job activity below place (AsksTermination f r) =
+    Some (termination_asked (with_frame s job activity f below) r)
+applied code s job activity below place (Faults fault) = Some (fault_in s job activity place fault)
+applied code s job activity below place Stuck = None

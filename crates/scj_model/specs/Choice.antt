@@ -1,11 +1,11 @@
 -- The choice of the release that acts in a unit of execution: the most urgent one (JSR 302: preemptive fixed-priority
 -- scheduling with priority ceiling emulation), or any one that a list of choices names.
-use Rattle.std.specs.Prelude.{ℕ, ◌+◌, ◌==◌, nat_lt, Bool, true, false, not, ◌&&◌, ◌||◌, List, [], ◌∷◌, ◌++◌, slice_get, option_to_list, Option, Some, None, if◌then◌else◌, option_map}
+use Rattle.std.specs.Prelude.{ℕ, ◌+◌, ◌==◌, nat_lt, Bool, true, false, not, ◌&&◌, ◌||◌, List, [], ◌∷◌, ◌++◌, slice_get, option_to_list, Option, Some, None, if◌then◌else◌, option_map, is_some}
 use Rattle.scj_rules.specs.Words.{holds, ◌>>=◌}
-use Rattle.scj_model.specs.State.{waiting, started, ended, dropped, Release, State}
-use Rattle.scj_model.specs.Apply.{handler_row}
+use Rattle.scj_model.specs.State.{Waits, Started, Ended, Dropped, Release, State, IdleTurn, Turn, TurnOf}
+use Rattle.scj_model.specs.Registry.{handler_row}
 
--- a release that may act: its place in the list of all releases, its active priority, and whether it is started
+-- a release that may act: where it stands among all releases, its active priority, and whether it is started
 pub record Candidate : Type 0 where
   pub place : ℕ
   pub priority : ℕ
@@ -13,15 +13,15 @@ pub record Candidate : Type 0 where
 
 -- the priority with which a release waits: the one that its handler was registered with
 abbrev pub handler_priority : State → ℕ → ℕ
-handler_priority s handler = elim (handler_row s handler) [ None ↦ 0 | Some row ↦ row.priority ]
+handler_priority s handler = elim (handler_row s.registry handler) [ None ↦ 0 | Some row ↦ row.priority ]
 
 unfoldable pub candidate : State → ℕ → Release → Option Candidate
 candidate s place r =
-    elim r.progress [
-      | waiting ↦ Some (record { place = place; priority = handler_priority s r.handler; is_started = false })
-      | started activity ↦ Some (record { place = place; priority = activity.priority; is_started = true })
-      | ended ↦ None
-      | dropped ↦ None
+    elim r.status [
+      | Waits ↦ Some (record { place = place; priority = handler_priority s r.handler; is_started = false })
+      | Started activity ↦ Some (record { place = place; priority = activity.priority; is_started = true })
+      | Ended ↦ None
+      | Dropped ↦ None
     ]
 
 -- the waiting and the started releases, from this place on
@@ -51,27 +51,22 @@ chosen s = option_map (λ (c : Candidate). c.place) (most_urgent (candidates s))
 
 -- ---- who acts
 
--- in a unit of execution a release acts, or the unit is idle
-pub data Turn : Type 0 where
-  idle_turn : Turn
-  turn_of : (place : ℕ) → Turn
-
 -- a way to choose; it may have no result
 abbrev pub Policy : Type 0
 Policy = State → Option Turn
 
 unfoldable pub by_priority : Policy
-by_priority s = Some (elim (chosen s) [ None ↦ idle_turn | Some place ↦ turn_of place ])
+by_priority s = Some (elim (chosen s) [ None ↦ IdleTurn | Some place ↦ TurnOf place ])
 
 -- the release at the place waits or is started
 unfoldable pub may_act : State → ℕ → Bool
-may_act s place = holds (slice_get s.releases place) (λ r. holds (candidate s place r) (λ c. true))
+may_act s place = holds (slice_get s.releases place) (λ r. is_some (candidate s place r))
 
 -- the list names a release for each unit of the run. Where none may act the unit is idle; a release that may not act is
 -- no choice
 unfoldable pub by_list : List ℕ → Policy
 by_list choices s =
     elim (candidates s) [
-      | [] ↦ Some idle_turn
-      | c ∷ cs ↦ slice_get choices s.unit >>= (λ place. if may_act s place then Some (turn_of place) else None)
+      | [] ↦ Some IdleTurn
+      | c ∷ cs ↦ slice_get choices s.unit >>= (λ place. if may_act s place then Some (TurnOf place) else None)
     ]

@@ -10,9 +10,12 @@ pub mod Operations
 pub mod Ops
 pub mod Order
 pub mod Plan
+pub mod Reached
 pub mod Reading
+pub mod Registry
 pub mod Run
 pub mod Safety
 pub mod Sequencer
 pub mod State
+pub mod Steps
 pub mod TraceText

@@ -1,6 +1,7 @@
 -- Memory areas: how full they are, what a new object takes, and what opening and closing an area does (JSR 302: memory
 -- areas, ManagedMemory).
-use Rattle.std.specs.Prelude.{ℕ, ◌+◌, ◌*◌, ◌/◌, ◌==◌, nat_lt, Bool, true, false, not, List, [], ◌∷◌, ◌++◌, length, map, filter, sum, replicate, slice_set, pos, neg_ℤ, Option, Some, None, if◌then◌else◌}
+use Rattle.std.specs.Prelude.{ℕ, ◌+◌, ◌==◌, nat_lt, Bool, true, false, not, List, [], ◌∷◌, ◌++◌, length, map, filter, sum, replicate, slice_set, pos, neg_ℤ, Option, Some, None, if◌then◌else◌}
+use Rattle.std.specs.Int.{next_multiple_of}
 use Rattle.scj_base.specs.declared.values.Value.{Value}
 use Rattle.scj_base.specs.declared.values.Value.TheVariants.{Int, Bool as Truth, Null}
 use Rattle.scj_builtins.specs.Framework.{periodic_handler, aperiodic_handler}
@@ -13,7 +14,7 @@ use Rattle.scj_rules.specs.Words.{is_among, chain, holds, ◌>>=◌}
 use Rattle.scj_rules.specs.Classes.{superclasses, instance_fields}
 use Rattle.scj_rules.specs.Contexts.{Declarations}
 use Rattle.scj_rules.specs.Layout.{kind_of_type, size_with_slots}
-use Rattle.scj_model.specs.State.{Area, Object, State, changed, area_at}
+use Rattle.scj_model.specs.State.{MemoryArea, Object, State, changed, area_at}
 
 -- ---- values
 
@@ -68,13 +69,16 @@ used s area =
 unfoldable pub has_room : State → ℕ → ℕ → Bool
 has_room s area count = holds (area_at s area) (λ x. not (nat_lt x.bytes (used s area + size_with_slots count)))
 
--- the bytes that an area reserves in the store: its own, rounded up to words of 8
+-- the bytes that an area takes of the store: its own, rounded up to whole words
+abbrev pub word_bytes : ℕ
+word_bytes = 8
+
 abbrev pub rounded_up : ℕ → ℕ
-rounded_up bytes = 8 * ((bytes + 7) / 8)
+rounded_up bytes = next_multiple_of bytes word_bytes
 
 -- Reserved: the bytes that the open areas reserve
 unfoldable pub reserved : State → ℕ
-reserved s = sum (map (λ (x : Area). rounded_up x.bytes) (filter (λ (x : Area). x.is_open) s.areas))
+reserved s = sum (map (λ (x : MemoryArea). rounded_up x.bytes) (filter (λ (x : MemoryArea). x.is_open) s.areas))
 
 -- the store has room for one more area
 unfoldable pub has_store_for : State → ℕ → Bool

@@ -1,6 +1,6 @@
 -- The operations of each node, in the order in which Java evaluates its parts (JLS 15.7; statements: JLS chapter 14;
 -- calls and constructors: JLS 15.9.4, 15.12.4, 8.8.7, 12.5). One line a kind of node.
-use Rattle.std.specs.Prelude.{ℕ, Bool, true, false, List, [], ◌∷◌, ◌++◌, map, flat_map, slice_get, Option, Some, None, ◌==◌, if◌then◌else◌}
+use Rattle.std.specs.Prelude.{ℕ, Bool, true, false, List, [], ◌∷◌, ◌++◌, map, flat_map, slice_get, Option, Some, None, ◌==◌, if◌then◌else◌, option_map}
 use Rattle.scj_base.specs.Vocabulary.{sign_and_and, sign_or_or}
 use Rattle.scj_builtins.specs.Framework.{mission_request_termination, periodic_handler_register, aperiodic_handler_register, aperiodic_handler_release, managed_memory_enter_private_memory, managed_memory_execute_in_area_of, services_set_ceiling, trace_print, device_read}
 use Rattle.scj_tree.specs.declared.nodes.Node.{Node}
@@ -21,7 +21,7 @@ use Rattle.scj_rules.specs.Layout.{fields_with_literal}
 use Rattle.scj_rules.specs.Bodies.{class_node, class_of_body}
 use Rattle.scj_model.specs.declared.operations.Op.{Op}
 use Rattle.scj_model.specs.declared.operations.Op.TheVariants.{Push as PUSH, This as THIS, Load as LOAD, Get as GET, GetStatic as GETSTATIC, Length as LENGTH, Elem as ELEM, Unary as UNARY, Bin as BIN, And as AND, Or as OR, Alloc as ALLOC, Construct as CONSTRUCT, AllocArray as ALLOCARRAY, Call as CALL, CallStatic as CALLSTATIC, Cast as CAST, Enter as ENTER, ExecuteIn as EXECUTEIN, SetCeiling as SETCEILING, Print as PRINT, Read as READ, Register as REGISTER, Release as RELEASE, Terminate as TERMINATE, Zero as ZERO, Store as STORE, Put as PUT, PutStatic as PUTSTATIC, PutElem as PUTELEM, If as IF, Loop as LOOP, LeaveWith as LEAVEWITH, Leave as LEAVE, Drop as DROP, Init as INIT, Super as SUPER, Params as PARAMS}
-use Rattle.scj_model.specs.Code.{Code, binding}
+use Rattle.scj_model.specs.Code.{Code, binding, part}
 
 -- in all of this `ops` are the operations of the node's parts
 
@@ -189,20 +189,20 @@ unfoldable pub body_ops : Code → Body → List Op
 body_ops code (Written node) = ops_of code node
 body_ops code Empty = LEAVE ∷ []
 
--- ---- what AND, OR, IF and LOOP put in front of the rest, where the condition is true and where it is false
+-- ---- what AND, OR, IF and LOOP put in front of the operations that are left
 
-unfoldable pub optional_ops : Code → Option ℕ → List Op
-optional_ops code None = []
-optional_ops code (Some id) = ops_of code id
-
--- AND is followed by the right operand where the left one is true, OR where it is false
 unfoldable pub right_operand : Node → Option ℕ
 right_operand (Binary place operator left right) = Some right
 right_operand _ = None
 
+-- the two parts of an `if`, the second where it is written
 unfoldable pub if_parts : Node → Option (ℕ × Option ℕ)
 if_parts (If place condition then_part else_part) = Some (then_part, else_part)
 if_parts _ = None
+
+unfoldable pub optional_ops : Code → Option ℕ → List Op
+optional_ops code None = []
+optional_ops code (Some id) = ops_of code id
 
 -- one more turn of a loop, up to its next LOOP (JLS 14.12.1, 14.14.1.2)
 unfoldable pub turn_ops : Code → ℕ → Node → Option (List Op)
@@ -210,3 +210,58 @@ turn_ops code id (While place condition body) = Some (ops_of code body ++ (ops_o
 turn_ops code id (For place first condition step body) =
     Some (ops_of code body ++ (ops_of code step ++ (ops_of code condition ++ LOOP id ∷ [])))
 turn_ops code id _ = None
+
+-- by the condition: AND goes on with its right operand where the left one is true, and OR where it is false
+unfoldable pub put_in_front : Code → Op → Bool → Option (List Op)
+put_in_front code (AND id) condition =
+    option_map (λ right. if condition then ops_of code right else []) (part code right_operand id)
+put_in_front code (OR id) condition =
+    option_map (λ right. if condition then [] else ops_of code right) (part code right_operand id)
+put_in_front code (IF id) condition =
+    option_map (λ (parts : ℕ × Option ℕ). if condition then ops_of code parts.0 else optional_ops code parts.1)
+    (part code if_parts id)
+put_in_front code (LOOP id) condition =
+    option_map (λ turn. if condition then turn else []) (part code (turn_ops code id) id)
+put_in_front code _ condition = None
+
+-- ---- the node whose operation it is
+
+unfoldable pub node_of : Op → Option ℕ
+node_of (PUSH id) = Some id
+node_of (THIS id) = Some id
+node_of (LOAD id) = Some id
+node_of (GET id) = Some id
+node_of (GETSTATIC id) = Some id
+node_of (LENGTH id) = Some id
+node_of (ELEM id) = Some id
+node_of (UNARY id) = Some id
+node_of (BIN id) = Some id
+node_of (AND id) = Some id
+node_of (OR id) = Some id
+node_of (ALLOC id) = Some id
+node_of (CONSTRUCT id) = Some id
+node_of (ALLOCARRAY id) = Some id
+node_of (CALL id) = Some id
+node_of (CALLSTATIC id) = Some id
+node_of (CAST id) = Some id
+node_of (ENTER id) = Some id
+node_of (EXECUTEIN id) = Some id
+node_of (SETCEILING id) = Some id
+node_of (PRINT id) = Some id
+node_of (READ id) = Some id
+node_of (REGISTER id) = Some id
+node_of (RELEASE id) = Some id
+node_of (TERMINATE id) = Some id
+node_of (ZERO id) = Some id
+node_of (STORE id) = Some id
+node_of (PUT id) = Some id
+node_of (PUTSTATIC id) = Some id
+node_of (PUTELEM id) = Some id
+node_of (IF id) = Some id
+node_of (LOOP id) = Some id
+node_of (LEAVEWITH id) = Some id
+node_of LEAVE = None
+node_of (DROP id) = Some id
+node_of (INIT id) = Some id
+node_of (SUPER id) = Some id
+node_of (PARAMS id) = Some id

@@ -6,7 +6,7 @@ use Rattle.scj_model.specs.declared.plans.ReadingRow.{ReadingRow}
 abbrev pub counts_at : ℕ → ℕ → ReadingRow → Bool
 counts_at port unit row = (row.port == port) && not (nat_lt unit row.at)
 
--- of two rows, of which the second stands behind the first, the one that counts
+-- of two rows, of which the second stands later in the list, the one that counts
 abbrev pub later_row : ReadingRow → Option ReadingRow → ReadingRow
 later_row first None = first
 later_row first (Some second) = if nat_lt second.at first.at then first else second

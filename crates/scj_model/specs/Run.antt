@@ -1,13 +1,12 @@
 -- A run, unit by unit: arrivals, the choice, one operation, and what follows in the sequencer. One unit is one
 -- operation of one job (this project's profile; JSR 302 leaves the execution of threads to the implementation).
-use Rattle.std.specs.Prelude.{◌≡◌, ℕ, zero, suc, ◌+◌, ◌==◌, Bool, true, false, not, ◌||◌, List, [], ◌∷◌, ◌++◌, length, map, slice_get, Option, Some, None, if◌then◌else◌, option_map, codes}
+use Rattle.std.specs.Prelude.{◌≡◌, ℕ, zero, suc, ◌+◌, ◌==◌, Bool, true, false, ◌||◌, List, [], ◌∷◌, ◌++◌, map, slice_get, Option, Some, None, if◌then◌else◌, codes}
 use Rattle.scj_base.specs.declared.places.Pos.{Pos}
-use Rattle.scj_base.specs.declared.faults.RunFault.TheVariants.{StoreFull}
 use Rattle.scj_base.specs.declared.values.Value.{Value}
 use Rattle.scj_rules.specs.declared.views.Body.{Body}
 use Rattle.scj_rules.specs.declared.views.Declared.{Declared}
 use Rattle.scj_rules.specs.Definitions.{read}
-use Rattle.scj_rules.specs.Words.{◌>>=◌}
+use Rattle.scj_rules.specs.Words.{◌>>=◌, holds}
 use Rattle.scj_rules.specs.Views.{nowhere}
 use Rattle.scj_rules.specs.ScopeRules.{defined_by_chain}
 use Rattle.scj_rules.specs.Layout.{kind_of_type, field_literal, static_fields}
@@ -17,20 +16,22 @@ use Rattle.scj_model.specs.declared.events.Event.TheVariants.{Run as RunEvent, I
 use Rattle.scj_model.specs.declared.handlers.HandlerRow.{HandlerRow}
 use Rattle.scj_model.specs.declared.operations.Op.{Op}
 use Rattle.scj_model.specs.declared.operations.SeqOp.TheVariants.{OpenImmortal}
-use Rattle.scj_model.specs.declared.phases.Phase.{Phase}
-use Rattle.scj_model.specs.declared.phases.Phase.TheVariants.{Boot, Over}
+use Rattle.scj_model.specs.declared.phases.Phase.TheVariants.{Boot}
 use Rattle.scj_model.specs.declared.plans.ReadingRow.{ReadingRow}
 use Rattle.scj_model.specs.Code.{Code, place_of_node}
 use Rattle.scj_model.specs.Reading.{reading}
 use Rattle.scj_model.specs.Plan.{Plan}
-use Rattle.scj_model.specs.State.{Frame, Activity, waiting, started, ended, dropped, Release, Job, sequencer, release, Choice, nothing_yet, idle, chose, State, with_activity, object_at}
-use Rattle.scj_model.specs.Memory.{literal_value, default_value, has_store_for, with_area}
+use Rattle.scj_model.specs.State.{Frame, Activity, Waits, Started, Ended, Dropped, Release, Job, TheSequencer, ReleaseAt, State, with_activity, object_at, is_exec, Turn, IdleTurn, TurnOf, is_over}
+use Rattle.scj_model.specs.Registry.{handler_row}
+use Rattle.scj_model.specs.Memory.{literal_value, default_value}
+use Rattle.scj_model.specs.Steps.{Step, silently, telling, opening, then_try}
+use Rattle.scj_model.specs.Ops.{node_of}
 use Rattle.scj_model.specs.Effects.{Effect, new_frame}
-use Rattle.scj_model.specs.Operations.{Environment, effect_of, node_of}
-use Rattle.scj_model.specs.Apply.{Result, silently, telling, fault_in, handler_row, is_exec, applied}
+use Rattle.scj_model.specs.Operations.{Environment, effect_of}
+use Rattle.scj_model.specs.Apply.{applied}
 use Rattle.scj_model.specs.Sequencer.{innermost, sequencer_op, phase_after}
 use Rattle.scj_model.specs.Arrivals.{arrivals}
-use Rattle.scj_model.specs.Choice.{Turn, idle_turn, turn_of, Policy, by_priority}
+use Rattle.scj_model.specs.Choice.{Policy, by_priority}
 
 -- ---- one operation of a job
 
@@ -47,7 +48,7 @@ abbrev pub effect_at : Code → List ReadingRow → State → Frame → Op → L
 effect_at code rows s f op rest = effect_of code (environment rows s) (record f { rest = rest }) op
 
 -- the next operation of the highest frame
-unfoldable pub frame_op : Code → List ReadingRow → State → Job → Activity → Option Result
+unfoldable pub frame_op : Code → List ReadingRow → State → Job → Activity → Option Step
 frame_op code rows s job activity =
     elim activity.frames [
       | [] ↦ None
@@ -57,87 +58,83 @@ frame_op code rows s job activity =
       ]
     ]
 
--- START: the first operation of a release. It opens the release's private memory inside the mission's, and calls
--- `handleAsyncEvent`; it stands where the handler's class is named
+-- without frames and areas: what a release has before its first operation, and the sequencer at the beginning
 abbrev pub no_activity : Activity
 no_activity = record { frames = []; areas = []; priority = 0 }
 
-unfoldable pub started_with : Code → State → ℕ → HandlerRow → ℕ → Body → Result
+-- START: the first operation of a release. It opens the release's private memory inside the mission's, and calls
+-- `handleAsyncEvent`; it stands where the handler's class is named
+unfoldable pub started_with : Code → State → ℕ → HandlerRow → ℕ → Body → Step
 started_with code s place row scope body =
-    if not (has_store_for s row.bytes)
-    then fault_in s (release place) no_activity (class_place code.program row.class) StoreFull
-    else (let area = length s.areas in
-    silently (with_activity (with_area s scope (innermost s.activity.areas) row.bytes) (release place) (record {
+    let at : Pos = class_place code.program row.class in
+    opening s (ReleaseAt place) no_activity at scope (innermost s.activity.areas) row.bytes (λ t area.
+    silently (with_activity t (ReleaseAt place) (record {
       frames = record (new_frame code body None (Some row.at) area []) { opened = Some area } ∷ [];
       areas = area ∷ s.activity.areas;
       priority = row.priority;
     })))
 
-unfoldable pub start_op : Code → State → ℕ → Release → Option Result
+unfoldable pub start_op : Code → State → ℕ → Release → Option Step
 start_op code s place r =
-    handler_row s r.handler >>= (λ row. defined_by_chain code.program row.class >>= (λ scope.
+    handler_row s.registry r.handler >>= (λ row. defined_by_chain code.program row.class >>= (λ scope.
     body_named code.program row.class (codes "handleAsyncEvent") >>= (λ body.
     Some (started_with code s place row scope body))))
 
-unfoldable pub release_op_of : Code → List ReadingRow → State → ℕ → Release → Option Result
+unfoldable pub release_op_of : Code → List ReadingRow → State → ℕ → Release → Option Step
 release_op_of code rows s place r =
-    elim r.progress [
-      | waiting ↦ start_op code s place r
-      | started activity ↦ frame_op code rows s (release place) activity
-      | ended ↦ None
-      | dropped ↦ None
+    elim r.status [
+      | Waits ↦ start_op code s place r
+      | Started activity ↦ frame_op code rows s (ReleaseAt place) activity
+      | Ended ↦ None
+      | Dropped ↦ None
     ]
 
 -- the sequencer's own operation, or the next one of the body that it called
-unfoldable pub sequencer_turn : Code → List ReadingRow → State → Option Result
+unfoldable pub sequencer_turn : Code → List ReadingRow → State → Option Step
 sequencer_turn code rows s =
-    elim s.activity.frames [ [] ↦ sequencer_op code s s.operation | f ∷ fs ↦ frame_op code rows s sequencer s.activity ]
+    elim s.activity.frames [
+      | [] ↦ sequencer_op code s s.operation
+      | f ∷ fs ↦ frame_op code rows s TheSequencer s.activity
+    ]
 
 -- RefOp: one operation of a job; none where the job is stuck
-unfoldable pub ref_op : Code → List ReadingRow → State → Job → Option Result
-ref_op code rows s sequencer = sequencer_turn code rows s
-ref_op code rows s (release place) = slice_get s.releases place >>= release_op_of code rows s place
+unfoldable pub ref_op : Code → List ReadingRow → State → Job → Option Step
+ref_op code rows s TheSequencer = sequencer_turn code rows s
+ref_op code rows s (ReleaseAt place) = slice_get s.releases place >>= release_op_of code rows s place
 
 -- as a relation: the operation of the job leads to this state, and the trace tells these events
 abbrev pub RefOp : Code → List ReadingRow → State → Job → State → List Event → Type 0
 RefOp code rows s job after events = ref_op code rows s job ≡ Some (telling after events)
 
-abbrev pub IsStuck : Code → List ReadingRow → State → Job → Type 0
-IsStuck code rows s job = ref_op code rows s job ≡ None
-
 -- ---- one unit
 
--- a choice is told where it isn't the last one
-unfoldable pub is_last_choice : Choice → Turn → Bool
-is_last_choice idle idle_turn = true
-is_last_choice (chose n) (turn_of place) = n == place
-is_last_choice _ _ = false
-
-unfoldable pub choice_of : Turn → Choice
-choice_of idle_turn = idle
-choice_of (turn_of place) = chose place
+unfoldable pub is_same_turn : Turn → Turn → Bool
+is_same_turn IdleTurn IdleTurn = true
+is_same_turn (TurnOf n) (TurnOf place) = n == place
+is_same_turn _ _ = false
 
 unfoldable pub tell_turn : State → Turn → List Event
-tell_turn s idle_turn = IdleEvent s.unit ∷ []
-tell_turn s (turn_of place) =
+tell_turn s IdleTurn = IdleEvent s.unit ∷ []
+tell_turn s (TurnOf place) =
     elim (slice_get s.releases place) [ None ↦ [] | Some r ↦ RunEvent s.unit r.handler r.number ∷ [] ]
 
-unfoldable pub turn_taken : State → Turn → Result
+-- the state in which this turn was the last one
+abbrev pub with_turn : State → Turn → State
+with_turn s turn = record s { last_choice = Some turn }
+
+-- a turn is told where the last one was another
+unfoldable pub turn_taken : State → Turn → Step
 turn_taken s turn =
-    telling (record s { last_choice = choice_of turn })
-    (if is_last_choice s.last_choice turn then [] else tell_turn s turn)
+    telling (with_turn s turn)
+    (if holds s.last_choice (is_same_turn turn) then [] else tell_turn s turn)
 
 -- the chosen release acts, if one is chosen
-unfoldable pub turn_acts : Code → List ReadingRow → Turn → State → Option Result
-turn_acts code rows idle_turn s = Some (silently s)
-turn_acts code rows (turn_of place) s = ref_op code rows s (release place)
-
--- one step after another, which may have no result
-abbrev pub then_try : Result → (State → Option Result) → Option Result
-then_try first step = option_map (λ second. telling second.state (first.events ++ second.events)) (step first.state)
+unfoldable pub turn_acts : Code → List ReadingRow → Turn → State → Option Step
+turn_acts code rows IdleTurn s = Some (silently s)
+turn_acts code rows (TurnOf place) s = ref_op code rows s (ReleaseAt place)
 
 -- the choice and the operation: in execution a release acts or the unit is idle, else the sequencer acts
-unfoldable pub acts : Code → List ReadingRow → Policy → State → Option Result
+unfoldable pub acts : Code → List ReadingRow → Policy → State → Option Step
 acts code rows policy s =
     if is_exec s.phase then policy s >>= (λ turn. then_try (turn_taken s turn) (turn_acts code rows turn))
     else sequencer_turn code rows s
@@ -146,7 +143,7 @@ abbrev pub next_unit : State → State
 next_unit s = record s { unit = s.unit + 1 }
 
 -- Unit: arrivals, choice, one operation, phase
-unfoldable pub one_unit : Code → Plan → Policy → State → Option Result
+unfoldable pub one_unit : Code → Plan → Policy → State → Option Step
 one_unit code plan policy s =
     then_try (arrivals code plan s) (acts code plan.readings policy)
     >>= (λ result. then_try result (phase_after code))
@@ -183,7 +180,7 @@ empty_state code plan =
       is_end_asked = false;
       origin = 0;
       earlier_releases = 0;
-      last_choice = nothing_yet;
+      last_choice = None;
       statics = map (first_static code) (static_fields code.program);
       objects = [];
       areas = [];
@@ -192,39 +189,35 @@ empty_state code plan =
       activity = no_activity;
     }
 
-unfoldable pub is_over : Phase → Bool
-is_over Over = true
-is_over _ = false
-
 -- a run so far: the state, what the trace tells, and whether a unit had no result
-pub record Progressed : Type 0 where
+pub record RunSoFar : Type 0 where
   pub state : State
   pub events : List Event
   pub is_stuck : Bool
 
 -- the run has ended, by its last line or because it is stuck
-abbrev pub has_ended : Progressed → Bool
+abbrev pub has_ended : RunSoFar → Bool
 has_ended so_far = is_over so_far.state.phase || so_far.is_stuck
 
-unfoldable pub continued : Progressed → Option Result → Progressed
+unfoldable pub continued : RunSoFar → Option Step → RunSoFar
 continued so_far None = record so_far { is_stuck = true }
 continued so_far (Some result) =
     record { state = result.state; events = so_far.events ++ result.events; is_stuck = false }
 
-unfoldable pub one_more_unit : Code → Plan → Policy → Progressed → Progressed
+unfoldable pub one_more_unit : Code → Plan → Policy → RunSoFar → RunSoFar
 one_more_unit code plan policy so_far =
     if has_ended so_far then so_far else continued so_far (one_unit code plan policy so_far.state)
 
 -- Run: after so many units
-unfoldable pub run : Code → Plan → Policy → ℕ → Progressed
+unfoldable pub run : Code → Plan → Policy → ℕ → RunSoFar
 run code plan policy zero = record { state = empty_state code plan; events = []; is_stuck = false }
 run code plan policy (suc n) = one_more_unit code plan policy (run code plan policy n)
 
 -- Trace: what the run tells, and that it is stopped where it hasn't ended
-abbrev pub last_line : ℕ → Progressed → List Event
+abbrev pub last_line : ℕ → RunSoFar → List Event
 last_line n so_far = if has_ended so_far then [] else Stopped n ∷ []
 
-abbrev pub told_by : ℕ → Progressed → List Event
+abbrev pub told_by : ℕ → RunSoFar → List Event
 told_by n so_far = so_far.events ++ last_line n so_far
 
 unfoldable pub trace : Code → Plan → ℕ → List Event

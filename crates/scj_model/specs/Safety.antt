@@ -1,26 +1,24 @@
--- What it means that a program is safe: no job is ever stuck, no reference that can be used names an object of a closed
--- area, and each store keeps references from outliving their objects, whichever job is chosen; and under the machine's
--- own choice monitors exclude one another and areas are closed in the order of a stack (JSR 302: the rules of
--- assignment between memory areas; priority ceiling emulation).
-use Rattle.std.specs.Prelude.{◌≡◌, ℕ, ◌<◌, ◌≤◌, ◌==◌, Bool, true, false, not, ◌&&◌, List, [], ◌∷◌, ◌++◌, length, map, filter, filter_map, flat_map, Contains, IsTrue, IsFalse, IsSome, Option, Some, None, option_to_list, if◌then◌else◌}
+-- What it means that a program is safe. Whichever job is chosen, no job is ever stuck, no reference that can be used leads
+-- into a closed area, and each store keeps references from outliving their objects. Under the machine's own choice
+-- monitors exclude one another, and areas are closed in the order of a stack (JSR 302: the rules of assignment between
+-- memory areas; priority ceiling emulation).
+use Rattle.std.specs.Prelude.{◌≡◌, ℕ, ◌<◌, ◌≤◌, ◌==◌, Bool, true, not, ◌&&◌, List, [], ◌∷◌, ◌++◌, length, map, filter, filter_map, flat_map, Contains, IsTrue, IsFalse, IsSome, Option, Some, None, option_to_list}
 use Rattle.scj_base.specs.declared.values.Value.{Value}
 use Rattle.scj_base.specs.declared.values.Value.TheVariants.{At}
-use Rattle.scj_rules.specs.declared.views.Body.TheVariants.{Written, Empty}
 use Rattle.scj_rules.specs.Words.{holds}
 use Rattle.scj_rules.specs.ScopeRules.{immortal_scope}
-use Rattle.scj_rules.specs.Bodies.{is_synchronized_body}
 use Rattle.scj_model.specs.declared.handlers.HandlerRow.{HandlerRow}
 use Rattle.scj_model.specs.declared.plans.ReadingRow.{ReadingRow}
 use Rattle.scj_model.specs.Code.{Code}
 use Rattle.scj_model.specs.Plan.{Plan}
-use Rattle.scj_model.specs.State.{Object, Frame, Activity, Release, Job, sequencer, release, State, activity_in, activity_of, object_at, area_at, is_open_area}
+use Rattle.scj_model.specs.State.{Object, Frame, Activity, Release, Job, TheSequencer, ReleaseAt, State, activity_in, activity_of, object_at, area_at, is_open_area, is_exec, is_over}
 use Rattle.scj_model.specs.Memory.{lies_in}
-use Rattle.scj_model.specs.Effects.{Effect, stores, stores_static}
-use Rattle.scj_model.specs.Apply.{Result, is_exec}
+use Rattle.scj_model.specs.Steps.{Step}
+use Rattle.scj_model.specs.Effects.{Effect, Stores, StoresStatic, monitor_of}
 use Rattle.scj_model.specs.Sequencer.{phase_after}
-use Rattle.scj_model.specs.Arrivals.{arrivals}
-use Rattle.scj_model.specs.Choice.{Policy, by_priority, by_list, may_act}
-use Rattle.scj_model.specs.Run.{effect_at, ref_op, acts, is_over, has_ended, run}
+use Rattle.scj_model.specs.Choice.{by_priority, by_list, may_act}
+use Rattle.scj_model.specs.Run.{effect_at, ref_op, acts}
+use Rattle.scj_model.specs.Reached.{Arrived, Moment, Operated, Reached}
 
 -- ---- Live: the references that can be used
 
@@ -39,7 +37,7 @@ references_of_job activity = flat_map references_of_frame activity.frames
 
 -- the frames, areas and priorities of the started releases
 unfoldable pub started_activities : State → List Activity
-started_activities s = filter_map (λ (r : Release). activity_in r.progress) s.releases
+started_activities s = filter_map (λ (r : Release). activity_in r.status) s.releases
 
 -- the objects of open areas
 abbrev pub open_objects : State → List Object
@@ -56,7 +54,7 @@ live s =
     ++ (option_to_list s.safelet ++ (option_to_list s.mission_sequencer ++ (option_to_list s.mission
     ++ flat_map (λ (o : Object). references o.slots) (open_objects s)))))))
 
--- the reference names an object of an open area
+-- the object of the reference lies in an open area
 abbrev pub is_of_open_area : State → ℕ → Bool
 is_of_open_area s r = holds (object_at s r) (λ o. is_open_area s o.area)
 
@@ -78,8 +76,8 @@ static_may_hold s (At r) = holds (object_at s r) (λ o. holds (area_at s o.area)
 static_may_hold s _ = true
 
 unfoldable pub effect_passes : State → Effect → Bool
-effect_passes s (stores f r slot value) = holds (object_at s r) (λ o. may_hold s o.area value)
-effect_passes s (stores_static f place value) = static_may_hold s value
+effect_passes s (Stores f r slot value) = holds (object_at s r) (λ o. may_hold s o.area value)
+effect_passes s (StoresStatic f place value) = static_may_hold s value
 effect_passes s _ = true
 
 -- what the next operation of a job stores may be stored; what has no frame yet stores nothing
@@ -95,13 +93,8 @@ passes code rows s job = elim (activity_of s job) [ None ↦ true | Some activit
 
 -- ---- Exclusive: monitors
 
--- the object that a frame of a synchronized method holds
-unfoldable pub held_by_frame : Code → Frame → Option ℕ
-held_by_frame code f =
-    elim f.body [ Written node ↦ if is_synchronized_body code.program node then f.this else None | Empty ↦ None ]
-
 abbrev pub held_by : Code → Activity → List ℕ
-held_by code activity = filter_map (held_by_frame code) activity.frames
+held_by code activity = filter_map (monitor_of code) activity.frames
 
 abbrev pub IsHeldBy : Code → State → Job → ℕ → Type 0
 IsHeldBy code s job r = (activity : Activity) × (activity_of s job ≡ Some activity) × Contains (held_by code activity) r
@@ -110,7 +103,8 @@ IsHeldBy code s job r = (activity : Activity) × (activity_of s job ≡ Some act
 abbrev pub Exclusive : Code → State → Type 0
 Exclusive code s = (job other : Job) (r : ℕ) → IsHeldBy code s job r → IsHeldBy code s other r → job ≡ other
 
--- ---- Lifo: areas are closed as a stack is emptied. Of what a step closes, nothing that was opened behind it stays open
+-- ---- Lifo: areas are closed as a stack is emptied. Of what a step closes, nothing that was opened after it stays
+-- open
 
 abbrev pub Lifo : State → State → Type 0
 Lifo before after =
@@ -126,44 +120,33 @@ started_count s = length (started_activities s)
 
 -- the job may act in this state: outside execution the sequencer, in execution each waiting or started release
 unfoldable pub job_may_act : State → Job → Bool
-job_may_act s sequencer = not (is_exec s.phase) && not (is_over s.phase)
-job_may_act s (release place) = is_exec s.phase && may_act s place
+job_may_act s TheSequencer = not (is_exec s.phase) && not (is_over s.phase)
+job_may_act s (ReleaseAt place) = is_exec s.phase && may_act s place
 
--- the run goes on after so many units; and then the state of the next unit after its arrivals
-abbrev pub GoesOn : Code → Plan → Policy → ℕ → Type 0
-GoesOn code plan policy n = has_ended (run code plan policy n) ≡ false
-
-abbrev pub arrived : Code → Plan → Policy → ℕ → State
-arrived code plan policy n = (arrivals code plan (run code plan policy n).state).state
-
--- an operation of a job has a result, passes, leaves no dangling reference, and the sequencer goes on behind it
-pub record IsSafeOperation (code : Code) (rows : List ReadingRow) (s : State) (job : Job) : Type 0 where
-  pub result : Result
-  pub has_result : ref_op code rows s job ≡ Some result
-  pub stores_pass : IsTrue (passes code rows s job)
-  pub keeps : NoDangling result.state
-  pub goes_on : IsSome (phase_after code result.state)
-
--- whatever the plan is, and whichever release is named in each unit
+-- whatever the plan is, and whichever release is named in each unit: no reference that can be used is left without its
+-- object; a job that may act isn't stuck, and stores nothing that may not be stored; and the sequencer goes on
 pub record IsSafeInAnyOrder (code : Code) : Type 0 where
-  pub between : (plan : Plan) (choices : List ℕ) (n : ℕ) →
-      (run code plan (by_list choices) n).is_stuck ≡ false → NoDangling (run code plan (by_list choices) n).state
-  pub operations : (plan : Plan) (choices : List ℕ) (n : ℕ) (job : Job) → GoesOn code plan (by_list choices) n →
-      IsTrue (job_may_act (arrived code plan (by_list choices) n) job) →
-      IsSafeOperation code plan.readings (arrived code plan (by_list choices) n) job
+  pub none_dangles : (plan : Plan) (choices : List ℕ) (moment : Moment) (s : State) →
+      Reached code plan (by_list choices) moment s → NoDangling s
+  pub none_is_stuck : (plan : Plan) (choices : List ℕ) (s : State) (job : Job) →
+      Reached code plan (by_list choices) Arrived s → IsTrue (job_may_act s job) →
+      IsSome (ref_op code plan.readings s job)
+  pub stores_pass : (plan : Plan) (choices : List ℕ) (s : State) (job : Job) →
+      Reached code plan (by_list choices) Arrived s → IsTrue (job_may_act s job) →
+      IsTrue (passes code plan.readings s job)
+  pub goes_on : (plan : Plan) (choices : List ℕ) (s : State) →
+      Reached code plan (by_list choices) Operated s → IsSome (phase_after code s)
 
--- what holds of the two steps of a unit under the machine's own choice: the operation and what follows it
-pub record IsSafeUnit (code : Code) (s : State) (result followed : Result) : Type 0 where
-  pub exclusive : Exclusive code result.state
-  pub closes_in_order : Lifo s result.state
-  pub follows_in_order : Lifo result.state followed.state
-  pub few_are_started : started_count result.state ≤ most_started
-
+-- under the machine's own choice: monitors exclude one another, few releases are started at a time, and both the
+-- operation of a unit and what follows it close areas in order
 pub record IsSafeByPriority (code : Code) : Type 0 where
-  pub units : (plan : Plan) (n : ℕ) (result followed : Result) → GoesOn code plan by_priority n →
-      acts code plan.readings by_priority (arrived code plan by_priority n) ≡ Some result →
-      phase_after code result.state ≡ Some followed →
-      IsSafeUnit code (arrived code plan by_priority n) result followed
+  pub excludes : (plan : Plan) (moment : Moment) (s : State) → Reached code plan by_priority moment s → Exclusive code s
+  pub few_are_started : (plan : Plan) (moment : Moment) (s : State) →
+      Reached code plan by_priority moment s → started_count s ≤ most_started
+  pub operation_closes_in_order : (plan : Plan) (s : State) (step : Step) → Reached code plan by_priority Arrived s →
+      acts code plan.readings by_priority s ≡ Some step → Lifo s step.state
+  pub phase_closes_in_order : (plan : Plan) (s : State) (step : Step) → Reached code plan by_priority Operated s →
+      phase_after code s ≡ Some step → Lifo s step.state
 
 -- Safe
 pub record IsSafe (code : Code) : Type 0 where

@@ -43,7 +43,7 @@ pub enum Event {
         handler: u8,
         number: u64,
     },
-    /// Nothing is chosen, and the last choice was a release, or execution has just begun.
+    /// Nobody is chosen, and the last choice was a release, or execution has just begun.
     Idle {
         unit: u64,
     },
@@ -81,7 +81,7 @@ pub enum Event {
         handler: u8,
         number: u64,
     },
-    /// Execution is over.
+    /// Execution is over, or is left out.
     Cleanup {
         unit: u64,
     },

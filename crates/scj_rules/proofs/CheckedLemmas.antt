@@ -11,7 +11,10 @@ use Rattle.scj_rules.specs.CheckedProgram.{IsChecked}
 
 every_node : (forest : Forest) → length (bindings_in (declarations_of forest)) ≡ length forest.nodes
 unfolding bindings_in declarations_of
-every_node forest = length-listed (binding_at (declarations_of forest) (lookup None (types_in (declarations_of forest)))) (length forest.nodes)
+every_node forest =
+    length-listed (binding_at (declarations_of forest) (lookup None (types_in (declarations_of forest))))
+    (length forest.nodes)
 
-pub all_bound : (forest : Forest) (bindings : List Binding) → IsChecked forest bindings → length bindings ≡ length forest.nodes
+pub all_bound : (forest : Forest) (bindings : List Binding) → IsChecked forest bindings →
+    length bindings ≡ length forest.nodes
 all_bound forest bindings checked = ap length checked.are_bound ∙ every_node forest

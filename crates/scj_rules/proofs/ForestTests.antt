@@ -38,9 +38,11 @@ below_passes n (x ∷ xs) h = (is_less x n (both_first _ _ h), below_passes n xs
 pub children_pass : (from : ℕ) (nodes : List Node) → children_first from nodes ≡ true → ChildrenFirst from nodes
 unfolding children_first ChildrenFirst
 children_pass from [] h = tt
-children_pass from (node ∷ nodes) h = (below_passes from (children node) (both_first _ _ h), children_pass (from + 1) nodes (both_second _ _ h))
+children_pass from (node ∷ nodes) h =
+    (below_passes from (children node) (both_first _ _ h), children_pass (from + 1) nodes (both_second _ _ h))
 
-among_step : (x y : ℕ) (xs : List ℕ) (b : Bool) → (x == y) ≡ b → is_among x (y ∷ xs) ≡ false → (is_among x xs ≡ false → times x xs ≡ 0) → times x (y ∷ xs) ≡ 0
+among_step : (x y : ℕ) (xs : List ℕ) (b : Bool) → (x == y) ≡ b → is_among x (y ∷ xs) ≡ false →
+    (is_among x xs ≡ false → times x xs ≡ 0) → times x (y ∷ xs) ≡ 0
 unfolding times
 among_step x y xs true e k rest = absurd (true≢false (sym (ap (λ (t : Bool). t || is_among x xs) e) ∙ k))
 among_step x y xs false e k rest =
@@ -59,7 +61,8 @@ is_false false h = refl
 same_number : (x y : ℕ) → (x == y) ≡ true → x ≡ y
 same_number x y e = grind (arith, nat_tests)
 
-distinct_step : (x y : ℕ) (xs : List ℕ) (b : Bool) → (x == y) ≡ b → is_among y xs ≡ false → times x xs ≤ 1 → times x (y ∷ xs) ≤ 1
+distinct_step : (x y : ℕ) (xs : List ℕ) (b : Bool) → (x == y) ≡ b → is_among y xs ≡ false → times x xs ≤ 1 →
+    times x (y ∷ xs) ≤ 1
 unfolding times
 distinct_step x y xs true e fresh rest =
     let here : times x xs ≡ 0 = ap (λ (t : ℕ). times t xs) (same_number x y e) ∙ not_among y xs fresh in
@@ -69,10 +72,19 @@ distinct_step x y xs false e fresh rest = rw e (omega (arith, rest))
 pub distinct_pass : (x : ℕ) (xs : List ℕ) → are_distinct xs ≡ true → times x xs ≤ 1
 unfolding are_distinct times
 distinct_pass x [] h = omega arith
-distinct_pass x (y ∷ xs) h = distinct_step x y xs (x == y) refl (is_false _ (both_first _ _ h)) (distinct_pass x xs (both_second _ _ h))
+distinct_pass x (y ∷ xs) h = distinct_step x y xs (x == y) refl (is_false _ (both_first _ _ h))
+    (distinct_pass x xs (both_second _ _ h))
 
 -- all tests together
-pub forest_passes : (forest : Forest) → children_first 0 forest.nodes ≡ true → are_distinct (placed forest) ≡ true → AllClasses forest.nodes (joined forest.files)
+pub forest_passes : (forest : Forest) → children_first 0 forest.nodes ≡ true → are_distinct (placed forest) ≡ true →
+    AllClasses forest.nodes (joined forest.files)
     → length forest.nodes < 2 ^ 32 → length forest.files ≤ 16 → IsForest forest
 forest_passes forest c d k f n =
-    record { children_first = children_pass 0 forest.nodes c; one_place = λ x. distinct_pass x (placed forest) d; classes = k; fits = f; few = n }
+    record {
+      children_first = children_pass 0 forest.nodes c;
+      one_place = λ x. distinct_pass x
+          (placed forest) d;
+      classes = k;
+      fits = f;
+      few = n;
+    }

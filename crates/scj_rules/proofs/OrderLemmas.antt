@@ -22,7 +22,8 @@ finding_of file line col rule = record { pos = record { file = file; line = line
 
 one_finding : (a b : Found) → is_same_finding a b ≡ true → a ≡ b
 one_finding a b h =
-    let parts = and_parts (eqb a.pos.file b.pos.file && (eqb a.pos.line b.pos.line && eqb a.pos.col b.pos.col)) (eqb (number_of a.rule) (number_of b.rule)) h in
+    let parts = and_parts (eqb a.pos.file b.pos.file && (eqb a.pos.line b.pos.line && eqb a.pos.col b.pos.col))
+    (eqb (number_of a.rule) (number_of b.rule)) h in
     let places = and_parts (eqb a.pos.file b.pos.file) (eqb a.pos.line b.pos.line && eqb a.pos.col b.pos.col) parts.0 in
     let within = and_parts (eqb a.pos.line b.pos.line) (eqb a.pos.col b.pos.col) places.1 in
     let rule : a.rule ≡ b.rule = one_rule a.rule b.rule (eqb-true (number_of a.rule) (number_of b.rule) parts.1) in
@@ -31,11 +32,15 @@ one_finding a b h =
     ∙ ap (λ n. finding_of b.pos.file b.pos.line n a.rule) (eqb-true a.pos.col b.pos.col within.1)
     ∙ ap (λ r. finding_of b.pos.file b.pos.line b.pos.col r) rule
 
-pub in_report_order : (sorted : List Found) → IsSorted report_order sorted → IsStrictlySortedBy report_order (dedup is_same_finding sorted)
+pub in_report_order : (sorted : List Found) → IsSorted report_order sorted →
+    IsStrictlySortedBy report_order (dedup is_same_finding sorted)
 in_report_order sorted h = IsStrictlySortedBy-dedup order_laws.total-law order_laws.matches_eq-law sorted h
 
-pub same_findings : (found sorted : List Found) → IsPermutation found sorted → (finding : Found) → Contains (dedup is_same_finding sorted) finding ↔ Contains found finding
+pub same_findings : (found sorted : List Found) → IsPermutation found sorted → (finding : Found) →
+    Contains (dedup is_same_finding sorted) finding ↔ Contains found finding
 same_findings found sorted h finding = (
-  (λ kept. Contains-permutation sorted found finding (IsPermutation-sym found sorted h) (Contains-from_dedup is_same_finding sorted finding kept)),
-  (λ was. Contains-dedup same_laws.laws-law one_finding sorted finding (Contains-permutation found sorted finding h was)),
+  (λ kept. Contains-permutation sorted found finding (IsPermutation-sym found sorted h)
+      (Contains-from_dedup is_same_finding sorted finding kept)),
+  (λ was. Contains-dedup same_laws.laws-law one_finding sorted finding
+      (Contains-permutation found sorted finding h was)),
 )

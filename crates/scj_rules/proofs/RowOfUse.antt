@@ -305,4 +305,34 @@ controller_accepted = accepted controller controller_class controller_type contr
 
 pub controller_is_forest : IsForest controller
 unfolding computing times all_children children_first all_below are_distinct AllClasses
-controller_is_forest = forest_passes controller refl refl ((Class (at 0 1 7) (codes "App") None (Some 1) (6 ∷ 11 ∷ 14 ∷ []), refl, is_class), ((Class (at 0 6 7) (codes "Seq") None (Some 17) (19 ∷ 26 ∷ 42 ∷ []), refl, is_class), ((Class (at 1 2 7) (codes "Main") (Some 47) (Some 49) (54 ∷ 89 ∷ []), refl, is_class), ((Class (at 1 15 19) (codes "Tank") (Some 92) None (94 ∷ 105 ∷ 112 ∷ []), refl, is_class), ((Class (at 1 20 7) (codes "Box") None None (115 ∷ 123 ∷ []), refl, is_class), ((Class (at 1 21 55) (codes "Alarm") (Some 129) (Some 131) (133 ∷ 147 ∷ 156 ∷ []), refl, is_class), ((Class (at 1 26 55) (codes "Sensor") (Some 162) (Some 164) (166 ∷ 168 ∷ 193 ∷ 215 ∷ []), refl, is_class), ((Class (at 1 35 55) (codes "Pump") (Some 221) (Some 223) (225 ∷ 245 ∷ 254 ∷ []), refl, is_class), tt)))))))) (omega arith) (omega arith)
+controller_is_forest =
+    forest_passes controller refl refl (
+      (Class (at 0 1 7) (codes "App") None (Some 1) (6 ∷ 11 ∷ 14 ∷ []), refl, is_class),
+      (
+        (Class (at 0 6 7) (codes "Seq") None (Some 17) (19 ∷ 26 ∷ 42 ∷ []), refl, is_class),
+        (
+          (Class (at 1 2 7) (codes "Main") (Some 47) (Some 49) (54 ∷ 89 ∷ []), refl, is_class),
+          (
+            (Class (at 1 15 19) (codes "Tank") (Some 92) None (94 ∷ 105 ∷ 112 ∷ []), refl, is_class),
+            (
+              (Class (at 1 20 7) (codes "Box") None None (115 ∷ 123 ∷ []), refl, is_class),
+              (
+                (Class (at 1 21 55) (codes "Alarm") (Some 129) (Some 131) (133 ∷ 147 ∷ 156 ∷ []), refl, is_class),
+                (
+                  (
+                    Class (at 1 26 55) (codes "Sensor") (Some 162) (Some 164) (166 ∷ 168 ∷ 193 ∷ 215 ∷ []),
+                    refl,
+                    is_class,
+                  ),
+                  (
+                    (Class (at 1 35 55) (codes "Pump") (Some 221) (Some 223) (225 ∷ 245 ∷ 254 ∷ []), refl, is_class),
+                    tt,
+                  ),
+                ),
+              ),
+            ),
+          ),
+        ),
+      ),
+    )
+    (omega arith) (omega arith)

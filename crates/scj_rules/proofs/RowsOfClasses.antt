@@ -230,7 +230,8 @@ three_classes_right : class_phase (declarations_of three_breaks) ≡ []
 unfolding computing
 three_classes_right = refl
 
-three_broken : type_phase (declarations_of three_breaks) ≡ found T1 (at 1 1 28) ∷ found T9 (at 1 1 47) ∷ found T10 (at 1 1 63) ∷ []
+three_broken : type_phase (declarations_of three_breaks) ≡ found T1 (at 1 1 28) ∷ found T9 (at 1 1 47)
+    ∷ found T10 (at 1 1 63) ∷ []
 unfolding computing
 three_broken = refl
 

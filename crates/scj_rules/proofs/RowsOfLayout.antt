@@ -8,16 +8,21 @@ use Rattle.scj_tree.specs.Forest.{Forest}
 use Rattle.scj_builtins.specs.Framework.{object, mission, mission_clean_up, mission_initialize, periodic_handler_handle_async_event, aperiodic_handler_handle_async_event, safelet_get_sequencer}
 use Rattle.scj_rules.specs.declared.views.Declared.{Declared}
 use Rattle.scj_rules.specs.declared.views.SlotKind.TheVariants.{Number, Truth, Reference}
+use Rattle.scj_rules.specs.Words.{◌>>=◌}
 use Rattle.scj_rules.specs.Contexts.{Declarations, declarations_of}
-use Rattle.scj_rules.specs.Layout.{kind_of_type, declared_fields, field_kind, literal_written, field_literal, slots, slot_of, fields_with_literal, size_with_slots, object_size, array_size, element_kind, element_class, static_fields, static_place}
+use Rattle.scj_rules.specs.Layout.{kind_of_type, declared_fields, field_kind, literal_written, field_literal, slots, slot_of, fields_with_literal, declaring_class, size_with_slots, element_kind, class_of_elements, static_fields, static_place, place_of_field}
 use Rattle.scj_rules.specs.declared.views.Body.TheVariants.{Written as written, Empty as empty}
-use Rattle.scj_rules.specs.Bodies.{method_name, body_of_method, body_named, body_of, class_node, class_of_body, constructor_of, parameter_list, body_parameters, locals, is_synchronized_body, number_literal, number_returned, size_constant, declared_size, immortal_size, mission_size, safelet_class, class_place}
+use Rattle.scj_rules.specs.Bodies.{method_node, method_name, number_of_method, body_of_method, body_named, invoked_method, body_of, class_node, class_of_body, constructor_body, locals, is_synchronized_body, number_literal, number_returned, size_constant, declared_size, size_of, safelet_class, class_place}
 use Rattle.scj_rules.proofs.Computing.{computing}
 use Rattle.scj_rules.proofs.RowOfUse.{controller}
 use Rattle.scj_rules.proofs.RowOfBindings.{small_program}
 
 unfoldable pub computing_layout : Unit {0}
-unfolding computing kind_of_type declared_fields field_kind literal_written slots slot_of fields_with_literal size_with_slots element_kind element_class static_fields static_place method_name body_of_method body_named body_of class_of_body constructor_of parameter_list body_parameters is_synchronized_body number_literal number_returned size_constant declared_size safelet_class class_place
+unfolding computing kind_of_type declared_fields field_kind literal_written slots slot_of declaring_class
+    fields_with_literal size_with_slots element_kind class_of_elements static_fields static_place place_of_field
+    method_node method_name number_of_method body_of_method body_named invoked_method body_of class_of_body
+    constructor_body is_synchronized_body number_literal number_returned size_constant declared_size size_of
+    safelet_class class_place
 computing_layout = tt
 
 abbrev p : Declarations
@@ -29,7 +34,8 @@ slots_of_controller : map (slots p) (16 ∷ 17 ∷ 18 ∷ 19 ∷ 20 ∷ 21 ∷ 2
 unfolding computing_layout
 slots_of_controller = refl
 
-sizes_of_controller : map (object_size p) (object ∷ 18 ∷ 20 ∷ 21 ∷ 22 ∷ []) ≡ 16 ∷ 16 ∷ 24 ∷ 40 ∷ 64 ∷ []
+sizes_of_controller : map (λ class. size_with_slots (slots p class)) (object ∷ 18 ∷ 20 ∷ 21 ∷ 22 ∷ []) ≡ 16 ∷ 16 ∷ 24
+    ∷ 40 ∷ 64 ∷ []
 unfolding computing_layout
 sizes_of_controller = refl
 
@@ -44,11 +50,12 @@ unfolding computing_layout
 kinds_of_fields = refl
 
 sizes_of_areas :
-    safelet_class p ∷ immortal_size p 16 ∷ mission_size p 18 ∷ mission_size p 19 ∷ [] ≡ Some 16 ∷ Some 400 ∷ Some 200 ∷ None ∷ []
+    safelet_class p ∷ size_of p 16 ∷ size_of p 18 ∷ size_of p 19 ∷ [] ≡ Some 16 ∷ Some 400 ∷ Some 200 ∷ None ∷ []
 unfolding computing_layout
 sizes_of_areas = refl
 
--- getSequencer, handleAsyncEvent of two handlers, Tank's get (number 27), which a box hasn't, and the framework's cleanUp
+-- getSequencer, handleAsyncEvent of two handlers, Tank's get (number 27), which a box hasn't, and the framework's
+-- cleanUp
 bodies_of_controller :
     body_of p 16 safelet_get_sequencer
     ∷ body_of p 22 periodic_handler_handle_async_event
@@ -62,8 +69,19 @@ bodies_of_controller :
 unfolding computing_layout
 bodies_of_controller = refl
 
+-- Tank's get has the node 112 and the number 27, the framework's methods have no node
+numbers_of_methods :
+    method_node p 27
+    ∷ method_node p safelet_get_sequencer
+    ∷ (invoked_method p 19 27 >>= number_of_method p)
+    ∷ (invoked_method p mission mission_initialize >>= number_of_method p)
+    ∷ []
+    ≡ Some 112 ∷ None ∷ Some 27 ∷ Some mission_initialize ∷ []
+unfolding computing_layout
+numbers_of_methods = refl
+
 constructors_of_controller :
-    constructor_of p 20 ∷ constructor_of p 16 ∷ constructor_of p object ∷ constructor_of p mission ∷ []
+    constructor_body p 20 ∷ constructor_body p 16 ∷ constructor_body p object ∷ constructor_body p mission ∷ []
     ≡ Some (written 123) ∷ Some (written 15) ∷ Some empty ∷ None ∷ []
 unfolding computing_layout
 constructors_of_controller = refl
@@ -72,10 +90,6 @@ constructors_of_controller = refl
 locals_of_controller : map (locals p) (193 ∷ 215 ∷ 89 ∷ 15 ∷ []) ≡ 2 ∷ 1 ∷ 4 ∷ 0 ∷ []
 unfolding computing_layout
 locals_of_controller = refl
-
-parameters_of_controller : map (λ (d : Declared). d.node) (body_parameters p 193) ≡ 170 ∷ 172 ∷ []
-unfolding computing_layout
-parameters_of_controller = refl
 
 synchronized_bodies : map (is_synchronized_body p) (105 ∷ 112 ∷ 89 ∷ 15 ∷ []) ≡ true ∷ true ∷ false ∷ false ∷ []
 unfolding computing_layout
@@ -109,6 +123,10 @@ statics : static_place q 1 ∷ static_place q 0 ∷ [] ≡ Some 0 ∷ None ∷ [
 unfolding computing_layout
 statics = refl
 
+places_of_fields : map (place_of_field q) (0 ∷ 1 ∷ 2 ∷ 3 ∷ 5 ∷ []) ≡ Some 0 ∷ Some 0 ∷ Some 1 ∷ Some 2 ∷ None ∷ []
+unfolding computing_layout
+places_of_fields = refl
+
 -- there are 18 classes; behind them come the arrays of int, of boolean and of the classes 0 to 17
 elements :
     map (element_kind q) (17 ∷ 18 ∷ 19 ∷ 36 ∷ 37 ∷ 38 ∷ [])
@@ -116,13 +134,9 @@ elements :
 unfolding computing_layout
 elements = refl
 
-classes_of_elements : map (element_class q) (18 ∷ 19 ∷ 36 ∷ 38 ∷ []) ≡ None ∷ None ∷ Some 16 ∷ None ∷ []
+classes_of_elements : map (class_of_elements q) (18 ∷ 19 ∷ 36 ∷ 38 ∷ []) ≡ None ∷ None ∷ Some 16 ∷ None ∷ []
 unfolding computing_layout
 classes_of_elements = refl
-
-size_of_array : array_size 2 ≡ 32
-unfolding computing_layout
-size_of_array = refl
 
 -- A inherits Q's method g (number 19)
 inherited_body : body_of q 17 19 ≡ Some (written 25)

@@ -1,5 +1,5 @@
--- The definitions at small programs: a store into an own field, an override that runs elsewhere, a scope that is defined
--- twice, a cycle of scopes, parents and classes that don't suit a scope.
+-- The definitions at small programs: a store into an own field, an override that runs elsewhere, a scope that is
+-- defined twice, a cycle of scopes, parents and classes that don't suit a scope.
 use Rattle.std.proofs.Common.{◌≡◌, ℕ, [], ◌∷◌, refl, Some, None, codes, true, false}
 use Rattle.scj_base.specs.declared.findings.Found.{Found}
 use Rattle.scj_base.specs.declared.findings.Rule.{Rule}
@@ -504,11 +504,13 @@ scope_cycle_type : type_phase (declarations_of scope_cycle) ≡ []
 unfolding computing
 scope_cycle_type = refl
 
-scope_cycle_scope : scope_phase (declarations_of scope_cycle) ≡ found S3 (at 1 1 31) ∷ found S3 (at 1 2 31) ∷ found S3 (at 1 3 31) ∷ []
+scope_cycle_scope : scope_phase (declarations_of scope_cycle) ≡ found S3 (at 1 1 31) ∷ found S3 (at 1 2 31)
+    ∷ found S3 (at 1 3 31) ∷ []
 unfolding computing
 scope_cycle_scope = refl
 
--- `@DefineScope(name="A", parent="B") class X { }`, `@DefineScope(name="M", parent="A") class Y extends Mission { }` and
+-- `@DefineScope(name="A", parent="B") class X { }`, `@DefineScope(name="M", parent="A") class Y extends Mission { }`
+-- and
 -- `class Z extends Mission { }`, on a line each
 abbrev pub misfits : Forest
 misfits =
@@ -533,13 +535,15 @@ misfits =
       files = ((4 ∷ 11 ∷ 14 ∷ []) ∷ []);
     }
 
-misfits_scope : scope_phase (declarations_of misfits) ≡ found S2 (at 0 1 31) ∷ found S4 (at 0 1 19) ∷ found S5 (at 0 2 31) ∷ found S6 (at 0 3 7) ∷ []
+misfits_scope : scope_phase (declarations_of misfits) ≡ found S2 (at 0 1 31) ∷ found S4 (at 0 1 19)
+    ∷ found S5 (at 0 2 31) ∷ found S6 (at 0 3 7) ∷ []
 unfolding computing
 misfits_scope = refl
 
 pub in_constructor_accepted : IsAccepted own_field_in_constructor
 unfolding computing
-in_constructor_accepted = accepted own_field_in_constructor in_constructor_class in_constructor_type in_constructor_scope in_constructor_use
+in_constructor_accepted =
+    accepted own_field_in_constructor in_constructor_class in_constructor_type in_constructor_scope in_constructor_use
 
 pub same_runs_in_accepted : IsAccepted same_runs_in
 unfolding computing

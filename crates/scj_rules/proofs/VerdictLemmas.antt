@@ -9,22 +9,30 @@ use Rattle.scj_rules.specs.Phases.{Reports, in_classes, in_types, in_scopes, in_
 use Rattle.scj_rules.proofs.ReportLemmas.{none_contained}
 
 -- an empty report says that nothing is broken
-pub nothing_found : (breaks : Rule → Pos → Type 0) (found : List Found) → length found ≡ 0 → IsReport breaks found → NothingBreaks breaks
-nothing_found breaks [] e r = λ rule place broken. none_contained _ ((r.exact (record { pos = place; rule = rule })).1 broken)
+pub nothing_found : (breaks : Rule → Pos → Type 0) (found : List Found) → length found ≡ 0 → IsReport breaks found →
+    NothingBreaks breaks
+nothing_found breaks [] e r =
+    λ rule place broken. none_contained _ ((r.exact (record { pos = place; rule = rule })).1 broken)
 nothing_found breaks (first ∷ more) e r = absurd (omega (arith, e))
 
-pub told_of_classes : (forest : Forest) (found : List Found) → 0 < length found → IsReport (BreaksClassRules forest) found → Reports forest None found
+pub told_of_classes : (forest : Forest) (found : List Found) → 0 < length found →
+    IsReport (BreaksClassRules forest) found → Reports forest None found
 told_of_classes forest [] some r = absurd (omega (arith, some))
 told_of_classes forest (first ∷ more) some r = in_classes r
 
-pub told_of_types : (forest : Forest) (found : List Found) → 0 < length found → NothingBreaks (BreaksClassRules forest) → IsReport (BreaksTypeRules forest) found → Reports forest None found
+pub told_of_types : (forest : Forest) (found : List Found) → 0 < length found →
+    NothingBreaks (BreaksClassRules forest) → IsReport (BreaksTypeRules forest) found → Reports forest None found
 told_of_types forest [] some c r = absurd (omega (arith, some))
 told_of_types forest (first ∷ more) some c r = in_types c r
 
-pub told_of_scopes : (forest : Forest) (found : List Found) → 0 < length found → NothingBreaks (BreaksClassRules forest) → NothingBreaks (BreaksTypeRules forest) → IsReport (BreaksScopeRules forest) found → Reports forest None found
+pub told_of_scopes : (forest : Forest) (found : List Found) → 0 < length found →
+    NothingBreaks (BreaksClassRules forest) → NothingBreaks (BreaksTypeRules forest) →
+    IsReport (BreaksScopeRules forest) found → Reports forest None found
 told_of_scopes forest [] some c t r = absurd (omega (arith, some))
 told_of_scopes forest (first ∷ more) some c t r = in_scopes c t r
 
-pub told_of_uses : (forest : Forest) (found : List Found) → 0 < length found → NothingBreaks (BreaksClassRules forest) → NothingBreaks (BreaksTypeRules forest) → NothingBreaks (BreaksScopeRules forest) → IsReport (BreaksUseRules forest) found → Reports forest None found
+pub told_of_uses : (forest : Forest) (found : List Found) → 0 < length found → NothingBreaks (BreaksClassRules forest) →
+    NothingBreaks (BreaksTypeRules forest) → NothingBreaks (BreaksScopeRules forest) →
+    IsReport (BreaksUseRules forest) found → Reports forest None found
 told_of_uses forest [] some c t s r = absurd (omega (arith, some))
 told_of_uses forest (first ∷ more) some c t s r = in_uses c t s r

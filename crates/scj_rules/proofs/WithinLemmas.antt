@@ -21,7 +21,8 @@ use Rattle.scj_rules.proofs.ChainLemmas.{chain_reaches, or_left, or_right, or_ca
 position-below : {X : Type 0} (test : X → Bool) (xs : List X) (k : ℕ) → position test xs ≡ Some k → k < length xs
 position-below test xs k h = go (nat_lt (position_or_len test xs) (length xs)) refl h
   where
-    go : (t : Bool) → nat_lt (position_or_len test xs) (length xs) ≡ t → cond t (Some (position_or_len test xs)) None ≡ Some k → k < length xs
+    go : (t : Bool) → nat_lt (position_or_len test xs) (length xs) ≡ t →
+        cond t (Some (position_or_len test xs)) None ≡ Some k → k < length xs
     go true e h =
         let same : position_or_len test xs ≡ k = cc in
         (let P : ℕ → Type 0 = λ x. x < length xs in subst P same (grind (arith, nat_tests)))
@@ -39,7 +40,8 @@ AllWithin : ℕ → List ClassRow → Type 0
 AllWithin n [] = Unit {0}
 AllWithin n (row ∷ rows) = RowWithin n row × AllWithin n rows
 
-within-get : (n : ℕ) (rows : List ClassRow) (a : ℕ) (row : ClassRow) → AllWithin n rows → slice_get rows a ≡ Some row → RowWithin n row
+within-get : (n : ℕ) (rows : List ClassRow) (a : ℕ) (row : ClassRow) → AllWithin n rows → slice_get rows a ≡ Some row →
+    RowWithin n row
 unfolding AllWithin
 within-get n [] a row h e = cc
 within-get n (r ∷ rows) zero row h e = subst (RowWithin n) (let same : r ≡ row = cc in same) h.0
@@ -48,7 +50,8 @@ within-get n (r ∷ rows) (suc a) row h e = within-get n rows a row h.1 e
 stays-below : (n : ℕ) (rows : List ClassRow) → AllWithin n rows → StaysBelow (superclass_in rows) n
 stays-below n rows h a b e = go (slice_get rows a) refl e
   where
-    go : (o : Option ClassRow) → slice_get rows a ≡ o → option_and_then (λ (row : ClassRow). row.superclass) o ≡ Some b → b < n
+    go : (o : Option ClassRow) → slice_get rows a ≡ o →
+        option_and_then (λ (row : ClassRow). row.superclass) o ≡ Some b → b < n
     go None e k = cc
     go (Some row) e k = within-get n rows a row h e b k
 
@@ -66,16 +69,19 @@ object-within n s false l e =
 framework-within : (n number : ℕ) (cs : List FrameworkClass) → 0 < n → AllWithin n (framework_rows_from number cs)
 unfolding AllWithin framework_rows_from framework_row
 framework-within n number [] l = tt
-framework-within n number (c ∷ cs) l = (λ s e. object-within n s (number == object) l e, framework-within n (number + 1) cs l)
+framework-within n number (c ∷ cs) l =
+    (λ s e. object-within n s (number == object) l e, framework-within n (number + 1) cs l)
 
-superclass-within : (names : List (List ℕ)) (extends : Option Written) → 0 < length names → (s : ℕ) → superclass_written names extends ≡ Some s → s < length names
+superclass-within : (names : List (List ℕ)) (extends : Option Written) → 0 < length names → (s : ℕ) →
+    superclass_written names extends ≡ Some s → s < length names
 unfolding superclass_written class_number
 superclass-within names None l s e =
     let same : 0 ≡ s = cc in
     (let P : ℕ → Type 0 = λ x. x < length names in subst P same l)
 superclass-within names (Some w) l s e = position-below (is_same w.name) names s e
 
-users-within : (nodes : List Node) (names : List (List ℕ)) (users : List WrittenClass) → 0 < length names → AllWithin (length names) (map (user_row nodes names) users)
+users-within : (nodes : List Node) (names : List (List ℕ)) (users : List WrittenClass) → 0 < length names →
+    AllWithin (length names) (map (user_row nodes names) users)
 unfolding AllWithin user_row
 users-within nodes names [] l = tt
 users-within nodes names (c ∷ users) l = (superclass-within names c.extends l, users-within nodes names users l)
@@ -87,25 +93,34 @@ length-framework number (c ∷ cs) = ap suc (length-framework (number + 1) cs)
 
 length-names : (users : List WrittenClass) → length (class_names users) ≡ length framework_classes + length users
 unfolding class_names
-length-names users = length-append (map (λ (c : FrameworkClass). c.name) framework_classes) (map (λ (c : WrittenClass). c.name) users) ∙ (let a = length-map (λ (c : FrameworkClass). c.name) framework_classes in let b = length-map (λ (c : WrittenClass). c.name) users in rw (a, b) refl)
+length-names users = length-append (map (λ (c : FrameworkClass). c.name) framework_classes)
+    (map (λ (c : WrittenClass). c.name) users)
+    ∙ (let a = length-map (λ (c : FrameworkClass). c.name) framework_classes in
+    let b = length-map (λ (c : WrittenClass). c.name) users in rw (a, b) refl)
 
-length-written : (nodes : List Node) (users : List WrittenClass) → length (written_rows nodes users) ≡ length (class_names users)
+length-written : (nodes : List Node) (users : List WrittenClass) →
+    length (written_rows nodes users) ≡ length (class_names users)
 unfolding written_rows
 length-written nodes users =
     length-append (framework_rows_from 0 framework_classes) (map (user_row nodes (class_names users)) users)
-    ∙ (let a = length-framework 0 framework_classes in let b = length-map (user_row nodes (class_names users)) users in rw (a, b) (sym (length-names users)))
+    ∙ (let a = length-framework 0 framework_classes in let b = length-map (user_row nodes (class_names users)) users in
+    rw (a, b) (sym (length-names users)))
 
 some-names : (users : List WrittenClass) → 0 < length (class_names users)
 unfolding framework_classes
 some-names users = rw (length-names users) (omega arith)
 
-written-within : (nodes : List Node) (users : List WrittenClass) → AllWithin (length (class_names users)) (written_rows nodes users)
+written-within : (nodes : List Node) (users : List WrittenClass) →
+    AllWithin (length (class_names users)) (written_rows nodes users)
 unfolding written_rows
 written-within nodes users =
-    within-append (length (class_names users)) (framework_rows_from 0 framework_classes) (map (user_row nodes (class_names users)) users)
-    (framework-within (length (class_names users)) 0 framework_classes (some-names users)) (users-within nodes (class_names users) users (some-names users))
+    within-append (length (class_names users)) (framework_rows_from 0 framework_classes)
+    (map (user_row nodes (class_names users)) users)
+    (framework-within (length (class_names users)) 0 framework_classes (some-names users))
+    (users-within nodes (class_names users) users (some-names users))
 
-counted-row-within : (n : ℕ) (names : List (List ℕ)) (all : List ClassRow) (class : ℕ) (row : ClassRow) → 0 < n → RowWithin n row → RowWithin n (counted_row names all class row)
+counted-row-within : (n : ℕ) (names : List (List ℕ)) (all : List ClassRow) (class : ℕ) (row : ClassRow) → 0 < n →
+    RowWithin n row → RowWithin n (counted_row names all class row)
 unfolding counted_row
 counted-row-within n names all class row l h = go row.written
   where
@@ -116,45 +131,64 @@ counted-row-within n names all class row l h = go row.written
     pick true = h
     pick false = λ s e. object-within n s false l e
 
-    go : (o : Option WrittenClass) → RowWithin n (elim o [ None ↦ row | Some c ↦ if is_well_headed names all class c then row else record row { superclass = Some object; interfaces = [] } ])
+    go : (o : Option WrittenClass) →
+        RowWithin n
+        (elim o [
+          | None ↦ row
+          | Some c ↦ if is_well_headed names all class c then row else record row
+              { superclass = Some object; interfaces = [] }
+        ])
     go None = h
     go (Some c) = pick (is_well_headed names all class c)
 
-counted-within : (n : ℕ) (names : List (List ℕ)) (all : List ClassRow) (class : ℕ) (rows : List ClassRow) → 0 < n → AllWithin n rows → AllWithin n (counted_from names all class rows)
+counted-within : (n : ℕ) (names : List (List ℕ)) (all : List ClassRow) (class : ℕ) (rows : List ClassRow) → 0 < n →
+    AllWithin n rows → AllWithin n (counted_from names all class rows)
 unfolding AllWithin counted_from
 counted-within n names all class [] l h = tt
-counted-within n names all class (row ∷ rows) l h = (counted-row-within n names all class row l h.0, counted-within n names all (class + 1) rows l h.1)
+counted-within n names all class (row ∷ rows) l h =
+    (counted-row-within n names all class row l h.0, counted-within n names all (class + 1) rows l h.1)
 
-pub length-counted : (names : List (List ℕ)) (all : List ClassRow) (class : ℕ) (rows : List ClassRow) → length (counted_from names all class rows) ≡ length rows
+pub length-counted : (names : List (List ℕ)) (all : List ClassRow) (class : ℕ) (rows : List ClassRow) →
+    length (counted_from names all class rows) ≡ length rows
 unfolding counted_from
 length-counted names all class [] = refl
 length-counted names all class (row ∷ rows) = ap suc (length-counted names all (class + 1) rows)
 
 -- the superclasses of the classes of a program, as written and as they count
-pub written-stays : (forest : Forest) → StaysBelow (superclass_in (declarations_of forest).written) (length (declarations_of forest).written)
+pub written-stays : (forest : Forest) → StaysBelow (superclass_in (declarations_of forest).written)
+    (length (declarations_of forest).written)
 unfolding declarations_of
 written-stays forest =
     let users = user_classes forest in
-    let h = stays-below (length (class_names users)) (written_rows forest.nodes users) (written-within forest.nodes users) in
-    (let P : ℕ → Type 0 = λ n. StaysBelow (superclass_in (written_rows forest.nodes users)) n in subst P (sym (length-written forest.nodes users)) h)
+    let h = stays-below (length (class_names users)) (written_rows forest.nodes users)
+    (written-within forest.nodes users) in
+    (let P : ℕ → Type 0 = λ n. StaysBelow (superclass_in (written_rows forest.nodes users)) n in
+    subst P (sym (length-written forest.nodes users)) h)
 
-pub counted-stays : (forest : Forest) → StaysBelow (superclass_in (declarations_of forest).classes) (length (declarations_of forest).classes)
+pub counted-stays : (forest : Forest) → StaysBelow (superclass_in (declarations_of forest).classes)
+    (length (declarations_of forest).classes)
 unfolding declarations_of
 counted-stays forest =
     let users = user_classes forest in
     let rows = written_rows forest.nodes users in
     let counted = counted_from (class_names users) rows 0 rows in
-    let h = stays-below (length (class_names users)) counted (counted-within (length (class_names users)) (class_names users) rows 0 rows (some-names users) (written-within forest.nodes users)) in
-    let same : length counted ≡ length (class_names users) = length-counted (class_names users) rows 0 rows ∙ length-written forest.nodes users in
+    let h =
+    stays-below (length (class_names users)) counted
+    (counted-within (length (class_names users)) (class_names users) rows 0 rows (some-names users)
+    (written-within forest.nodes users)) in
+    let same : length counted ≡ length (class_names users) = length-counted (class_names users) rows 0 rows
+    ∙ length-written forest.nodes users in
     (let P : ℕ → Type 0 = λ n. StaysBelow (superclass_in counted) n in subst P (sym same) h)
 
 -- ---- the parents of scopes
 
-number-within : (nodes : List ℕ) (node k : ℕ) → number_of_class nodes node ≡ Some k → k < first_user_class + length nodes
+number-within : (nodes : List ℕ) (node k : ℕ) → number_of_class nodes node ≡ Some k →
+    k < first_user_class + length nodes
 unfolding number_of_class
 number-within nodes node k h = go (position (λ other. node == other) nodes) refl h
   where
-    go : (o : Option ℕ) → position (λ other. node == other) nodes ≡ o → option_map (λ j. first_user_class + j) o ≡ Some k → k < first_user_class + length nodes
+    go : (o : Option ℕ) → position (λ other. node == other) nodes ≡ o →
+        option_map (λ j. first_user_class + j) o ≡ Some k → k < first_user_class + length nodes
     go None e h = cc
     go (Some j) e h =
         let same : first_user_class + j ≡ k = cc in
@@ -164,15 +198,19 @@ number-within nodes node k h = go (position (λ other. node == other) nodes) ref
 abbrev user_nodes : Declarations → List ℕ
 user_nodes p = map (λ (c : WrittenClass). c.node) p.users
 
-named-within : (p : Declarations) (s : ℕ) (o : Option Definition) → option_and_then (scope_of_definition p) o ≡ Some s → s < first_user_class + length (user_nodes p)
+named-within : (p : Declarations) (s : ℕ) (o : Option Definition) → option_and_then (scope_of_definition p) o ≡ Some s →
+    s < first_user_class + length (user_nodes p)
 named-within p s None h = cc
 named-within p s (Some d) h = number-within (user_nodes p) d.class s h
 
-scope-within : (p : Declarations) (name : List ℕ) (s : ℕ) → scope_number p name ≡ Some s → s < first_user_class + length (user_nodes p)
+scope-within : (p : Declarations) (name : List ℕ) (s : ℕ) → scope_number p name ≡ Some s →
+    s < first_user_class + length (user_nodes p)
 unfolding scope_number
 scope-within p name s h = go (is_same name immortal) h
   where
-    go : (t : Bool) → (if t then Some immortal_scope else option_and_then (scope_of_definition p) (first_definition p.scopes name)) ≡ Some s → s < first_user_class + length (user_nodes p)
+    go : (t : Bool) →
+        (if t then Some immortal_scope else option_and_then (scope_of_definition p) (first_definition p.scopes name))
+        ≡ Some s → s < first_user_class + length (user_nodes p)
     go true h =
         let same : 0 ≡ s = cc in
         (let P : ℕ → Type 0 = λ x. x < first_user_class + length (user_nodes p) in subst P same (omega arith))
@@ -182,32 +220,49 @@ parent-within : (p : Declarations) (a b : ℕ) → parent_scope p a ≡ Some b �
 unfolding parent_scope
 parent-within p a b h = go (definition_in p a) h
   where
-    go : (o : Option Definition) → option_and_then (λ (d : Definition). scope_number p d.parent.name) o ≡ Some b → b < first_user_class + length (user_nodes p)
+    go : (o : Option Definition) → option_and_then (λ (d : Definition). scope_number p d.parent.name) o ≡ Some b →
+        b < first_user_class + length (user_nodes p)
     go None h = cc
     go (Some d) h = scope-within p d.parent.name b h
 
-length-classes : (forest : Forest) → length (declarations_of forest).classes ≡ first_user_class + length (user_nodes (declarations_of forest))
+length-classes : (forest : Forest) → length (declarations_of forest).classes ≡ first_user_class + length
+    (user_nodes (declarations_of forest))
 unfolding declarations_of framework_classes
 length-classes forest =
     let users = user_classes forest in
     let rows = written_rows forest.nodes users in
-    length-counted (class_names users) rows 0 rows ∙ length-written forest.nodes users ∙ length-names users ∙ sym (ap (λ (n : ℕ). first_user_class + n) (length-map (λ (c : WrittenClass). c.node) users))
+    length-counted (class_names users) rows 0 rows ∙ length-written forest.nodes users ∙ length-names users
+    ∙ sym (ap (λ (n : ℕ). first_user_class + n) (length-map (λ (c : WrittenClass). c.node) users))
 
 -- the parents of the scopes of a program are numbers of its classes
-pub parents-stay : (forest : Forest) → StaysBelow (parent_scope (declarations_of forest)) (length (declarations_of forest).classes)
-parents-stay forest a b h = (let P : ℕ → Type 0 = λ n. b < n in subst P (sym (length-classes forest)) (parent-within (declarations_of forest) a b h))
+pub parents-stay : (forest : Forest) → StaysBelow (parent_scope (declarations_of forest))
+    (length (declarations_of forest).classes)
+parents-stay forest a b h =
+    (let P : ℕ → Type 0 = λ n. b < n in
+    subst P (sym (length-classes forest)) (parent-within (declarations_of forest) a b h))
 
 -- the root is outer of all, and any other scope of itself and of what it is reached from
 pub outer-reaches : (forest : Forest) (a b : ℕ) → b < length (declarations_of forest).classes
-    → (is_outer (declarations_of forest) a b ≡ true) ↔ ((a ≡ immortal_scope) ⊎ ((b ≡ a) ⊎ Follows (parent_scope (declarations_of forest)) b a))
+    → (is_outer (declarations_of forest) a b ≡ true) ↔
+    ((a ≡ immortal_scope) ⊎ ((b ≡ a) ⊎ Follows (parent_scope (declarations_of forest)) b a))
 unfolding is_outer
-outer-reaches forest a b l = (there, ⊎_elim (λ (e : a ≡ immortal_scope). or_left _ _ (is_same_number a immortal_scope e)) (λ (r : (b ≡ a) ⊎ Follows (parent_scope (declarations_of forest)) b a). or_right _ _ (reaches.1 r)))
+outer-reaches forest a b l = (
+  there,
+  ⊎_elim (λ (e : a ≡ immortal_scope). or_left _ _ (is_same_number a immortal_scope e))
+      (λ (r : (b ≡ a) ⊎ Follows (parent_scope (declarations_of forest)) b a). or_right _ _ (reaches.1 r)),
+)
   where
-    reaches : (is_among a (chain (parent_scope (declarations_of forest)) (length (declarations_of forest).classes) b) ≡ true) ↔ ((b ≡ a) ⊎ Follows (parent_scope (declarations_of forest)) b a)
-    reaches = chain_reaches (parent_scope (declarations_of forest)) (length (declarations_of forest).classes) b a (parents-stay forest) l
+    reaches : (is_among a (chain (parent_scope (declarations_of forest)) (length (declarations_of forest).classes) b)
+        ≡ true) ↔ ((b ≡ a) ⊎ Follows (parent_scope (declarations_of forest)) b a)
+    reaches = chain_reaches (parent_scope (declarations_of forest)) (length (declarations_of forest).classes) b a
+        (parents-stay forest) l
 
-    there : ((a == immortal_scope) || is_among a (chain (parent_scope (declarations_of forest)) (length (declarations_of forest).classes) b)) ≡ true
+    there : ((a == immortal_scope)
+        || is_among a (chain (parent_scope (declarations_of forest)) (length (declarations_of forest).classes) b))
+        ≡ true
         → (a ≡ immortal_scope) ⊎ ((b ≡ a) ⊎ Follows (parent_scope (declarations_of forest)) b a)
     there h = ⊎_elim (λ (e : (a == immortal_scope) ≡ true). inl (same_number a immortal_scope e))
-        (λ (e : is_among a (chain (parent_scope (declarations_of forest)) (length (declarations_of forest).classes) b) ≡ true). inr (reaches.0 e))
-        (or_cases (a == immortal_scope) (is_among a (chain (parent_scope (declarations_of forest)) (length (declarations_of forest).classes) b)) h)
+        (λ (e : is_among a (chain (parent_scope (declarations_of forest)) (length (declarations_of forest).classes) b)
+        ≡ true). inr (reaches.0 e))
+        (or_cases (a == immortal_scope)
+        (is_among a (chain (parent_scope (declarations_of forest)) (length (declarations_of forest).classes) b)) h)

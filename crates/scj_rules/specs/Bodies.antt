@@ -1,36 +1,50 @@
 -- The bodies that a run calls: the method that a class has for a name (JLS 15.12.4.4), constructors (JLS 8.8), locals,
 -- the constants of the size methods, and what the framework itself looks up of the safelet and the missions (JSR 302:
 -- Safelet, Mission). Each is said of any program, also of one that breaks rules.
-use Rattle.std.specs.Prelude.{ℕ, ◌-◌, nat_lt, Bool, false, ◌==◌, List, [], ◌∷◌, length, map, find, slice_get, Option, Some, None, if◌then◌else◌, option_map, unwrap_or, codes}
+use Rattle.std.specs.Prelude.{ℕ, ◌-◌, nat_lt, Bool, ◌==◌, List, [], ◌∷◌, length, map, find, slice_get, Option, Some, None, if◌then◌else◌, option_map, codes}
 use Rattle.scj_base.specs.declared.places.Pos.{Pos}
 use Rattle.scj_builtins.specs.declared.methods.FrameworkMethod.{FrameworkMethod}
 use Rattle.scj_builtins.specs.Framework.{framework_methods, object, mission_clean_up}
 use Rattle.scj_tree.specs.declared.nodes.Node.{Node}
-use Rattle.scj_tree.specs.declared.nodes.Node.TheVariants.{Method, Constructor, Block, Return, Number}
+use Rattle.scj_tree.specs.declared.nodes.Node.TheVariants.{Block, Return, Number}
 use Rattle.scj_rules.specs.declared.scopes.Written.{Written}
 use Rattle.scj_rules.specs.Definitions.{read}
 use Rattle.scj_rules.specs.Words.{◌>>=◌, or_else, holds}
-use Rattle.scj_rules.specs.Views.{DeclaredMethod, DeclaredConstructor, WrittenClass, nowhere, modifiers_at, parameters_of, callable_name}
-use Rattle.scj_rules.specs.Classes.{ClassRow, FoundMethod, method_nodes, method_named}
+use Rattle.scj_rules.specs.Views.{WrittenClass, nowhere, modifiers_at, callable_name}
+use Rattle.scj_rules.specs.Classes.{FoundMethod, method_nodes, method_number, method_named}
 use Rattle.scj_rules.specs.ClassRules.{numbers_from}
 use Rattle.scj_rules.specs.Contexts.{Declarations, context, number_of_class, member_flags}
 use Rattle.scj_rules.specs.LimitRules.{variables_of}
-use Rattle.scj_rules.specs.ScopeRules.{user_class_in}
+use Rattle.scj_rules.specs.ScopeRules.{user_class_in, is_mission}
 use Rattle.scj_rules.specs.Types.{constructor_in}
 use Rattle.scj_rules.specs.TypeRules.{is_concrete_safelet}
 use Rattle.scj_rules.specs.declared.views.Body.{Body}
 use Rattle.scj_rules.specs.declared.views.Body.TheVariants.{Written as written, Empty as empty}
-use Rattle.scj_rules.specs.declared.views.Declared.{Declared}
 
 -- ---- bodies
 
--- the name of the method or constructor of a number: the framework's methods have the first numbers
+-- the node of a declared method or constructor, by its number: the framework's methods have the first numbers, and no
+-- node
+unfoldable pub method_node : Declarations → ℕ → Option ℕ
+method_node p method =
+    if nat_lt method (length framework_methods) then None
+    else slice_get (method_nodes p.nodes p.users) (method - length framework_methods)
+
+-- the name of the method or constructor of a number
 unfoldable pub method_name : Declarations → ℕ → Option (List ℕ)
 method_name p method =
-    if nat_lt method (length framework_methods)
-    then option_map (λ (m : FrameworkMethod). m.name) (slice_get framework_methods method)
-    else option_map (λ (w : Written). w.name)
-    (slice_get (method_nodes p.nodes p.users) (method - length framework_methods) >>= read p.nodes callable_name)
+    elim (method_node p method) [
+      | Some node ↦ option_map (λ (w : Written). w.name) (read p.nodes callable_name node)
+      | None ↦ option_map (λ (m : FrameworkMethod). m.name) (slice_get framework_methods method)
+    ]
+
+-- the number of a method that was found
+unfoldable pub number_of_method : Declarations → FoundMethod → Option ℕ
+number_of_method p f =
+    elim f.method.builtin [
+      | Some number ↦ Some number
+      | None ↦ method_number p.nodes p.users f.method.declared.node
+    ]
 
 -- the body of a method: of the framework's methods cleanUp alone has one
 unfoldable pub body_of_method : FoundMethod → Option Body
@@ -44,9 +58,13 @@ body_of_method f =
 unfoldable pub body_named : Declarations → ℕ → List ℕ → Option Body
 body_named p class name = method_named p.classes class name >>= body_of_method
 
--- the body that a call of a method runs on an object of a class: that of the method which the class has for its name
+-- the method that a call of a method invokes on an object of a class: the one which the class has for its name
+unfoldable pub invoked_method : Declarations → ℕ → ℕ → Option FoundMethod
+invoked_method p class method = method_name p method >>= method_named p.classes class
+
+-- the body that such a call runs
 unfoldable pub body_of : Declarations → ℕ → ℕ → Option Body
-body_of p class method = method_name p method >>= body_named p class
+body_of p class method = invoked_method p class method >>= body_of_method
 
 -- the node of a user class, and the user class of a node
 abbrev pub class_node : Declarations → ℕ → Option ℕ
@@ -55,9 +73,9 @@ class_node p class = option_map (λ (c : WrittenClass). c.node) (user_class_in p
 abbrev pub class_at_node : Declarations → ℕ → Option ℕ
 class_at_node p node = number_of_class (map (λ (c : WrittenClass). c.node) p.users) node
 
--- the constructor that `new` runs for a class (JLS 8.8.9): the written one, else the class's node; Object's is empty
-unfoldable pub constructor_of : Declarations → ℕ → Option Body
-constructor_of p class =
+-- the body that `new` runs for a class (JLS 8.8.9): the written constructor, else the class itself; Object's is empty
+unfoldable pub constructor_body : Declarations → ℕ → Option Body
+constructor_body p class =
     if class == object then Some empty
     else (elim (constructor_in p.classes class) [
       | Some c ↦ Some (written c.node)
@@ -70,17 +88,6 @@ constructor_of p class =
 -- written
 unfoldable pub class_of_body : Declarations → ℕ → Option ℕ
 class_of_body p body = or_else (context p body).class (class_at_node p body)
-
--- the list of parameters of a method or a constructor
-unfoldable pub parameter_list : Node → Option ℕ
-parameter_list (Method place name flags result_type parameters body) = parameters
-parameter_list (Constructor place name flags parameters super_call body) = parameters
-parameter_list _ = None
-
--- the parameters of a body; a class's unwritten constructor has none
-unfoldable pub body_parameters : Declarations → ℕ → List Declared
-body_parameters p body =
-    unwrap_or (read p.nodes parameter_list body >>= read p.nodes (parameters_of p.nodes)) []
 
 -- the number of locals of a body, parameters included
 abbrev pub locals : Declarations → ℕ → ℕ
@@ -106,17 +113,18 @@ unfoldable pub size_constant : List Node → Node → Option ℕ
 size_constant nodes (Block place (statement ∷ [])) = read nodes (number_returned nodes) statement
 size_constant nodes _ = None
 
--- the bytes that a class declares by the size method of this name
+-- the bytes that a class declares by the method of this name
 unfoldable pub declared_size : Declarations → ℕ → List ℕ → Option ℕ
 declared_size p class name =
     method_named p.classes class name >>= (λ (f : FoundMethod). f.method.body) >>= read p.nodes (size_constant p.nodes)
 
--- the bytes of immortal memory, by the safelet's class, and of mission memory, by the mission's class
-abbrev pub immortal_size : Declarations → ℕ → Option ℕ
-immortal_size p class = declared_size p class (codes "immortalMemorySize")
+-- a mission's class declares the bytes of mission memory, a safelet's those of immortal memory
+abbrev pub size_method : Declarations → ℕ → List ℕ
+size_method p class =
+    if is_mission p class then codes "missionMemorySize" else codes "immortalMemorySize"
 
-abbrev pub mission_size : Declarations → ℕ → Option ℕ
-mission_size p class = declared_size p class (codes "missionMemorySize")
+unfoldable pub size_of : Declarations → ℕ → Option ℕ
+size_of p class = declared_size p class (size_method p class)
 
 -- the concrete class that implements Safelet
 unfoldable pub safelet_class : Declarations → Option ℕ

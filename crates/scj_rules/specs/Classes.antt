@@ -87,7 +87,8 @@ unfoldable pub framework_method : FrameworkMethod → DeclaredMethod
 framework_method m =
     record {
       declared = of_framework m.name m.is_static m.is_abstract (result_written m.gives);
-      parameters = map (λ (p : ParameterKind). of_framework [] false false (parameter_written p)) (parameter_list m.parameters);
+      parameters = map (λ (p : ParameterKind). of_framework [] false false (parameter_written p))
+          (parameter_list m.parameters);
       body = None;
       builtin = Some m.number;
       callable = m.callable;

@@ -1,11 +1,11 @@
 -- Object layout: the slots of the objects of a class, the sizes of objects and arrays, what a slot holds, and the
--- static fields (JLS 4.12.5, 8.3, 10.1; JSR 302 leaves the size of an object to the implementation). Each is said of any
--- program, also of one that breaks rules.
-use Rattle.std.specs.Prelude.{ℕ, ◌+◌, ◌-◌, ◌*◌, nat_lt, not, ◌||◌, ◌==◌, List, length, map, filter, flat_map, position, slice_get, Option, Some, None, if◌then◌else◌, is_some, option_map}
+-- static fields (JLS 4.12.5, 8.3, 10.1; JSR 302 leaves the size of an object to the implementation). Each is said of
+-- any program, also of one that breaks rules.
+use Rattle.std.specs.Prelude.{ℕ, ◌+◌, ◌-◌, ◌*◌, nat_lt, not, ◌||◌, ◌==◌, List, length, filter, flat_map, position, slice_get, Option, Some, None, if◌then◌else◌, is_some, option_map}
 use Rattle.scj_tree.specs.declared.nodes.Node.{Node}
 use Rattle.scj_tree.specs.declared.nodes.Node.TheVariants.{Field}
 use Rattle.scj_rules.specs.Definitions.{read}
-use Rattle.scj_rules.specs.Words.{◌>>=◌}
+use Rattle.scj_rules.specs.Words.{◌>>=◌, or_else}
 use Rattle.scj_rules.specs.Classes.{ClassRow, hidden_fields, instance_fields, own_instance_fields}
 use Rattle.scj_rules.specs.Contexts.{Declarations}
 use Rattle.scj_rules.specs.declared.views.Declared.{Declared}
@@ -59,6 +59,12 @@ slot_of p class field =
     field_numbered p field >>= (λ f.
     option_map (λ k. hidden_fields p.classes class + k) (place_among (instance_fields p.classes class) f))
 
+-- the class that declares a field
+unfoldable pub declaring_class : Declarations → ℕ → Option ℕ
+declaring_class p field =
+    field_numbered p field
+    >>= (λ f. position (λ (row : ClassRow). is_some (place_among row.fields f)) p.classes)
+
 -- the hidden slots of a handler: its priority and its storage; of a periodic one its start and its period too
 abbrev pub priority_slot : ℕ
 priority_slot = 0
@@ -82,12 +88,6 @@ fields_with_literal p class = filter (λ f. is_some (field_literal p f)) (own_in
 unfoldable pub size_with_slots : ℕ → ℕ
 size_with_slots count = 8 * (2 + count)
 
-abbrev pub object_size : Declarations → ℕ → ℕ
-object_size p class = size_with_slots (slots p class)
-
-abbrev pub array_size : ℕ → ℕ
-array_size length = size_with_slots length
-
 -- ---- arrays
 
 -- the classes of arrays have the numbers behind all classes: first of int, then of boolean, then of each class
@@ -103,8 +103,8 @@ element_kind p class =
     else (if nat_lt class (first_array_class p + 2 + length p.names) then Some Reference else None)))
 
 -- the class of the elements of an array of class type
-unfoldable pub element_class : Declarations → ℕ → Option ℕ
-element_class p class =
+unfoldable pub class_of_elements : Declarations → ℕ → Option ℕ
+class_of_elements p class =
     if nat_lt class (first_array_class p + 2) || not (nat_lt class (first_array_class p + 2 + length p.names)) then None
     else Some (class - (first_array_class p + 2))
 
@@ -117,3 +117,9 @@ static_fields p = filter (λ (f : Declared). f.modifiers.is_static) (declared_fi
 -- the place of a static field among all statics
 unfoldable pub static_place : Declarations → ℕ → Option ℕ
 static_place p field = field_numbered p field >>= place_among (static_fields p)
+
+-- where the value of a field lies: a static field's at its place among all statics, another one's in the slot that the
+-- field has in the objects of the class that declares it. In those of each class under that one it has the same slot
+unfoldable pub place_of_field : Declarations → ℕ → Option ℕ
+place_of_field p field =
+    or_else (static_place p field) (declaring_class p field >>= (λ class. slot_of p class field))

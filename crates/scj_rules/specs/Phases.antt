@@ -52,7 +52,8 @@ unfoldable pub use_phase : Declarations → List Found
 use_phase p =
     let types = types_in p in
     let scopes = scopes_in p (lookup None types) in
-    over_nodes p (λ id node. annotation_breaks p id node ++ use_breaks p (lookup None types) (lookup None scopes) id node)
+    over_nodes p (λ id node. annotation_breaks p id node
+    ++ use_breaks p (lookup None types) (lookup None scopes) id node)
 
 -- the break of a rule at a place is in a list, however often
 abbrev pub IsFound : List Found → Rule → Pos → Type 0

@@ -16,8 +16,8 @@ use Rattle.scj_rules.specs.Contexts.{Declarations, number_of_class}
 -- ---- scopes and their numbers
 
 -- A scope has the number of the class that is the first to define it. No class defines IMMORTAL: it has the number 0,
--- which no class of the sources has. As a class, 0 is Object, which is of the framework and writes no definition, so that
--- IMMORTAL has no parent and is the scope of no mission
+-- which no class of the sources has. As a class, 0 is Object, which is of the framework and writes no definition, so
+-- that IMMORTAL has no parent and is the scope of no mission
 abbrev pub immortal_scope : ℕ
 immortal_scope = 0
 
@@ -146,11 +146,15 @@ has_wrong_parent p class d = holds (scope_number p d.parent.name) (misfits_paren
 unfoldable pub s5 : Declarations → ℕ → Definition → List Found
 s5 p class d = broken (has_wrong_parent p class d) S5 d.parent.place
 
+-- objects of the class have a memory of their own: a mission's, or a handler's releases
+abbrev pub needs_scope : Declarations → ℕ → Bool
+needs_scope p class = is_mission p class || is_handler p class
+
 -- a concrete mission or handler class has no definition on its chain
 abbrev pub lacks_scope : Declarations → ℕ → Bool → Bool
 lacks_scope p class is_abstract =
     not is_abstract
-    && ((is_mission p class || is_handler p class)
+    && (needs_scope p class
     && not (list_any (λ d. is_some (definition_in p d)) (superclasses p.classes class)))
 
 -- S6, scope missing

@@ -81,7 +81,8 @@ differs_from_above p (Some w) above implied = list_any (is_not_scope p w) (deman
 differs_from_above p None (annotated above) implied = list_any (λ s. not (above == s)) (implied_scopes implied)
 differs_from_above p None _ implied = false
 
--- the scope of a class that breaks neither A1 nor A2: the one that it names, else the superclass's, else the implied one
+-- the scope of a class that breaks neither A1 nor A2: the one that it names, else the superclass's, else the implied
+-- one
 unfoldable pub scope_of_right_class : Declarations → Option Written → ClassScope → Bool → ClassScope
 scope_of_right_class p (Some w) above implied = elim (scope_number p w.name) [ None ↦ unknown | Some s ↦ annotated s ]
 scope_of_right_class p None unannotated implied = if implied then annotated immortal_scope else unannotated
@@ -166,7 +167,8 @@ fixed_scope p class in_caller = Some Caller
 
 -- the same, where the method is given by its number
 unfoldable pub fixed_runs_in : Declarations → ℕ → ℕ → Option Scope
-fixed_runs_in p class number = slice_get framework_methods number >>= (λ (m : FrameworkMethod). fixed_scope p class m.runs_in)
+fixed_runs_in p class number = slice_get framework_methods number
+    >>= (λ (m : FrameworkMethod). fixed_scope p class m.runs_in)
 
 -- the fixed one of a method of this name in a class, if it has one
 unfoldable pub fixed_for : Declarations → ℕ → List ℕ → Option Scope
@@ -266,7 +268,8 @@ contradicts p t w =
 abbrev pub is_rightly_scoped : Declarations → ScopedDeclaration → Bool
 is_rightly_scoped p t = not (holds t.scope (λ w. is_unknown_scope p t w || contradicts p t w))
 
--- the scope of a declaration that breaks neither, where its type is unannotated: the one that it names, else the default
+-- the scope of a declaration that breaks neither, where its type is unannotated: the one that it names, else the
+-- default
 unfoldable pub scope_as_written : Declarations → ScopedDeclaration → Option Scope
 scope_as_written p t = elim t.scope [ None ↦ t.default | Some w ↦ written_scope p t.class t.current w.name ]
 

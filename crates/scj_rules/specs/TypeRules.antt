@@ -292,7 +292,8 @@ t9 p types id _ = []
 -- T10, end without return: a body with a result doesn't always return (JLS 8.4.7)
 abbrev pub always_returns : Declarations → ℕ → Bool
 always_returns p body =
-    lookup false (bottom_up false (λ id returns. holds (slice_get p.nodes id) (returns_of p.nodes returns)) (suc body)) body
+    lookup false (bottom_up false (λ id returns. holds (slice_get p.nodes id) (returns_of p.nodes returns)) (suc body))
+    body
 
 abbrev pub ends_without_return : Declarations → ℕ → ℕ → Bool
 ends_without_return p result_type body =

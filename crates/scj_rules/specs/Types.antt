@@ -1,7 +1,7 @@
 -- The types of expressions (JLS, chapters 4 and 15), and the declaration that a name, an access, a call or a `new`
--- resolves to. Each node is judged by itself, from the types of its children: a node with an ill-typed child has no type
--- and breaks nothing. One rule is asked whatever the children are: T14 of a `new` or a new array of a form class outside
--- a form.
+-- resolves to. Each node is judged by itself, from the types of its children: a node with an ill-typed child has no
+-- type and breaks nothing. One rule is asked whatever the children are: T14 of a `new` or a new array of a form class
+-- outside a form.
 use Rattle.std.specs.Prelude.{ℕ, Bool, true, false, not, ◌&&◌, ◌||◌, ◌==◌, List, [], ◌∷◌, length, slice_get, Option, Some, None, if◌then◌else◌, is_some, option_map, option_and_then, codes}
 use Rattle.std.specs.List.{list_any}
 use Rattle.scj_builtins.specs.Framework.{object, periodic_handler, aperiodic_handler, mission_sequencer, priority_parameters, periodic_parameters, aperiodic_parameters, storage_parameters, relative_time}

@@ -1,5 +1,5 @@
-use Rattle.scj_model.specs.Run.{ref_op, one_unit}
 use Rattle.scj_model.specs.Sequencer.{phase_after}
+use Rattle.scj_model.specs.Run.{ref_op, one_unit}
 use Rattle.scj_model.proofs.RunLemmas.{one_of}
 use Rattle.scj_model.proofs.laws.one_result.Goals as goal
 

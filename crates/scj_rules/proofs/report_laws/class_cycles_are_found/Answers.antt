@@ -7,4 +7,5 @@ use Rattle.scj_rules.proofs.report_laws.class_cycles_are_found.Goals as goal
 
 pub returns : goal.returns
 unfolding classes_above
-returns c = λ forest class. chain_comes_back (superclass_in (declarations_of forest).written) (length (declarations_of forest).written) class (written-stays forest)
+returns c = λ forest class. chain_comes_back (superclass_in (declarations_of forest).written)
+    (length (declarations_of forest).written) class (written-stays forest)

@@ -6,4 +6,5 @@ use Rattle.scj_rules.proofs.report_laws.contexts_come_from_above.Goals as goal
 
 pub returns : goal.returns
 unfolding contexts_in
-returns c = λ forest id h. by_larger-is outermost (context_of forest.nodes (joined forest.files)) (length forest.nodes) id h
+returns c = λ forest id h. by_larger-is outermost (context_of forest.nodes (joined forest.files))
+    (length forest.nodes) id h

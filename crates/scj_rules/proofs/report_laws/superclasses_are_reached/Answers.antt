@@ -7,4 +7,5 @@ use Rattle.scj_rules.proofs.report_laws.superclasses_are_reached.Goals as goal
 
 pub returns : goal.returns
 unfolding superclasses
-returns c = λ forest a b l. chain_reaches (superclass_in (declarations_of forest).classes) (length (declarations_of forest).classes) a b (counted-stays forest) l
+returns c = λ forest a b l. chain_reaches (superclass_in (declarations_of forest).classes)
+    (length (declarations_of forest).classes) a b (counted-stays forest) l
