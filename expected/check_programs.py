@@ -1,11 +1,12 @@
 #!/usr/bin/env python3
 """Compares the printed nodes of the programs whose runs are computed with their sources.
 
-    check_programs.py            says which file of proofs/ differs, and then ends with status 1
+    check_programs.py            says which file differs, and then ends with status 1
     check_programs.py --write    writes the files anew
 
-Each folder in programs/ is a program: its files in the order of their names. `some_name` stands in
-crates/scj_model/proofs/ProgramSomeName.antt.
+Each folder in crates/scj_nodes/data is a program: its files in the order of their names. The nodes of `some_name` stand
+in crates/scj_model/proofs/ProgramSomeName.antt, and in the `stdout` of crates/scj_nodes, which prints what the parser
+makes of the same files.
 """
 import pathlib
 import subprocess
@@ -13,20 +14,35 @@ import sys
 
 HERE = pathlib.Path(__file__).resolve().parent
 PROOFS = HERE.parent / "crates" / "scj_model" / "proofs"
+NODES = HERE.parent / "crates" / "scj_nodes"
+
+
+def printed(words):
+    return subprocess.run([sys.executable, str(HERE / "print_nodes.py")] + words, check=True, capture_output=True,
+                          text=True).stdout
+
+
+def expected_files():
+    """Each file that is made, with its text."""
+    calls, lines = [], []
+    for folder in sorted((NODES / "data").iterdir()):
+        names = sorted(path.name for path in folder.iterdir())
+        words = [folder.name] + [str(folder / name) for name in names]
+        module = "Program" + "".join(word.capitalize() for word in folder.name.split("_"))
+        yield PROOFS / f"{module}.antt", printed(words)
+        calls.append(" ".join([folder.name] + names) + "\n")
+        lines.append(printed(["--lines"] + words))
+    yield NODES / "stdin", "".join(calls)
+    yield NODES / "stdout", "".join(lines)
 
 
 def main():
     differs = False
-    for folder in sorted((HERE / "programs").iterdir()):
-        files = sorted(str(path) for path in folder.iterdir())
-        printed = subprocess.run([sys.executable, str(HERE / "print_nodes.py"), folder.name] + files, check=True,
-                                 capture_output=True, text=True).stdout
-        module = "Program" + "".join(word.capitalize() for word in folder.name.split("_"))
-        path = PROOFS / f"{module}.antt"
+    for path, text in expected_files():
         if "--write" in sys.argv:
-            path.write_text(printed)
-        elif not path.exists() or path.read_text() != printed:
-            print(f"{path.name} isn't what print_nodes.py prints of {folder.name}")
+            path.write_text(text)
+        elif not path.exists() or path.read_text() != text:
+            print(f"{path.name} isn't what print_nodes.py prints")
             differs = True
     sys.exit(1 if differs else 0)
 

@@ -1,7 +1,8 @@
 #!/usr/bin/env python3
-"""Prints the nodes of a program as a definition, from the text of its files.
+"""Prints the nodes of a program, from the text of its files.
 
-    print_nodes.py NAME FILE..
+    print_nodes.py NAME FILE..           as a definition
+    print_nodes.py --lines NAME FILE..   one a line, and behind them the classes of each file
 
 The nodes stand in the order in which reading finishes them: children first, left to right, file after file. This is a
 reader of its own, after the grammar of docs/LANGUAGE.md, and shares nothing with the parser that is proved. It reads
@@ -505,6 +506,14 @@ def shown(field):
     raise TypeError(field)
 
 
+def node_lines(nodes):
+    return [" ".join([kind, shown(Place(place))] + [shown(f) for f in fields]) for kind, place, fields in nodes]
+
+
+def printed_lines(name, nodes, files):
+    return "\n".join([f"== {name}"] + node_lines(nodes) + [shown(classes) for _, classes in files]) + "\n"
+
+
 def printed(name, nodes, files):
     kinds = sorted({kind for kind, _, _ in nodes})
     text = " ".join(shown(field) for _, _, fields in nodes for field in fields)
@@ -524,9 +533,7 @@ def printed(name, nodes, files):
         "    record {",
         "      nodes =",
     ]
-    for i, (kind, place, fields) in enumerate(nodes):
-        place = "(at {} {} {})".format(*place)
-        lines.append("          " + ("∷ " if i else "") + " ".join([kind, place] + [shown(f) for f in fields]))
+    lines += ["          " + ("∷ " if i else "") + line for i, line in enumerate(node_lines(nodes))]
     lines.append("          ∷ [];")
     classes = " ∷ ".join([shown(c) for _, c in files] + ["[]"])
     lines += [f"      files = ({classes});", "    }"]
@@ -534,11 +541,15 @@ def printed(name, nodes, files):
 
 
 def main():
-    name, nodes, files = sys.argv[1], [], []
-    for number, path in enumerate(sys.argv[2:]):
+    words = sys.argv[1:]
+    as_lines = words[0] == "--lines"
+    if as_lines:
+        words = words[1:]
+    name, nodes, files = words[0], [], []
+    for number, path in enumerate(words[1:]):
         reader = Reader(nodes, lex(number, open(path).read()))
         files.append((path.rsplit("/", 1)[-1], reader.file()))
-    sys.stdout.write(printed(name, nodes, files))
+    sys.stdout.write((printed_lines if as_lines else printed)(name, nodes, files))
 
 
 main()

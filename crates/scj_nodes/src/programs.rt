@@ -1,0 +1,65 @@
+//! One program: its files read, and its nodes printed.
+
+use crate::nodes::{print_list, print_node};
+use case_tables::Stop;
+use scj_base::NodeId;
+use scj_check::{Reading, Sources, read};
+use scj_io::Shelf;
+use scj_tree::Program;
+use std::alloc::Global;
+use std::io::Write;
+
+const LONGEST: usize = 1_048_576;
+
+const MOST_FILES: usize = 16;
+
+/// Prints the program that a line of the input names.
+pub fn print_program<S: Shelf, W: Write>(
+    alloc: Global,
+    shelf: &mut S,
+    line: &str,
+    out: &mut W,
+) -> Result<(), Stop> {
+    let Some((name, files)) = line.split_once(' ') else {
+        return Err(Stop::BadLine);
+    };
+    let mut sources = Sources::new(alloc);
+    for file in files.split(' ') {
+        let path = format!(in alloc; "{name}/{file}")?;
+        add_file(alloc, shelf, &mut sources, path)?;
+    }
+    match read(alloc, &sources)? {
+        Reading::Read(program) => print(&program, name, out),
+        Reading::Broken(_) => Err(Stop::BadLine),
+    }
+}
+
+fn add_file<S: Shelf>(
+    alloc: Global,
+    shelf: &mut S,
+    sources: &mut Sources,
+    path: String,
+) -> Result<(), Stop> {
+    let Ok(bytes) = shelf.load(alloc, &path, LONGEST) else {
+        return Err(Stop::NoFile);
+    };
+    if sources.len() >= MOST_FILES || bytes.len() > LONGEST {
+        return Err(Stop::BadLine);
+    }
+    sources.add(path, bytes)?;
+    Ok(())
+}
+
+fn print<W: Write>(program: &Program, name: &str, out: &mut W) -> Result<(), Stop> {
+    writeln!(out, "== {name}")?;
+    for place in 0..program.len() {
+        if let Some(node) = program.get(NodeId::at(place as u32)) {
+            print_node(node, out)?;
+        }
+    }
+    for file in 0..program.file_count() {
+        print_list(program.classes(file as u8), out)?;
+        writeln!(out)?;
+    }
+    Ok(())
+}
