@@ -1,0 +1,6 @@
+pub mod Answers
+pub mod Index
+pub mod Limits
+pub mod PlanOf
+pub mod Rows
+pub mod Values
