@@ -1,0 +1,7 @@
+use Rattle.std.proofs.Common.{◌≡◌, length}
+use Rattle.scj_model.specs.TraceText.{label}
+use Rattle.trace_print.specs.Room.{greatest}
+use Rattle.trace_print.proofs.labels.text_room.Given as goal
+
+abbrev pub invariant-loop-place : goal.invariant-loop-place
+invariant-loop-place l = l.longest ≡ greatest (λ id. length (label l.program.nodes id)) l.place
