@@ -1,5 +1,5 @@
 -- In an accepted program what a concrete class has for a user's method has a body (C7).
-use Rattle.std.proofs.Common.{◌≡◌, ℕ, ◌<◌, List, [], ◌∷◌, ◌++◌, length, filter, flat_map, refl, sym, ap, ◌∙◌, subst, Option, Some, None, Bool, true, false, not, ◌||◌, ◌&&◌, true≢false, slice_get, is_some, if◌then◌else◌, ◌⊎◌, inl, inr, ◌+◌}
+use Rattle.std.proofs.Common.{◌≡◌, ℕ, List, [], ◌∷◌, ◌++◌, length, filter, flat_map, refl, sym, ap, ◌∙◌, subst, Option, Some, None, Bool, true, false, not, ◌||◌, ◌&&◌, true≢false, slice_get, is_some, if◌then◌else◌, ◌⊎◌, inl, inr, ◌+◌}
 use Rattle.std.specs.List.{list_any}
 use Rattle.scj_base.specs.declared.findings.Rule.TheVariants.{C7}
 use Rattle.scj_builtins.specs.Framework.{framework_classes}
@@ -13,7 +13,8 @@ use Rattle.scj_rules.specs.Phases.{IsAccepted}
 use Rattle.accepted_laws.specs.Overriding.{IsUserMethod}
 use Rattle.accepted_laws.specs.Sorts.{IsWellSorted}
 use Rattle.accepted_laws.proofs.Breaks.{both_empty, right}
-use Rattle.accepted_laws.proofs.Dispatch.{OwnDeclaration, own_declaration, on_superclass, written_of, flat_none}
+use Rattle.accepted_laws.proofs.Dispatch.{OwnDeclaration, own_declaration, on_superclass, written_of}
+use Rattle.accepted_laws.proofs.MethodNodes.{flat_none}
 use Rattle.accepted_laws.proofs.Fields.{In, here, there, in_left, in_filter, in_flat}
 use Rattle.accepted_laws.proofs.Interfaces.{row_is, own_of_framework}
 use Rattle.accepted_laws.proofs.Rows.{IsFrameworkRow, IsUserRow, at_class_unbroken}

@@ -1,35 +1,34 @@
 -- What the sorts of children say of members and classes: a member stands in a class, no class stands in anything, and no
 -- variable is in scope at a member.
-use Rattle.std.proofs.Common.{◌≡◌, ℕ, ◌<◌, ◌≤◌, zero, suc, List, [], ◌∷◌, ◌++◌, length, refl, sym, ap, ◌∙◌, subst, arith, Option, Some, None, Bool, true, false, not, ◌||◌, true≢false, ◌⊎◌, inl, inr, slice_get, nat_lt, ◌==◌}
+use Rattle.std.proofs.Common.{◌≡◌, ℕ, ◌<◌, List, [], ◌∷◌, ◌++◌, length, refl, sym, ap, ◌∙◌, subst, Option, Some, None, Bool, true, false, true≢false, inl, inr, slice_get, ◌==◌}
 use Rattle.std.proofs.lemmas.Option.{slice_get_within}
 use Rattle.scj_tree.specs.declared.nodes.Node.{Node}
 use Rattle.scj_tree.specs.declared.nodes.Node.TheVariants.{Class, Flags, DefineScope, ScopeName, Supers, SuperType, TypeArgument, IntType, BooleanType, ClassType, VoidType, LongType, Field, Method, Constructor, Parameters, Parameter, SuperCall, Block, Empty, Local, LocalWithValue, Assign, ExpressionStatement, If, While, For, Return, Binary, Unary, Cast, Parenthesized, SimpleName, FieldAccess, Call, Element, New, NewArray, Text, Number, True, False, Null, This}
-use Rattle.scj_tree.specs.Forest.{Forest, IsForest, joined}
+use Rattle.scj_tree.specs.Forest.{Forest, IsForest}
 use Rattle.scj_tree.specs.Shape.{children, optional}
-use Rattle.scj_tree.specs.Recursion.{lookup}
 use Rattle.scj_rules.specs.Words.{is_among}
-use Rattle.scj_rules.specs.Contexts.{Declarations, declarations_of, outermost, contexts_in, context, child_context, last_variable, declared_before, is_member, is_super_call, parent_in}
+use Rattle.scj_rules.specs.Contexts.{Declarations, declarations_of, outermost, context, child_context, last_variable, declared_before, is_member, is_super_call, parent_in}
 use Rattle.scj_rules.proofs.ChainLemmas.{or_cases, same_number}
 use Rattle.scj_rules.proofs.ParentLemmas.{parent-is, no-parent}
-use Rattle.accepted_laws.specs.Sorts.{Of, AllOf, OptionOf, HasRightChildren, IsWellSorted, is_expression, is_argument, is_target, is_invocation, is_literal, is_type, is_result, is_type_argument, is_flags, is_define_scope, is_scope_name, is_statement, is_block, is_assignment, is_for_start, is_parameter, is_parameter_list, is_super_type, is_header, is_class}
+use Rattle.accepted_laws.specs.Sorts.{Of, AllOf, OptionOf, HasRightChildren, IsWellSorted, is_expression, is_argument, is_target, is_invocation, is_literal, is_type, is_element_type, is_result, is_type_argument, is_flags, is_define_scope, is_scope_name, is_statement, is_block, is_assignment, is_for_start, is_parameter, is_parameter_list, is_super_type, is_header}
 use Rattle.accepted_laws.proofs.Contexts.{child_context_is}
-use Rattle.accepted_laws.proofs.InnerNodes.{Within, is_inner, is_no_class, inner_expression, inner_argument, inner_target, inner_invocation, inner_literal, inner_type, inner_type_argument, inner_flags, inner_define_scope, inner_scope_name, inner_statement, inner_block, inner_assignment, inner_for_start, inner_parameter, inner_parameter_list, inner_super_type, inner_header, inner_super_call, inner_result, inner_no_class, member_no_class}
+use Rattle.accepted_laws.proofs.InnerNodes.{Within, is_inner, is_no_class, inner_expression, inner_argument, inner_target, inner_invocation, inner_literal, inner_type, inner_element_type, inner_type_argument, inner_flags, inner_define_scope, inner_scope_name, inner_statement, inner_block, inner_assignment, inner_for_start, inner_parameter, inner_parameter_list, inner_super_type, inner_header, inner_super_call, inner_result, inner_no_class, member_no_class}
 
 -- ---- all children
 
 module _ (nodes : List Node) where
-  one : {x : ℕ} (narrow wide : Node → Bool) → Within narrow wide → Of narrow nodes x → Of wide nodes x
+  pub one : {x : ℕ} (narrow wide : Node → Bool) → Within narrow wide → Of narrow nodes x → Of wide nodes x
   one narrow wide w o = record { node = o.node; is_there = o.is_there; passes = w o.node o.passes }
 
-  listed : (narrow wide : Node → Bool) → Within narrow wide → (xs : List ℕ) → AllOf narrow nodes xs → AllOf wide nodes xs
+  pub listed : (narrow wide : Node → Bool) → Within narrow wide → (xs : List ℕ) → AllOf narrow nodes xs → AllOf wide nodes xs
   listed narrow wide w [] h = tt
   listed narrow wide w (x ∷ xs) h = (one narrow wide w h.0, listed narrow wide w xs h.1)
 
-  maybe : (narrow wide : Node → Bool) → Within narrow wide → (o : Option ℕ) → OptionOf narrow nodes o → AllOf wide nodes (optional o)
+  pub maybe : (narrow wide : Node → Bool) → Within narrow wide → (o : Option ℕ) → OptionOf narrow nodes o → AllOf wide nodes (optional o)
   maybe narrow wide w None h = tt
   maybe narrow wide w (Some x) h = (one narrow wide w h, tt)
 
-  both : (test : Node → Bool) (xs ys : List ℕ) → AllOf test nodes xs → AllOf test nodes ys → AllOf test nodes (xs ++ ys)
+  pub both : (test : Node → Bool) (xs ys : List ℕ) → AllOf test nodes xs → AllOf test nodes ys → AllOf test nodes (xs ++ ys)
   both test [] ys h k = k
   both test (x ∷ xs) ys h k = (h.0, both test xs ys h.1 k)
 
@@ -75,7 +74,7 @@ module _ (nodes : List Node) where
   inner_children (Call place name object arguments) e h = both is_inner (optional object) _ (maybe is_expression is_inner inner_expression object h.0) (listed is_argument is_inner inner_argument arguments h.1)
   inner_children (Element place array index) e h = (one is_expression is_inner inner_expression h.0, (one is_expression is_inner inner_expression h.1, tt))
   inner_children (New place name_place name arguments) e h = listed is_argument is_inner inner_argument arguments h
-  inner_children (NewArray place element length_) e h = (one is_type is_inner inner_type h.0, (one is_expression is_inner inner_expression h.1, tt))
+  inner_children (NewArray place element length_) e h = (one is_element_type is_inner inner_element_type h.0, (one is_expression is_inner inner_expression h.1, tt))
   inner_children (ScopeName place name) e h = tt
   inner_children (TypeArgument place name) e h = tt
   inner_children (IntType place is_array) e h = tt

@@ -1,21 +1,19 @@
 -- The scope of a class is that of the classes above it, where these have one; and overrides keep scopes.
-use Rattle.std.proofs.Common.{◌≡◌, ℕ, ◌<◌, ◌≤◌, zero, suc, List, [], ◌∷◌, ◌++◌, length, refl, sym, ap, ◌∙◌, subst, arith, Option, Some, None, Bool, true, false, not, ◌||◌, ◌&&◌, true≢false, ◌⊎◌, inl, inr, ⊎_elim, ◌==◌, option_and_then, option_map, is_some, if◌then◌else◌, slice_get}
+use Rattle.std.proofs.Common.{◌≡◌, ℕ, ◌<◌, [], length, refl, sym, ap, ◌∙◌, subst, arith, Option, Some, None, Bool, true, false, not, ◌||◌, true≢false, ◌⊎◌, inl, inr, ◌==◌, if◌then◌else◌}
 use Rattle.std.proofs.lemmas.Bool.Decides.{nat_tests}
 use Rattle.scj_rules.specs.declared.typing.Scope.{Scope}
 use Rattle.scj_rules.specs.declared.typing.Scope.TheVariants.{Any, This, Caller, In}
-use Rattle.scj_rules.specs.declared.scopes.ClassScope.{ClassScope}
 use Rattle.scj_rules.specs.declared.scopes.ClassScope.TheVariants.{Unannotated as unannotated, Annotated as annotated, Unknown as unknown}
 use Rattle.scj_rules.specs.declared.scopes.Written.{Written}
 use Rattle.scj_rules.specs.Chains.{ComesBack}
-use Rattle.scj_rules.specs.Words.{is_among, chain, holds, StaysBelow}
+use Rattle.scj_rules.specs.Words.{chain, holds, StaysBelow}
 use Rattle.scj_rules.specs.Classes.{superclass_in, superclasses}
 use Rattle.scj_rules.specs.Contexts.{Declarations}
-use Rattle.scj_rules.specs.ScopeRules.{immortal_scope, scope_number, scope_written_in}
+use Rattle.scj_rules.specs.ScopeRules.{scope_number, scope_written_in}
 use Rattle.scj_rules.specs.StaticScopes.{are_same_scope, has_unknown_scope, differs_from_above, is_not_scope, is_implied_immortal, scope_of_right_class, class_scope_under, class_scope_on, class_scope, this_in}
 use Rattle.scj_rules.specs.AnnotationRules.{scope_above, seen_in, differ}
 use Rattle.accepted_laws.specs.Kinds.{seen_as}
 use Rattle.accepted_laws.proofs.ChainSteps.{unroll}
-use Rattle.accepted_laws.proofs.Tools.{some_inj}
 
 module _ (p : Declarations) (stays : StaysBelow (superclass_in p.classes) (length p.classes)) (acyclic : (a : ℕ) → ComesBack (superclass_in p.classes) a → ⊥) where
   above_is : (class : ℕ) → class < length p.classes → class_scope p class ≡ class_scope_under p (scope_above p class) class

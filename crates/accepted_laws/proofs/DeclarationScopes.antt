@@ -1,25 +1,23 @@
 -- In an accepted program no scope is missing: each class, method, variable, field and result has one, as far as its values
 -- are references.
-use Rattle.std.proofs.Common.{◌≡◌, ℕ, ◌<◌, ◌≤◌, zero, suc, List, [], ◌∷◌, ◌++◌, length, refl, sym, ap, ◌∙◌, subst, arith, Option, Some, None, Bool, true, false, not, ◌||◌, true≢false, slice_get, option_and_then, option_map, is_some, if◌then◌else◌, ◌⊎◌, inl, inr, nat_lt}
+use Rattle.std.proofs.Common.{◌≡◌, ℕ, ◌<◌, ◌≤◌, zero, suc, List, [], ◌∷◌, length, refl, sym, ap, ◌∙◌, subst, arith, Option, Some, None, Bool, true, false, ◌||◌, true≢false, slice_get, option_and_then, option_map, if◌then◌else◌, nat_lt}
 use Rattle.std.proofs.lemmas.Bool.Decides.{nat_tests}
-use Rattle.scj_base.specs.declared.findings.Found.{Found}
 use Rattle.scj_base.specs.declared.findings.Rule.{Rule}
 use Rattle.scj_base.specs.declared.findings.Rule.TheVariants.{A1, A7, A8, A9}
 use Rattle.scj_base.specs.declared.places.Pos.{Pos}
 use Rattle.scj_tree.specs.declared.nodes.Node.{Node}
 use Rattle.scj_tree.specs.declared.nodes.Node.TheVariants.{Class, Field, Method, Parameter, Local, LocalWithValue}
 use Rattle.scj_tree.specs.Forest.{Forest, IsForest}
-use Rattle.scj_rules.specs.declared.scopes.ClassScope.{ClassScope}
 use Rattle.scj_rules.specs.declared.scopes.ClassScope.TheVariants.{Unannotated as unannotated, Annotated as annotated, Unknown as unknown}
 use Rattle.scj_rules.specs.declared.scopes.ScopedDeclaration.{ScopedDeclaration}
 use Rattle.scj_rules.specs.declared.scopes.Written.{Written}
 use Rattle.scj_rules.specs.declared.typing.Scope.{Scope}
 use Rattle.scj_rules.specs.declared.typing.Scope.TheVariants.{In}
 use Rattle.scj_rules.specs.declared.views.Declared.{Declared}
-use Rattle.scj_rules.specs.Words.{chain, broken, found_at, holds}
-use Rattle.scj_rules.specs.Views.{WrittenClass, DeclaredMethod, variable_at, field_at, method_at, method_of}
+use Rattle.scj_rules.specs.Words.{chain, found_at, holds}
+use Rattle.scj_rules.specs.Views.{WrittenClass, DeclaredMethod, variable_at, field_at, method_at}
 use Rattle.scj_rules.specs.Classes.{ClassRow, superclass_in, superclasses}
-use Rattle.scj_rules.specs.Contexts.{Declarations, declarations_of, context, in_class, in_member, is_static_member}
+use Rattle.scj_rules.specs.Contexts.{Declarations, declarations_of, context, is_static_member}
 use Rattle.scj_rules.specs.ScopeRules.{immortal_scope, scope_written_in}
 use Rattle.scj_rules.specs.StaticScopes.{has_unknown_scope, differs_from_above, is_implied_immortal, scope_of_right_class, class_scope_under, class_scope_on, class_scope, this_in, has_no_scope, is_unknown_scope, contradicts, scoped_variable, scoped_result, scoped_field, declaration_scope, runs_in, current_in, has_unknown_runs_in, has_other_runs_in}
 use Rattle.scj_rules.specs.AnnotationRules.{scoped_variable_at, scoped_declaration_at, a1, a6_of, a7_and_a8_of, a9, broken_value}
@@ -27,7 +25,8 @@ use Rattle.scj_rules.specs.Phases.{IsAccepted}
 use Rattle.accepted_laws.specs.Judgements.{HasScope}
 use Rattle.accepted_laws.specs.Sorts.{IsWellSorted}
 use Rattle.accepted_laws.proofs.Breaks.{both_empty, right, no_break_at_node}
-use Rattle.accepted_laws.proofs.Dispatch.{method_node, methods_unbroken}
+use Rattle.accepted_laws.proofs.Dispatch.{methods_unbroken}
+use Rattle.accepted_laws.proofs.MethodNodes.{method_node}
 use Rattle.accepted_laws.proofs.KnownScopes.{Known, this_known, declaration_known, runs_in_known}
 use Rattle.accepted_laws.proofs.MemberContexts.{member_is}
 use Rattle.accepted_laws.proofs.ScopesOfClasses.{class_scope_known, no_annotation_break}

@@ -1,6 +1,6 @@
 -- Scopes through overriding: what overrides a method in right steps runs where that runs, and gives what that gives, as its
 -- own class sees it.
-use Rattle.std.proofs.Common.{◌≡◌, ℕ, ◌<◌, zero, suc, List, [], ◌∷◌, length, refl, sym, ap, ◌∙◌, subst, Option, Some, None, Bool, true, false, not, ◌||◌, true≢false, ◌⊎◌, inl, inr, option_and_then, option_map, slice_get, if◌then◌else◌, is_some}
+use Rattle.std.proofs.Common.{◌≡◌, ℕ, ◌<◌, List, length, refl, sym, ap, ◌∙◌, Option, Some, None, Bool, true, false, not, true≢false, ◌⊎◌, inl, inr, option_and_then, option_map, slice_get, if◌then◌else◌}
 use Rattle.scj_base.specs.Bytes.{is_same}
 use Rattle.scj_builtins.specs.declared.kinds.RunsInKind.{RunsInKind}
 use Rattle.scj_builtins.specs.declared.kinds.RunsInKind.TheVariants.{Immortal as in_immortal, DefinedOrCaller as in_defined_or_caller, DefinedOrDeclared as in_defined_or_declared, Caller as in_caller}
@@ -14,23 +14,22 @@ use Rattle.scj_rules.specs.declared.scopes.Resolution.TheVariants.{Resolved as r
 use Rattle.scj_rules.specs.declared.scopes.Written.{Written}
 use Rattle.scj_rules.specs.declared.typing.Scope.{Scope}
 use Rattle.scj_rules.specs.declared.typing.Scope.TheVariants.{Any, This, Caller, In}
-use Rattle.scj_rules.specs.Words.{is_among, holds}
+use Rattle.scj_rules.specs.Words.{is_among}
 use Rattle.scj_rules.specs.Views.{DeclaredMethod}
 use Rattle.scj_rules.specs.Classes.{FoundMethod, framework_row_named, superclasses}
 use Rattle.scj_rules.specs.ClassRules.{both_static}
 use Rattle.scj_rules.specs.Contexts.{Declarations, declarations_of}
 use Rattle.scj_rules.specs.ScopeRules.{immortal_scope, scope_number, defined_by_chain}
 use Rattle.scj_rules.specs.StaticScopes.{class_scope, scope_or, this_in, this_name, caller_name, resolved_or_missing, resolved_scope, resolve_name, written_scope, fixed_scope, fixed_runs_in, fixed_for, default_runs_in, free_runs_in, has_wrong_runs_in, runs_in}
-use Rattle.scj_rules.specs.AnnotationRules.{scopes_differ}
 use Rattle.scj_rules.specs.Phases.{IsAccepted}
 use Rattle.scj_rules.proofs.WithinLemmas.{counted-stays}
 use Rattle.accepted_laws.specs.Kinds.{seen_as}
-use Rattle.accepted_laws.specs.Overriding.{IsUserMethod, OverridesRightly, OverridesInSteps, itself, by_step, RunsAs}
+use Rattle.accepted_laws.specs.Overriding.{IsUserMethod, OverridesInSteps, itself, by_step, RunsAs}
 use Rattle.accepted_laws.specs.Sorts.{IsWellSorted}
 use Rattle.accepted_laws.proofs.DeclarationScopes.{this_has_scope, runs_in_has_scope}
 use Rattle.accepted_laws.proofs.Interfaces.{interfaces_give_framework_methods}
 use Rattle.accepted_laws.proofs.Overrides.{Runs, runs_next}
-use Rattle.accepted_laws.proofs.Rows.{acyclic}
+use Rattle.accepted_laws.proofs.ClassChains.{acyclic}
 use Rattle.accepted_laws.proofs.ScopesOfClasses.{scope_of_above}
 use Rattle.accepted_laws.proofs.Tools.{some_inj}
 

@@ -1,19 +1,20 @@
 -- The children of an expression that was read are of the right sorts: by the grammar of expressions.
-use Rattle.std.specs.Prelude.{Bool, List, None, Option, Some, [], false, length, suc, true, ℕ, ◌++◌, ◌∷◌, ◌≡◌}
+use Rattle.std.specs.Prelude.{Bool, List, None, false, length, ℕ}
 use Rattle.std.proofs.Common.{refl}
 use Rattle.scj_base.specs.declared.places.Pos.{Pos}
 use Rattle.scj_tree.specs.declared.nodes.Node.{Node}
-use Rattle.scj_tree.specs.declared.nodes.Node.TheVariants.{IntType, BooleanType, ClassType, Binary, Unary, Cast, Parenthesized, SimpleName, FieldAccess, Call, Element, New, NewArray, Text, Number, True, False, Null, This}
+use Rattle.scj_tree.specs.declared.nodes.Node.TheVariants.{IntType, BooleanType, ClassType, SimpleName}
 use Rattle.scj_tree.specs.declared.readings.PostKind.{PostKind}
 use Rattle.scj_tree.specs.declared.readings.PostKind.TheVariants.{Variable, Invocation}
 use Rattle.scj_tree.specs.Lexemes.{Lexeme}
 use Rattle.scj_tree.specs.Nodes.{put}
+use Rattle.scj_tree.specs.Shape.{children}
 use Rattle.scj_tree.specs.Expressions.{ArgumentRead, ArgumentsBegun, ArgumentsRead, Level, PostRead, Unary1Read, UnaryRead, argument_and_comma, arguments, binary, call_of, cast, complement, element_of, expression_argument, false_value, field_of, minimum_number, minimum_unary, minus, negation, new_booleans, new_ints, new_object, new_references, no_argument_yet, no_arguments, null_value, number, operand, parenthesized, parenthesized_name, plain_unary, post_unary, simple_call, simple_name, text_argument, this_value, tighter, true_value}
-use Rattle.accepted_laws.specs.Sorts.{Of, HasRightChildren, is_expression, is_argument, is_type, is_target, is_invocation}
+use Rattle.accepted_laws.specs.Sorts.{Of, HasRightChildren, is_expression, is_argument, is_element_type, is_target, is_invocation}
 use Rattle.accepted_laws.proofs.SortSteps.{Reads, ReadsAll, made, stays, goes_then, of_later, of_last, one_more, wider, expression_is_argument}
 
 mutual
-  unfolding HasRightChildren is_expression is_type is_argument
+  unfolding HasRightChildren children is_expression is_element_type is_argument
 
   pub level_sorted : {n : ℕ} {N N1 : List Node} {i o : List Lexeme} {id : ℕ} → Level n N i N1 o id → Reads is_expression N N1 id
   level_sorted (operand d) = unary_sorted d
@@ -48,9 +49,9 @@ mutual
   post_sorted (parenthesized e d) = let a = level_sorted d in made is_expression _ a.goes refl a.is
   post_sorted (parenthesized_name {N = N} {w = w} {q = q} e) = let a : Reads is_expression N (put N (SimpleName q w)) (length N) = made is_expression (SimpleName q w) stays refl tt in made is_expression _ a.goes refl a.is
   post_sorted (new_object a) = let x = arguments_sorted a in made is_expression _ x.goes refl x.are
-  post_sorted (new_ints {N = N} {q = q} d) = let t : Reads is_type N (put N (IntType q false)) (length N) = made is_type (IntType q false) stays refl tt in let a = level_sorted d in made is_expression _ (goes_then t.goes a.goes) refl (of_later is_type a.goes t.is, a.is)
-  post_sorted (new_booleans {N = N} {q = q} d) = let t : Reads is_type N (put N (BooleanType q false)) (length N) = made is_type (BooleanType q false) stays refl tt in let a = level_sorted d in made is_expression _ (goes_then t.goes a.goes) refl (of_later is_type a.goes t.is, a.is)
-  post_sorted (new_references {N = N} {w = w} {q = q} d) = let t : Reads is_type N (put N (ClassType q w None false)) (length N) = made is_type (ClassType q w None false) stays refl tt in let a = level_sorted d in made is_expression _ (goes_then t.goes a.goes) refl (of_later is_type a.goes t.is, a.is)
+  post_sorted (new_ints {N = N} {q = q} d) = let t : Reads is_element_type N (put N (IntType q false)) (length N) = made is_element_type (IntType q false) stays refl tt in let a = level_sorted d in made is_expression _ (goes_then t.goes a.goes) refl (of_later is_element_type a.goes t.is, a.is)
+  post_sorted (new_booleans {N = N} {q = q} d) = let t : Reads is_element_type N (put N (BooleanType q false)) (length N) = made is_element_type (BooleanType q false) stays refl tt in let a = level_sorted d in made is_expression _ (goes_then t.goes a.goes) refl (of_later is_element_type a.goes t.is, a.is)
+  post_sorted (new_references {N = N} {w = w} {q = q} d) = let t : Reads is_element_type N (put N (ClassType q w None false)) (length N) = made is_element_type (ClassType q w None false) stays refl tt in let a = level_sorted d in made is_expression _ (goes_then t.goes a.goes) refl (of_later is_element_type a.goes t.is, a.is)
 
   pub argument_sorted : {N N1 : List Node} {i o : List Lexeme} {id : ℕ} → ArgumentRead N i N1 o id → Reads is_argument N N1 id
   argument_sorted (expression_argument d) = wider is_expression is_argument expression_is_argument (level_sorted d)

@@ -3,7 +3,7 @@ use Rattle.std.proofs.Common.{◌≡◌, Bool, true, false, refl}
 use Rattle.scj_tree.specs.declared.nodes.Node.{Node}
 use Rattle.scj_tree.specs.declared.nodes.Node.TheVariants.{Class, Field, Method, Constructor}
 use Rattle.scj_rules.specs.Contexts.{is_member, is_super_call}
-use Rattle.accepted_laws.specs.Sorts.{is_expression, is_argument, is_target, is_invocation, is_literal, is_type, is_result, is_type_argument, is_flags, is_define_scope, is_scope_name, is_statement, is_block, is_assignment, is_for_start, is_parameter, is_parameter_list, is_super_type, is_header}
+use Rattle.accepted_laws.specs.Sorts.{is_expression, is_argument, is_target, is_invocation, is_literal, is_type, is_element_type, is_result, is_type_argument, is_flags, is_define_scope, is_scope_name, is_statement, is_block, is_assignment, is_for_start, is_parameter, is_parameter_list, is_super_type, is_header}
 
 -- neither a class nor a member
 unfoldable pub is_inner : Node → Bool
@@ -57,6 +57,14 @@ inner_literal (Field place name flags declared_type equals value) e = e
 inner_literal (Method place name flags result_type parameters body) e = e
 inner_literal (Constructor place name flags parameters super_call body) e = e
 inner_literal _ e = refl
+
+pub inner_element_type : Within is_element_type is_inner
+unfolding is_element_type is_inner
+inner_element_type (Class place name flags header members) e = e
+inner_element_type (Field place name flags declared_type equals value) e = e
+inner_element_type (Method place name flags result_type parameters body) e = e
+inner_element_type (Constructor place name flags parameters super_call body) e = e
+inner_element_type _ e = refl
 
 pub inner_type : Within is_type is_inner
 unfolding is_type is_inner

@@ -1,38 +1,31 @@
 -- The laws at a whole controller, whose nodes are computed: none of them speaks of nothing.
-use Rattle.std.proofs.Common.{◌≡◌, ℕ, ◌<◌, List, [], ◌∷◌, length, refl, Some, None, Bool, true, false, slice_get, codes, arith}
-use Rattle.scj_base.specs.declared.places.Pos.{Pos}
-use Rattle.scj_builtins.specs.Framework.{object, periodic_handler}
+use Rattle.std.proofs.Common.{◌≡◌, ℕ, refl, Some, true}
 use Rattle.scj_tree.specs.declared.nodes.Node.{Node}
-use Rattle.scj_tree.specs.declared.nodes.Node.TheVariants.{Class, SimpleName, Binary, Call}
-use Rattle.scj_tree.specs.Forest.{Forest}
-use Rattle.scj_rules.specs.declared.typing.Ty.{Ty}
+use Rattle.scj_tree.specs.declared.nodes.Node.TheVariants.{Binary}
 use Rattle.scj_rules.specs.declared.typing.Ty.TheVariants.{Bool as Boolean}
-use Rattle.scj_rules.specs.declared.scopes.ClassScope.TheVariants.{Annotated as annotated}
 use Rattle.scj_rules.specs.Words.{is_among}
-use Rattle.scj_rules.specs.Classes.{is_sub, superclasses}
-use Rattle.scj_rules.specs.Contexts.{Declarations, declarations_of, is_member, is_super_call, context, known_variables}
+use Rattle.scj_rules.specs.Contexts.{Declarations, declarations_of, is_member, is_super_call}
 use Rattle.scj_rules.specs.LimitRules.{variables_of}
-use Rattle.scj_rules.specs.StaticScopes.{class_scope, this_in}
+use Rattle.scj_rules.specs.StaticScopes.{this_in}
 use Rattle.scj_rules.specs.TypeRules.{type_of}
 use Rattle.scj_rules.proofs.Computing.{computing}
 use Rattle.scj_rules.proofs.RowOfUse.{controller, controller_accepted, controller_is_forest}
 use Rattle.accepted_laws.specs.Judgements.{type_at_node, HasScope, IsMemberOf}
-use Rattle.accepted_laws.specs.Sorts.{IsWellSorted, is_expression, is_argument, is_target, is_invocation, is_literal, is_type, is_result, is_type_argument, is_flags, is_define_scope, is_scope_name, is_statement, is_block, is_assignment, is_for_start, is_parameter, is_parameter_list, is_super_type, is_header}
+use Rattle.accepted_laws.specs.Sorts.{IsWellSorted, is_expression, is_argument, is_target, is_invocation, is_literal, is_type, is_element_type, is_result, is_type_argument, is_flags, is_define_scope, is_scope_name, is_statement, is_block, is_assignment, is_for_start, is_parameter, is_parameter_list, is_super_type, is_header}
 use Rattle.accepted_laws.specs.Unbroken.{NoBreakAtNode}
 use Rattle.accepted_laws.proofs.Breaks.{no_break_at_node, type_phase_empty}
 use Rattle.accepted_laws.proofs.DeclarationScopes.{this_has_scope}
 use Rattle.accepted_laws.proofs.MemberContexts.{member_is}
 use Rattle.accepted_laws.proofs.MemberVariables.{known_is_variable}
 use Rattle.accepted_laws.proofs.SortTests.{all_test, has_right_children, all_have_right_children, sorted_passes}
-use Rattle.accepted_laws.proofs.Subtypes.{is_sub_on, under_object}
 use Rattle.accepted_laws.proofs.Typed.{types_are, behind_children}
 
 abbrev p : Declarations
 p = declarations_of controller
 
 -- the controller has children of the right sorts
-controller_sorted : IsWellSorted controller.nodes
-unfolding is_expression is_argument is_target is_invocation is_literal is_type is_result is_type_argument is_flags is_define_scope is_scope_name is_statement is_block is_assignment is_for_start is_parameter is_parameter_list is_super_type is_header is_member is_super_call all_test has_right_children all_have_right_children
+pub controller_sorted : IsWellSorted controller.nodes
+unfolding is_expression is_argument is_target is_invocation is_literal is_type is_element_type is_result is_type_argument is_flags is_define_scope is_scope_name is_statement is_block is_assignment is_for_start is_parameter is_parameter_list is_super_type is_header is_member is_super_call all_test has_right_children all_have_right_children
 controller_sorted = sorted_passes controller.nodes refl
 
 -- its 31st node, the comparison `n == 0`, breaks no rule, and has the type that its kind asks

@@ -1,11 +1,8 @@
 -- The interfaces of an accepted program are classes of the framework, and so are the methods that come from them.
-use Rattle.std.proofs.Common.{◌≡◌, ℕ, ◌+◌, ◌<◌, zero, suc, List, [], ◌∷◌, ◌++◌, length, map, filter, filter_map, flat_map, find, refl, sym, ap, ◌∙◌, subst, arith, Option, Some, None, Bool, true, false, not, ◌||◌, true≢false, slice_get, ◌==◌, if◌then◌else◌, option_and_then, option_map, is_some, ◌⊎◌, inl, inr, nat_lt}
-use Rattle.std.proofs.lemmas.Bool.Decides.{nat_tests}
-use Rattle.std.proofs.lemmas.Option.{slice_get_within}
+use Rattle.std.proofs.Common.{◌≡◌, ℕ, ◌+◌, List, [], ◌∷◌, ◌++◌, length, map, filter, filter_map, flat_map, find, refl, sym, ap, ◌∙◌, subst, Option, Some, None, Bool, true, false, not, ◌||◌, true≢false, slice_get, ◌==◌, if◌then◌else◌, option_and_then, option_map, is_some, ◌⊎◌, inl, inr}
 use Rattle.std.specs.List.{cons_option}
 use Rattle.scj_base.specs.Bytes.{is_same}
 use Rattle.scj_builtins.specs.declared.methods.FrameworkMethod.{FrameworkMethod}
-use Rattle.scj_builtins.specs.declared.kinds.ClassKind.{ClassKind}
 use Rattle.scj_builtins.specs.declared.kinds.ClassKind.TheVariants.{Abstract as abstract_class, Concrete as concrete_class}
 use Rattle.scj_builtins.specs.Framework.{framework_classes, framework_methods}
 use Rattle.scj_tree.specs.declared.nodes.Node.{Node}
@@ -13,7 +10,7 @@ use Rattle.scj_tree.specs.Forest.{Forest}
 use Rattle.scj_rules.specs.declared.scopes.Written.{Written}
 use Rattle.scj_rules.specs.Words.{is_among, along, holds}
 use Rattle.scj_rules.specs.Views.{WrittenClass, DeclaredMethod}
-use Rattle.scj_rules.specs.Classes.{ClassRow, FoundMethod, first_user_class, is_user_class, class_number, framework_rows_from, framework_method, framework_methods_on, user_row, superclasses, interfaces_in, all_interfaces, own_method, is_implemented, is_forbidden_interface, is_forbidden_superclass, forbidden_interfaces, forbidden_supers, brings_too_many, with_kinds, kinds_of, class_names, user_classes}
+use Rattle.scj_rules.specs.Classes.{ClassRow, FoundMethod, first_user_class, class_number, framework_rows_from, framework_method, framework_methods_on, user_row, superclasses, interfaces_in, all_interfaces, own_method, is_implemented, is_forbidden_interface, is_forbidden_superclass, forbidden_interfaces, forbidden_supers, with_kinds, kinds_of, class_names, user_classes}
 use Rattle.scj_rules.specs.ClassRules.{c10}
 use Rattle.scj_rules.specs.Contexts.{Declarations, declarations_of}
 use Rattle.scj_rules.specs.Phases.{IsAccepted}

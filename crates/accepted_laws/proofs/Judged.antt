@@ -1,33 +1,29 @@
 -- What the rules say of single nodes of an accepted program, in the words of the machine's proofs.
-use Rattle.std.proofs.Common.{◌≡◌, ℕ, ◌<◌, zero, suc, List, [], ◌∷◌, ◌++◌, length, refl, sym, ap, ◌∙◌, subst, arith, Option, Some, None, Bool, true, false, not, ◌||◌, ◌&&◌, true≢false, ◌⊎◌, inl, inr, option_and_then, option_map, is_some, if◌then◌else◌, slice_get, nat_lt, unwrap_or}
+use Rattle.std.proofs.Common.{◌≡◌, ℕ, ◌<◌, [], length, refl, sym, ap, ◌∙◌, arith, Option, Some, None, Bool, true, false, not, ◌&&◌, true≢false, option_and_then, option_map, if◌then◌else◌, slice_get, nat_lt, unwrap_or}
 use Rattle.std.proofs.lemmas.Bool.Decides.{nat_tests}
 use Rattle.std.proofs.lemmas.Option.{slice_get_within}
-use Rattle.scj_base.specs.Vocabulary.{sign_less}
-use Rattle.scj_base.specs.declared.findings.Found.{Found}
 use Rattle.scj_tree.specs.declared.nodes.Node.{Node}
-use Rattle.scj_tree.specs.declared.nodes.Node.TheVariants.{Parenthesized, SimpleName, FieldAccess, Call, Element, New, NewArray, Cast, Null, Number, True, False, Binary, This as ThisNode}
-use Rattle.scj_tree.specs.Forest.{Forest, IsForest, AllBelow}
-use Rattle.scj_tree.specs.Shape.{children, optional}
-use Rattle.scj_tree.specs.Recursion.{lookup, bottom_up, below, listed}
+use Rattle.scj_tree.specs.declared.nodes.Node.TheVariants.{Parenthesized, FieldAccess, Call, Element, Cast, This as ThisNode}
+use Rattle.scj_tree.specs.Forest.{AllBelow}
+use Rattle.scj_tree.specs.Shape.{children}
+use Rattle.scj_tree.specs.Recursion.{lookup, bottom_up, below}
 use Rattle.scj_tree.proofs.RecursionLemmas.{bottom_up-is, listed-at}
 use Rattle.scj_rules.specs.declared.typing.Ty.{Ty}
-use Rattle.scj_rules.specs.declared.typing.Ty.TheVariants.{Int, Bool as Boolean, Void, NullTy, Label, Class as ClassTy, IntArray, BoolArray, ClassArray}
+use Rattle.scj_rules.specs.declared.typing.Ty.TheVariants.{Class as ClassTy}
 use Rattle.scj_rules.specs.declared.typing.Scope.{Scope}
-use Rattle.scj_rules.specs.declared.typing.Scope.TheVariants.{Any, This, Caller, In}
-use Rattle.scj_rules.specs.declared.typing.Binding.{Binding}
 use Rattle.scj_rules.specs.declared.typing.Binding.TheVariants.{Plain}
 use Rattle.scj_rules.specs.declared.typing.Receiver.{Receiver}
 use Rattle.scj_rules.specs.Words.{holds, broken}
 use Rattle.scj_rules.specs.Classes.{class_number}
-use Rattle.scj_rules.specs.Contexts.{Declarations, declarations_of, context, has_object, is_static_member}
-use Rattle.scj_rules.specs.Types.{receiver, call_receiver, accessed_field, called_method, binary_type, is_int, are_same}
-use Rattle.scj_base.specs.declared.findings.Rule.TheVariants.{T3, T4, T13}
+use Rattle.scj_rules.specs.Contexts.{Declarations, context, has_object, is_static_member}
+use Rattle.scj_rules.specs.Types.{receiver, call_receiver, accessed_field, called_method}
+use Rattle.scj_base.specs.declared.findings.Rule.TheVariants.{T13}
 use Rattle.scj_rules.specs.TypeRules.{Types, types_in, type_of, type_breaks, t1, t2, t3, t4, t5, t6, t7, t8, t9, t10, t11, t12, t13, t14}
-use Rattle.scj_rules.specs.UseRules.{Scopes, scopes_in, scope_of, scope_of_next, scope_of_field, scope_of_call, scope_of_element, scope_in_class, receiver_scope, this_at, current_at}
+use Rattle.scj_rules.specs.UseRules.{Scopes, scopes_in, scope_of, scope_of_next, scope_of_field, scope_of_call, scope_of_element, scope_in_class, receiver_scope, current_at}
 use Rattle.scj_rules.specs.StaticScopes.{this_in}
 use Rattle.scj_rules.specs.Bindings.{binding_of, binding_at, bindings_in}
 use Rattle.scj_rules.specs.Phases.{type_phase}
-use Rattle.accepted_laws.specs.Kinds.{Kind, number, truth, yes, reference, kind_of}
+use Rattle.accepted_laws.specs.Kinds.{Kind, reference, kind_of}
 use Rattle.accepted_laws.specs.Judgements.{Judged, Inside, OwnObject}
 use Rattle.accepted_laws.proofs.Typed.{types_are}
 use Rattle.accepted_laws.proofs.TypesBelow.{BehindChildren}

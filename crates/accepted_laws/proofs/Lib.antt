@@ -1,8 +1,8 @@
-pub mod Accesses
 pub mod Bodies
 pub mod Breaks
 pub mod ChainSteps
 pub mod Children
+pub mod ClassChains
 pub mod ClassNumbers
 pub mod ClassScopes
 pub mod ClassSorts
@@ -16,13 +16,17 @@ pub mod HeaderSorts
 pub mod InnerNodes
 pub mod Instances
 pub mod Interfaces
+pub mod Intervals
 pub mod Judged
 pub mod KnownScopes
 pub mod Lists
 pub mod MemberContexts
+pub mod MemberParameters
 pub mod MemberScopes
 pub mod MemberVariables
+pub mod MethodNodes
 pub mod Overrides
+pub mod Positions
 pub mod RealScopes
 pub mod Rows
 pub mod ScopesOfClasses
@@ -33,6 +37,4 @@ pub mod Subtypes
 pub mod Tools
 pub mod Typed
 pub mod TypesBelow
-pub mod Uses
-pub mod ValueFacts
 pub mod Variables

@@ -1,15 +1,13 @@
 -- What a context says: the member of a node is a member, and stands in the node's class.
-use Rattle.std.proofs.Common.{◌≡◌, ℕ, ◌+◌, ◌<◌, ◌≤◌, zero, suc, List, [], ◌∷◌, length, refl, sym, ap, ◌∙◌, subst, arith, Option, Some, None, Bool, true, false, true≢false, slice_get, if◌then◌else◌, nat_lt}
+use Rattle.std.proofs.Common.{◌≡◌, ℕ, ◌+◌, ◌<◌, ◌≤◌, zero, suc, List, length, refl, sym, ap, ◌∙◌, subst, arith, Option, Some, None, Bool, true, false, slice_get, if◌then◌else◌, nat_lt}
 use Rattle.std.proofs.lemmas.Bool.Decides.{nat_tests}
-use Rattle.std.proofs.lemmas.Option.{slice_get_within}
 use Rattle.scj_tree.specs.declared.nodes.Node.{Node}
-use Rattle.scj_tree.specs.declared.nodes.Node.TheVariants.{Class, Field, Method, Constructor}
+use Rattle.scj_tree.specs.declared.nodes.Node.TheVariants.{Class}
 use Rattle.scj_tree.specs.Forest.{Forest, IsForest, joined}
 use Rattle.scj_tree.specs.Shape.{children}
 use Rattle.scj_tree.proofs.RecursionLemmas.{lookup-behind, length-top_down}
-use Rattle.scj_rules.specs.declared.contexts.Context.{Context}
 use Rattle.scj_rules.specs.Words.{is_among, or_else}
-use Rattle.scj_rules.specs.Contexts.{Declarations, declarations_of, outermost, contexts_in, context_of, context, child_context, is_member, number_of_class, parent_in}
+use Rattle.scj_rules.specs.Contexts.{Declarations, declarations_of, outermost, contexts_in, context_of, context, child_context, is_member, parent_in}
 use Rattle.scj_rules.proofs.ParentLemmas.{parent-is, no-parent, child-less}
 use Rattle.accepted_laws.specs.Judgements.{IsMemberOf}
 use Rattle.accepted_laws.specs.Sorts.{IsWellSorted}

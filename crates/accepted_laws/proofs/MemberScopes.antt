@@ -1,5 +1,5 @@
 -- In an accepted program each field and each result whose values are references has a scope.
-use Rattle.std.proofs.Common.{◌≡◌, ℕ, List, [], ◌∷◌, ◌++◌, refl, sym, ap, ◌∙◌, Option, Some, None, Bool, true, false, option_and_then, option_map, slice_get, if◌then◌else◌}
+use Rattle.std.proofs.Common.{◌≡◌, ℕ, sym, ap, ◌∙◌, Option, Some, None, false, option_and_then, option_map, slice_get, if◌then◌else◌}
 use Rattle.scj_tree.specs.declared.nodes.Node.{Node}
 use Rattle.scj_tree.specs.declared.nodes.Node.TheVariants.{Field, Method}
 use Rattle.scj_tree.specs.Forest.{Forest, IsForest}
@@ -14,7 +14,7 @@ use Rattle.accepted_laws.specs.Judgements.{HasScope}
 use Rattle.accepted_laws.specs.Sorts.{IsWellSorted}
 use Rattle.accepted_laws.proofs.Breaks.{right, no_break_at_node}
 use Rattle.accepted_laws.proofs.DeclarationScopes.{declaration_has_scope}
-use Rattle.accepted_laws.proofs.Dispatch.{method_node}
+use Rattle.accepted_laws.proofs.MethodNodes.{method_node}
 use Rattle.accepted_laws.proofs.ScopesOfClasses.{no_annotation_break}
 
 module _ (forest : Forest) (accepted : IsAccepted forest) (whole : IsForest forest) (sorted : IsWellSorted forest.nodes) where

@@ -1,12 +1,11 @@
 -- The variables of a member of an accepted program: no variable has two numbers, and each that is in scope in the member is
 -- among them.
-use Rattle.std.proofs.Common.{◌≡◌, ℕ, ◌+◌, ◌<◌, ◌≤◌, zero, suc, List, [], ◌∷◌, length, filter, refl, sym, ap, ◌∙◌, subst, arith, Option, Some, None, Bool, true, false, ◌||◌, ◌&&◌, true≢false, ◌⊎◌, inl, inr, slice_get, is_some, if◌then◌else◌, ◌==◌, nat_lt, option_and_then}
+use Rattle.std.proofs.Common.{◌≡◌, ℕ, ◌+◌, ◌<◌, ◌≤◌, zero, suc, List, [], ◌∷◌, length, filter, refl, sym, ap, ◌∙◌, subst, arith, Option, Some, None, Bool, true, false, ◌&&◌, true≢false, ◌⊎◌, inl, inr, slice_get, is_some, if◌then◌else◌, ◌==◌, nat_lt, option_and_then}
 use Rattle.std.proofs.lemmas.Bool.Decides.{nat_tests}
 use Rattle.std.proofs.lemmas.Option.{slice_get_within}
 use Rattle.scj_tree.specs.declared.nodes.Node.{Node}
-use Rattle.scj_tree.specs.Forest.{Forest, IsForest, joined}
+use Rattle.scj_tree.specs.Forest.{Forest, IsForest}
 use Rattle.scj_tree.specs.Shape.{children}
-use Rattle.scj_rules.specs.declared.contexts.Context.{Context}
 use Rattle.scj_rules.specs.Words.{is_among, chain, holds}
 use Rattle.scj_rules.specs.Views.{variable_at, variable_of}
 use Rattle.scj_rules.specs.ClassRules.{numbers_from}

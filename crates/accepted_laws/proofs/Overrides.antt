@@ -1,20 +1,18 @@
 -- What a class has for a method that a class above it has: the same, or an override with the same scopes as the class sees
 -- them.
-use Rattle.std.proofs.Common.{◌≡◌, ℕ, ◌<◌, ◌≤◌, zero, suc, List, [], ◌∷◌, ◌++◌, length, refl, sym, ap, ◌∙◌, subst, arith, Option, Some, None, Bool, true, false, not, ◌||◌, ◌&&◌, true≢false, ◌⊎◌, inl, inr, ⊎_elim, ◌==◌, option_and_then, option_map, is_some, if◌then◌else◌, slice_get}
-use Rattle.scj_base.specs.declared.findings.Found.{Found}
+use Rattle.std.proofs.Common.{◌≡◌, ℕ, ◌<◌, List, [], ◌∷◌, ◌++◌, length, refl, sym, ap, ◌∙◌, arith, Option, Some, None, Bool, true, false, not, ◌||◌, ◌&&◌, true≢false, ◌⊎◌, is_some}
 use Rattle.scj_rules.specs.declared.typing.Scope.{Scope}
-use Rattle.scj_rules.specs.declared.typing.Scope.TheVariants.{Any, This, Caller, In}
+use Rattle.scj_rules.specs.declared.typing.Scope.TheVariants.{This, Caller}
 use Rattle.scj_rules.specs.declared.views.Declared.{Declared}
 use Rattle.scj_rules.specs.Chains.{ComesBack}
-use Rattle.scj_rules.specs.Words.{is_among, chain, chain_behind, along, holds, StaysBelow}
+use Rattle.scj_rules.specs.Words.{chain, chain_behind, along, holds, StaysBelow}
 use Rattle.scj_rules.specs.Views.{DeclaredMethod}
-use Rattle.scj_rules.specs.Classes.{ClassRow, FoundMethod, is_user_class, superclass_in, superclasses, classes_above, all_interfaces, own_method, method_named, method_above}
+use Rattle.scj_rules.specs.Classes.{FoundMethod, is_user_class, superclass_in, superclasses, classes_above, all_interfaces, own_method, method_named, method_above}
 use Rattle.scj_rules.specs.Contexts.{Declarations}
 use Rattle.scj_rules.specs.StaticScopes.{this_in, runs_in, parameter_scope}
-use Rattle.scj_rules.specs.AnnotationRules.{seen_in, differ, parameters_differ, result_scope, scopes_differ, a6_of}
+use Rattle.scj_rules.specs.AnnotationRules.{seen_in, differ, parameters_differ, scopes_differ, a6_of}
 use Rattle.accepted_laws.specs.Kinds.{seen_as}
 use Rattle.accepted_laws.proofs.ChainSteps.{unroll}
-use Rattle.accepted_laws.proofs.Tools.{some_inj}
 use Rattle.accepted_laws.proofs.ClassScopes.{override_same, seen_in_as, seen_twice}
 use Rattle.accepted_laws.proofs.Breaks.{right}
 

@@ -1,6 +1,6 @@
 -- No declaration has the scope of null: what a class, method, variable, field or result lies in is THIS, CALLER or a named
 -- scope.
-use Rattle.std.proofs.Common.{◌≡◌, ℕ, List, refl, sym, ap, ◌∙◌, subst, Option, Some, None, Bool, true, false, not, ◌||◌, true≢false, option_and_then, option_map, slice_get, if◌then◌else◌}
+use Rattle.std.proofs.Common.{◌≡◌, ℕ, List, refl, sym, ◌∙◌, subst, Option, Some, None, Bool, true, false, option_and_then, option_map, slice_get, if◌then◌else◌}
 use Rattle.scj_base.specs.Bytes.{is_same}
 use Rattle.scj_builtins.specs.declared.kinds.RunsInKind.{RunsInKind}
 use Rattle.scj_builtins.specs.declared.kinds.RunsInKind.TheVariants.{Immortal as in_immortal, DefinedOrCaller as in_defined_or_caller, DefinedOrDeclared as in_defined_or_declared, Caller as in_caller}
@@ -19,7 +19,6 @@ use Rattle.scj_rules.specs.declared.typing.Scope.TheVariants.{Any, This, Caller,
 use Rattle.scj_rules.specs.declared.views.Declared.{Declared}
 use Rattle.scj_rules.specs.declared.views.WrittenType.{WrittenType}
 use Rattle.scj_rules.specs.declared.views.WrittenType.TheVariants.{Boolean as boolean_type, BooleanArray as boolean_array, Class as class_type, ClassArray as class_array, Int as int_type, IntArray as int_array, Long as long_type, Text as text_type, Void as void_type}
-use Rattle.scj_rules.specs.Words.{holds}
 use Rattle.scj_rules.specs.Views.{DeclaredMethod, method_at, variable_at}
 use Rattle.scj_rules.specs.Classes.{FoundMethod, class_number, framework_row_named}
 use Rattle.scj_rules.specs.Contexts.{Declarations, context, is_static_member}

@@ -1,37 +1,33 @@
 -- In an accepted program each class has a scope or none, as its annotation and its superclass say: no scope of a class is
 -- unknown, and a class has the scope of an annotated class above it.
-use Rattle.std.proofs.Common.{◌≡◌, ℕ, ◌<◌, ◌≤◌, zero, suc, List, [], ◌∷◌, ◌++◌, length, refl, sym, ap, ◌∙◌, subst, arith, Option, Some, None, Bool, true, false, not, ◌||◌, ◌&&◌, true≢false, slice_get, ◌==◌, option_and_then, is_some, if◌then◌else◌, ◌⊎◌, inl, inr, nat_lt}
-use Rattle.std.proofs.lemmas.Bool.Decides.{nat_tests}
+use Rattle.std.proofs.Common.{◌≡◌, ℕ, ◌<◌, ◌≤◌, zero, suc, List, [], ◌∷◌, ◌++◌, length, refl, sym, ap, ◌∙◌, arith, Option, Some, None, Bool, true, false, not, ◌||◌, true≢false, slice_get, ◌==◌, option_and_then, is_some, if◌then◌else◌, ◌⊎◌, inl, inr}
 use Rattle.std.proofs.lemmas.Option.{slice_get_within}
 use Rattle.scj_base.specs.declared.findings.Rule.TheVariants.{A1, A2}
 use Rattle.scj_builtins.specs.Framework.{object}
 use Rattle.scj_tree.specs.declared.nodes.Node.{Node}
-use Rattle.scj_tree.specs.declared.nodes.Node.TheVariants.{Class}
 use Rattle.scj_tree.specs.Forest.{Forest, IsForest}
 use Rattle.scj_rules.specs.declared.scopes.ClassScope.{ClassScope}
 use Rattle.scj_rules.specs.declared.scopes.ClassScope.TheVariants.{Unannotated as unannotated, Annotated as annotated, Unknown as unknown}
 use Rattle.scj_rules.specs.declared.scopes.Written.{Written}
-use Rattle.scj_rules.specs.declared.typing.Scope.{Scope}
-use Rattle.scj_rules.specs.declared.typing.Scope.TheVariants.{This, In}
-use Rattle.scj_rules.specs.Words.{is_among, chain, broken, found_at, holds}
+use Rattle.scj_rules.specs.Words.{is_among, broken, found_at}
 use Rattle.scj_rules.specs.Views.{WrittenClass}
-use Rattle.scj_rules.specs.Classes.{ClassRow, user_row, class_number, superclass_in, superclasses, is_sub, all_interfaces}
+use Rattle.scj_rules.specs.Classes.{ClassRow, user_row, class_number, superclass_in, superclasses}
 use Rattle.scj_rules.specs.Contexts.{Declarations, declarations_of}
-use Rattle.scj_rules.specs.ScopeRules.{immortal_scope, scope_number, scope_written_in, user_class_in}
-use Rattle.scj_rules.specs.StaticScopes.{has_unknown_scope, differs_from_above, is_implied_immortal, scope_of_right_class, class_scope_under, class_scope_on, class_scope, this_in}
+use Rattle.scj_rules.specs.ScopeRules.{immortal_scope, scope_number, scope_written_in}
+use Rattle.scj_rules.specs.StaticScopes.{has_unknown_scope, differs_from_above, is_implied_immortal, scope_of_right_class, class_scope_under, class_scope_on, class_scope}
 use Rattle.scj_rules.specs.AnnotationRules.{scope_above, a1, a2, a2_place, a3_to_a5, a6_to_a8, a9, annotation_breaks, broken_value, has_other_scope}
 use Rattle.scj_rules.specs.Phases.{IsAccepted}
 use Rattle.scj_rules.proofs.ChainLemmas.{or_cases, same_number}
 use Rattle.scj_rules.proofs.WithinLemmas.{counted-stays}
 use Rattle.accepted_laws.specs.Sorts.{IsWellSorted}
-use Rattle.accepted_laws.specs.Unbroken.{NoBreakAtNode, NoAnnotationBreak}
+use Rattle.accepted_laws.specs.Unbroken.{NoAnnotationBreak}
 use Rattle.accepted_laws.proofs.Breaks.{both_empty, right, no_break_at_node}
 use Rattle.accepted_laws.proofs.ChainSteps.{unroll}
-use Rattle.accepted_laws.proofs.ClassNumbers.{UserClass, class_node, user_class_is, name_denotes}
+use Rattle.accepted_laws.proofs.ClassNumbers.{class_node, user_class_is, name_denotes}
 use Rattle.accepted_laws.proofs.ClassScopes.{keeps_scope}
-use Rattle.accepted_laws.proofs.Interfaces.{row_is, interface_of_framework}
-use Rattle.accepted_laws.proofs.Rows.{IsFrameworkRow, IsUserRow, acyclic, top_row, get_from_within}
-use Rattle.accepted_laws.proofs.Subtypes.{above_below}
+use Rattle.accepted_laws.proofs.Interfaces.{row_is}
+use Rattle.accepted_laws.proofs.Rows.{IsFrameworkRow, IsUserRow, get_from_within}
+use Rattle.accepted_laws.proofs.ClassChains.{acyclic, top_row}
 
 -- ---- the rules on annotations, one by one
 

@@ -1,13 +1,15 @@
--- Reading puts nodes behind the others, and each has children of the right sorts.
-use Rattle.std.specs.Prelude.{Bool, List, None, Option, Some, [], false, length, slice_get, suc, true, zero, ℕ, ◌++◌, ◌∷◌, ◌≡◌}
-use Rattle.std.proofs.Common.{refl, sym, ap, ◌∙◌, subst, append-nil, append_assoc, ◌⊎◌, inl, inr}
+-- Reading puts nodes behind the others, each behind all that is below it, and each has children of the right sorts.
+use Rattle.std.specs.Prelude.{Bool, List, None, Option, Some, [], length, suc, true, ℕ, ◌++◌, ◌∷◌, ◌≡◌}
+use Rattle.std.proofs.Common.{refl, sym, ap, ◌∙◌, subst, append-nil, append_assoc, inl, inr}
 use Rattle.scj_tree.specs.declared.nodes.Node.{Node}
-use Rattle.scj_tree.specs.declared.nodes.Node.TheVariants.{Class, Flags, DefineScope, ScopeName, Supers, SuperType, TypeArgument, IntType, BooleanType, ClassType, VoidType, LongType, Field, Method, Constructor, Parameters, Parameter, SuperCall, Block, Empty, Local, LocalWithValue, Assign, ExpressionStatement, If, While, For, Return, Binary, Unary, Cast, Parenthesized, SimpleName, FieldAccess, Call, Element, New, NewArray, Text, Number, True, False, Null, This}
+use Rattle.scj_tree.specs.declared.nodes.Node.TheVariants.{Class, Flags, DefineScope, Supers, SuperType, IntType, BooleanType, ClassType, Field, Method, Constructor, Parameters, Parameter, SuperCall, Block, Local, LocalWithValue, Assign, ExpressionStatement, If, While, For, Return, Binary, Unary, Cast, Parenthesized, SimpleName, FieldAccess, Call, Element, New, NewArray, Text, Number, True, False, Null, This}
 use Rattle.scj_tree.specs.Nodes.{put}
-use Rattle.accepted_laws.specs.Sorts.{Of, AllOf, OptionOf, HasRightChildren, IsWellSorted, is_expression, is_argument, is_type, is_result, is_target, is_invocation, is_assignment, is_statement, is_for_start}
+use Rattle.scj_tree.specs.Shape.{children, optional}
+use Rattle.accepted_laws.specs.Sorts.{Of, AllOf, OptionOf, HasRightChildren, IsWellSorted, is_expression, is_argument, is_type, is_result, is_assignment, is_statement, is_for_start}
+use Rattle.accepted_laws.specs.Intervals.{AreInOrder, Subtree, subtree, Subtrees, no_tree, one_tree_more}
 use Rattle.accepted_laws.proofs.Lists.{get_left, get_last, get_either}
 
-of_more : (test : Node → Bool) (N M : List Node) (id : ℕ) → Of test N id → Of test (N ++ M) id
+pub of_more : (test : Node → Bool) (N M : List Node) (id : ℕ) → Of test N id → Of test (N ++ M) id
 of_more test N M id o = record { node = o.node; is_there = get_left N M id o.node o.is_there; passes = o.passes }
 
 all_more : (test : Node → Bool) (N M : List Node) (ids : List ℕ) → AllOf test N ids → AllOf test (N ++ M) ids
@@ -58,49 +60,87 @@ sorted_put N node w s = record {
       [ inl h ↦ children_more N (node ∷ []) x (w.each id x h) | inr h ↦ children_more N (node ∷ []) x (subst (HasRightChildren N) h s) ];
 }
 
--- reading goes on from the nodes N to N1
-pub record GoesOn (N N1 : List Node) : Type 0 where
+-- ---- trees that stand one behind the other
+
+mutual
+  tree_more : (N M : List Node) {a x : ℕ} → Subtree N a x → Subtree (N ++ M) a x
+  tree_more N M (subtree {x = x} {node = node} e o t) = subtree (get_left N M x node e) o (trees_more N M t)
+
+  pub trees_more : (N M : List Node) {a b : ℕ} {ids : List ℕ} → Subtrees N a ids b → Subtrees (N ++ M) a ids b
+  trees_more N M no_tree = no_tree
+  trees_more N M (one_tree_more s t) = one_tree_more (tree_more N M s) (trees_more N M t)
+
+pub trees_then : {N : List Node} {a b c : ℕ} {xs ys : List ℕ} → Subtrees N a xs b → Subtrees N b ys c → Subtrees N a (xs ++ ys) c
+trees_then no_tree u = u
+trees_then (one_tree_more s t) u = one_tree_more s (trees_then t u)
+
+length_put : (N : List Node) (node : Node) → length (N ++ node ∷ []) ≡ suc (length N)
+length_put [] node = refl
+length_put (n ∷ N) node = ap suc (length_put N node)
+
+-- reading goes on from the nodes N to N1: what it puts are the trees of these nodes
+pub record GoesOn (N N1 : List Node) (ids : List ℕ) : Type 0 where
   pub more : List Node
   pub whole : N1 ≡ N ++ more
   pub keeps : IsWellSorted N → IsWellSorted N1
+  pub trees : Subtrees N1 (length N) ids (length N1)
 
 -- and what was read is of this sort
 pub record Reads (test : Node → Bool) (N N1 : List Node) (id : ℕ) : Type 0 where
-  pub goes : GoesOn N N1
+  pub goes : GoesOn N N1 (id ∷ [])
   pub is : Of test N1 id
 
 pub record ReadsOption (test : Node → Bool) (N N1 : List Node) (o : Option ℕ) : Type 0 where
-  pub goes : GoesOn N N1
+  pub goes : GoesOn N N1 (optional o)
   pub is : OptionOf test N1 o
 
 pub record ReadsAll (test : Node → Bool) (N N1 : List Node) (ids : List ℕ) : Type 0 where
-  pub goes : GoesOn N N1
+  pub goes : GoesOn N N1 ids
   pub are : AllOf test N1 ids
 
-pub stays : {N : List Node} → GoesOn N N
-stays {N} = record { more = []; whole = sym (append-nil N); keeps = λ w. w }
+pub stays : {N : List Node} → GoesOn N N []
+stays {N} = record { more = []; whole = sym (append-nil N); keeps = λ w. w; trees = no_tree }
 
-pub goes_then : {N N1 N2 : List Node} → GoesOn N N1 → GoesOn N1 N2 → GoesOn N N2
-goes_then {N} {N1} {N2} g h = record { more = g.more ++ h.more; whole = h.whole ∙ ap (λ t. t ++ h.more) g.whole ∙ append_assoc N g.more h.more; keeps = λ w. h.keeps (g.keeps w) }
+pub goes_then : {N N1 N2 : List Node} {xs ys : List ℕ} → GoesOn N N1 xs → GoesOn N1 N2 ys → GoesOn N N2 (xs ++ ys)
+goes_then {N} {N1} {N2} {xs} {ys} g h =
+    record {
+      more = g.more ++ h.more;
+      whole = h.whole ∙ ap (λ t. t ++ h.more) g.whole ∙ append_assoc N g.more h.more;
+      keeps = λ w. h.keeps (g.keeps w);
+      trees = trees_then (subst (λ M. Subtrees M (length N) xs (length N1)) (sym h.whole) (trees_more N1 h.more g.trees)) h.trees;
+    }
 
-pub of_later : {N N1 : List Node} (test : Node → Bool) → GoesOn N N1 → {id : ℕ} → Of test N id → Of test N1 id
+-- the same nodes, listed otherwise
+pub goes_as : {N N1 : List Node} (xs ys : List ℕ) → xs ≡ ys → GoesOn N N1 xs → GoesOn N N1 ys
+goes_as {N} {N1} xs ys e g = subst (GoesOn N N1) e g
+
+pub of_later : {N N1 : List Node} {ids : List ℕ} (test : Node → Bool) → GoesOn N N1 ids → {id : ℕ} → Of test N id → Of test N1 id
 of_later {N} {N1} test g {id} o = subst (λ M. Of test M id) (sym g.whole) (of_more test N g.more id o)
 
-pub all_later : {N N1 : List Node} (test : Node → Bool) → GoesOn N N1 → (ids : List ℕ) → AllOf test N ids → AllOf test N1 ids
+pub all_later : {N N1 : List Node} {more : List ℕ} (test : Node → Bool) → GoesOn N N1 more → (ids : List ℕ) → AllOf test N ids → AllOf test N1 ids
 all_later {N} {N1} test g ids o = subst (λ M. AllOf test M ids) (sym g.whole) (all_more test N g.more ids o)
 
-pub option_later : {N N1 : List Node} (test : Node → Bool) → GoesOn N N1 → (ids : Option ℕ) → OptionOf test N ids → OptionOf test N1 ids
+pub option_later : {N N1 : List Node} {more : List ℕ} (test : Node → Bool) → GoesOn N N1 more → (ids : Option ℕ) → OptionOf test N ids → OptionOf test N1 ids
 option_later {N} {N1} test g ids o = subst (λ M. OptionOf test M ids) (sym g.whole) (option_more test N g.more ids o)
 
--- a node is put behind the others
-pub put_on : {N N1 : List Node} (node : Node) → GoesOn N N1 → HasRightChildren N1 node → GoesOn N (put N1 node)
-put_on {N} {N1} node g s =
-    record { more = g.more ++ node ∷ []; whole = ap (λ t. t ++ node ∷ []) g.whole ∙ append_assoc N g.more (node ∷ []); keeps = λ w. sorted_put N1 node (g.keeps w) s }
+-- a node is put behind the others, and its children are what was read last
+pub put_in_order : {N N1 : List Node} {ids : List ℕ} (node : Node) → GoesOn N N1 ids → AreInOrder node ids → HasRightChildren N1 node → GoesOn N (put N1 node) (length N1 ∷ [])
+put_in_order {N} {N1} {ids} node g o s =
+    record {
+      more = g.more ++ node ∷ [];
+      whole = ap (λ t. t ++ node ∷ []) g.whole ∙ append_assoc N g.more (node ∷ []);
+      keeps = λ w. sorted_put N1 node (g.keeps w) s;
+      trees = one_tree_more (subtree (get_last N1 node) o (trees_more N1 (node ∷ []) g.trees))
+          (subst (λ n. Subtrees (put N1 node) (suc (length N1)) [] n) (sym (length_put N1 node)) no_tree);
+    }
+
+pub put_on : {N N1 : List Node} (node : Node) → GoesOn N N1 (children node) → HasRightChildren N1 node → GoesOn N (put N1 node) (length N1 ∷ [])
+put_on node g s = put_in_order node g (record { as_listed = λ _. refl; same = λ _. refl }) s
 
 pub of_last : (test : Node → Bool) (N : List Node) (node : Node) → test node ≡ true → Of test (put N node) (length N)
 of_last test N node e = record { node = node; is_there = get_last N node; passes = e }
 
-pub made : {N N1 : List Node} (test : Node → Bool) (node : Node) → GoesOn N N1 → test node ≡ true → HasRightChildren N1 node → Reads test N (put N1 node) (length N1)
+pub made : {N N1 : List Node} (test : Node → Bool) (node : Node) → GoesOn N N1 (children node) → test node ≡ true → HasRightChildren N1 node → Reads test N (put N1 node) (length N1)
 made {N} {N1} test node g e s = record { goes = put_on node g s; is = of_last test N1 node e }
 
 pub all_push : (test : Node → Bool) (N : List Node) (ids : List ℕ) (id : ℕ) → AllOf test N ids → Of test N id → AllOf test N (ids ++ id ∷ [])

@@ -1,10 +1,10 @@
 -- A list of nodes is well sorted where these tests pass.
-use Rattle.std.proofs.Common.{◌≡◌, ℕ, zero, suc, List, [], ◌∷◌, refl, sym, ap, ◌∙◌, subst, Option, Some, None, Bool, true, false, ◌&&◌, true≢false, slice_get}
+use Rattle.std.proofs.Common.{◌≡◌, ℕ, zero, suc, List, [], ◌∷◌, refl, sym, ap, ◌∙◌, Option, Some, None, Bool, true, false, ◌&&◌, true≢false, slice_get}
 use Rattle.scj_tree.specs.declared.nodes.Node.{Node}
 use Rattle.scj_tree.specs.declared.nodes.Node.TheVariants.{Class, Flags, DefineScope, Supers, SuperType, ClassType, Field, Method, Constructor, Parameters, Parameter, SuperCall, Block, Local, LocalWithValue, Assign, ExpressionStatement, If, While, For, Return, Binary, Unary, Cast, Parenthesized, FieldAccess, Call, Element, New, NewArray}
 use Rattle.scj_rules.specs.Words.{holds}
 use Rattle.scj_rules.specs.Contexts.{is_member, is_super_call}
-use Rattle.accepted_laws.specs.Sorts.{Of, AllOf, OptionOf, HasRightChildren, IsWellSorted, is_expression, is_argument, is_target, is_invocation, is_literal, is_type, is_result, is_type_argument, is_flags, is_define_scope, is_scope_name, is_statement, is_block, is_assignment, is_for_start, is_parameter, is_parameter_list, is_super_type, is_header}
+use Rattle.accepted_laws.specs.Sorts.{Of, AllOf, OptionOf, HasRightChildren, IsWellSorted, is_expression, is_argument, is_target, is_invocation, is_literal, is_type, is_element_type, is_result, is_type_argument, is_flags, is_define_scope, is_scope_name, is_statement, is_block, is_assignment, is_for_start, is_parameter, is_parameter_list, is_super_type, is_header}
 use Rattle.accepted_laws.proofs.Tools.{some_inj}
 
 abbrev of_test : (Node → Bool) → List Node → ℕ → Bool
@@ -48,7 +48,7 @@ has_right_children nodes (FieldAccess place name object) = of_test is_expression
 has_right_children nodes (Call place name object arguments) = option_test is_expression nodes object && all_test is_argument nodes arguments
 has_right_children nodes (Element place array index) = of_test is_expression nodes array && of_test is_expression nodes index
 has_right_children nodes (New place name_place name arguments) = all_test is_argument nodes arguments
-has_right_children nodes (NewArray place element length) = of_test is_type nodes element && of_test is_expression nodes length
+has_right_children nodes (NewArray place element length) = of_test is_element_type nodes element && of_test is_expression nodes length
 has_right_children nodes _ = true
 
 unfoldable pub all_have_right_children : List Node → List Node → Bool
@@ -106,7 +106,7 @@ right_children nodes (FieldAccess place name object) e = of_right is_expression 
 right_children nodes (Call place name object arguments) e = let a0 = parts (option_test is_expression nodes object) (all_test is_argument nodes arguments) e in (option_right is_expression nodes object a0.0, all_right is_argument nodes arguments a0.1)
 right_children nodes (Element place array index) e = let a0 = parts (of_test is_expression nodes array) (of_test is_expression nodes index) e in (of_right is_expression nodes array a0.0, of_right is_expression nodes index a0.1)
 right_children nodes (New place name_place name arguments) e = all_right is_argument nodes arguments e
-right_children nodes (NewArray place element length) e = let a0 = parts (of_test is_type nodes element) (of_test is_expression nodes length) e in (of_right is_type nodes element a0.0, of_right is_expression nodes length a0.1)
+right_children nodes (NewArray place element length) e = let a0 = parts (of_test is_element_type nodes element) (of_test is_expression nodes length) e in (of_right is_element_type nodes element a0.0, of_right is_expression nodes length a0.1)
 right_children nodes _ e = tt
 
 each_right : (nodes xs : List Node) (id : ℕ) (node : Node) → all_have_right_children nodes xs ≡ true → slice_get xs id ≡ Some node → HasRightChildren nodes node

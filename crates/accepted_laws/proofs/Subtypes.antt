@@ -1,13 +1,13 @@
 -- Subtyping in an accepted program is reflexive and transitive (JLS 4.10.2), and so is assignment of references (JLS 5.2).
-use Rattle.std.proofs.Common.{◌≡◌, ℕ, ◌<◌, zero, suc, List, [], ◌∷◌, ◌++◌, length, flat_map, refl, sym, ap, ◌∙◌, subst, arith, Option, Some, None, Bool, true, false, ◌||◌, true≢false, slice_get, ◌==◌, option_and_then, ◌⊎◌, inl, inr, ◌↔◌}
+use Rattle.std.proofs.Common.{◌≡◌, ℕ, ◌<◌, zero, suc, List, [], ◌∷◌, length, refl, sym, ap, ◌∙◌, subst, arith, Option, Some, None, true, ◌||◌, true≢false, slice_get, ◌==◌, option_and_then, ◌⊎◌, inl, inr}
 use Rattle.std.proofs.lemmas.Option.{slice_get_within}
-use Rattle.scj_builtins.specs.Framework.{framework_classes, object}
+use Rattle.scj_builtins.specs.Framework.{object}
 use Rattle.scj_tree.specs.Forest.{Forest}
 use Rattle.scj_rules.specs.declared.typing.Ty.{Ty}
 use Rattle.scj_rules.specs.declared.typing.Ty.TheVariants.{Int, Bool as Boolean, Void, NullTy, Label, Class as ClassTy, IntArray, BoolArray, ClassArray}
 use Rattle.scj_rules.specs.Chains.{Follows, one, more}
 use Rattle.scj_rules.specs.Words.{is_among, chain}
-use Rattle.scj_rules.specs.Classes.{ClassRow, superclass_in, superclasses, interfaces_in, all_interfaces, is_sub, framework_rows_from, written_rows, user_classes}
+use Rattle.scj_rules.specs.Classes.{ClassRow, superclass_in, superclasses, interfaces_in, all_interfaces, is_sub}
 use Rattle.scj_rules.specs.Contexts.{Declarations, declarations_of}
 use Rattle.scj_rules.specs.Types.{assigns, are_same}
 use Rattle.scj_rules.specs.Phases.{IsAccepted}
@@ -16,7 +16,8 @@ use Rattle.scj_rules.proofs.WithinLemmas.{counted-stays}
 use Rattle.accepted_laws.proofs.ChainSteps.{ends}
 use Rattle.accepted_laws.proofs.Fields.{In, here, there, in_among, in_flat, chain_on}
 use Rattle.accepted_laws.proofs.Interfaces.{flat_in, interface_of_framework}
-use Rattle.accepted_laws.proofs.Rows.{IsFrameworkRow, acyclic, object_alone_is_top, counted_is_written, top_row}
+use Rattle.accepted_laws.proofs.Rows.{IsFrameworkRow}
+use Rattle.accepted_laws.proofs.ClassChains.{acyclic, object_alone_is_top, top_row}
 
 pub among_in : (x : ℕ) (xs : List ℕ) → In x xs → is_among x xs ≡ true
 among_in x [] h = elim h [ ]

@@ -1,38 +1,24 @@
 -- The type of a node of a program that breaks no rule on types is that of its kind, by the types of all nodes.
-use Rattle.std.proofs.Common.{◌≡◌, ◌<◌, ◌+◌, ◌==◌, ℕ, zero, suc, Bool, true, not, ◌&&◌, ◌||◌, List, [], ◌∷◌, ◌++◌, length, Option, Some, None, is_some, option_map, option_and_then, if◌then◌else◌, slice_get, refl, sym, ap, ◌∙◌, subst, arith}
-use Rattle.std.proofs.lemmas.Bool.{true≢false}
+use Rattle.std.proofs.Common.{◌≡◌, ◌+◌, ℕ, true, List, [], length, Option, Some, None, option_map, option_and_then, if◌then◌else◌, slice_get, refl, ap, ◌∙◌, subst, arith}
 use Rattle.std.proofs.lemmas.Option.{slice_get_within}
-use Rattle.std.specs.List.{list_any}
-use Rattle.scj_base.specs.declared.findings.Found.{Found}
-use Rattle.scj_base.specs.declared.findings.Rule.TheVariants.{T2, T3, T4, T5, T6, T7, T8, T9, T11, T12, T13, T14}
 use Rattle.scj_tree.specs.declared.nodes.Node.{Node}
-use Rattle.scj_tree.specs.declared.nodes.Node.TheVariants.{Parenthesized, Field, Method, SuperCall, LocalWithValue, Assign, If, While, For, Return, Binary, Unary, Cast, FieldAccess, Call, Element, New, NewArray}
-use Rattle.scj_tree.specs.Forest.{Forest, IsForest, AllBelow, ChildrenFirst}
+use Rattle.scj_tree.specs.declared.nodes.Node.TheVariants.{Parenthesized, Binary, Unary, Cast, FieldAccess, Call, Element, New, NewArray}
+use Rattle.scj_tree.specs.Forest.{Forest, IsForest, AllBelow}
 use Rattle.scj_tree.specs.Shape.{children, optional}
-use Rattle.scj_tree.specs.Recursion.{lookup, bottom_up, below, joined_below}
-use Rattle.scj_tree.specs.declared.nodes.Node.TheVariants.{Class as ClassNode}
+use Rattle.scj_tree.specs.Recursion.{lookup, bottom_up, below}
 use Rattle.std.proofs.lemmas.Bool.Decides.{nat_tests}
-use Rattle.std.proofs.Common.{nat_lt, append_assoc, length-append, false, ◌⊎◌, inl, inr}
-use Rattle.std.specs.List.{Contains}
-use Rattle.scj_rules.specs.Phases.{IsFound, NothingBreaks, IsAccepted, over_nodes, type_phase, use_phase}
-use Rattle.scj_rules.proofs.ReportLemmas.{Contains-head}
-use Rattle.scj_base.specs.declared.findings.Rule.{Rule}
-use Rattle.scj_base.specs.declared.places.Pos.{Pos}
+use Rattle.std.proofs.Common.{nat_lt}
+use Rattle.scj_rules.specs.Phases.{type_phase}
 use Rattle.scj_rules.specs.Types.{binary_type, element_type, array_of}
 use Rattle.scj_rules.specs.TypeRules.{access_type, call_type}
-use Rattle.scj_tree.proofs.RecursionLemmas.{bottom_up-at, bottom_up-is}
+use Rattle.scj_tree.proofs.RecursionLemmas.{bottom_up-is}
 use Rattle.scj_rules.specs.declared.typing.Ty.{Ty}
 use Rattle.scj_rules.specs.declared.typing.Ty.TheVariants.{Class as ClassTy}
-use Rattle.scj_rules.specs.declared.typing.FoundField.{FoundField}
 use Rattle.scj_rules.specs.declared.typing.Receiver.{Receiver}
-use Rattle.scj_rules.specs.declared.typing.Receiver.TheVariants.{Class as the_class, Value as the_value}
-use Rattle.scj_rules.specs.Definitions.{read}
-use Rattle.scj_rules.specs.Words.{broken, holds}
-use Rattle.scj_rules.specs.Classes.{FoundMethod, class_number, is_empty, is_user_class}
-use Rattle.scj_rules.specs.Views.{place_at}
-use Rattle.scj_rules.specs.Contexts.{Declarations, declarations_of, variable_named}
-use Rattle.scj_rules.specs.Types.{receiver, call_receiver, class_at_name, all_types, accepts_arguments, is_no_reference, called_method, accessed_field, is_int, is_boolean, is_array, is_array_value, is_length, binary_type, unary_type, kind_is, is_form, has_form, is_form_part, constructor_parameters}
-use Rattle.scj_rules.specs.TypeRules.{Types, t1, t2, t3, t4, t5, t6, t7, t8, t9, t10, t11, t12, t13, t14, type_breaks, type_of, type_of_right, type_of_next, types_in, lacks_field, lacks_method, lacks_object, misfits_method, misfits_new, is_never_made, are_related, element_class, written_type, misfits_value, is_length_target, superclass_at, result_at, fits_result}
+use Rattle.scj_rules.specs.Classes.{class_number, is_empty}
+use Rattle.scj_rules.specs.Contexts.{Declarations, declarations_of}
+use Rattle.scj_rules.specs.Types.{call_receiver, all_types, binary_type, unary_type, is_form_part}
+use Rattle.scj_rules.specs.TypeRules.{Types, type_breaks, type_of, type_of_right, type_of_next, types_in, written_type}
 use Rattle.scj_rules.proofs.ParentLemmas.{children_below}
 use Rattle.accepted_laws.proofs.TypesBelow.{Same, BehindChildren, breaks-same, receiver-same, call-receiver-same, all-same, below-right}
 use Rattle.accepted_laws.proofs.Breaks.{nothing_at}

@@ -1,16 +1,12 @@
 -- What is broken at a node follows from the types of the nodes before it alone.
-use Rattle.std.proofs.Common.{◌≡◌, ◌<◌, ◌+◌, ◌==◌, ℕ, zero, suc, Bool, true, not, ◌&&◌, ◌||◌, List, [], ◌∷◌, ◌++◌, length, Option, Some, None, is_some, option_map, option_and_then, if◌then◌else◌, slice_get, refl, sym, ap, ◌∙◌, subst, arith}
-use Rattle.std.proofs.lemmas.Bool.{true≢false}
-use Rattle.std.proofs.lemmas.Option.{slice_get_within}
+use Rattle.std.proofs.Common.{◌≡◌, ◌<◌, ◌==◌, ℕ, Bool, not, ◌&&◌, ◌||◌, List, [], ◌∷◌, ◌++◌, length, Option, Some, None, is_some, option_map, option_and_then, if◌then◌else◌, slice_get, refl, ap, ◌∙◌, arith}
 use Rattle.std.specs.List.{list_any}
 use Rattle.scj_base.specs.declared.findings.Found.{Found}
 use Rattle.scj_base.specs.declared.findings.Rule.TheVariants.{T2, T3, T4, T5, T6, T7, T8, T9, T11, T12, T13, T14}
 use Rattle.scj_tree.specs.declared.nodes.Node.{Node}
 use Rattle.scj_tree.specs.declared.nodes.Node.TheVariants.{Field, Method, SuperCall, LocalWithValue, Assign, If, While, For, Return, Binary, Unary, Cast, FieldAccess, Call, Element, New, NewArray}
-use Rattle.scj_tree.specs.Forest.{Forest, IsForest, AllBelow, ChildrenFirst}
+use Rattle.scj_tree.specs.Forest.{AllBelow}
 use Rattle.scj_tree.specs.Shape.{children, optional}
-use Rattle.scj_tree.specs.Recursion.{lookup, bottom_up}
-use Rattle.scj_tree.proofs.RecursionLemmas.{bottom_up-at}
 use Rattle.scj_rules.specs.declared.typing.Ty.{Ty}
 use Rattle.scj_rules.specs.declared.typing.Ty.TheVariants.{Class as ClassTy}
 use Rattle.scj_rules.specs.declared.typing.FoundField.{FoundField}
@@ -18,11 +14,11 @@ use Rattle.scj_rules.specs.declared.typing.Receiver.{Receiver}
 use Rattle.scj_rules.specs.declared.typing.Receiver.TheVariants.{Class as the_class, Value as the_value}
 use Rattle.scj_rules.specs.Definitions.{read}
 use Rattle.scj_rules.specs.Words.{broken, holds}
-use Rattle.scj_rules.specs.Classes.{FoundMethod, class_number, is_empty, is_user_class}
+use Rattle.scj_rules.specs.Classes.{FoundMethod, class_number, is_user_class}
 use Rattle.scj_rules.specs.Views.{place_at}
-use Rattle.scj_rules.specs.Contexts.{Declarations, declarations_of, variable_named}
+use Rattle.scj_rules.specs.Contexts.{Declarations, variable_named}
 use Rattle.scj_rules.specs.Types.{receiver, call_receiver, class_at_name, all_types, accepts_arguments, is_no_reference, called_method, accessed_field, is_int, is_boolean, is_array, is_array_value, is_length, binary_type, unary_type, kind_is, is_form, has_form, is_form_part, constructor_parameters}
-use Rattle.scj_rules.specs.TypeRules.{Types, t1, t2, t3, t4, t5, t6, t7, t8, t9, t10, t11, t12, t13, t14, type_breaks, type_of, type_of_right, type_of_next, types_in, lacks_field, lacks_method, lacks_object, misfits_method, misfits_new, misfits_form_part, is_never_made, are_related, element_class, written_type, misfits_value, is_length_target, superclass_at, result_at, fits_result}
+use Rattle.scj_rules.specs.TypeRules.{Types, t1, t2, t3, t4, t5, t6, t7, t8, t9, t10, t11, t12, t13, t14, type_breaks, lacks_field, lacks_method, lacks_object, misfits_method, misfits_new, misfits_form_part, is_never_made, are_related, element_class, written_type, misfits_value, is_length_target, superclass_at, result_at, fits_result}
 
 -- the types of the smaller numbers are the same
 abbrev pub Same : ℕ → Types → Types → Type 0

@@ -1,21 +1,18 @@
 -- The variables that are known at a node belong to the node's member.
-use Rattle.std.proofs.Common.{◌≡◌, ℕ, ◌+◌, ◌<◌, ◌≤◌, zero, suc, List, [], ◌∷◌, ◌++◌, length, refl, sym, ap, ◌∙◌, subst, arith, Option, Some, None, Bool, true, false, not, ◌||◌, true≢false, ◌⊎◌, inl, inr, ⊎_elim, ◌==◌, option_and_then, is_some, if◌then◌else◌, slice_get, take, take_while, nat_lt}
+use Rattle.std.proofs.Common.{◌≡◌, ℕ, ◌+◌, ◌<◌, ◌≤◌, zero, suc, List, [], ◌∷◌, ◌++◌, length, refl, sym, ap, ◌∙◌, arith, Option, Some, None, Bool, true, false, not, true≢false, ◌⊎◌, inl, inr, ◌==◌, option_and_then, is_some, if◌then◌else◌, slice_get, take, nat_lt}
 use Rattle.std.specs.List.{prefix_len}
 use Rattle.std.proofs.lemmas.Bool.Decides.{nat_tests}
-use Rattle.std.proofs.lemmas.Option.{slice_get_within}
 use Rattle.scj_tree.specs.declared.nodes.Node.{Node}
 use Rattle.scj_tree.specs.declared.nodes.Node.TheVariants.{Method as MethodNode, Constructor, Parameters, Block, For}
 use Rattle.scj_tree.specs.Forest.{Forest, IsForest, joined}
 use Rattle.scj_tree.specs.Shape.{children, optional}
-use Rattle.scj_tree.specs.Recursion.{lookup}
 use Rattle.scj_tree.proofs.RecursionLemmas.{lookup-behind, length-top_down}
-use Rattle.scj_rules.specs.declared.contexts.Context.{Context}
 use Rattle.scj_rules.specs.Definitions.{read}
-use Rattle.scj_rules.specs.Words.{is_among, chain}
+use Rattle.scj_rules.specs.Words.{is_among}
 use Rattle.scj_rules.specs.Views.{variable_at}
-use Rattle.scj_rules.specs.Contexts.{Declarations, declarations_of, outermost, context, contexts_in, context_of, child_context, last_variable, those_before, parameters_before, parameter_nodes, declared_before, is_member, parent_in, known_variables}
+use Rattle.scj_rules.specs.Contexts.{Declarations, declarations_of, outermost, context, contexts_in, context_of, child_context, last_variable, those_before, parameters_before, parameter_nodes, declared_before, is_member, parent_in}
 use Rattle.scj_rules.proofs.ChainLemmas.{or_cases, or_left, or_right}
-use Rattle.scj_rules.proofs.ParentLemmas.{parent-is, no-parent, IsParent, child-less}
+use Rattle.scj_rules.proofs.ParentLemmas.{parent-is, no-parent, child-less}
 use Rattle.accepted_laws.proofs.Contexts.{child_context_is}
 use Rattle.accepted_laws.proofs.Tools.{some_inj}
 

@@ -1,5 +1,5 @@
 -- What the rules say of a node of a program: its type, static scope and binding, and the body in which it stands.
-use Rattle.std.specs.Prelude.{◌≡◌, ◌<◌, ℕ, true, false, List, [], ◌∷◌, Option, Some, None, if◌then◌else◌, is_some, slice_get}
+use Rattle.std.specs.Prelude.{◌≡◌, ◌<◌, ℕ, true, false, List, ◌∷◌, Option, Some, None, if◌then◌else◌, is_some, slice_get}
 use Rattle.scj_tree.specs.declared.nodes.Node.{Node}
 use Rattle.scj_tree.specs.Recursion.{lookup}
 use Rattle.scj_rules.specs.declared.typing.Binding.{Binding}
@@ -11,10 +11,12 @@ use Rattle.scj_rules.specs.Words.{is_among}
 use Rattle.scj_rules.specs.Views.{variable_at}
 use Rattle.scj_rules.specs.Contexts.{Declarations, context, is_member, is_static_member, known_variables}
 use Rattle.scj_rules.specs.StaticScopes.{this_in}
+use Rattle.scj_rules.specs.Types.{class_at_name, is_form_part}
 use Rattle.scj_rules.specs.TypeRules.{Types, types_in}
 use Rattle.scj_rules.specs.UseRules.{Scopes, scopes_in}
 use Rattle.scj_rules.specs.Bindings.{bindings_in}
 use Rattle.accepted_laws.specs.Kinds.{Kind, kind_of}
+use Rattle.accepted_laws.specs.Sorts.{is_argument}
 
 -- ---- type, static scope and binding of each node of a program
 
@@ -32,9 +34,19 @@ unfoldable pub Judged : Declarations → ℕ → Option Kind → Type 0
 Judged p id None = type_at_node p id ≡ Some Void
 Judged p id (Some k) = kind_of (type_at_node p id) (scope_at_node p id) ≡ Some k
 
--- there is a scope
+-- there is a type; there is a scope
+abbrev pub HasType : Option Ty → Type 0
+HasType o = (t : Ty) × (o ≡ Some t)
+
 abbrev pub HasScope : Option Scope → Type 0
 HasScope o = (s : Scope) × (o ≡ Some s)
+
+-- a node that stands for a value: an expression or a text, but neither the name of a class before a dot nor a part of a
+-- framework's form
+pub record IsValue (p : Declarations) (id : ℕ) (node : Node) : Type 0 where
+  pub is_argument : is_argument node ≡ true
+  pub no_class : class_at_name p id node ≡ None
+  pub no_form_part : is_form_part p id ≡ false
 
 -- ---- where a node stands
 

@@ -58,6 +58,13 @@ is_type (BooleanType place is_array) = true
 is_type (ClassType place name argument is_array) = true
 is_type _ = false
 
+-- the type of the elements of a new array: no array itself
+unfoldable pub is_element_type : Node → Bool
+is_element_type (IntType place false) = true
+is_element_type (BooleanType place false) = true
+is_element_type (ClassType place name argument false) = true
+is_element_type _ = false
+
 unfoldable pub is_result : Node → Bool
 is_result (VoidType place) = true
 is_result (LongType place) = true
@@ -196,7 +203,8 @@ HasRightChildren nodes (Call place name object arguments) =
     OptionOf is_expression nodes object × AllOf is_argument nodes arguments
 HasRightChildren nodes (Element place array index) = Of is_expression nodes array × Of is_expression nodes index
 HasRightChildren nodes (New place name_place name arguments) = AllOf is_argument nodes arguments
-HasRightChildren nodes (NewArray place element length) = Of is_type nodes element × Of is_expression nodes length
+HasRightChildren nodes (NewArray place element length) =
+    Of is_element_type nodes element × Of is_expression nodes length
 HasRightChildren nodes _ = Unit {0}
 
 -- each node has children of the sorts that its kind asks

@@ -11,6 +11,8 @@ ghost use Rattle.scj_rules.specs.Phases.{IsAccepted};
 ghost use Rattle.scj_rules.specs.TypeRules.{type_of};
 ghost use Rattle.scj_rules.specs.UseRules.{scope_of};
 ghost use Rattle.scj_rules.specs.Bindings.{binding_of};
+ghost use Rattle.accepted_laws.specs.Intervals.{AreIntervals};
+ghost use Rattle.accepted_laws.specs.Variables.{BeginWithParameters};
 ghost use Rattle.accepted_laws.specs.Judgements.{type_at_node, scope_at_node, binding_at_node, IsMemberOf};
 ghost use Rattle.accepted_laws.specs.Programs.{IsAcceptedProgram};
 ghost use Rattle.accepted_laws.specs.Sorts.{IsWellSorted};
@@ -22,6 +24,7 @@ use scj_rules::Checked;
 pub fn checked_is_accepted(checked: &Checked)
     ensures { IsAcceptedProgram checked.now.program }
 {
+    // that a program is a forest is told by each function that looks into it
     let program = checked.program();
     let _ = program.len();
 }
@@ -31,12 +34,18 @@ pub fn children_are_of_their_sorts()
     ensures { (forest : Forest) → IsReadFromTexts forest → IsWellSorted forest.nodes }
 {}
 
+/// Each node stands behind all that is below it, and nothing else stands between them: the nodes of a program are those
+/// of its classes, class after class.
+pub fn trees_are_intervals()
+    ensures { (forest : Forest) → IsReadFromTexts forest → AreIntervals forest }
+{}
+
 /// No rule is broken at any node of an accepted program.
 pub fn no_node_breaks_a_rule()
     ensures { (forest : Forest) → IsAccepted forest → (id : ℕ) (node : SyntaxNode) → slice_get (declarations_of forest).nodes id ≡ Some node → NoBreakAtNode (declarations_of forest) id node }
 {}
 
-/// The type of a node is that of its kind, by the types of all nodes: no type is missing for a broken rule.
+/// The type of a node is that of its kind, by the types of all nodes.
 pub fn types_are_of_their_kinds()
     ensures { (forest : Forest) → IsForest forest → IsAccepted forest → (id : ℕ) (node : SyntaxNode) → slice_get (declarations_of forest).nodes id ≡ Some node → type_at_node (declarations_of forest) id ≡ type_of (declarations_of forest) (type_at_node (declarations_of forest)) id node }
 {}
@@ -64,4 +73,9 @@ pub fn variables_have_one_number()
 /// Each variable that is in scope in a member is among its variables.
 pub fn variables_in_scope_have_numbers()
     ensures { (forest : Forest) → IsForest forest → IsReadFromTexts forest → (id member variable : ℕ) → (context (declarations_of forest) id).member ≡ Some member → is_among variable (known_variables (declarations_of forest) id) ≡ true → is_among variable (variables_of (declarations_of forest) member) ≡ true }
+{}
+
+/// The parameters of a member have its first numbers, each its place among the parameters.
+pub fn variables_begin_with_parameters()
+    ensures { (forest : Forest) → IsForest forest → IsReadFromTexts forest → (member : ℕ) → BeginWithParameters (declarations_of forest) member }
 {}

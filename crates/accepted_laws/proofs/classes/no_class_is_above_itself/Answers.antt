@@ -1,4 +1,4 @@
-use Rattle.accepted_laws.proofs.Rows.{acyclic}
+use Rattle.accepted_laws.proofs.ClassChains.{acyclic}
 use Rattle.accepted_laws.proofs.classes.no_class_is_above_itself.Goals as goal
 
 pub returns : goal.returns

@@ -1,0 +1,4 @@
+pub mod Calls
+pub mod Expressions
+pub mod Methods
+pub mod Statements

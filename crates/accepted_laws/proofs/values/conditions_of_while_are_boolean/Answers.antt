@@ -1,5 +1,0 @@
-use Rattle.accepted_laws.proofs.ValueFacts.{while_condition}
-use Rattle.accepted_laws.proofs.values.conditions_of_while_are_boolean.Goals as goal
-
-pub returns : goal.returns
-returns c = while_condition

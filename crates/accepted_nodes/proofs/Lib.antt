@@ -1,0 +1,11 @@
+pub mod DeclaredScopes
+pub mod DeclaredTypes
+pub mod FormParts
+pub mod FoundMembers
+pub mod ScopesComplete
+pub mod Slots
+pub mod TypeBreaks
+pub mod TypesComplete
+pub mod Uses
+pub mod ValueChildren
+pub mod ValueFacts
