@@ -1,0 +1,11 @@
+pub mod AssignmentFlows
+pub mod CallFlows
+pub mod Entries
+pub mod ExpressionFlows
+pub mod FlowTools
+pub mod Flows
+pub mod Known
+pub mod LoopFlows
+pub mod StatementFlows
+pub mod Turns
+pub mod Widens

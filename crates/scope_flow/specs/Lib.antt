@@ -1,0 +1,9 @@
+pub mod CallFacts
+pub mod CallNeeds
+pub mod Facts
+pub mod Flow
+pub mod Needs
+pub mod Signatures
+pub mod Slots
+pub mod StatementFacts
+pub mod ValueFacts

@@ -1,0 +1,4 @@
+pub mod EffectsFine
+pub mod Fine
+pub mod OwnJob
+pub mod Places
