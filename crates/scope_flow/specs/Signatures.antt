@@ -22,6 +22,7 @@ use Rattle.scj_rules.specs.Types.{type_written, kind_is, is_concrete}
 use Rattle.scj_rules.specs.AnnotationRules.{result_scope}
 use Rattle.scj_rules.specs.Bodies.{body_named, body_of, class_of_body}
 use Rattle.accepted_laws.specs.Kinds.{Kind, number, reference, kind_of, kind_of_variable, Fits, seen_as, seen_kinds}
+use Rattle.accepted_laws.specs.Variables.{parameter_list}
 use Rattle.scope_flow.specs.Slots.{kind_of_slot}
 
 -- ---- what bodies take and give
@@ -37,11 +38,6 @@ kinds_of_variables p (v ∷ vs) =
     kind_of_variable p v >>= (λ k. kinds_of_variables p vs >>= (λ ks. Some (k ∷ ks)))
 
 -- the parameters of a body, by their nodes; none of an unwritten constructor
-unfoldable pub parameter_list : Node → Option ℕ
-parameter_list (MethodNode place name flags result_type parameters body) = parameters
-parameter_list (Constructor place name flags parameters super_call body) = parameters
-parameter_list _ = None
-
 unfoldable pub parameters_of : Declarations → ℕ → List ℕ
 parameters_of p b =
     elim (read p.nodes parameter_list b >>= read p.nodes parameter_nodes) [ None ↦ [] | Some list ↦ list ]
