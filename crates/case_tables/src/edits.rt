@@ -1,7 +1,7 @@
 //! A change of a source.
 
-ghost use Rattle.std.specs.Prelude.{◌≡◌, IfOk};
-ghost use Rattle.case_tables.specs.Edits.{first_word, other_words, number_of, changed};
+ghost use Rattle.std.specs.Prelude.{◌≡◌, IfErr, IfOk};
+ghost use Rattle.case_tables.specs.Edits.{first_word, other_words, number_of, changed, LiesWithin, RefusesPlaces};
 
 use crate::lines::add_text;
 use crate::stops::Stop;
@@ -30,8 +30,11 @@ impl<'a> Edit<'a> {
     }
 
     /// What the change makes of a source.
+    #[tactic(auto, unfolding(crate::specs::Edits::RefusesPlaces))]
     pub fn changed(self, alloc: Global, source: &[u8]) -> Result<Vec<u8>, Stop>
-        ensures { IfOk result
+        ensures within { IfOk result (λ bytes. LiesWithin source.now self.entry.from self.entry.to) }
+        ensures bad { IfErr result (RefusesPlaces source.now self.entry.from self.entry.to) }
+        ensures bytes { IfOk result
             (λ bytes. bytes.items ≡ changed source.now self.entry.from self.entry.to self.entry.text.now) }
     {
         let front = source.get(..self.from).ok_or(Stop::BadLine)?;
