@@ -14,6 +14,3 @@ pub use plan_texts::read_plan;
 pub use plans::Plan;
 pub use port_readings::Readings;
 pub use scj_model::{Fire, ReadingRow};
-
-#[cfg(test)]
-mod tests;

@@ -10,6 +10,3 @@ pub mod verdicts;
 pub use readings::{Reading, read};
 pub use sources::Sources;
 pub use verdicts::{Report, Verdict, check};
-
-#[cfg(test)]
-mod tests;

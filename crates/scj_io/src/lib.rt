@@ -8,8 +8,6 @@ pub mod mem_sinks;
 pub mod shelves;
 pub mod sinks;
 pub mod std_sinks;
-#[cfg(test)]
-mod tests;
 
 pub use file_shelves::FileShelf;
 pub use mem_shelves::MemShelf;

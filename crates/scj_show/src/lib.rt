@@ -8,6 +8,3 @@ pub mod shows;
 pub mod symbols;
 
 pub use shows::show;
-
-#[cfg(test)]
-mod tests;

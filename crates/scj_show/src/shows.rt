@@ -134,6 +134,3 @@ fn put_own(text: &mut Vec<u8>, node: &Node) -> Result<(), Memory>
         _ => Ok(()),
     }
 }
-
-#[cfg(test)]
-mod tests;

@@ -6,6 +6,3 @@ pub mod sizes;
 
 pub use generating::generate;
 pub use sizes::GenAnswer;
-
-#[cfg(test)]
-mod tests;

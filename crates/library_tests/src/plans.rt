@@ -1,4 +1,6 @@
-use super::*;
+//! Texts of plans: what is told of them, and in which order the fires of a plan come.
+
+use run_plan::{Plan, PlanAnswer, read_plan};
 use std::alloc::{AllocError, Global};
 use std::test::Fail;
 

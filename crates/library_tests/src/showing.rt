@@ -2,8 +2,8 @@
 
 ghost use Rattle.std.specs.Prelude.{◌≡◌};
 
-use crate::show;
-use scj_base::{Name, NodeId, Pos, SharedName};
+use scj_base::{Name, Pos, SharedName};
+use scj_show::show;
 use scj_tree::{Node, NodeList, Program};
 use std::test::Fail;
 

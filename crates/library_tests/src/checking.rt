@@ -1,7 +1,9 @@
+//! Sources read and checked.
+
 ghost use Rattle.std.specs.Prelude.{◌≡◌, ◌≤◌, length, IfOk};
 
-use super::*;
 use scj_base::{Found, Pos, Rule};
+use scj_check::{Reading, Sources, Verdict, check, read};
 use scj_rules::Binding;
 use std::alloc::Global;
 use std::test::Fail;

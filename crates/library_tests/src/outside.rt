@@ -1,7 +1,7 @@
 //! What the outside gives and takes, and that each call that takes memory can succeed.
 
-use crate::{FileShelf, LoadAnswer, MemShelf, MemSink, Shelf, StdSink, put_all};
 use scj_base::Failed;
+use scj_io::{FileShelf, LoadAnswer, MemShelf, MemSink, Shelf, StdSink, put_all};
 use std::alloc::Global;
 use std::test::Fail;
 use std::{env, fs, process};

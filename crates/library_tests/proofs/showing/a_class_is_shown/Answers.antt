@@ -4,7 +4,7 @@ use Rattle.scj_tree.specs.declared.nodes.Node.TheVariants.{Class}
 use Rattle.scj_tree.specs.Counts.{times}
 use Rattle.scj_tree.specs.Shape.{children}
 use Rattle.scj_tree.specs.Forest.{Forest, forest_of, joined, all_children, AllClasses, AreFreshClasses, is_class, with_node}
-use Rattle.scj_show.proofs.tests.files.a_class_is_shown.Goals as goal
+use Rattle.library_tests.proofs.showing.a_class_is_shown.Goals as goal
 
 bit : (b : Bool) → ((if b then 1 else 0) + 0) + 0 ≤ 1
 bit true = omega arith

@@ -1,6 +1,6 @@
 //! The texts of the smallest and of the greatest size, and the sizes that are refused.
 
-use crate::{GenAnswer, generate};
+use source_gen::{GenAnswer, generate};
 use std::test::Fail;
 
 /// The FNV-1a hash of a text, by which `expected/make_generated.py` tells it too.

@@ -1,0 +1,19 @@
+//! Tests of the libraries' public calls, for what no clause says.
+//!
+//! They stand in a crate of their own, since a crate is proved once more with its tests.
+#![tactic(auto)]
+
+#[cfg(test)]
+mod checking;
+#[cfg(test)]
+mod generating;
+#[cfg(test)]
+mod lexing;
+#[cfg(test)]
+mod outside;
+#[cfg(test)]
+mod plans;
+#[cfg(test)]
+mod showing;
+#[cfg(test)]
+mod words;

@@ -1,0 +1,57 @@
+//! The words of a call.
+
+use command_line::{Job, WordsAnswer, read_words};
+use std::alloc::{AllocError, Global};
+use std::test::Fail;
+
+static REFUSED: [&str; 14] = [
+    "",
+    "check",
+    "walk A",
+    "A check",
+    "help",
+    "check A -B",
+    "check -h A",
+    "--help",
+    "check --pla p A",
+    "check A --plan p",
+    "check A --size 5",
+    "check A ",
+    "check A\u{7f}",
+    "run --plan p A",
+];
+
+/// The words of a line, parted by single spaces.
+fn words_of(alloc: Global, line: &str) -> Result<Vec<String>, AllocError> {
+    let mut words = Vec::new(alloc);
+    for word in line.split(' ') {
+        words.push(String::from_str(alloc, word)?)?;
+    }
+    Ok(words)
+}
+
+#[test]
+fn checks(rt: HostRuntime) -> Result<(), Fail> {
+    let words = words_of(rt.alloc(), "check -- A -B")?;
+    let sources = words_of(rt.alloc(), "A -B")?;
+    assert!(rt; read_words(rt.alloc(), words.as_slice()) == Ok(Job::Check { sources }));
+    Ok(())
+}
+
+#[test]
+fn shows(rt: HostRuntime) -> Result<(), Fail> {
+    let words = words_of(rt.alloc(), "show A B")?;
+    let sources = words_of(rt.alloc(), "A B")?;
+    assert!(rt; read_words(rt.alloc(), words.as_slice()) == Ok(Job::Show { sources }));
+    Ok(())
+}
+
+#[test]
+fn refuses(rt: HostRuntime) -> Result<(), Fail> {
+    for line in REFUSED {
+        let words = words_of(rt.alloc(), line)?;
+        let job = read_words(rt.alloc(), words.as_slice());
+        assert!(rt; job == Err(WordsAnswer::Usage), "{line}");
+    }
+    Ok(())
+}
