@@ -1,0 +1,11 @@
+pub mod ProgramE10Array
+pub mod ProgramE1New
+pub mod ProgramE2Call
+pub mod ProgramE3Argument
+pub mod ProgramE4Assign
+pub mod ProgramE5Store
+pub mod ProgramE6Return
+pub mod ProgramE7Enter
+pub mod ProgramE8Execute
+pub mod Rows
+pub mod Unsafe

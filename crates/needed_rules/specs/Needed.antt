@@ -1,0 +1,22 @@
+-- A rule is needed: some program breaks it and no other one, and isn't safe.
+use Rattle.std.specs.Prelude.{◌≡◌, [], ◌∷◌}
+use Rattle.scj_base.specs.declared.findings.Rule.{Rule}
+use Rattle.scj_base.specs.declared.places.Pos.{Pos}
+use Rattle.scj_tree.specs.Forest.{Forest}
+use Rattle.scj_rules.specs.Contexts.{declarations_of}
+use Rattle.scj_rules.specs.Phases.{class_phase, type_phase, scope_phase, use_phase}
+use Rattle.scj_model.specs.Code.{code_of}
+use Rattle.scj_model.specs.Safety.{IsSafeInAnyOrder}
+
+-- this is all that is broken: one rule, at one place
+pub record BreaksOnly (program : Forest) (rule : Rule) (place : Pos) : Type 0 where
+  pub classes : class_phase (declarations_of program) ≡ []
+  pub types : type_phase (declarations_of program) ≡ []
+  pub scopes : scope_phase (declarations_of program) ≡ []
+  pub uses : use_phase (declarations_of program) ≡ record { pos = place; rule = rule } ∷ []
+
+pub record IsNeeded (rule : Rule) : Type 0 where
+  pub program : Forest
+  pub place : Pos
+  pub breaks : BreaksOnly program rule place
+  pub is_unsafe : IsSafeInAnyOrder (code_of program) → ⊥

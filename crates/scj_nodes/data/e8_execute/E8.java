@@ -1,0 +1,19 @@
+class App implements Safelet {
+  public MissionSequencer getSequencer() { return new Seq(); }
+  public long immortalMemorySize() { return 400; }
+  public void initializeApplication() { }
+}
+class Seq extends MissionSequencer {
+  Seq() { super(new PriorityParameters(5), new StorageParameters(0)); }
+  public Mission getNextMission() { return new Main(); }
+}
+@DefineScope(name="M", parent="IMMORTAL") class Main extends Mission {
+  public long missionMemorySize() { return 200; }
+  public void initialize() { ManagedMemory.executeInAreaOf(this, new Job(new Object())); }
+}
+@Scope("M") class Job implements Runnable {
+  Object o;
+  Job(Object a) { o = a; }
+  public void run() { new Box(o); }
+}
+class Box { Object o; Box(Object a) { o = a; } }
