@@ -62,7 +62,7 @@ EDITS = {
     "T14": "type_rules/form_twice_for_storage type_words/largest_size_refused",
     "S1": "scope_tree/place_of_the_parent scope_tree/reserved_makes_scope scope_tree/unknown_can_be_defined",
     "S2": "scope_tree/parent_behind_is_unknown scope_tree/root_is_unknown",
-    "S3": "scope_tree/cycle_asked_of_every_definition scope_tree/cycle_at_the_name scope_tree/jumps_too_short "
+    "S3": "scope_tree/cycle_asked_of_every_definition scope_tree/jumps_too_short "
     "scope_tree/own_parent_missed",
     "S4": "scope_tree/wrong_parent_as_wrong_class",
     "S5": "scope_tree/mission_below_a_mission scope_tree/wrong_parent_as_wrong_class",
