@@ -1,5 +1,5 @@
-mod SampleLaws
 pub mod GrammarLaws
+pub mod SampleLaws
 pub mod SourceLaws
 pub mod StandLaws
 pub mod SyntaxLaws
