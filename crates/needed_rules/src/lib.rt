@@ -5,8 +5,7 @@
 ghost use Rattle.scj_base.specs.declared.findings.Rule.TheVariants.{E1, E2, E3, E4, E5, E6, E7, E8, E10};
 ghost use Rattle.needed_rules.specs.Needed.{IsNeeded};
 
-/// Without one of these rules unsafe programs would be accepted. E7 keeps a run from being stuck, and the others keep
-/// references from outliving their objects.
+/// Without one of these rules unsafe programs would be accepted.
 pub fn rules_on_uses_are_needed()
     ensures new { IsNeeded E1 }
     ensures call { IsNeeded E2 }

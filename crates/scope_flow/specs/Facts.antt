@@ -1,4 +1,5 @@
--- What the bodies of an accepted program have; and all that the proofs about runs ask of the rules.
+-- What the bodies, classes and types of an accepted program have: what the proofs about runs ask of the rules, but for the
+-- mission sequencer.
 use Rattle.std.specs.Prelude.{◌≡◌, ℕ, ◌+◌, ◌<◌, true, false, List, [], ◌∷◌, Option, Some, None, slice_get, length}
 use Rattle.scj_base.specs.declared.places.Pos.{Pos}
 use Rattle.scj_tree.specs.declared.nodes.Node.{Node}
@@ -134,7 +135,7 @@ EntryFact code b c sig (Constructor place name flags parameters super_call body)
 EntryFact code b c sig (Class place name flags header members) = ConstructorFact code b c sig None
 EntryFact code b c sig _ = ⊥
 
--- ---- all that the proofs about runs ask of a program
+-- ---- all of it
 
 pub record Facts (code : Code) : Type 0 where
   pub expressions : (b c : ℕ) (sig : Signature) (id : ℕ) (node : Node) (gives : Option Kind) →

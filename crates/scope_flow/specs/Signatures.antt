@@ -1,6 +1,6 @@
 -- What a body takes and gives, and where it runs, in its own scopes; and what a call finds.
 use Rattle.std.specs.Prelude.{◌≡◌, ℕ, Bool, true, false, not, List, [], ◌∷◌, ◌++◌, ◌⊎◌, slice_get, Option, Some, None, codes}
-use Rattle.scj_builtins.specs.Framework.{object}
+use Rattle.scj_builtins.specs.Framework.{object, runnable}
 use Rattle.scj_tree.specs.declared.nodes.Node.{Node}
 use Rattle.scj_tree.specs.declared.nodes.Node.TheVariants.{Class, Method as MethodNode, Constructor}
 use Rattle.scj_rules.specs.declared.typing.Ty.{Ty}
@@ -18,10 +18,11 @@ use Rattle.scj_rules.specs.Contexts.{Declarations, is_static_member, parameter_n
 use Rattle.scj_rules.specs.LimitRules.{variables_of}
 use Rattle.scj_rules.specs.StaticScopes.{this_in, current_in}
 use Rattle.scj_rules.specs.ScopeRules.{immortal_scope, is_outer, defined_by_chain}
-use Rattle.scj_rules.specs.Types.{type_written, kind_is, is_concrete}
+use Rattle.scj_rules.specs.Types.{type_written, kind_is, is_concrete, constructor_in}
 use Rattle.scj_rules.specs.AnnotationRules.{result_scope}
 use Rattle.scj_rules.specs.Bodies.{body_named, body_of, class_of_body}
 use Rattle.accepted_laws.specs.Kinds.{Kind, number, reference, kind_of, kind_of_variable, Fits, seen_as, seen_kinds}
+use Rattle.accepted_laws.specs.Sorts.{is_class}
 use Rattle.accepted_laws.specs.Variables.{parameter_list}
 use Rattle.scope_flow.specs.Slots.{kind_of_slot}
 
@@ -62,11 +63,13 @@ may_run (Constructor place name flags parameters super_call body) = true
 may_run (Class place name flags header members) = true
 may_run _ = false
 
--- a written body, the class in which it stands, and its signature
+-- a written body, the class in which it stands, and its signature. A class is the body of its own constructor where none
+-- is written in it (JLS 8.8.9)
 pub record IsBody (p : Declarations) (b class : ℕ) (sig : Signature) : Type 0 where
   pub node : Node
   pub is_there : slice_get p.nodes b ≡ Some node
   pub runs : may_run node ≡ true
+  pub unwritten : is_class node ≡ true → constructor_in p.classes class ≡ None
   pub is_class : class_of_body p b ≡ Some class
   pub gives : kind_given p class b ≡ sig.gives
   pub more : List ℕ
@@ -136,6 +139,7 @@ pub record HasRun (p : Declarations) (class : ℕ) : Type 0 where
 pub record IsEntered (p : Declarations) (class scope : ℕ) : Type 0 where
   pub defines : defined_by_chain p class ≡ Some scope
   pub run : HasRun p class
+  pub is_runnable : is_sub p.classes class runnable ≡ true
   pub runs : (run.own.sig.runs_in ≡ Caller) ⊎ (run.own.sig.runs_in ≡ In scope)
 
 -- `run` in an area of a named scope

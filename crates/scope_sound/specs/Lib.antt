@@ -1,4 +1,1 @@
-pub mod EffectsFine
-pub mod Fine
-pub mod OwnJob
-pub mod Places
+pub mod Sound

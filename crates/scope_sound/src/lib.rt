@@ -1,5 +1,5 @@
-//! What keeps programs safe over the reference machine: the invariant of areas, objects, static fields and frames, and that
-//! under it no operation is stuck.
+//! Accepted programs are safe: whatever the plan, and whichever release acts in each unit.
 #![tactic(auto)]
 
+pub mod laws;
 pub mod operations;

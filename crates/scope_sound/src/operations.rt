@@ -1,17 +1,19 @@
-//! One operation of a frame.
+//! The operations of jobs.
 
-ghost use Rattle.std.specs.Prelude.{ℕ, List, Option, None, ◌∷◌};
-ghost use Rattle.scj_model.specs.declared.operations.Op.{Op};
+ghost use Rattle.std.specs.Prelude.{◌≡◌, true, List};
+ghost use Rattle.scj_model.specs.declared.plans.ReadingRow.{ReadingRow as Reading};
 ghost use Rattle.scj_model.specs.Code.{Code};
-ghost use Rattle.scj_model.specs.Operations.{Environment, effect_of};
-ghost use Rattle.scj_model.specs.State.{MemoryArea, Frame};
+ghost use Rattle.scj_model.specs.Run.{ref_op};
+ghost use Rattle.scj_model.specs.Safety.{job_may_act};
+ghost use Rattle.scj_model.specs.State.{Job, State};
 ghost use Rattle.scope_flow.specs.Facts.{Facts};
-ghost use Rattle.scope_flow.specs.Signatures.{Signature};
-ghost use Rattle.scope_sound.specs.EffectsFine.{Fine};
-ghost use Rattle.scope_sound.specs.Fine.{ListFine, HeapFine, StaticsFine, Ready};
+ghost use Rattle.mission_sound.specs.SequencerFacts.{SequencerFacts};
+ghost use Rattle.scope_sound.specs.Sound.{OperatesSoundly, Sound};
 
-/// The next operation of a frame that is ready isn't stuck, and its effect asks only what keeps the invariant: it stores
-/// where the rules allow it, and what it calls, opens and leaves with is as the rules say.
-pub fn operations_are_fine()
-    ensures { (code : Code) → Facts code → (areas : ℕ → Option MemoryArea) (world : Environment) (list : List ℕ) (class : ℕ) (sig : Signature) (f : Frame) (op : Op) (rest : List Op) → ListFine areas list → HeapFine code.program (record { areas = areas; objects = world.object_at }) → StaticsFine code.program (record { areas = areas; objects = world.object_at }) world.statics → Ready code (record { areas = areas; objects = world.object_at }) list class sig (record f { rest = op ∷ rest }) None → Fine code (record { areas = areas; objects = world.object_at }) list class sig (record f { rest = rest }) (effect_of code world (record f { rest = rest }) op) }
+/// Of a program that has what the rules promise: in a sound state each job that may act has an operation with a result,
+/// and the state after it is sound: the sequencer's own operations, those of the bodies that it calls, the first
+/// operation of a release and all others.
+pub fn operations_are_sound()
+    ensures { (code : Code) → Facts code → SequencerFacts code → (rows : List Reading) (s : State) (job : Job) →
+        Sound code s → job_may_act s job ≡ true → OperatesSoundly code (ref_op code rows s job) }
 {}

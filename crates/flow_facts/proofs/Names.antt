@@ -1,0 +1,165 @@
+-- Simple names and accesses: variables in scope, fields and the length of arrays.
+use Rattle.std.proofs.Common.{◌≡◌, ℕ, List, refl, sym, ap, ◌∙◌, subst, Option, Some, None, ◌⊎◌, inl, inr, slice_get}
+use Rattle.scj_base.specs.declared.places.Pos.{Pos}
+use Rattle.scj_tree.specs.declared.nodes.Node.TheVariants.{SimpleName, FieldAccess}
+use Rattle.scj_tree.specs.Forest.{Forest, IsForest}
+use Rattle.scj_rules.specs.declared.typing.Meaning.{Meaning}
+use Rattle.scj_rules.specs.declared.typing.Meaning.TheVariants.{Class as a_class, Field as a_field, Nothing as nothing, Variable as a_variable}
+use Rattle.scj_rules.specs.declared.typing.Scope.TheVariants.{Caller}
+use Rattle.scj_rules.specs.declared.typing.Ty.{Ty}
+use Rattle.scj_rules.specs.declared.views.Body.TheVariants.{Written}
+use Rattle.scj_rules.specs.Contexts.{Declarations, declarations_of}
+use Rattle.scj_rules.specs.Types.{meaning, class_in, class_at_name}
+use Rattle.scj_rules.specs.TypeRules.{type_of, type_of_meaning}
+use Rattle.scj_rules.specs.Phases.{IsAccepted}
+use Rattle.accepted_laws.specs.Judgements.{type_at_node, scope_at_node, Inside, IsValue, Judged}
+use Rattle.accepted_laws.specs.Kinds.{Kind, seen_kind}
+use Rattle.accepted_laws.specs.Sorts.{IsWellSorted, is_argument, is_expression}
+use Rattle.accepted_laws.proofs.MemberVariables.{variable_once}
+use Rattle.accepted_nodes.proofs.TypesComplete.{type_is, at_p}
+use Rattle.accepted_nodes.proofs.ValueFacts.{typed_of}
+use Rattle.accepted_facts.specs.Expressions.{IsLocal, IsOwnField, IsStaticField, IsFieldOf, IsLengthOf, NameFacts, AccessFacts}
+use Rattle.accepted_facts.proofs.AccessFacts.{access_facts}
+use Rattle.accepted_facts.proofs.NameFacts.{name_facts}
+use Rattle.scj_model.specs.Code.{Code, code_of}
+use Rattle.scope_flow.specs.Needs.{IsVariable}
+use Rattle.scope_flow.specs.ValueFacts.{LocalFact, OwnFieldFact, StaticFact, FieldFact, LengthFact}
+use Rattle.flow_facts.proofs.FormNodes.{is_new_node, no_form_part}
+use Rattle.flow_facts.proofs.GivenKinds.{gives_value, valued}
+use Rattle.flow_facts.proofs.HeldFields.{has_field, has_static}
+use Rattle.flow_facts.proofs.Literals.{value_of, object_of_own}
+
+module _ (forest : Forest) (accepted : IsAccepted forest) (whole : IsForest forest) (sorted : IsWellSorted forest.nodes)
+  where
+    abbrev p : Declarations
+    p = declarations_of forest
+
+    abbrev code : Code
+    code = code_of forest
+
+    local_fact : (b id : ℕ) (k : Kind) → IsLocal p b id k → LocalFact code b id (Some k)
+    unfolding code_of
+    local_fact b id k l =
+        let v : IsVariable p (Written b) l.n l.variable =
+        record {
+          is_there = l.numbered;
+          only = λ j e. variable_once forest b j l.n l.variable e l.numbered;
+          kind = k;
+          is_kind = l.kind;
+        } in
+        record { local = l.n; is = l.binding; variable = l.variable; is_variable = v; known = l.known; is_given = refl }
+
+    own_field_fact : (b c id : ℕ) (name : List ℕ) (k : Kind) → IsOwnField p b c id name k →
+        OwnFieldFact code b c id (Some k)
+    unfolding code_of object_of_own
+    own_field_fact b c id name k f =
+        let h = has_field forest accepted whole sorted c f.n name f.declared f.field in
+        let own = f.own in
+        record {
+          field = f.n;
+          is = f.binding;
+          own = object_of_own p b c own;
+          has = h.0;
+          is_given = ap (λ k. Some k) (f.gives ∙ ap (seen_kind own.home Caller) (sym h.1));
+        }
+
+    static_fact : (class id : ℕ) (name : List ℕ) (k : Kind) → IsStaticField p class id name k →
+        StaticFact code id (Some k)
+    unfolding code_of
+    static_fact class id name k f =
+        let h = has_static forest accepted whole sorted class f.n name k f.field in
+        record { field = f.n; is = f.binding; has = h.0; is_given = ap (λ k. Some k) (sym h.1) }
+
+    field_fact : (b c id object : ℕ) (name : List ℕ) (k : Kind) → IsFieldOf p b c id object name k →
+        FieldFact code b c id object (Some k)
+    unfolding code_of
+    field_fact b c id object name k f =
+        let h = has_field forest accepted whole sorted f.class f.n name f.declared f.field in
+        record {
+          field = f.n;
+          is = f.binding;
+          class = f.class;
+          scope = f.scope;
+          object_is = value_of p b c id object _ f.operand;
+          has = h.0;
+          is_given = ap (λ k. Some k) (f.gives ∙ ap (seen_kind f.scope Caller) (sym h.1));
+        }
+
+    length_fact : (b c id array : ℕ) (k : Kind) → IsLengthOf p b c id array k → LengthFact code b c id array (Some k)
+    unfolding code_of
+    length_fact b c id array k l =
+        record {
+          is = l.binding;
+          type = l.array;
+          scope = l.scope;
+          array_is = value_of p b c id array _ l.operand;
+          is_given = ap (λ k. Some k) l.gives;
+        }
+
+    -- a name that has a type names no class
+    no_class : (id : ℕ) (place : Pos) (name : List ℕ) (k : Kind) →
+        slice_get forest.nodes id ≡ Some (SimpleName place name) → Judged p id (Some k) →
+        class_at_name p id (SimpleName place name) ≡ None
+    unfolding class_at_name class_in Judged type_of type_of_meaning
+    no_class id place name k there j = go (meaning p id name) refl
+      where
+        typed : (t : Ty) × (type_of_meaning p (meaning p id name) ≡ Some t)
+        typed =
+            (let t = typed_of (type_at_node p id) (scope_at_node p id) k j in
+            (t.0, sym (type_is forest accepted whole sorted id (SimpleName place name) there) ∙ t.1))
+
+        go : (m : Meaning) → meaning p id name ≡ m → class_in m ≡ None
+        go (a_variable v) e = refl
+        go (a_field f) e = refl
+        go nothing e = refl
+        go (a_class c) e = absurd (let z : None ≡ Some typed.0 = sym (ap (type_of_meaning p) e) ∙ typed.1 in cc (z))
+
+    is_value : (id : ℕ) (place : Pos) (name : List ℕ) (k : Kind) →
+        slice_get forest.nodes id ≡ Some (SimpleName place name) → Judged p id (Some k) →
+        IsValue p id (SimpleName place name)
+    unfolding is_argument is_expression is_new_node
+    is_value id place name k there j =
+        record {
+          is_argument = refl;
+          no_class = no_class id place name k there j;
+          no_form_part = no_form_part forest
+              accepted whole id (SimpleName place name) (at_p forest accepted whole sorted id (SimpleName place name) there)
+              refl;
+        }
+
+    abbrev NameFact : ℕ → ℕ → ℕ → Option Kind → Type 0
+    NameFact b c id o = LocalFact code b id o ⊎ (OwnFieldFact code b c id o ⊎ StaticFact code id o)
+
+    abbrev AccessFact : ℕ → ℕ → ℕ → ℕ → Option Kind → Type 0
+    AccessFact b c id object o = FieldFact code b c id object o ⊎ (StaticFact code id o ⊎ LengthFact code b c id object o)
+
+    of_name : (b c id : ℕ) (name : List ℕ) (k : Kind) → NameFacts p b c id name k → NameFact b c id (Some k)
+    of_name b c id name k (inl l) = inl (local_fact b id k l)
+    of_name b c id name k (inr (inl f)) = inr (inl (own_field_fact b c id name k f))
+    of_name b c id name k (inr (inr f)) = inr (inr (static_fact c id name k f))
+
+    pub name_fact : (b c id : ℕ) (place : Pos) (name : List ℕ) (o : Option Kind) →
+        slice_get forest.nodes id ≡ Some (SimpleName place name) → Inside p b c id → Judged p id o → NameFact b c id o
+    unfolding gives_value
+    name_fact b c id place name o there inside j =
+        let v = valued forest accepted whole sorted id (SimpleName place name) o there refl j in
+        subst (NameFact b c id) (sym v.1)
+        (of_name b c id name v.0
+        (name_facts forest accepted whole sorted b c id place name v.0 there inside
+        (is_value id place name v.0 there v.2) v.2))
+
+    of_access : (b c id object : ℕ) (name : List ℕ) (k : Kind) → AccessFacts p b c id object name k →
+        AccessFact b c id object (Some k)
+    of_access b c id object name k (inl f) = inl (field_fact b c id object name k f)
+    of_access b c id object name k (inr (inl l)) = inr (inr (length_fact b c id object k l))
+    of_access b c id object name k (inr (inr s)) = inr (inl (static_fact s.0 id name k s.1))
+
+    pub access_fact : (b c id object : ℕ) (place : Pos) (name : List ℕ) (o : Option Kind) →
+        slice_get forest.nodes id ≡ Some (FieldAccess place name object) → Inside p b c id → Judged p id o →
+        AccessFact b c id object o
+    unfolding gives_value
+    access_fact b c id object place name o there inside j =
+        let v = valued forest accepted whole sorted id (FieldAccess place name object) o there refl j in
+        subst (AccessFact b c id object) (sym v.1)
+        (of_access b c id object name v.0
+        (access_facts forest accepted whole sorted b c id object place name v.0 there inside v.2))

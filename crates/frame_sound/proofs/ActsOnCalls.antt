@@ -1,0 +1,362 @@
+-- Calls: the new frame begins as the rules say, and the caller waits for what it gives.
+use Rattle.std.specs.Prelude.{Option, Some, None, replicate, ◌-◌, ◌++◌}
+use Rattle.std.proofs.Common.{◌≡◌, ℕ, List, [], ◌∷◌, length, true, false, refl, sym, ◌∙◌, ap, subst, true≢false, ◌⊎◌, inl, inr}
+use Rattle.scj_base.specs.declared.values.Value.{Value}
+use Rattle.scj_base.specs.declared.values.Value.TheVariants.{Null}
+use Rattle.scj_rules.specs.declared.typing.Ty.{Ty}
+use Rattle.scj_rules.specs.declared.typing.Ty.TheVariants.{Class as ClassTy}
+use Rattle.scj_rules.specs.declared.typing.Scope.{Scope}
+use Rattle.scj_rules.specs.declared.typing.Scope.TheVariants.{Any, This, Caller, In}
+use Rattle.scj_rules.specs.declared.views.Body.{Body}
+use Rattle.scj_rules.specs.declared.views.Body.TheVariants.{Written, Empty}
+use Rattle.scj_rules.specs.Words.{is_among, ◌>>=◌}
+use Rattle.scj_rules.specs.Types.{assigns}
+use Rattle.scj_rules.specs.Bodies.{body_of}
+use Rattle.accepted_laws.specs.Kinds.{Kind, number, truth, yes, reference, fresh, Fits, AllFit, GoesTo, RunsHere, seen_as, seen_kind, seen_kinds, seen_option}
+use Rattle.accepted_laws.proofs.Tools.{some_inj}
+use Rattle.scj_model.specs.declared.operations.Op.TheVariants.{Construct as CONSTRUCT, Super as SUPER, Call as CALL}
+use Rattle.scj_model.specs.State.{Object, Frame}
+use Rattle.scj_model.specs.Ops.{body_ops}
+use Rattle.scj_model.specs.Effects.{Calls, given, pop, as_reference, as_object, new_frame}
+use Rattle.scj_model.specs.Operations.{effect_of, constructs}
+use Rattle.scope_flow.specs.Slots.{array_type, IsOfType}
+use Rattle.scope_flow.specs.Signatures.{Signature, Runs, empty_signature, IsConcrete, IsDispatched, Gives}
+use Rattle.scope_flow.specs.Needs.{pushed, stacked, CallsConstructor}
+use Rattle.frame_sound.specs.Places.{denote, held, IsObject, Has, AllHave}
+use Rattle.frame_sound.specs.Fine.{LocalsFine, Ready, held_option, GivenFits}
+use Rattle.frame_sound.specs.EffectsFine.{GoesOn}
+use Rattle.frame_sound.proofs.Places.{has_fits}
+use Rattle.frame_sound.proofs.Begins.{begins, home_denotes, on_this}
+use Rattle.frame_sound.proofs.Scenes.{Scene, memory, den, HoldAll, FlowsOn, Ok, Taken, next_taken, pop_fine, given_fine, object_fine, reference_fine, arguments_fine, ready, on_with, on_list, no_any, never_any}
+use Rattle.frame_sound.proofs.ActsOnValues.{Does}
+
+module _ (m : Scene) where
+  -- ---- arguments, in the scopes of the callee
+
+  all_fit : (den2 : Scope → Option ℕ) (home now : Scope) → (home ≡ Any → ⊥) →
+      ((s : Scope) (n : ℕ) → den m (seen_as home now s) ≡ Some n → den2 s ≡ Some n) → (js ks : List Kind) →
+      AllFit m.code.program home now js ks → (vs : List Value) → HoldAll m js vs →
+      AllHave m.code.program (memory m) den2 ks vs
+  all_fit den2 home now real agree [] [] fit [] h = tt
+  all_fit den2 home now real agree [] [] fit (v ∷ vs) h = h
+  all_fit den2 home now real agree [] (k ∷ ks) fit vs h = absurd fit
+  all_fit den2 home now real agree (j ∷ js) [] fit vs h = absurd fit
+  all_fit den2 home now real agree (j ∷ js) (k ∷ ks) fit [] h = absurd h
+  all_fit den2 home now real agree (j ∷ js) (k ∷ ks) fit (v ∷ vs) h = (
+    has_fits m.code m.facts (memory m) (den m) den2 home now (no_any m) real j k (λ t r e n. agree r n) fit.0 v h.0,
+    all_fit den2 home now real agree js ks fit.1 vs h.1,
+  )
+
+  -- a place of a kind, in the scopes of the class of an override
+  has_seen : (home now : Scope) (den2 : Scope → Option ℕ) (h : Scope) (j k : Kind) → Fits m.code.program home now j k →
+      (v : Value) → Has m.code.program (memory m) (held (λ s. den2 (seen_as h Caller s)) k) v →
+      Has m.code.program (memory m) (held den2 (seen_kind h Caller k)) v
+  unfolding held seen_kind
+  has_seen home now den2 h j number fit v x = x
+  has_seen home now den2 h j truth fit v x = x
+  has_seen home now den2 h j yes fit v x = x
+  has_seen home now den2 h j (reference t s) fit v x = x
+  has_seen home now den2 h number (fresh c s) fit v x = absurd fit
+  has_seen home now den2 h truth (fresh c s) fit v x = absurd fit
+  has_seen home now den2 h yes (fresh c s) fit v x = absurd fit
+  has_seen home now den2 h (reference t r) (fresh c s) fit v x = absurd fit
+  has_seen home now den2 h (fresh d r) (fresh c s) fit v x = absurd fit
+
+  all_seen : (home now : Scope) (den2 : Scope → Option ℕ) (h : Scope) (js ks : List Kind) →
+      AllFit m.code.program home now js ks → (vs : List Value) →
+      AllHave m.code.program (memory m) (λ s. den2 (seen_as h Caller s)) ks vs →
+      AllHave m.code.program (memory m) den2 (seen_kinds h Caller ks) vs
+  unfolding seen_kinds
+  all_seen home now den2 h [] [] fit [] x = tt
+  all_seen home now den2 h [] [] fit (v ∷ vs) x = x
+  all_seen home now den2 h [] (k ∷ ks) fit vs x = absurd fit
+  all_seen home now den2 h (j ∷ js) [] fit vs x = absurd fit
+  all_seen home now den2 h (j ∷ js) (k ∷ ks) fit [] x = absurd x
+  all_seen home now den2 h (j ∷ js) (k ∷ ks) fit (v ∷ vs) x =
+      (has_seen home now den2 h j k fit.0 v x.0, all_seen home now den2 h js ks fit.1 vs x.1)
+
+  -- what the callee gives is what the caller waits for
+  gives_fit : (den2 : Scope → Option ℕ) (h home now : Scope) → (h ≡ Any → ⊥) → den2 Any ≡ None →
+      ((s : Scope) → den2 (seen_as h Caller s) ≡ den m (seen_as home now s)) → (own static : Option Kind) →
+      Gives m.code.program h own static →
+      GivenFits m.code.program (held_option den2 own) (held_option (den m) (seen_option home now static))
+  unfolding held_option held seen_option seen_kind
+  gives_fit den2 h home now real none agree None None x = tt
+  gives_fit den2 h home now real none agree None (Some k) x = absurd x
+  gives_fit den2 h home now real none agree (Some j) None x = absurd x
+  gives_fit den2 h home now real none agree (Some number) (Some number) x = tt
+  gives_fit den2 h home now real none agree (Some truth) (Some truth) x = tt
+  gives_fit den2 h home now real none agree (Some yes) (Some truth) x = tt
+  gives_fit den2 h home now real none agree (Some (reference t s)) (Some (reference u r)) x = (go x.1, x.0)
+    where
+      go : GoesTo h Caller s r → (den2 s ≡ None) ⊎ (den2 s ≡ den m (seen_as home now r))
+      go (inl e) = inl (ap den2 e ∙ none)
+      go (inr (inl e)) = inr (ap den2 e ∙ agree r)
+      go (inr (inr e)) = absurd (real e.1)
+  gives_fit den2 h home now real none agree (Some _) (Some _) x = absurd x
+
+  denote_caller : (this : Option ℕ) → denote (memory m) m.list this m.frame.area Caller ≡ Some m.frame.area
+  unfolding denote
+  denote_caller this = refl
+
+  -- ---- constructors
+
+  module _ (id : ℕ) (class : ℕ) (us : List Kind) (k : CallsConstructor m.code.program class m.sig.runs_in us) (t : Ty)
+      (v : Value) (o : IsObject m.code.program (memory m) t (den m m.sig.runs_in) v)
+      (of_type : IsOfType m.code.program o.object.class (ClassTy class)) (args : List Value)
+      (have : HoldAll m us args) where
+    abbrev there : Scope → Option ℕ
+    there = denote (memory m) m.list (Some o.r) m.frame.area
+
+    here : o.object.area ≡ m.frame.area
+    here = some_inj o.object.area m.frame.area (sym o.lies ∙ m.home.is_now)
+
+    on : is_among o.object.area m.list ≡ true
+    on = on_list m m.sig.runs_in o.object.area o.lies
+
+    agree : (s : Scope) (n : ℕ) → den m (seen_as m.sig.runs_in m.sig.runs_in s) ≡ Some n → there s ≡ Some n
+    unfolding denote seen_as
+    agree This n e = ap (λ (x : Option Object). x >>= (λ o. Some o.area)) o.found ∙ (sym o.lies ∙ e)
+    agree Caller n e = sym m.home.is_now ∙ e
+    agree (In a) n e = e
+    agree Any n e = e
+
+    takes : AllHave m.code.program (memory m) there k.sig.takes args
+    takes =
+        all_fit there m.sig.runs_in m.sig.runs_in (never_any m m.sig.runs_in m.frame.area m.home.is_now) agree us
+        k.sig.takes k.fit args have
+
+    runs_there : there k.sig.runs_in ≡ Some m.frame.area
+    runs_there =
+        elim k.runs_in_home as (λ z. there k.sig.runs_in ≡ Some m.frame.area) [
+          | inl e ↦ ap there e ∙ caller
+          | inr e ↦ home_denotes m.code m.facts (memory m) m.list m.fine m.heap m.frame.area m.home.now_on_list o.r
+              o.object o.found on class of_type k.sig.runs_in e ∙ ap (λ a. Some a) here
+        ]
+      where
+        caller : denote (memory m) m.list (Some o.r) m.frame.area Caller ≡ Some m.frame.area
+        caller = denote_caller (Some o.r)
+
+    empty_args : (sig : Signature) → sig ≡ empty_signature → AllHave m.code.program (memory m) there sig.takes args →
+        args ≡ []
+    empty_args sig e h = go args (subst (λ (s : Signature). AllHave m.code.program (memory m) there s.takes args) e h)
+      where
+        go : (vs : List Value) → AllHave m.code.program (memory m) there [] vs → vs ≡ []
+        go [] h = refl
+        go (v ∷ vs) h = absurd h
+
+    starts : (body : Body) (sig : Signature) → Runs m.code.program body class sig →
+        there sig.runs_in ≡ Some m.frame.area →
+        AllHave m.code.program (memory m) there sig.takes args →
+        Ready m.code (memory m) m.list class sig (new_frame m.code body (Some id) (Some o.r) m.frame.area args) None
+    unfolding Runs new_frame body_ops pushed
+    starts (Written b) sig runs e h =
+        begins m.code m.facts (memory m) m.list m.fine m.heap m.frame.area m.home.now_on_list o.r o.object o.found on
+        class
+        of_type b sig runs (Some id) e args h
+    starts Empty sig runs e h =
+        record {
+          runs = runs;
+          home = record {
+            own = λ f. absurd (true≢false (sym f));
+            on_list = on_this m.code m.facts (memory m) m.list m.fine m.heap m.frame.area m.home.now_on_list o.r
+                o.object o.found on class of_type;
+            now_on_list = m.home.now_on_list;
+            is_now = e;
+          };
+          known = [];
+          kinds = [];
+          operands = tt;
+          locals =
+              subst
+              (λ (vs : List Value). LocalsFine m.code.program (memory m) there Empty []
+              (vs ++ replicate (0 - length vs) Null))
+              (sym (empty_args sig runs.1 h))
+              (record { long = refl; each = λ i v k there_ is known. absurd (cc (there_)) });
+          flow = ap (λ (s : Signature). s.gives) runs.1;
+        }
+
+    pub constructed : (h : Frame) → GoesOn m.code (memory m) m.list m.class m.sig m.frame h None →
+        Ok m (Calls h (new_frame m.code k.body (Some id) (Some o.r) m.frame.area args))
+    unfolding held_option new_frame
+    constructed h goes =
+        record {
+          is = record {
+            kind = None;
+            goes = goes;
+            class = class;
+            own = k.sig;
+            begins = starts k.body k.sig k.runs runs_there takes;
+            unopened = refl;
+            fits = subst (λ x. GivenFits m.code.program (held_option there x) None) (sym k.gives_nothing) tt;
+          };
+        }
+
+  -- the arguments and the object below them are popped
+  module _ (id : ℕ) (class : ℕ) (us : List Kind) (k : CallsConstructor m.code.program class m.sig.runs_in us) (new : ℕ)
+      (others : List Kind) (e : m.kinds ≡ stacked us (fresh new m.sig.runs_in ∷ others))
+      (below : (c : ℕ) → IsOfType m.code.program c (ClassTy new) → IsOfType m.code.program c (ClassTy class)) where
+    taken_all : HoldAll m (stacked us (fresh new m.sig.runs_in ∷ others)) m.frame.operands
+    taken_all = subst (λ x. HoldAll m x m.frame.operands) e m.operands
+
+    keeps_fine : FlowsOn m m.frame.rest m.known (reference (ClassTy new) m.sig.runs_in ∷ others) →
+        Ok m (constructs m.code m.frame id class (length us) true)
+    unfolding held
+    keeps_fine w =
+        given_fine m _ _ k.body k.is
+        (arguments_fine m us (fresh new m.sig.runs_in ∷ others) m.frame _ taken_all (λ args rest ah rh.
+        last args rest ah (next_taken m (fresh new m.sig.runs_in) others rest rh)))
+      where
+        last : (args rest : List Value) → HoldAll m us args → Taken m (fresh new m.sig.runs_in) others rest →
+            Ok m (pop (record m.frame { operands = rest }) (λ object g. as_reference object (λ r.
+            Calls (record m.frame { operands = rest }) (new_frame m.code k.body (Some id) (Some r) m.frame.area args))))
+        last args rest ah x =
+            pop_fine m rest _ x.v x.rest x.is
+            (reference_fine m (ClassTy new) (den m m.sig.runs_in) x.v _ x.has
+            (constructed id class us k (ClassTy new) x.v x.has (below x.has.object.class x.has.of_type) args ah
+            (record m.frame { operands = rest })
+            (on_with m rest (reference (ClassTy new) m.sig.runs_in ∷ others)
+            (subst (λ vs. HoldAll m (reference (ClassTy new) m.sig.runs_in ∷ others) vs) (sym x.is) (inr x.has, x.have))
+            w)))
+
+    drops_fine : FlowsOn m m.frame.rest m.known others → Ok m (constructs m.code m.frame id class (length us) false)
+    unfolding held
+    drops_fine w =
+        given_fine m _ _ k.body k.is
+        (arguments_fine m us (fresh new m.sig.runs_in ∷ others) m.frame _ taken_all (λ args rest ah rh.
+        last args rest ah (next_taken m (fresh new m.sig.runs_in) others rest rh)))
+      where
+        last : (args rest : List Value) → HoldAll m us args → Taken m (fresh new m.sig.runs_in) others rest →
+            Ok m (pop (record m.frame { operands = rest }) (λ object g. as_reference object (λ r.
+            Calls g (new_frame m.code k.body (Some id) (Some r) m.frame.area args))))
+        last args rest ah x =
+            pop_fine m rest _ x.v x.rest x.is
+            (reference_fine m (ClassTy new) (den m m.sig.runs_in) x.v _ x.has
+            (constructed id class us k (ClassTy new) x.v x.has (below x.has.object.class x.has.of_type) args ah
+            (record m.frame { operands = x.rest }) (on_with m x.rest others x.have w)))
+
+  pub construct_fine : (id : ℕ) → Does m (CONSTRUCT id)
+  unfolding effect_of
+  construct_fine id r =
+      let n = r.needed in
+      given_fine m _ _ n.class n.is
+      (given_fine m _ _ (length n.arguments) n.count
+      (keeps_fine id n.class n.arguments n.constructor n.class n.others n.takes (λ c h. h)
+      (subst (FlowsOn m m.frame.rest m.known) n.leaves r.goes)))
+
+  pub super_fine : (id : ℕ) → Does m (SUPER id)
+  unfolding effect_of assigns
+  super_fine id r =
+      let n = r.needed in
+      given_fine m _ _ n.superclass n.is
+      (subst (λ count. Ok m (constructs m.code m.frame id n.superclass count false)) (sym n.count)
+      (drops_fine id n.superclass n.arguments n.constructor m.class r.out n.takes
+      (λ c h. m.facts.assigned c (ClassTy m.class) (ClassTy n.superclass) h n.above) r.goes))
+
+  -- ---- methods
+
+  called : (id class : ℕ) (scope : Scope) (method : ℕ) (static : Signature) (v : Value)
+      (o : IsObject m.code.program (memory m) (ClassTy class) (den m scope) v)
+      (d : IsDispatched m.code.program o.object.class method static) → RunsHere scope m.sig.runs_in static.runs_in →
+      (us : List Kind) → AllFit m.code.program scope m.sig.runs_in us static.takes → (args : List Value) →
+      HoldAll m us args → (vs : List Value) →
+      GoesOn m.code (memory m) m.list m.class m.sig m.frame (record m.frame { operands = vs })
+      (seen_option scope m.sig.runs_in static.gives) →
+      Ok m (Calls (record m.frame { operands = vs })
+      (new_frame m.code (Written d.body) (Some id) (Some o.r) m.frame.area args))
+  unfolding denote seen_as assigns new_frame IsOfType
+  called id class scope method static v o d runs us fit args ah vs goes =
+      record {
+        is = record {
+          kind = seen_option scope m.sig.runs_in static.gives;
+          goes = goes;
+          class = d.own.on;
+          own = d.own.sig;
+          begins = begins m.code m.facts (memory m) m.list m.fine m.heap m.frame.area m.home.now_on_list o.r o.object
+              o.found on d.own.on of_type d.body d.own.sig d.own.is_body (Some id) (ap den3 d.runs ∙ now_runs) args
+              (subst (λ ks. AllHave m.code.program (memory m) den3 ks args) (sym d.takes)
+              (all_seen scope m.sig.runs_in den3 d.own.is_body.home us static.takes fit args
+              (all_fit (λ s. den3 (seen_as d.own.is_body.home Caller s)) scope m.sig.runs_in
+              (never_any m scope o.object.area o.lies) (λ s n e. agree s ∙ e) us static.takes fit args ah)));
+          unopened = refl;
+          fits =
+              gives_fit den3 d.own.is_body.home scope m.sig.runs_in real refl agree d.own.sig.gives static.gives
+              d.gives;
+        };
+      }
+    where
+      on : is_among o.object.area m.list ≡ true
+      on = on_list m scope o.object.area o.lies
+
+      of_type : IsOfType m.code.program o.object.class (ClassTy d.own.on)
+      of_type = (o.of_type.0, d.own.above)
+
+      den3 : Scope → Option ℕ
+      den3 = denote (memory m) m.list (Some o.r) m.frame.area
+
+      here : den3 d.own.is_body.home ≡ Some o.object.area
+      here =
+          home_denotes m.code m.facts (memory m) m.list m.fine m.heap m.frame.area m.home.now_on_list o.r o.object
+          o.found
+          on d.own.on of_type d.own.is_body.home d.own.is_body.is_home
+
+      real : d.own.is_body.home ≡ Any → ⊥
+      real e = absurd (let x : None ≡ Some o.object.area = sym (ap den3 e) ∙ here in cc (x))
+
+      agree : (s : Scope) → den3 (seen_as d.own.is_body.home Caller s) ≡ den m (seen_as scope m.sig.runs_in s)
+      agree This = here ∙ sym o.lies
+      agree Caller = sym m.home.is_now
+      agree (In a) = refl
+      agree Any = refl
+
+      now_runs : den3 (seen_as d.own.is_body.home Caller static.runs_in) ≡ Some m.frame.area
+      now_runs = agree static.runs_in ∙ go runs
+        where
+          go : RunsHere scope m.sig.runs_in static.runs_in →
+              den m (seen_as scope m.sig.runs_in static.runs_in) ≡ Some m.frame.area
+          go (inl e) = ap (λ s. den m (seen_as scope m.sig.runs_in s)) e ∙ m.home.is_now
+          go (inr (inl e)) =
+              elim e.1 as (λ z. den m (seen_as scope m.sig.runs_in static.runs_in) ≡ Some m.frame.area) [
+                | inl a ↦ absurd (never_any m scope o.object.area o.lies a)
+                | inr a ↦ ap (λ s. den m (seen_as scope m.sig.runs_in s)) e.0 ∙ ap (den m) a ∙ m.home.is_now
+              ]
+          go (inr (inr e)) =
+              ap (λ s. den m (seen_as scope m.sig.runs_in s)) e.1 ∙ ap (den m) (sym e.2) ∙ m.home.is_now
+
+  -- the class of an object is concrete, since it isn't an array's
+  pub concrete : (r : ℕ) (o : Object) → m.world.object_at r ≡ Some o → array_type m.code.program o.class ≡ None →
+      IsConcrete m.code.program o.class
+  concrete r o found e =
+      elim (m.heap r o found).is_instance as (λ z. IsConcrete m.code.program o.class) [
+        | inl h ↦ h
+        | inr h ↦ absurd (let x = sym e ∙ h.1 in cc (x))
+      ]
+
+  pub call_fine : (id : ℕ) → Does m (CALL id)
+  unfolding effect_of held IsOfType
+  call_fine id r =
+      let n = r.needed in
+      given_fine m _ _ n.method n.is
+      (given_fine m _ _ (length n.arguments) n.count
+      (arguments_fine m n.arguments (reference (ClassTy n.class) n.scope ∷ n.others) m.frame _
+      (subst (λ x. HoldAll m x m.frame.operands) n.takes m.operands) (λ args rest ah rh.
+      last args rest ah (next_taken m (reference (ClassTy n.class) n.scope) n.others rest rh))))
+    where
+      last : (args rest : List Value) → HoldAll m r.needed.arguments args →
+          Taken m (reference (ClassTy r.needed.class) r.needed.scope) r.needed.others rest →
+          Ok m (pop (record m.frame { operands = rest }) (λ object f. as_object object (λ q.
+          given (m.world.object_at q) (λ o. given (body_of m.code.program o.class r.needed.method) (λ body.
+          Calls f (new_frame m.code body (Some id) (Some q) m.frame.area args))))))
+      last args rest ah x =
+          let n = r.needed in
+          pop_fine m rest _ x.v x.rest x.is
+          (object_fine m (ClassTy n.class) (den m n.scope) x.v _ x.has (λ o.
+          let d =
+          n.each o.object.class o.of_type.1
+          (concrete o.r o.object o.found (m.facts.classes o.object.class o.of_type.0)) in
+          given_fine m _ _ o.object o.found
+          (given_fine m _ _ (Written d.body) d.is
+          (called id n.class n.scope n.method n.static x.v o d n.runs n.arguments n.fit args ah x.rest
+          (ready m x.rest m.frame.locals m.frame.rest (seen_option n.scope m.sig.runs_in n.static.gives) m.known
+          n.others
+          x.have m.locals (subst (FlowsOn m m.frame.rest m.known) n.leaves r.goes))))))

@@ -1,0 +1,358 @@
+-- The operations of statements and conditions: each finds what it needs, and what it puts in front of the rest flows.
+use Rattle.std.specs.Prelude.{Option, Some, None, slice_set, ◌&&◌, if◌then◌else◌, option_map}
+use Rattle.std.proofs.Common.{◌≡◌, ℕ, List, [], ◌∷◌, ◌++◌, Bool, true, false, refl, sym, ◌∙◌, ap, subst, true≢false, ◌⊎◌, inl, inr}
+use Rattle.scj_base.specs.declared.values.Value.{Value}
+use Rattle.scj_base.specs.declared.values.Value.TheVariants.{Bool as Truth}
+use Rattle.scj_tree.specs.declared.nodes.Node.{Node}
+use Rattle.scj_tree.specs.declared.nodes.Node.TheVariants.{While, For}
+use Rattle.scj_rules.specs.declared.typing.Scope.{Scope}
+use Rattle.scj_rules.specs.declared.typing.Scope.TheVariants.{This, Caller}
+use Rattle.scj_rules.specs.declared.views.Body.{Body}
+use Rattle.scj_rules.specs.declared.views.Body.TheVariants.{Written, Empty}
+use Rattle.scj_rules.specs.declared.views.Declared.{Declared}
+use Rattle.scj_rules.specs.Words.{◌>>=◌}
+use Rattle.scj_rules.specs.Views.{variable_at}
+use Rattle.scj_rules.specs.Layout.{kind_of_type}
+use Rattle.scj_rules.specs.TypeRules.{declared_type_of, always_returns}
+use Rattle.scj_rules.specs.UseRules.{variable_scope_at}
+use Rattle.accepted_laws.specs.Kinds.{Kind, truth, yes, kind_of, kind_of_variable, Fits}
+use Rattle.accepted_laws.specs.Judgements.{Among}
+use Rattle.scj_model.specs.declared.operations.Op.{Op}
+use Rattle.scj_model.specs.declared.operations.Op.TheVariants.{And as AND, Or as OR, If as IF, Loop as LOOP, Zero as ZERO, Store as STORE, Drop as DROP, LeaveWith as LEAVEWITH, Leave as LEAVE}
+use Rattle.scj_model.specs.Code.{part}
+use Rattle.scj_model.specs.Memory.{default_value}
+use Rattle.scj_model.specs.Ops.{ops_of, optional_ops, turn_ops, put_in_front}
+use Rattle.scj_model.specs.Effects.{Goes, given, pushes}
+use Rattle.scj_model.specs.Operations.{effect_of}
+use Rattle.scope_flow.specs.Signatures.{IsBody, Runs}
+use Rattle.scope_flow.specs.Needs.{pushed, ShortNeeds, IsStatementPart, IsOptionPart}
+use Rattle.scope_flow.specs.Flow.{Flow, InNode, both_return, IfNeeds, LoopNeeds, AreLoopParts}
+use Rattle.scope_flow.proofs.Widens.{flow_widens}
+use Rattle.scope_flow.proofs.Turns.{value_part_flows, statement_part_flows, turn_flow}
+use Rattle.frame_sound.specs.Places.{held}
+use Rattle.frame_sound.specs.EffectsFine.{ReturnFine}
+use Rattle.frame_sound.proofs.Defaults.{default_has}
+use Rattle.frame_sound.proofs.Scenes.{Scene, memory, den, HoldAll, FlowsOn, Ok, Taken, take, pop_fine, given_fine, same, ready, goes_fine, fits_here, locals_set}
+use Rattle.frame_sound.proofs.ActsOnValues.{Does}
+
+-- what has parts runs a written body
+pub record InBody (m : Scene) (P : ℕ → Type 0) : Type 0 where
+  pub b : ℕ
+  pub is : m.frame.body ≡ Written b
+  pub needed : P b
+  pub body : IsBody m.code.program b m.class m.sig
+
+module _ (m : Scene) where
+  in_body : (P : ℕ → Type 0) → InNode m.frame.body P → InBody m P
+  unfolding Runs
+  in_body P h = go m.frame.body refl h
+    where
+      go : (body : Body) → m.frame.body ≡ body → InNode body P → InBody m P
+      go (Written b) e h =
+          record { b = b; is = e; needed = h; body = subst (λ x. Runs m.code.program x m.class m.sig) e m.runs }
+      go Empty e h = absurd h
+
+  -- from a written body to the frame's
+  at_body : (b : ℕ) → m.frame.body ≡ Written b → (ops : List Op) (ks : List ℕ) (s : List Kind) →
+      Flow m.code (Written b) m.class m.sig ops ks s → FlowsOn m ops ks s
+  at_body b e ops ks s f = subst (λ x. Flow m.code x m.class m.sig ops ks s) (sym e) f
+
+  of_body : (b : ℕ) → m.frame.body ≡ Written b → (ops : List Op) (ks : List ℕ) (s : List Kind) →
+      FlowsOn m ops ks s → Flow m.code (Written b) m.class m.sig ops ks s
+  of_body b e ops ks s f = subst (λ x. Flow m.code x m.class m.sig ops ks s) e f
+
+  widened : (b : ℕ) → m.frame.body ≡ Written b → (s : List Kind) → FlowsOn m m.frame.rest m.known s →
+      (ms : List ℕ) → Among m.known ms → Flow m.code (Written b) m.class m.sig m.frame.rest ms s
+  widened b e s f ms a =
+      flow_widens m.code (Written b) m.class m.sig m.frame.rest m.known ms s a (of_body b e m.frame.rest m.known s f)
+
+  -- a condition, which is a truth value
+  pub record Condition (k : Kind) (others : List Kind) : Type 0 where
+    pub t : Bool
+    pub rest : List Value
+    pub is : m.frame.operands ≡ Truth t ∷ rest
+    pub have : HoldAll m others rest
+    pub if_yes : k ≡ yes → t ≡ true
+
+  condition_of : (k : Kind) (others : List Kind) → m.kinds ≡ k ∷ others → Fits m.code.program This Caller k truth →
+      Condition k others
+  unfolding held
+  condition_of k others e fit = go k fit (take m k others e)
+    where
+      go : (k : Kind) → Fits m.code.program This Caller k truth → Taken m k others m.frame.operands → Condition k others
+      go truth fit x =
+          record {
+            t = x.has.0;
+            rest = x.rest;
+            is = x.is ∙ ap (λ v. v ∷ x.rest) x.has.1;
+            have = x.have;
+            if_yes = λ e. absurd (cc (e));
+          }
+      go yes fit x =
+          record {
+            t = true;
+            rest = x.rest;
+            is = x.is ∙ ap (λ v. v ∷ x.rest) x.has;
+            have = x.have;
+            if_yes = λ e. refl;
+          }
+      go _ fit x = absurd fit
+
+  -- the frame goes on behind operations that are put in front
+  front_fine : (ops : List Op) (rest : List Value) (ts : List Kind) → HoldAll m ts rest →
+      FlowsOn m (ops ++ m.frame.rest) m.known ts →
+      Ok m (Goes (record m.frame { operands = rest; rest = ops ++ m.frame.rest }))
+  unfolding pushed
+  front_fine ops rest ts h w =
+      record { is = ready m rest m.frame.locals (ops ++ m.frame.rest) None m.known ts h m.locals w }
+
+  -- ---- `&&` and `||`
+
+  module _ (id : ℕ) (out : List Kind) (q : InBody m (λ b. ShortNeeds m.code b m.class id m.known m.kinds out))
+      (goes : FlowsOn m m.frame.rest m.known out) (rest : List Value) (have : HoldAll m q.needed.others rest) where
+    behind : FlowsOn m m.frame.rest m.known (truth ∷ q.needed.others)
+    behind = subst (FlowsOn m m.frame.rest m.known) q.needed.leaves goes
+
+    -- the right operand decides
+    right_fine : Ok m (Goes (record m.frame { operands = rest; rest = ops_of m.code q.needed.right ++ m.frame.rest }))
+    right_fine =
+        front_fine (ops_of m.code q.needed.right) rest q.needed.others have
+        (at_body q.b q.is _ m.known q.needed.others
+        (value_part_flows m.code m.facts q.b m.class m.sig q.body m.known q.needed.right truth q.needed.right_part
+        m.frame.rest q.needed.others (widened q.b q.is (truth ∷ q.needed.others) behind)))
+
+    -- the left one does
+    left_fine : (t : Bool) → Ok m (Goes (record m.frame { operands = Truth t ∷ rest }))
+    unfolding held
+    left_fine t = goes_fine m (Truth t ∷ rest) (truth ∷ q.needed.others) ((t, refl), have) behind
+
+    and_goes : (t : Bool) →
+        Ok m (given (put_in_front m.code (AND id) t) (λ ops.
+        if t then Goes (record m.frame { operands = rest; rest = ops ++ m.frame.rest })
+        else pushes (record m.frame { operands = rest; rest = ops ++ m.frame.rest }) (Truth false)))
+    unfolding put_in_front
+    and_goes true =
+        given_fine m _ _ (ops_of m.code q.needed.right) (ap (option_map (λ (x : ℕ). ops_of m.code x)) q.needed.is)
+        right_fine
+    and_goes false = given_fine m _ _ [] (ap (option_map (λ (x : ℕ). [])) q.needed.is) (left_fine false)
+
+    or_goes : (t : Bool) →
+        Ok m (given (put_in_front m.code (OR id) t) (λ ops.
+        if t then pushes (record m.frame { operands = rest; rest = ops ++ m.frame.rest }) (Truth true)
+        else Goes (record m.frame { operands = rest; rest = ops ++ m.frame.rest })))
+    unfolding put_in_front
+    or_goes true = given_fine m _ _ [] (ap (option_map (λ (x : ℕ). [])) q.needed.is) (left_fine true)
+    or_goes false =
+        given_fine m _ _ (ops_of m.code q.needed.right) (ap (option_map (λ (x : ℕ). ops_of m.code x)) q.needed.is)
+        right_fine
+
+  pub and_fine : (id : ℕ) → Does m (AND id)
+  unfolding effect_of
+  and_fine id r =
+      let q = in_body (λ b. ShortNeeds m.code b m.class id m.known m.kinds r.out) r.needed in
+      let x = condition_of q.needed.left.kind q.needed.others q.needed.left.takes q.needed.left.fits in
+      pop_fine m m.frame.operands _ (Truth x.t) x.rest x.is (and_goes id r.out q r.goes x.rest x.have x.t)
+
+  pub or_fine : (id : ℕ) → Does m (OR id)
+  unfolding effect_of
+  or_fine id r =
+      let q = in_body (λ b. ShortNeeds m.code b m.class id m.known m.kinds r.out) r.needed in
+      let x = condition_of q.needed.left.kind q.needed.others q.needed.left.takes q.needed.left.fits in
+      pop_fine m m.frame.operands _ (Truth x.t) x.rest x.is (or_goes id r.out q r.goes x.rest x.have x.t)
+
+  -- ---- `if`
+
+  both_first : (a b : Bool) → (a && b) ≡ true → a ≡ true
+  both_first true b e = refl
+  both_first false b e = e
+
+  both_second : (a b : Bool) → (a && b) ≡ true → b ≡ true
+  both_second true b e = e
+  both_second false b e = absurd (true≢false (sym e))
+
+  first_returns : (x : ℕ) (o : Option ℕ) → both_return m.code.program (x, o) ≡ true →
+      always_returns m.code.program x ≡ true
+  first_returns x None e = absurd (true≢false (sym e))
+  first_returns x (Some y) e = both_first _ _ e
+
+  module _ (id : ℕ)
+      (q : InBody m
+      (λ b. IfNeeds m.code b m.class id m.known m.kinds (Flow m.code m.frame.body m.class m.sig m.frame.rest)))
+      (rest : List Value) (have : HoldAll m q.needed.others rest) where
+    abbrev n : IfNeeds m.code q.b m.class id m.known m.kinds (Flow m.code m.frame.body m.class m.sig m.frame.rest)
+    n = q.needed
+
+    part_fine : (x : ℕ) → IsStatementPart m.code.program q.b m.class m.known x →
+        (always_returns m.code.program x ≡ true) ⊎ FlowsOn m m.frame.rest m.known n.others →
+        FlowsOn m (ops_of m.code x ++ m.frame.rest) m.known n.others
+    part_fine x part k =
+        at_body q.b q.is _ m.known n.others
+        (statement_part_flows m.code m.facts q.b m.class m.sig q.body m.known x part m.frame.rest n.others (go k))
+      where
+        go : (always_returns m.code.program x ≡ true) ⊎ FlowsOn m m.frame.rest m.known n.others →
+            (always_returns m.code.program x ≡ true)
+            ⊎ ((ms : List ℕ) → Among m.known ms → Flow m.code (Written q.b) m.class m.sig m.frame.rest ms n.others)
+        go (inl h) = inl h
+        go (inr h) = inr (widened q.b q.is n.others h)
+
+    option_flows : (x : ℕ) (o : Option ℕ) → IsOptionPart m.code.program q.b m.class m.known o →
+        (both_return m.code.program (x, o) ≡ true) ⊎ FlowsOn m m.frame.rest m.known n.others →
+        FlowsOn m (optional_ops m.code o ++ m.frame.rest) m.known n.others
+    unfolding optional_ops
+    option_flows x None part (inl h) = absurd (true≢false (sym h))
+    option_flows x None part (inr w) = w
+    option_flows x (Some y) part (inl h) = part_fine y part (inl (both_second _ _ h))
+    option_flows x (Some y) part (inr w) = part_fine y part (inr w)
+
+    first_ends : (both_return m.code.program n.parts ≡ true) ⊎ FlowsOn m m.frame.rest m.known n.others →
+        (always_returns m.code.program n.parts.0 ≡ true) ⊎ FlowsOn m m.frame.rest m.known n.others
+    first_ends (inl h) = inl (first_returns n.parts.0 n.parts.1 h)
+    first_ends (inr w) = inr w
+
+    if_goes : (t : Bool) →
+        Ok m (given (put_in_front m.code (IF id) t) (λ ops.
+        Goes (record m.frame { operands = rest; rest = ops ++ m.frame.rest })))
+    unfolding put_in_front
+    if_goes true =
+        given_fine m _ _ (ops_of m.code n.parts.0) (ap (option_map (λ (x : ℕ × Option ℕ). ops_of m.code x.0)) n.is)
+        (front_fine (ops_of m.code n.parts.0) rest n.others have (part_fine n.parts.0 n.first (first_ends n.goes)))
+    if_goes false =
+        given_fine m _ _ (optional_ops m.code n.parts.1)
+        (ap (option_map (λ (x : ℕ × Option ℕ). optional_ops m.code x.1)) n.is)
+        (front_fine (optional_ops m.code n.parts.1) rest n.others have
+        (option_flows n.parts.0 n.parts.1 n.second n.goes))
+
+  pub if_fine : (id : ℕ) → Does m (IF id)
+  unfolding effect_of
+  if_fine id r =
+      let q =
+      in_body
+      (λ b. IfNeeds m.code b m.class id m.known m.kinds (Flow m.code m.frame.body m.class m.sig m.frame.rest)) r in
+      let x = condition_of q.needed.condition.kind q.needed.others q.needed.condition.takes q.needed.condition.fits in
+      pop_fine m m.frame.operands _ (Truth x.t) x.rest x.is (if_goes id q x.rest x.have x.t)
+
+  -- ---- loops
+
+  turn_is : (b id : ℕ) (node : Node) → AreLoopParts m.code.program b m.class m.known node →
+      (turn : List Op) × (turn_ops m.code id node ≡ Some turn)
+  unfolding turn_ops AreLoopParts
+  turn_is b id (While place condition body) parts = (_, refl)
+  turn_is b id (For place first condition step body) parts = (_, refl)
+  turn_is b id _ parts = absurd parts
+
+  module _ (id : ℕ)
+      (q : InBody m
+      (λ b. LoopNeeds m.code b m.class id m.known m.kinds (Flow m.code m.frame.body m.class m.sig m.frame.rest)))
+      (rest : List Value) (have : HoldAll m q.needed.others rest) where
+    abbrev l : LoopNeeds m.code q.b m.class id m.known m.kinds (Flow m.code m.frame.body m.class m.sig m.frame.rest)
+    l = q.needed
+
+    abbrev Ends : Type 0
+    Ends = ((l.condition.kind ≡ yes) × (always_returns m.code.program id ≡ true)) ⊎ FlowsOn m m.frame.rest m.known
+        l.others
+
+    again : Ends → (always_returns m.code.program id ≡ true)
+        ⊎ ((ms : List ℕ) → Among m.known ms → Flow m.code (Written q.b) m.class m.sig m.frame.rest ms l.others)
+    again (inl h) = inl h.1
+    again (inr w) = inr (widened q.b q.is l.others w)
+
+    ends : (l.condition.kind ≡ yes → false ≡ true) → Ends → FlowsOn m m.frame.rest m.known l.others
+    ends y (inl h) = absurd (true≢false (sym (y h.0)))
+    ends y (inr w) = w
+
+    loop_goes : (t : Bool) → (l.condition.kind ≡ yes → t ≡ true) →
+        Ok m (given (put_in_front m.code (LOOP id) t) (λ ops.
+        Goes (record m.frame { operands = rest; rest = ops ++ m.frame.rest })))
+    unfolding put_in_front
+    loop_goes true y =
+        let turn = turn_is q.b id l.node l.parts in
+        given_fine m _ _ turn.0
+        (ap (option_map (λ (x : List Op). x)) (ap (λ (o : Option Node). o >>= turn_ops m.code id) l.is ∙ turn.1))
+        (front_fine turn.0 rest l.others have
+        (at_body q.b q.is _ m.known l.others
+        (turn_flow m.code m.facts q.b m.class m.sig q.body id l.node l.is m.known l.parts m.frame.rest l.others
+        (again l.goes) turn.0 turn.1)))
+    loop_goes false y =
+        let turn = turn_is q.b id l.node l.parts in
+        given_fine m _ _ []
+        (ap (option_map (λ (x : List Op). [])) (ap (λ (o : Option Node). o >>= turn_ops m.code id) l.is ∙ turn.1))
+        (front_fine [] rest l.others have (ends y l.goes))
+
+  pub loop_fine : (id : ℕ) → Does m (LOOP id)
+  unfolding effect_of
+  loop_fine id r =
+      let q =
+      in_body
+      (λ b. LoopNeeds m.code b m.class id m.known m.kinds (Flow m.code m.frame.body m.class m.sig m.frame.rest)) r
+      in
+      let x = condition_of q.needed.condition.kind q.needed.others q.needed.condition.takes q.needed.condition.fits in
+      pop_fine m m.frame.operands _ (Truth x.t) x.rest x.is (loop_goes id q x.rest x.have x.t x.if_yes)
+
+  -- ---- locals
+
+  pub zero_fine : (id : ℕ) → Does m (ZERO id)
+  unfolding effect_of kind_of_variable kind_of pushed
+  zero_fine id r =
+      given_fine m _ _ r.local r.is
+      (go (variable_at m.code.program.nodes id) (variable_scope_at m.code.program id) r.is_variable.is_kind)
+    where
+      go : (o : Option Declared) (s : Option Scope) →
+          kind_of (o >>= declared_type_of m.code.program) s ≡ Some r.is_variable.kind →
+          Ok m (given o (λ (d : Declared).
+          Goes (record m.frame
+          { locals = slice_set m.frame.locals r.local (default_value (kind_of_type d.declared_type)) })))
+      go None s e = absurd (let x = no_kind s in cc (e, x))
+        where
+          no_kind : (s : Option Scope) → kind_of None s ≡ None
+          no_kind None = refl
+          no_kind (Some s) = refl
+      go (Some d) s e =
+          record {
+            is = ready m m.frame.operands _ m.frame.rest None (id ∷ m.known) m.kinds m.operands
+                (locals_set m r.local id r.is_variable _
+                (default_has m.code.program (memory m) (den m) m.code.program.names d.declared_type s r.is_variable.kind
+                e)) r.goes;
+          }
+
+  pub store_fine : (id : ℕ) → Does m (STORE id)
+  unfolding effect_of pushed
+  store_fine id r =
+      let x = take m r.value r.others r.takes in
+      given_fine m _ _ r.local r.is
+      (pop_fine m m.frame.operands _ x.v x.rest x.is
+      (record {
+        is = ready m x.rest _ m.frame.rest None (r.variable ∷ m.known) r.others x.have
+            (locals_set m r.local r.variable r.is_variable x.v (fits_here m r.value r.is_variable.kind r.fit x.v x.has))
+            r.goes;
+      }))
+
+  pub drop_fine : (id : ℕ) → Does m (DROP id)
+  unfolding effect_of
+  drop_fine id r =
+      let x = take m r.needed.kind r.out r.needed.takes in
+      pop_fine m m.frame.operands _ x.v x.rest x.is (goes_fine m x.rest r.out x.have r.goes)
+
+  -- ---- the end of bodies
+
+  pub leave_with_fine : (id : ℕ) → Does m (LEAVEWITH id)
+  unfolding effect_of
+  leave_with_fine id r =
+      let x = take m r.kind r.others r.takes in
+      pop_fine m m.frame.operands _ x.v x.rest x.is
+      (record {
+        is = (
+          same m x.rest m.frame.locals m.frame.rest,
+          subst (λ o. ReturnFine m.code.program (memory m) (den m) o (Some x.v)) (sym r.is)
+              (fits_here m r.kind r.wanted r.fit x.v x.has),
+        );
+      })
+
+  pub leave_fine : Does m LEAVE
+  unfolding effect_of
+  leave_fine r =
+      record {
+        is = (
+          same m m.frame.operands m.frame.locals m.frame.rest,
+          subst (λ o. ReturnFine m.code.program (memory m) (den m) o None) (sym r) tt,
+        );
+      }

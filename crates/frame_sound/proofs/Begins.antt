@@ -1,0 +1,203 @@
+-- The frame with which a body begins.
+use Rattle.std.specs.Prelude.{Option, Some, None, slice_get, replicate, ◌-◌, ◌+◌}
+use Rattle.std.proofs.Common.{◌≡◌, ℕ, zero, suc, List, [], ◌∷◌, ◌++◌, length, true, refl, sym, ◌∙◌, ap, subst, arith, ◌⊎◌, inl, inr, length-append}
+use Rattle.scj_base.specs.declared.values.Value.{Value}
+use Rattle.scj_base.specs.declared.values.Value.TheVariants.{Null}
+use Rattle.scj_rules.specs.declared.typing.Scope.{Scope}
+use Rattle.scj_rules.specs.declared.typing.Scope.TheVariants.{This, In}
+use Rattle.scj_rules.specs.declared.typing.Ty.TheVariants.{Class as ClassTy}
+use Rattle.scj_rules.specs.declared.scopes.ClassScope.{ClassScope}
+use Rattle.scj_rules.specs.declared.scopes.ClassScope.TheVariants.{Unannotated, Annotated, Unknown}
+use Rattle.scj_rules.specs.declared.views.Body.TheVariants.{Written}
+use Rattle.scj_rules.specs.Words.{is_among, ◌>>=◌}
+use Rattle.scj_rules.specs.Classes.{is_sub}
+use Rattle.scj_rules.specs.Contexts.{Declarations}
+use Rattle.scj_rules.specs.LimitRules.{variables_of}
+use Rattle.scj_rules.specs.StaticScopes.{class_scope, this_in}
+use Rattle.accepted_laws.specs.Kinds.{Kind, kind_of_variable}
+use Rattle.accepted_laws.proofs.Tools.{some_inj}
+use Rattle.scj_model.specs.Code.{Code}
+use Rattle.scj_model.specs.State.{Object}
+use Rattle.scj_model.specs.Ops.{body_ops}
+use Rattle.scj_model.specs.Effects.{new_frame}
+use Rattle.scope_flow.specs.Slots.{IsOfType}
+use Rattle.scope_flow.specs.Signatures.{Signature, IsBody, Runs, kinds_of_variables, parameters_of}
+use Rattle.scope_flow.specs.Needs.{pushed}
+use Rattle.scope_flow.specs.Facts.{Facts}
+use Rattle.scope_flow.proofs.Entries.{entry_flows}
+use Rattle.frame_sound.specs.Places.{World, area_named, denote, held, Has, AllHave}
+use Rattle.frame_sound.specs.Fine.{ListFine, HeapFine, IsOnList, LocalFine, LocalsFine, Ready}
+
+-- ---- locals
+
+get_left : (xs ys : List Value) (i : ℕ) (x : Value) → slice_get xs i ≡ Some x → slice_get (xs ++ ys) i ≡ Some x
+get_left [] ys i x e = absurd (cc (e))
+get_left (y ∷ xs) ys zero x e = e
+get_left (y ∷ xs) ys (suc i) x e = get_left xs ys i x e
+
+pub length_replicate : {A : Type 0} (n : ℕ) (x : A) → length (replicate n x) ≡ n
+length_replicate zero x = refl
+length_replicate (suc n) x = ap suc (length_replicate n x)
+
+pub record FirstKind (p : Declarations) (v : ℕ) (vs : List ℕ) (ks : List Kind) : Type 0 where
+  pub kind : Kind
+  pub others : List Kind
+  pub is : ks ≡ kind ∷ others
+  pub is_kind : kind_of_variable p v ≡ Some kind
+  pub rest : kinds_of_variables p vs ≡ Some others
+
+pub kinds_first : (p : Declarations) (v : ℕ) (vs : List ℕ) (ks : List Kind) →
+    kinds_of_variables p (v ∷ vs) ≡ Some ks → FirstKind p v vs ks
+unfolding kinds_of_variables
+kinds_first p v vs ks e = go (kind_of_variable p v) refl e
+  where
+    more : (k : Kind) → kind_of_variable p v ≡ Some k → (o : Option (List Kind)) → kinds_of_variables p vs ≡ o →
+        o >>= (λ ks. Some (k ∷ ks)) ≡ Some ks → FirstKind p v vs ks
+    more k is None o e = absurd (cc (e))
+    more k is (Some others) o e =
+        record { kind = k; others = others; is = sym (some_inj _ _ e); is_kind = is; rest = o }
+
+    go : (o : Option Kind) → kind_of_variable p v ≡ o →
+        o >>= (λ k. kinds_of_variables p vs >>= (λ ks. Some (k ∷ ks))) ≡ Some ks → FirstKind p v vs ks
+    go None o e = absurd (cc (e))
+    go (Some k) o e = more k o (kinds_of_variables p vs) refl e
+
+pub as_many_kinds : (p : Declarations) (vs : List ℕ) (ks : List Kind) → kinds_of_variables p vs ≡ Some ks →
+    length vs ≡ length ks
+unfolding kinds_of_variables
+as_many_kinds p [] ks e = ap length (some_inj [] ks e)
+as_many_kinds p (v ∷ vs) ks e =
+    let q = kinds_first p v vs ks e in ap suc (as_many_kinds p vs q.others q.rest) ∙ ap length (sym q.is)
+
+module _ (p : Declarations) (w : World) (den : Scope → Option ℕ) where
+  all_as_many : (ks : List Kind) (vs : List Value) → AllHave p w den ks vs → length ks ≡ length vs
+  all_as_many [] [] h = refl
+  all_as_many [] (v ∷ vs) h = absurd h
+  all_as_many (k ∷ ks) [] h = absurd h
+  all_as_many (k ∷ ks) (v ∷ vs) h = ap suc (all_as_many ks vs h.1)
+
+  -- the arguments are the first locals
+  argument_is : (params : List ℕ) (ks : List Kind) (args : List Value) → kinds_of_variables p params ≡ Some ks →
+      AllHave p w den ks args → (i v : ℕ) (k : Kind) → slice_get params i ≡ Some v → kind_of_variable p v ≡ Some k →
+      LocalFine p w den args i k
+  argument_is [] ks args e h i v k there is = absurd (cc (there))
+  argument_is (x ∷ params) ks args e h i v k there is =
+      go (kinds_first p x params ks e) args h i there (argument_is params)
+    where
+      go : (q : FirstKind p x params ks) (args : List Value) → AllHave p w den ks args → (i : ℕ) →
+          slice_get (x ∷ params) i ≡ Some v →
+          ((ks : List Kind) (args : List Value) → kinds_of_variables p params ≡ Some ks → AllHave p w den ks args →
+          (i v : ℕ) (k : Kind) → slice_get params i ≡ Some v → kind_of_variable p v ≡ Some k →
+          LocalFine p w den args i k) → LocalFine p w den args i k
+      go q [] h i there ih = absurd (subst (λ x. AllHave p w den x []) q.is h)
+      go q (a ∷ args) h zero there ih =
+          let all : AllHave p w den (q.kind ∷ q.others) (a ∷ args) = subst (λ x. AllHave p w den x (a ∷ args)) q.is h in
+          let same : q.kind ≡ k = some_inj q.kind k (sym q.is_kind ∙ ap (kind_of_variable p) (some_inj x v there) ∙ is)
+          in
+          record { value = a; is = refl; has = subst (λ x. Has p w (held den x) a) same all.0 }
+      go q (a ∷ args) h (suc i) there ih =
+          let all : AllHave p w den (q.kind ∷ q.others) (a ∷ args) = subst (λ x. AllHave p w den x (a ∷ args)) q.is h in
+          let r = ih q.others args q.rest all.1 i v k there is in
+          record { value = r.value; is = r.is; has = r.has }
+
+  pub locals_begin : (b c : ℕ) (sig : Signature) → IsBody p b c sig → (args : List Value) →
+      AllHave p w den sig.takes args →
+      LocalsFine p w den (Written b) (parameters_of p b)
+      (args ++ replicate (length (variables_of p b) - length args) Null)
+  locals_begin b c sig body args h =
+      record {
+        long = long;
+        each = λ i v k there is known.
+            (let r = argument_is (parameters_of p b) sig.takes args body.takes h i v k (body.first i v there known) is
+            in
+            record { value = r.value; is = get_left args _ i r.value r.is; has = r.has });
+      }
+    where
+      many : length args ≡ length (parameters_of p b)
+      many = sym (as_many_kinds p (parameters_of p b) sig.takes body.takes ∙ all_as_many sig.takes args h)
+
+      all : length (variables_of p b) ≡ length (parameters_of p b) + length body.more
+      all = ap length body.variables ∙ length-append (parameters_of p b) body.more
+
+      long : length (args ++ replicate (length (variables_of p b) - length args) Null) ≡ length (variables_of p b)
+      long =
+          let e = length-append args (replicate (length (variables_of p b) - length args) Null) in
+          let r = length_replicate (length (variables_of p b) - length args) Null in
+          omega (arith, e, r, many, all)
+
+-- ---- where the callee's own object lies
+
+-- THIS in a class is THIS or a named scope
+pub home_cases : (p : Declarations) (c : ℕ) (h : Scope) → this_in p c ≡ Some h → (h ≡ This) ⊎ ((n : ℕ) × (h ≡ In n))
+unfolding this_in
+home_cases p c h e = go (class_scope p c) e
+  where
+    go : (s : ClassScope) → (elim s [ Unannotated ↦ Some This | Annotated s ↦ Some (In s) | Unknown ↦ None ]) ≡ Some h →
+        (h ≡ This) ⊎ ((n : ℕ) × (h ≡ In n))
+    go Unannotated e = inl (sym (some_inj This h e))
+    go (Annotated n) e = inr (n, sym (some_inj (In n) h e))
+    go Unknown e = absurd (cc (e))
+
+module _ (code : Code) (facts : Facts code) (w : World) (list : List ℕ) (fine : ListFine w.areas list)
+    (heap : HeapFine code.program w) (now : ℕ) (now_on : is_among now list ≡ true) (r : ℕ) (object : Object)
+    (found : w.objects r ≡ Some object) (on_list : is_among object.area list ≡ true) (on : ℕ)
+    (of_type : IsOfType code.program object.class (ClassTy on)) where
+  abbrev there : Scope → Option ℕ
+  there = denote w list (Some r) now
+
+  is_sub_of : is_sub code.program.classes object.class on ≡ true
+  unfolding IsOfType
+  is_sub_of = of_type.1
+
+  -- scopes in normal form meet here: THIS, as the class of a callee has it, is where its object lies
+  pub home_denotes : (h : Scope) → this_in code.program on ≡ Some h → there h ≡ Some object.area
+  unfolding denote
+  home_denotes h is = go (home_cases code.program on h is)
+    where
+      here : Some r >>= w.objects >>= (λ o. Some o.area) ≡ Some object.area
+      here = ap (λ (o : Option Object). o >>= (λ o. Some o.area)) found
+
+      placed : (n : ℕ) → h ≡ In n → area_named w.areas n list ≡ Some object.area
+      placed n e =
+          let o = heap r object found in
+          let x = fine.found object.area on_list in
+          let named : o.area.scope ≡ n =
+          o.is_placed n (facts.inherits object.class on n is_sub_of (is ∙ ap (λ s. Some s) e)) in
+          let one : x.0 ≡ o.area = some_inj x.0 o.area (sym x.1 ∙ o.is_area) in
+          subst (λ m. area_named w.areas m list ≡ Some object.area) (ap (λ y. y.scope) one ∙ named) x.2
+
+      go : (h ≡ This) ⊎ ((n : ℕ) × (h ≡ In n)) → denote w list (Some r) now h ≡ Some object.area
+      go (inl e) = ap (denote w list (Some r) now) e ∙ here
+      go (inr e) = ap (denote w list (Some r) now) e.1 ∙ placed e.0 e.1
+
+  pub on_this : (s : ℕ) → Some r ≡ Some s → IsOnList w list s
+  on_this s e =
+      record { object = object; found = ap w.objects (sym (some_inj r s e)) ∙ found; on_list = on_list }
+
+  -- a body that begins on the object
+  pub begins : (b : ℕ) (sig : Signature) (body : IsBody code.program b on sig) (called_at : Option ℕ) →
+      there sig.runs_in ≡ Some now → (args : List Value) → AllHave code.program w there sig.takes args →
+      Ready code w list on sig (new_frame code (Written b) called_at (Some r) now args) None
+  unfolding pushed new_frame body_ops Runs
+  begins b sig body called_at runs args h =
+      record {
+        runs = body;
+        home = record {
+          own = λ e. record {
+            r = r;
+            is = refl;
+            object = object;
+            found = found;
+            of_type = of_type;
+            lies = home_denotes;
+          };
+          on_list = on_this;
+          now_on_list = now_on;
+          is_now = runs;
+        };
+        known = parameters_of code.program b;
+        kinds = [];
+        operands = tt;
+        locals = locals_begin code.program w there b on sig body args h;
+        flow = entry_flows code facts b on sig body;
+      }

@@ -1,0 +1,162 @@
+-- The frame rule: where objects keep their classes and areas, and a list names what it named, each frame on that list
+-- is as ready as before. It serves the frames under the one that acts, and all other jobs alike.
+use Rattle.std.specs.Prelude.{Option, Some, None, ◌++◌, option_to_list}
+use Rattle.std.proofs.Common.{◌≡◌, ℕ, List, [], ◌∷◌, true, refl, sym, ◌∙◌, ap, subst, inl, inr}
+use Rattle.scj_base.specs.declared.values.Value.{Value}
+use Rattle.scj_rules.specs.declared.typing.Scope.{Scope}
+use Rattle.scj_rules.specs.declared.typing.Scope.TheVariants.{Any, This, Caller, In}
+use Rattle.scj_rules.specs.declared.typing.Ty.{Ty}
+use Rattle.scj_rules.specs.declared.typing.Ty.TheVariants.{Class as ClassTy}
+use Rattle.scj_rules.specs.declared.views.Body.{Body}
+use Rattle.scj_rules.specs.Words.{is_among, ◌>>=◌}
+use Rattle.scj_rules.specs.Contexts.{Declarations}
+use Rattle.accepted_laws.specs.Kinds.{Kind}
+use Rattle.scj_model.specs.Code.{Code}
+use Rattle.scj_model.specs.State.{Object, Frame}
+use Rattle.scope_flow.specs.Slots.{IsOfType}
+use Rattle.scope_flow.specs.Signatures.{Signature}
+use Rattle.frame_sound.specs.Places.{World, area_named, denote, Held, a_number, a_truth, a_yes, an_object, a_fresh, held, IsObject, Has, AllHave}
+use Rattle.frame_sound.specs.Fine.{ListFine, list_of, Home, LocalsFine, Ready, held_option, GivenFits, Under, FramesFine}
+
+-- an object that has its class and its area as before
+pub record IsKept (w : World) (r : ℕ) (o : Object) : Type 0 where
+  pub object : Object
+  pub found : w.objects r ≡ Some object
+  pub class : object.class ≡ o.class
+  pub area : object.area ≡ o.area
+
+abbrev pub ObjectsAreKept : World → World → Type 0
+ObjectsAreKept w w2 = (r : ℕ) (o : Object) → w.objects r ≡ Some o → IsKept w2 r o
+
+pub record Keeps (w w2 : World) (list : List ℕ) : Type 0 where
+  pub named : (s : ℕ) → area_named w2.areas s list ≡ area_named w.areas s list
+  pub fine : ListFine w2.areas list
+
+module _ (p : Declarations) (w w2 : World) (kept : ObjectsAreKept w w2) where
+  object_kept : (t : Ty) (a : Option ℕ) (v : Value) → IsObject p w t a v → IsObject p w2 t a v
+  object_kept t a v o =
+      let k = kept o.r o.object o.found in
+      record {
+        r = o.r;
+        is = o.is;
+        object = k.object;
+        found = k.found;
+        of_type = subst (λ c. IsOfType p c t) (sym k.class) o.of_type;
+        lies = o.lies ∙ ap (λ a. Some a) (sym k.area);
+      }
+
+  pub has_kept : (h : Held) (v : Value) → Has p w h v → Has p w2 h v
+  has_kept a_number v x = x
+  has_kept a_truth v x = x
+  has_kept a_yes v x = x
+  has_kept (an_object t a) v (inl e) = inl e
+  has_kept (an_object t a) v (inr o) = inr (object_kept t a v o)
+  has_kept (a_fresh c a) v o = object_kept (ClassTy c) a v o
+
+  pub all_kept : (den : Scope → Option ℕ) (ks : List Kind) (vs : List Value) → AllHave p w den ks vs →
+      AllHave p w2 den ks vs
+  all_kept den [] [] h = tt
+  all_kept den [] (v ∷ vs) h = h
+  all_kept den (k ∷ ks) [] h = h
+  all_kept den (k ∷ ks) (v ∷ vs) h = (has_kept (held den k) v h.0, all_kept den ks vs h.1)
+
+  pub locals_kept : (den : Scope → Option ℕ) (body : Body) (known : List ℕ) (locals : List Value) →
+      LocalsFine p w den body known locals → LocalsFine p w2 den body known locals
+  locals_kept den body known locals l =
+      record {
+        long = l.long;
+        each = λ i v k there is set.
+            (let x = l.each i v k there is set in
+            record { value = x.value; is = x.is; has = has_kept (held den k) x.value x.has });
+      }
+
+  -- a static scope names what it named
+  module _ (list : List ℕ) (keeps : Keeps w w2 list) (c : ℕ) (sig : Signature) (body : Body) (this : Option ℕ) (now : ℕ)
+      (home : Home p w list c sig body this now) where
+    pub denote_kept : denote w2 list this now ≡ denote w list this now
+    unfolding denote
+    denote_kept = λ i s. same s i
+      where
+        own : (o : Option ℕ) → this ≡ o →
+            o >>= w2.objects >>= (λ o. Some o.area) ≡ o >>= w.objects >>= (λ o. Some o.area)
+        own None e = refl
+        own (Some r) e =
+            let x = home.on_list r e in
+            let k = kept r x.object x.found in
+            ap (λ (o : Option Object). o >>= (λ o. Some o.area)) k.found
+            ∙ (ap (λ a. Some a) k.area ∙ sym (ap (λ (o : Option Object). o >>= (λ o. Some o.area)) x.found))
+
+        same : (s : Scope) → denote w2 list this now s ≡ denote w list this now s
+        same Any = refl
+        same This = own this refl
+        same Caller = refl
+        same (In s) = keeps.named s
+
+    pub home_kept : Home p w2 list c sig body this now
+    home_kept =
+        record {
+          own = λ e. (let o = home.own e in let k = kept o.r o.object o.found in
+              record {
+                r = o.r;
+                is = o.is;
+                object = k.object;
+                found = k.found;
+                of_type = subst (λ d. IsOfType p d (ClassTy c)) (sym k.class) o.of_type;
+                lies = λ h is. ap (λ d. d h) denote_kept ∙ (o.lies h is ∙ ap (λ a. Some a) (sym k.area));
+              });
+          on_list = λ r e. (let x = home.on_list r e in let k = kept r x.object x.found in
+              record {
+                object = k.object;
+                found = k.found;
+                on_list = subst (λ a. is_among a list ≡ true) (sym k.area) x.on_list;
+              });
+          now_on_list = home.now_on_list;
+          is_now = ap (λ d. d sig.runs_in) denote_kept ∙ home.is_now;
+        }
+
+module _ (code : Code) (w w2 : World) (kept : ObjectsAreKept w w2) where
+  pub ready_kept : (list : List ℕ) → Keeps w w2 list → (c : ℕ) (sig : Signature) (f : Frame) (t : Option Kind) →
+      Ready code w list c sig f t → Ready code w2 list c sig f t
+  ready_kept list keeps c sig f t r =
+      let e = sym (denote_kept code.program w w2 kept list keeps c sig f.body f.this f.area r.home) in
+      record {
+        runs = r.runs;
+        home = home_kept code.program w w2 kept list keeps c sig f.body f.this f.area r.home;
+        known = r.known;
+        kinds = r.kinds;
+        operands = subst (λ d. AllHave code.program w2 d r.kinds f.operands) e
+            (all_kept code.program w w2 kept _ r.kinds f.operands r.operands);
+        locals = subst (λ d. LocalsFine code.program w2 d f.body r.known f.locals) e
+            (locals_kept code.program w w2 kept _ f.body r.known f.locals r.locals);
+        flow = r.flow;
+      }
+
+  -- of the lists of which a property holds, as of all behind them
+  module _ (P : List ℕ → Type 0) (behind : (xs ys : List ℕ) → P (xs ++ ys) → P ys) (keeps : (list : List ℕ) → P list →
+      ListFine w.areas list → Keeps w w2 list) where
+    pub under_kept : (base : List ℕ) (fs : List Frame) (given : Option Held) → P (list_of base fs) →
+        Under code w base fs given → Under code w2 base fs given
+    under_kept base [] given h u = tt
+    under_kept base (f ∷ fs) given h u =
+        let k = keeps (list_of base (f ∷ fs)) h u.1 in
+        let r = u.0.ready in
+        let e =
+        sym
+        (denote_kept code.program w w2 kept (list_of base (f ∷ fs)) k u.0.class u.0.sig f.body f.this f.area r.home)
+        in (
+          record {
+            class = u.0.class;
+            sig = u.0.sig;
+            kind = u.0.kind;
+            fits = subst (λ d. GivenFits code.program given (held_option d u.0.kind)) e u.0.fits;
+            ready = ready_kept (list_of base (f ∷ fs)) k u.0.class u.0.sig f u.0.kind r;
+          },
+          k.fine,
+          subst (λ d. Under code w2 base fs (held_option d u.0.sig.gives)) e
+              (under_kept base fs _ (behind (option_to_list f.opened) (list_of base fs) h) u.2),
+        )
+
+    pub frames_kept : (base : List ℕ) (fs : List Frame) → P (list_of base fs) → FramesFine code w base fs →
+        FramesFine code w2 base fs
+    frames_kept base [] h u = tt
+    frames_kept base (f ∷ fs) h u = under_kept base (f ∷ fs) None h u

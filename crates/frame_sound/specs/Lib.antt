@@ -1,0 +1,7 @@
+pub mod AllJobs
+pub mod EffectsFine
+pub mod Fine
+pub mod Others
+pub mod OwnJob
+pub mod Places
+pub mod Starts

@@ -1,0 +1,4 @@
+pub mod Bases
+pub mod Invariant
+pub mod Registering
+pub mod SequencerFacts

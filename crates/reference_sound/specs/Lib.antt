@@ -1,0 +1,4 @@
+pub mod Objects
+pub mod EffectsHold
+pub mod References
+pub mod Roots
