@@ -1,0 +1,81 @@
+-- How many classes have names, and the classes of arrays behind these.
+use Rattle.std.proofs.Common.{◌≡◌, ℕ, ◌+◌, ◌-◌, ◌<◌, ◌≤◌, ◌==◌, List, length, map, refl, sym, ap, ◌∙◌, arith, Some, None, Bool, true, false, not, ◌||◌, nat_lt, if◌then◌else◌, length-append}
+use Rattle.std.proofs.lemmas.Bool.Decides.{nat_tests}
+use Rattle.std.proofs.lemmas.Bool.{lt-ltb}
+use Rattle.std.proofs.lemmas.List.{length-map}
+use Rattle.scj_builtins.specs.Framework.{framework_classes}
+use Rattle.scj_builtins.specs.declared.classes.FrameworkClass.{FrameworkClass}
+use Rattle.scj_tree.specs.Forest.{Forest, IsForest}
+use Rattle.scj_rules.specs.Views.{WrittenClass}
+use Rattle.scj_rules.specs.Classes.{class_names, class_nodes, user_classes, first_user_class}
+use Rattle.scj_rules.specs.Contexts.{Declarations, declarations_of}
+use Rattle.scj_rules.specs.Layout.{element_kind, class_of_elements}
+use Rattle.scope_tree.proofs.UserLemmas.{nodes_of_users, class_count}
+use Rattle.object_layout.specs.Arrays.{kind_behind, class_behind}
+
+names_count : (users : List WrittenClass) → length (class_names users) ≡ first_user_class + length users
+unfolding class_names framework_classes
+names_count users =
+    let a = length-append (map (λ (c : FrameworkClass). c.name) framework_classes)
+    (map (λ (c : WrittenClass). c.name) users) in
+    let b = length-map users (λ (c : WrittenClass). c.name) in
+    rw a (rw b refl)
+
+pub as_many_names : (forest : Forest) → IsForest forest → length (declarations_of forest).classes
+    ≡ length (declarations_of forest).names
+unfolding declarations_of user_classes
+as_many_names forest whole =
+    let users : List WrittenClass = user_classes forest in
+    let n : length (map (λ (c : WrittenClass). c.node) users) ≡ length users =
+    length-map users (λ (c : WrittenClass). c.node) in
+    let m : length (map (λ (c : WrittenClass). c.node) users) ≡ length (class_nodes forest) =
+    ap (λ (ids : List ℕ). length ids) (nodes_of_users forest.nodes (class_nodes forest) whole.classes) in
+    class_count forest whole ∙ ap (λ (k : ℕ). first_user_class + k) (sym m ∙ n) ∙ sym (names_count users)
+
+module _ (p : Declarations) (class count : ℕ) (named : count ≡ length p.names) where
+  pub no_array : class < count → element_kind p class ≡ None
+  unfolding element_kind
+  no_array l = (let t : nat_lt class (length p.names) ≡ true = lt-ltb class (length p.names) (omega (arith, l, named))
+      in rw t refl)
+
+  pub no_elements : class < count → class_of_elements p class ≡ None
+  unfolding class_of_elements
+  no_elements l =
+      (let t : nat_lt class (length p.names + 2) ≡ true = lt-ltb class (length p.names + 2) (omega (arith, l, named)) in
+      rw t refl)
+
+  pub kind_of_array : count ≤ class → kind_behind (class - count) count ≡ element_kind p class
+  unfolding element_kind kind_behind
+  kind_of_array l =
+      let n : ℕ = length p.names in
+      let t : nat_lt class n ≡ false = grind (arith, nat_tests, named, l) in
+      let a : (class - count == 0) ≡ (class == n) = grind (arith, nat_tests, named, l) in
+      let b : (class - count == 1) ≡ (class == n + 1) = grind (arith, nat_tests, named, l) in
+      let d : nat_lt (class - count) (2 + count) ≡ nat_lt class (n + 2 + n) = grind (arith, nat_tests, named, l) in
+      rw (t, a, b, d) refl
+
+  pub class_of_array : count ≤ class → class_behind (class - count) count ≡ class_of_elements p class
+  unfolding class_of_elements class_behind
+  class_of_array l =
+      let n : ℕ = length p.names in
+      let a : nat_lt (class - count) 2 ≡ nat_lt class (n + 2) = grind (arith, nat_tests, named, l) in
+      let b : nat_lt (class - count - 2) count ≡ nat_lt (class - count - 2) n = ap (nat_lt (class - count - 2)) named in
+      let e : class - count - 2 ≡ class - (n + 2) = omega (arith, named) in
+      rw (a, e) (go (nat_lt class (n + 2)) refl)
+    where
+      go : (t : Bool) → nat_lt class (length p.names + 2) ≡ t
+          → (if t then None else (if nat_lt (class - (length p.names + 2)) count then Some
+          (class - (length p.names + 2)) else None))
+          ≡ (if t || not (nat_lt class (length p.names + 2 + length p.names)) then None else Some
+          (class - (length p.names + 2)))
+      go true h = refl
+      go false h =
+          let d : nat_lt (class - (length p.names + 2)) count ≡ nat_lt class (length p.names + 2 + length p.names) =
+          grind (arith, nat_tests, named, h) in
+          rw d (pick (nat_lt class (length p.names + 2 + length p.names)))
+        where
+          pick : (u : Bool) →
+              (if u then Some (class - (length p.names + 2)) else None)
+              ≡ (if not u then None else Some (class - (length p.names + 2)))
+          pick true = refl
+          pick false = refl

@@ -1,0 +1,11 @@
+pub mod ArrayLemmas
+pub mod BodyLemmas
+pub mod ClassLemmas
+pub mod FieldLemmas
+pub mod FieldTableLemmas
+pub mod LocalLemmas
+pub mod NameLemmas
+pub mod ObjectLemmas
+pub mod SafeletLemmas
+pub mod SlotLemmas
+pub mod TableLemmas

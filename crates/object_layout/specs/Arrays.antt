@@ -1,0 +1,15 @@
+-- The classes of arrays by their places behind all other classes.
+use Rattle.std.specs.Prelude.{ℕ, ◌+◌, ◌-◌, nat_lt, ◌==◌, Option, Some, None, if◌then◌else◌}
+use Rattle.scj_rules.specs.declared.views.SlotKind.{SlotKind}
+use Rattle.scj_rules.specs.declared.views.SlotKind.TheVariants.{Number, Truth, Reference}
+
+-- what the elements of the array class at a place hold, where there are so many other classes
+unfoldable pub kind_behind : ℕ → ℕ → Option SlotKind
+kind_behind place count =
+    if place == 0 then Some Number
+    else (if place == 1 then Some Truth else (if nat_lt place (2 + count) then Some Reference else None))
+
+-- the class of these elements, where they have one
+unfoldable pub class_behind : ℕ → ℕ → Option ℕ
+class_behind place count =
+    if nat_lt place 2 then None else (if nat_lt (place - 2) count then Some (place - 2) else None)

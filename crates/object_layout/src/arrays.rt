@@ -1,0 +1,77 @@
+//! The classes of arrays, which have the numbers behind all classes.
+
+ghost use Rattle.std.specs.Prelude.{◌≡◌, ◌<◌, ◌^◌, length};
+ghost use Rattle.scj_rules.specs.Contexts.{declarations_of};
+ghost use Rattle.scj_rules.specs.Layout.{element_kind, class_of_elements};
+ghost use Rattle.object_layout.specs.Arrays.{kind_behind, class_behind};
+
+use crate::classes::node_count;
+use class_rows::Classes;
+use scj_base::ClassId;
+use scj_rules::SlotKind;
+
+/// What the elements of the array class at a place behind so many classes hold.
+#[tactic(auto, unfolding(crate::specs::Arrays::kind_behind))]
+fn kind_behind(place: usize, count: usize) -> Option<SlotKind>
+    ensures { result ≡ kind_behind place count }
+{
+    if place == 0 {
+        return Some(SlotKind::Number);
+    }
+    if place == 1 {
+        return Some(SlotKind::Truth);
+    }
+    if place - 2 < count {
+        return Some(SlotKind::Reference);
+    }
+    None
+}
+
+/// The class of the elements of the array class at a place behind so many classes.
+#[tactic(auto, unfolding(crate::specs::Arrays::class_behind))]
+fn class_behind(place: u32, count: usize) -> Option<ClassId>
+    ensures { result ≡ class_behind place count }
+{
+    if place < 2 {
+        return None;
+    }
+    if ((place - 2) as usize) < count {
+        return Some(ClassId::at(place - 2));
+    }
+    None
+}
+
+/// How many classes have names.
+#[tactic(auto, using(crate::proofs::ArrayLemmas::as_many_names))]
+fn named_count(classes: &Classes) -> usize
+    ensures { result ≡ length (declarations_of classes.now).names }
+{
+    let _count = node_count(classes);
+    classes.count()
+}
+
+/// What the elements of an array of this class hold.
+#[tactic(auto, using(crate::proofs::ArrayLemmas::no_array, crate::proofs::ArrayLemmas::kind_of_array))]
+pub fn element_kind(classes: &Classes, class: ClassId) -> Option<SlotKind>
+    ensures { result ≡ element_kind (declarations_of classes.now) class }
+{
+    let count = named_count(classes);
+    let number = class.number() as usize;
+    if number < count {
+        return None;
+    }
+    kind_behind(number - count, count)
+}
+
+/// The class of the elements of an array of class type.
+#[tactic(auto, using(crate::proofs::ArrayLemmas::no_elements, crate::proofs::ArrayLemmas::class_of_array))]
+pub fn class_of_elements(classes: &Classes, class: ClassId) -> Option<ClassId>
+    ensures { result ≡ class_of_elements (declarations_of classes.now) class }
+{
+    let count = named_count(classes);
+    let number = class.number();
+    if (number as usize) < count {
+        return None;
+    }
+    class_behind(number - count as u32, count)
+}

@@ -1,0 +1,89 @@
+//! What is written of single classes.
+
+ghost use Rattle.std.specs.Prelude.{◌≡◌, length, option_and_then, option_map, slice_get};
+ghost use Rattle.scj_builtins.specs.Framework.{framework_classes};
+ghost use Rattle.scj_builtins.specs.declared.classes.FrameworkClass.{FrameworkClass as Row};
+ghost use Rattle.scj_tree.specs.Forest.{IsForest};
+ghost use Rattle.scj_rules.specs.Views.{class_at};
+ghost use Rattle.scj_rules.specs.Contexts.{declarations_of};
+ghost use Rattle.scj_rules.specs.ScopeRules.{user_class_in};
+ghost use Rattle.scj_rules.specs.Bodies.{class_node, class_place, constructor_body};
+
+use class_rows::Classes;
+use scj_base::ids::OBJECT;
+use scj_base::{ClassId, Name, NodeId, Pos};
+use scj_builtins::framework_classes;
+use scj_rules::Body;
+
+/// The number of the nodes of the program.
+pub fn node_count(classes: &Classes) -> usize
+    ensures value { result ≡ length classes.now.nodes }
+    ensures whole { IsForest classes.now }
+{
+    classes.program().len()
+}
+
+/// The node of a user class.
+#[tactic(auto, using(scope_tree::proofs::UserLemmas::written_stays))]
+pub fn class_node(classes: &Classes, class: ClassId) -> Option<NodeId>
+    ensures node { result ≡ class_node (declarations_of classes.now) class }
+    ensures class { option_and_then (class_at classes.now.nodes) result ≡ user_class_in
+        (declarations_of classes.now).classes class }
+{
+    classes.class_node(class)
+}
+
+/// The name of a class of the framework.
+fn framework_name(class: ClassId) -> Option<Name>
+    ensures { result ≡ option_map (λ (c : Row). c.name) (slice_get framework_classes class) }
+{
+    let all = framework_classes();
+    match all.get(class.number() as usize) {
+        Some(row) => Some(row.name),
+        None => None,
+    }
+}
+
+/// The name of a class.
+#[tactic(auto, using(crate::proofs::NameLemmas::name_of_user, crate::proofs::NameLemmas::name_of_framework))]
+pub fn class_name(classes: &Classes, class: ClassId) -> Option<Name>
+    ensures { result ≡ slice_get (declarations_of classes.now).names class }
+{
+    match class_node(classes, class) {
+        Some(node) => node_views::class_name(classes.program(), node),
+        None => framework_name(class),
+    }
+}
+
+/// Where a user class is named, and the first place of all for one of the framework.
+#[tactic(auto, unfolding(scj_rules::specs::Bodies::class_place))]
+pub fn class_place(classes: &Classes, class: ClassId) -> Pos
+    ensures { result ≡ class_place (declarations_of classes.now) class }
+{
+    let place = match class_node(classes, class) {
+        Some(node) => node_views::class_place(classes.program(), node),
+        None => None,
+    };
+    match place {
+        Some(place) => place,
+        None => Pos {
+            file: 0,
+            line: 0,
+            col: 0,
+        },
+    }
+}
+
+/// What `new` runs for a class.
+#[tactic(auto, unfolding(scj_rules::specs::Bodies::constructor_body))]
+pub fn constructor_body(classes: &Classes, class: ClassId) -> Option<Body>
+    ensures { result ≡ constructor_body (declarations_of classes.now) class }
+{
+    if class == OBJECT {
+        return Some(Body::Empty);
+    }
+    match classes.constructor_in(class) {
+        Some(node) => Some(Body::Written(node)),
+        None => Some(Body::Written(class_node(classes, class)?)),
+    }
+}

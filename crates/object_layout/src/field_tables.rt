@@ -1,0 +1,114 @@
+//! The table of the fields of a program.
+
+ghost use Rattle.std.specs.Prelude.{◌≡◌, ◌==◌, ℕ, map, position, option_map, option_and_then, slice_get, IfOk};
+ghost use Rattle.indexmap.specs.IndexMap.{get};
+ghost use Rattle.scj_rules.specs.Contexts.{declarations_of};
+ghost use Rattle.scj_rules.specs.Layout.{field_kind, static_place};
+ghost use Rattle.object_layout.specs.FieldTables.{IsFieldTableOf};
+
+use crate::fields::{StaticField, kinds_at, static_nodes, statics_at};
+use class_members::{field_nodes, places_of};
+use class_rows::Classes;
+use indexmap::IndexMap;
+use scj_base::{FieldId, Memory, NodeId};
+use scj_rules::SlotKind;
+use scj_tree::Program;
+use std::alloc::Global;
+
+/// What is asked of the fields of a program, each at its number.
+#[derive(Drop)]
+pub struct FieldTable {
+    /// Their nodes.
+    pub(crate) nodes: Vec<NodeId>,
+    /// What they hold.
+    pub(crate) kinds: Vec<SlotKind>,
+    /// Their places among all statics.
+    pub(crate) static_places: Vec<Option<u32>>,
+    /// The static fields in order.
+    pub(crate) statics: Vec<StaticField>,
+}
+
+/// The numbers under these nodes.
+fn numbers_at(
+    alloc: Global,
+    found: &IndexMap<usize, u32>,
+    ids: &[NodeId],
+) -> Result<Vec<Option<u32>>, Memory>
+    ensures { IfOk result (λ numbers. numbers.items ≡ map (λ (id : ℕ). get ◌==◌ found.now id) ids.now) }
+{
+    let mut numbers = Vec::new(alloc);
+    let mut others = ids;
+    while let [id, rest @ ..] = others {
+        let place = id.place();
+        numbers.push(found.get(&place).copied())?;
+        others = rest;
+    }
+    Ok(numbers)
+}
+
+/// The place of each of these nodes in another list.
+#[tactic(auto, using(crate::proofs::FieldTableLemmas::places_found))]
+fn places_in(alloc: Global, ids: &[NodeId], list: &[NodeId]) -> Result<Vec<Option<u32>>, Memory>
+    ensures { IfOk result
+        (λ places. places.items ≡ map (λ (id : ℕ). position (λ other. id == other) list.now) ids.now) }
+{
+    let found = places_of(alloc, list, 0)?;
+    let places = numbers_at(alloc, &found, ids)?;
+    Ok(places)
+}
+
+/// The table of the fields of a program.
+#[tactic(auto, using(crate::proofs::FieldTableLemmas::kinds_are, crate::proofs::FieldTableLemmas::statics_are, crate::proofs::FieldTableLemmas::static_places_are))]
+pub fn field_table(alloc: Global, classes: &Classes) -> Result<FieldTable, Memory>
+    ensures { IfOk result (λ table. IsFieldTableOf classes.now table) }
+{
+    let program = classes.program();
+    let nodes = field_nodes(alloc, &classes.written())?;
+    let kinds = kinds_at(alloc, program, &nodes)?;
+    let listed = static_nodes(alloc, program, &nodes)?;
+    let static_places = places_in(alloc, &nodes, &listed)?;
+    let statics = statics_at(alloc, program, &nodes)?;
+    Ok(FieldTable {
+        nodes,
+        kinds,
+        static_places,
+        statics,
+    })
+}
+
+/// The kind at a number.
+fn kind_numbered(kinds: &[SlotKind], field: FieldId) -> Option<SlotKind>
+    ensures { result ≡ slice_get kinds.now field }
+{
+    kinds.get(field.number() as usize).copied()
+}
+
+/// What a field holds.
+#[tactic(auto, using(crate::proofs::FieldTableLemmas::kind_by_table))]
+pub fn field_kind(program: &Program, table: &FieldTable, field: FieldId) -> Option<SlotKind>
+    requires { IsFieldTableOf program.now table.now }
+    ensures { result ≡ field_kind (declarations_of program.now) field }
+{
+    let _ = program;
+    kind_numbered(&table.kinds, field)
+}
+
+/// The place of a static field among all statics.
+#[tactic(auto, using(crate::proofs::FieldTableLemmas::static_place_by_table))]
+pub fn static_place(program: &Program, table: &FieldTable, field: FieldId) -> Option<u32>
+    requires { IsFieldTableOf program.now table.now }
+    ensures { result ≡ static_place (declarations_of program.now) field }
+{
+    let _ = program;
+    place_numbered(&table.static_places, field)
+}
+
+/// The place at a number.
+fn place_numbered(places: &[Option<u32>], field: FieldId) -> Option<u32>
+    ensures { result ≡ option_and_then (λ place. place) (slice_get places.now field) }
+{
+    match places.get(field.number() as usize) {
+        Some(place) => *place,
+        None => None,
+    }
+}

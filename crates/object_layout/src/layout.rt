@@ -1,0 +1,255 @@
+//! The layout of a program.
+
+ghost use Rattle.std.specs.Prelude.{◌≡◌, map, slice_get, IfOk};
+ghost use Rattle.scj_rules.specs.Classes.{hidden_fields, instance_fields, is_sub};
+ghost use Rattle.scj_rules.specs.Contexts.{declarations_of};
+ghost use Rattle.scj_rules.specs.Bodies.{class_node, class_place, constructor_body, body_named, body_of, class_of_body, is_synchronized_body, locals, safelet_class, size_of};
+ghost use Rattle.scj_rules.specs.ScopeRules.{defined_by_chain};
+ghost use Rattle.scj_rules.specs.Definitions.{read};
+ghost use Rattle.scj_rules.specs.Layout.{class_of_elements, element_kind, field_kind, fields_with_literal, literal_written, slot_of, slots, static_fields, static_place};
+ghost use Rattle.object_layout.specs.Fields.{kind_of_field, static_row};
+ghost use Rattle.object_layout.specs.ObjectTables.{nodes_of_fields};
+
+use crate::body_tables::{class_at, count_at};
+use crate::fields::StaticField;
+use crate::object_tables::{hidden_in, kinds_in, literals_in, slot_in, slots_in};
+use crate::tables::{Tables, tables_of};
+use crate::{arrays, bodies, classes, field_tables, parts, sizes};
+use class_rows::{ClassTable, Classes};
+use scj_base::{ClassId, FieldId, Memory, MethodId, Name, NodeId, Pos, ScopeId};
+use scj_rules::{Body, Checked, SlotKind};
+use scj_tree::Program;
+use scope_tree::Scopes;
+use std::alloc::Global;
+use std::marker::Model;
+
+/// What a machine asks of a program while it runs. A contract sees the program.
+#[derive(Drop)]
+pub struct Layout<'a> {
+    classes: Classes<'a>,
+    table: &'a ClassTable,
+    tables: Tables,
+}
+
+impl<'a> Model for Layout<'a> {
+    ghost use Rattle.scj_tree.specs.Forest.{Forest};
+
+    ghost Value = { Forest };
+
+    ghost use Rattle.class_rows.specs.Tables.{IsTableOf};
+    ghost use Rattle.object_layout.specs.Layouts.{AreTablesOf};
+
+    ghost view = { λ a. a.classes };
+
+    ghost invariant = { λ a. IsTableOf a.classes a.table.now × AreTablesOf a.classes a.tables };
+}
+
+impl<'a> Layout<'a> {
+    ghost use Rattle.class_rows.specs.Tables.{IsTableOf};
+
+    /// The layout of a program that breaks no rule, from the table of its classes. No other call takes memory.
+    pub fn of(
+        alloc: Global,
+        checked: &'a Checked,
+        table: &'a ClassTable,
+    ) -> Result<Layout<'a>, Memory>
+        requires { IsTableOf checked.now.program table.now }
+        ensures { IfOk result (λ layout. layout ≡ checked.now.program) }
+    {
+        let program = checked.program();
+        let tables = tables_of(alloc, program, table)?;
+        Ok(Layout {
+            classes: Classes::new(program, table),
+            table,
+            tables,
+        })
+    }
+
+    /// The program.
+    pub fn program(&self) -> &'a Program
+        ensures { result.now ≡ self.now }
+    {
+        self.classes.program()
+    }
+
+    /// The node of a user class.
+    pub fn class_node(&self, class: ClassId) -> Option<NodeId>
+        ensures { result ≡ class_node (declarations_of self.now) class }
+    {
+        classes::class_node(&self.classes, class)
+    }
+
+    /// Where a user class is named. A fault that no node has is told there.
+    pub fn class_place(&self, class: ClassId) -> Pos
+        ensures { result ≡ class_place (declarations_of self.now) class }
+    {
+        classes::class_place(&self.classes, class)
+    }
+
+    /// The name of a class.
+    pub fn class_name(&self, class: ClassId) -> Option<Name>
+        ensures { result ≡ slice_get (declarations_of self.now).names class }
+    {
+        classes::class_name(&self.classes, class)
+    }
+
+    /// The concrete class that implements `Safelet` (JSR 302: Safelet).
+    pub fn safelet(&self) -> Option<ClassId>
+        ensures { result ≡ safelet_class (declarations_of self.now) }
+    {
+        self.tables.safelet
+    }
+
+    /// Whether a class is the other one or a subtype of it (JLS 4.10.2).
+    pub fn is_sub(&self, class: ClassId, above: ClassId) -> bool
+        ensures { result ≡ is_sub (declarations_of self.now).classes class above }
+    {
+        self.classes.is_sub(class, above)
+    }
+
+    /// What `new` runs for a class (JLS 8.8.9).
+    pub fn constructor(&self, class: ClassId) -> Option<Body>
+        ensures { result ≡ constructor_body (declarations_of self.now) class }
+    {
+        classes::constructor_body(&self.classes, class)
+    }
+
+    /// The body that a call of a method runs on an object of a class (JLS 15.12.4.4).
+    pub fn body_of(&self, class: ClassId, method: MethodId) -> Option<Body>
+        ensures { result ≡ body_of (declarations_of self.now) class method }
+    {
+        bodies::body_of(&self.classes, &self.tables.methods, class, method)
+    }
+
+    /// The body that a call of this name runs on an object of a class.
+    pub fn body_named(&self, class: ClassId, name: &Name) -> Option<Body>
+        ensures { result ≡ body_named (declarations_of self.now) class name.now }
+    {
+        bodies::body_named(&self.classes, class, name)
+    }
+
+    /// How many parameters and locals a body has.
+    pub fn locals(&self, body: NodeId) -> u32
+        ensures { result ≡ locals (declarations_of self.now) body }
+    {
+        count_at(&self.tables.bodies.locals, body)
+    }
+
+    /// The class in which a body stands.
+    pub fn class_of_body(&self, body: NodeId) -> Option<ClassId>
+        ensures { result ≡ class_of_body (declarations_of self.now) body }
+    {
+        class_at(&self.tables.bodies.classes, body)
+    }
+
+    /// Whether a body is a synchronized method's (JLS 8.4.3.6).
+    pub fn is_synchronized(&self, body: NodeId) -> bool
+        ensures { result ≡ is_synchronized_body (declarations_of self.now) body }
+    {
+        parts::is_synchronized(self.program(), body)
+    }
+
+    /// The scope that the chain of a class defines (JSR 302: DefineScope).
+    pub fn private_scope(&self, class: ClassId) -> Option<ScopeId>
+        ensures { result ≡ defined_by_chain (declarations_of self.now) class }
+    {
+        let scopes = Scopes::new(self.program(), self.table, &self.tables.scopes);
+        scopes.defined_by_chain(class)
+    }
+
+    /// The bytes of the memory that a mission's or the safelet's class declares (JSR 302: Mission, Safelet).
+    pub fn size_of(&self, class: ClassId) -> Option<u32>
+        ensures { result ≡ size_of (declarations_of self.now) class }
+    {
+        sizes::size_of(&self.classes, class)
+    }
+
+    /// The node of the literal with which the field at a node is declared (JLS 8.3.2).
+    #[tactic(auto, using(crate::proofs::BodyLemmas::nodes_are))]
+    pub fn literal_of(&self, field: NodeId) -> Option<NodeId>
+        ensures { result ≡ read (declarations_of self.now).nodes literal_written field }
+    {
+        parts::literal_written(self.program(), field)
+    }
+
+    /// How many fields that nothing declares the objects of a class have: a handler's priority and storage, and a
+    /// periodic handler's start and period (JSR 302: PriorityParameters, StorageParameters, PeriodicParameters).
+    pub fn hidden(&self, class: ClassId) -> u32
+        ensures { result ≡ hidden_fields (declarations_of self.now).classes class }
+    {
+        hidden_in(self.program(), &self.tables.objects.rows, class)
+    }
+
+    /// How many slots the objects of a class have: the hidden fields and the instance fields (JLS 8.3.1.1).
+    pub fn slots(&self, class: ClassId) -> u32
+        ensures { result ≡ slots (declarations_of self.now) class }
+    {
+        slots_in(self.program(), &self.tables.objects.rows, class)
+    }
+
+    /// What the instance fields of the objects of a class hold, in the order of their slots (JLS 4.12.5).
+    #[tactic(auto, unfolding(crate::specs::ObjectTables::instance_kinds))]
+    pub fn kinds(&self, class: ClassId) -> &[SlotKind]
+        ensures { result.now ≡ map kind_of_field (instance_fields (declarations_of self.now).classes class) }
+    {
+        kinds_in(self.program(), &self.tables.objects.rows, class)
+    }
+
+    /// The nodes of the instance fields that a class itself declares with a literal (JLS 8.3.2).
+    #[tactic(auto, unfolding(crate::specs::ObjectTables::literal_nodes))]
+    pub fn literals(&self, class: ClassId) -> &[NodeId]
+        ensures { result.now ≡ nodes_of_fields (fields_with_literal (declarations_of self.now) class) }
+    {
+        literals_in(self.program(), &self.tables.objects.rows, class)
+    }
+
+    /// The slot of a field in the objects of a class.
+    pub fn slot_of(&self, class: ClassId, field: FieldId) -> Option<u32>
+        ensures { result ≡ slot_of (declarations_of self.now) class field }
+    {
+        slot_in(
+            self.program(),
+            &self.tables.fields.nodes,
+            &self.tables.objects,
+            class,
+            field,
+        )
+    }
+
+    /// What a field holds.
+    pub fn field_kind(&self, field: FieldId) -> Option<SlotKind>
+        ensures { result ≡ field_kind (declarations_of self.now) field }
+    {
+        field_tables::field_kind(self.program(), &self.tables.fields, field)
+    }
+
+    /// The place of a static field among all statics.
+    pub fn static_place(&self, field: FieldId) -> Option<u32>
+        ensures { result ≡ static_place (declarations_of self.now) field }
+    {
+        field_tables::static_place(self.program(), &self.tables.fields, field)
+    }
+
+    /// The static fields in the order of the sources (JLS 8.3.1.1).
+    #[tactic(auto, using(crate::proofs::BodyLemmas::nodes_are))]
+    pub fn statics(&self) -> &[StaticField]
+        ensures { result.now ≡ map (static_row (declarations_of self.now).nodes)
+            (static_fields (declarations_of self.now)) }
+    {
+        self.tables.fields.statics.as_slice()
+    }
+
+    /// What the elements of the arrays of a class hold, if it is an array's (JLS 10.1).
+    pub fn element_kind(&self, class: ClassId) -> Option<SlotKind>
+        ensures { result ≡ element_kind (declarations_of self.now) class }
+    {
+        arrays::element_kind(&self.classes, class)
+    }
+
+    /// The class of the elements of the arrays of a class, if they are of class type (JLS 10.1).
+    pub fn class_of_elements(&self, class: ClassId) -> Option<ClassId>
+        ensures { result ≡ class_of_elements (declarations_of self.now) class }
+    {
+        arrays::class_of_elements(&self.classes, class)
+    }
+}

@@ -1,0 +1,130 @@
+//! The places of fields among those of an object. In a program that breaks no rule a field has one place in the objects
+//! of all classes, and one table tells it; whether it does is tested when the table is made.
+
+ghost use Rattle.std.specs.Prelude.{◌≡◌, ◌<◌, ◌==◌, ◌+◌, ℕ, true, length, option_map, position, slice_get, Some, IfSome};
+ghost use Rattle.std.specs.Bool.{OnTrue};
+ghost use Rattle.scj_tree.specs.Recursion.{lookup};
+ghost use Rattle.object_layout.specs.declared.objects.ObjectRow.{ObjectRow as Row};
+ghost use Rattle.object_layout.specs.Slots.{HasPlaces};
+
+use crate::objects::ObjectRow;
+use scj_base::NodeId;
+
+/// Notes the place of a field.
+fn note_place(places: &mut Vec<u32>, field: NodeId, place: u32) {
+    let at = field.place();
+    if at < places.len() {
+        places[at] = place;
+    }
+}
+
+/// Notes the places of the fields of an object.
+pub fn note_places(places: &mut Vec<u32>, fields: &[NodeId]) {
+    let mut place = 0u32;
+    let mut others = fields;
+    while let [field, rest @ ..] = others {
+        note_place(places, *field, place);
+        place = place.wrapping_add(1);
+        others = rest;
+    }
+}
+
+/// The place that the table has for a field.
+fn place_at(places: &[u32], field: NodeId) -> u32
+    ensures { result ≡ lookup 0 places.now field }
+{
+    match places.get(field.place()) {
+        Some(place) => *place,
+        None => 0,
+    }
+}
+
+/// Whether the table has the places of all these fields.
+fn has_places(places: &[u32], fields: &[NodeId]) -> bool
+    ensures { OnTrue result (HasPlaces places.now fields.now) }
+{
+    for k in 0..fields.len() {
+        if place_at(places, fields[k]) as usize != k {
+            return false;
+        }
+    }
+    true
+}
+
+/// Whether the table has the places of the fields of all objects.
+pub fn has_all_places(places: &[u32], rows: &[ObjectRow]) -> bool
+    ensures { OnTrue result
+        ((class : ℕ) (row : Row) → slice_get rows.now class ≡ Some row → HasPlaces places.now row.fields.items) }
+{
+    for at in 0..rows.len() {
+        let row = &rows[at];
+        if !has_places(places, &row.fields) {
+            return false;
+        }
+    }
+    true
+}
+
+/// Whether a field stands at a place.
+fn stands_at(fields: &[NodeId], place: usize, field: NodeId) -> bool
+    requires { place < length fields.now }
+    ensures { result ≡ (field == lookup 0 fields.now place) }
+{
+    field == fields[place]
+}
+
+/// The place of a field that the table has, if the field is there.
+fn place_by_table(fields: &[NodeId], places: &[u32], field: NodeId) -> Option<usize>
+    requires { HasPlaces places.now fields.now }
+    ensures value { result ≡ position (λ other. field == other) fields.now }
+    ensures within { IfSome result (λ place. place < length fields.now) }
+{
+    let place = place_at(places, field) as usize;
+    if place >= fields.len() {
+        return None;
+    }
+    if stands_at(fields, place, field) {
+        Some(place)
+    } else {
+        None
+    }
+}
+
+/// The first place of a field.
+#[tactic(auto, using(crate::proofs::SlotLemmas::found_first, crate::proofs::SlotLemmas::found_nowhere))]
+fn place_by_search(fields: &[NodeId], field: NodeId) -> Option<usize>
+    ensures value { result ≡ position (λ other. field == other) fields.now }
+    ensures within { IfSome result (λ place. place < length fields.now) }
+{
+    for place in 0..fields.len() {
+        if fields[place] == field {
+            return Some(place);
+        }
+    }
+    None
+}
+
+/// The place of a field among those of an object.
+pub fn place_of(fields: &[NodeId], places: &[u32], is_regular: bool, field: NodeId) -> Option<usize>
+    requires { is_regular ≡ true → HasPlaces places.now fields.now }
+    ensures value { result ≡ position (λ other. field == other) fields.now }
+    ensures within { IfSome result (λ place. place < length fields.now) }
+{
+    if is_regular {
+        place_by_table(fields, places, field)
+    } else {
+        place_by_search(fields, field)
+    }
+}
+
+/// The slot at a place behind the fields that nothing declares.
+pub fn slot_at(row: &ObjectRow, place: Option<usize>) -> Option<u32>
+    requires sum { row.now.hidden + length row.now.fields.items ≡ row.now.slots }
+    requires within { IfSome place (λ k. k < length row.now.fields.items) }
+    ensures { result ≡ option_map (λ k. row.now.hidden + k) place }
+{
+    match place {
+        Some(place) => Some(row.hidden + place as u32),
+        None => None,
+    }
+}

@@ -1,0 +1,14 @@
+pub mod CodeLemmas
+pub mod Reach
+pub mod Told
+pub mod NodeTable
+pub mod Rooms
+pub mod BodyTable
+pub mod AllNodes
+pub mod Gives
+pub mod Fronts
+pub mod PlainNodes
+pub mod Heights
+pub mod Bodies
+pub mod Steps
+pub mod Begins

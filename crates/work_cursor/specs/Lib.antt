@@ -1,0 +1,4 @@
+pub mod Works
+pub mod Parts
+pub mod Room
+pub mod Efforts
