@@ -5,6 +5,7 @@ pub mod ElementStores
 pub mod Followed
 pub mod FrameOperates
 pub mod Given
+pub mod Halves
 pub mod InAnyOrder
 pub mod Kept
 pub mod OneBase

@@ -1,1 +1,2 @@
+pub mod FramedAndPlaced
 pub mod Sound
