@@ -252,7 +252,7 @@ class Parser:
         p = self.pos()
         for w in ("true", "false", "null"):
             if self.acc(w):
-                return Node("bool" if w != "null" else "null", p)
+                return Node("null", p) if w == "null" else Node("bool", p, truth=w == "true")
         neg = self.acc("-")
         if self.k()[0] != "num":
             raise SyntaxError("literal at %s" % (p,))

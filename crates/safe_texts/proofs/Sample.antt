@@ -1,5 +1,5 @@
 -- The program of the sample text is accepted: its nodes are a forest, the text is read as it, and it breaks no rule.
-use Rattle.std.proofs.Common.{[], ◌∷◌, refl, Some, None, codes, ℕ}
+use Rattle.std.proofs.Common.{arith, [], ◌∷◌, refl, Some, None, codes, ℕ}
 use Rattle.scj_base.specs.declared.places.Pos.{Pos}
 use Rattle.scj_tree.specs.declared.nodes.Node.TheVariants.{Class}
 use Rattle.scj_tree.specs.Counts.{times}
@@ -18,7 +18,7 @@ sample_is_forest : IsForest one_safelet
 unfolding computing times all_children children_first all_below are_distinct AllClasses
 sample_is_forest =
     forest_passes one_safelet refl refl
-    ((Class (at 1 7) (codes "App") None (Some 1) (6 ∷ 11 ∷ 40 ∷ []), refl, is_class), tt)
+    ((Class (at 1 7) (codes "App") None (Some 1) (6 ∷ 11 ∷ 40 ∷ []), refl, is_class), tt) (omega arith) (omega arith)
 
 pub sample_is_accepted : IsAcceptedProgram one_safelet
 sample_is_accepted =

@@ -84,6 +84,7 @@ fn put_item(program: &Program, works: &mut Works, place: usize, list: NodeId)
 }
 
 /// The field at a place of those that a class declares with a literal.
+#[tactic(auto, unfolding(object_layout::specs::ObjectTables::literal_nodes))]
 fn literal_at(layout: &Layout<'_>, place: usize, class: ClassId) -> Option<NodeId>
     ensures value { result ≡ slice_get (literal_nodes (declarations_of layout.now) class) place }
     ensures behind { IfSome result (λ field. place < usize.MAX) }

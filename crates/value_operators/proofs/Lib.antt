@@ -1,0 +1,6 @@
+mod ExpressionNumbers
+mod FileNumbers
+mod HeaderNumbers
+mod LiteralLemmas
+mod Numbers
+mod StatementNumbers
