@@ -5,16 +5,18 @@
     check_programs.py --write    writes the files anew
 
 Each folder in crates/scj_nodes/data is a program: its files in the order of their names. The nodes of `some_name` stand
-in crates/scj_model/proofs/ProgramSomeName.antt, and in the `stdout` of crates/scj_nodes, which prints what the parser
-makes of the same files.
+in crates/scj_model/proofs/ProgramSomeName.antt, and those of a program that breaks a rule, whose code its name begins
+with, in crates/needed_rules/proofs. All stand in the `stdout` of crates/scj_nodes, which prints what the parser makes of
+the same files.
 """
 import pathlib
+import re
 import subprocess
 import sys
 
 HERE = pathlib.Path(__file__).resolve().parent
-PROOFS = HERE.parent / "crates" / "scj_model" / "proofs"
-NODES = HERE.parent / "crates" / "scj_nodes"
+CRATES = HERE.parent / "crates"
+NODES = CRATES / "scj_nodes"
 
 
 def printed(words):
@@ -28,8 +30,9 @@ def expected_files():
     for folder in sorted((NODES / "data").iterdir()):
         names = sorted(path.name for path in folder.iterdir())
         words = [folder.name] + [str(folder / name) for name in names]
+        crate = "needed_rules" if re.match(r"[a-z]\d+_", folder.name) else "scj_model"
         module = "Program" + "".join(word.capitalize() for word in folder.name.split("_"))
-        yield PROOFS / f"{module}.antt", printed(words)
+        yield CRATES / crate / "proofs" / f"{module}.antt", printed(words)
         calls.append(" ".join([folder.name] + names) + "\n")
         lines.append(printed(["--lines"] + words))
     yield NODES / "stdin", "".join(calls)
