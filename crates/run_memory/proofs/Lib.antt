@@ -1,0 +1,4 @@
+pub mod ChangedLists
+pub mod Counted
+pub mod HiddenSlots
+pub mod Rooms
