@@ -1,7 +1,7 @@
 -- Slots of which the first are hidden fields: what is read and set in them, and how many there are.
 use Rattle.std.specs.Prelude.{Some, drop, pos, slice_get, slice_index, slice_set}
-use Rattle.std.proofs.Common.{◌≡◌, ◌∙◌, ◌≤◌, ◌<◌, ◌-◌, ◌+◌, ℕ, zero, suc, List, [], ◌∷◌, ◌++◌, length, refl, ap, sym, arith, length-append, length-map}
-use Rattle.std.proofs.lemmas.List.{drop_at, set-append_right}
+use Rattle.std.proofs.Common.{◌≡◌, ◌∙◌, ◌≤◌, ◌<◌, ◌-◌, ◌+◌, ℕ, zero, suc, List, [], ◌∷◌, ◌++◌, length, refl, ap, sym, arith, length-append}
+use Rattle.std.proofs.lemmas.List.{drop_at, length-map, set-append_right}
 use Rattle.scj_base.specs.declared.values.Value.{Value}
 use Rattle.scj_base.specs.declared.values.Value.TheVariants.{Int}
 use Rattle.run_memory.specs.Contents.{hidden_slots}
@@ -24,7 +24,9 @@ read_hidden (n ∷ ns) values (suc slot) h = read_hidden ns values slot (omega (
 
 pub read_behind : (hidden : List ℕ) (values : List Value) (slot : ℕ) → length hidden ≤ slot →
     slice_get (hidden_slots hidden ++ values) slot ≡ slice_get values (slot - length hidden)
-read_behind [] values slot h = refl
+read_behind [] values slot h =
+    let e : slot ≡ slot - 0 = omega arith in
+    ap (slice_get values) e
 read_behind (n ∷ ns) values zero h = absurd (omega (arith, h))
 read_behind (n ∷ ns) values (suc slot) h =
     let e : slot - length ns ≡ suc slot - suc (length ns) = omega arith in

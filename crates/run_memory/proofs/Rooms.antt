@@ -14,7 +14,7 @@ use Rattle.run_memory.specs.Counts.{reserved_bytes, used_bytes}
 sum_kept : {A : Type 0} (f : A → ℕ) (p : A → Bool) (xs : List A) →
     sum (map f (filter p xs)) ≡ sum_by (λ x. if p x then f x else 0) xs
 sum_kept f p [] = refl
-sum_kept {A} f p (x ∷ xs) = go (p x) refl
+sum_kept {A} f p (x ∷ xs) = go (p x) refl (sum_kept f p xs)
   where
     g : A → ℕ
     g y = if p y then f y else 0
@@ -22,17 +22,15 @@ sum_kept {A} f p (x ∷ xs) = go (p x) refl
     all : sum_by g (x ∷ xs) ≡ g x + sum_by g xs
     all = sum_by-cons g x xs
 
-    rest : sum (map f (filter p xs)) ≡ sum_by g xs
-    rest = sum_kept f p xs
-
-    go : (b : Bool) → p x ≡ b → sum (map f (filter p (x ∷ xs))) ≡ sum_by g (x ∷ xs)
-    go true e =
+    go : (b : Bool) → p x ≡ b → sum (map f (filter p xs)) ≡ sum_by g xs →
+        sum (map f (filter p (x ∷ xs))) ≡ sum_by g (x ∷ xs)
+    go true e rest =
         let a : sum (map f (filter p (x ∷ xs))) ≡ f x + sum (map f (filter p xs)) =
             ap (λ b. sum (map f (cond b (x ∷ filter p xs) (filter p xs)))) e
                 ∙ sum_by-cons (λ y. y) (f x) (map f (filter p xs)) in
         let d : g x ≡ f x = ap (λ b. if b then f x else 0) e in
         omega (arith, a, all, d, rest)
-    go false e =
+    go false e rest =
         let a : sum (map f (filter p (x ∷ xs))) ≡ sum (map f (filter p xs)) =
             ap (λ b. sum (map f (cond b (x ∷ filter p xs) (filter p xs)))) e in
         let d : g x ≡ 0 = ap (λ b. if b then f x else 0) e in
