@@ -1,4 +1,4 @@
-use Rattle.std.proofs.Common.{◌≡◌, ◌≤◌, length, sym}
+use Rattle.std.proofs.Common.{◌≡◌, ◌≤◌, length}
 use Rattle.std.specs.Prelude.{Some, slice_get}
 use Rattle.scj_model.specs.State.{Object}
 use Rattle.run_memory.specs.Contents.{hidden_slots}

@@ -1,5 +1,4 @@
-use Rattle.std.specs.Prelude.{Option, Some, None, slice_get}
-use Rattle.std.proofs.Common.{◌≡◌, ◌∙◌, ◌≤◌, ◌<◌, ℕ, length, arith, refl, ap}
+use Rattle.std.proofs.Common.{◌≡◌, ◌≤◌, ◌<◌, length, arith, refl}
 use Rattle.std.proofs.lemmas.List.{get_or_read}
 use Rattle.scj_model.specs.Registry.{number_in}
 use Rattle.run_memory.proofs.HiddenSlots.{read_behind, read_hidden}
