@@ -5,6 +5,7 @@ use Rattle.scj_model.specs.declared.plans.ReadingRow.{ReadingRow}
 use Rattle.scj_model.specs.Code.{Code}
 use Rattle.scj_model.specs.Reading.{reading}
 use Rattle.scj_model.specs.State.{Frame}
+use Rattle.scj_model.specs.Memory.{new_elements}
 use Rattle.scj_model.specs.Effects.{Effect, Goes, Prints, Makes, Stores, StoresStatic, SetsHidden, SetsCeiling, Calls, Opens, Leaves, AsksRegistration, AsksRelease, AsksTermination, Faults, Stuck}
 use Rattle.scj_model.specs.Operations.{Environment}
 use Rattle.run_memory.specs.Contents.{Contents, hidden_slots}
@@ -17,6 +18,7 @@ unfoldable pub effect_seen : Code → Coded → Frame → Effect
 effect_seen code coded.Goes f = Goes f
 effect_seen code (coded.Prints label value) f = Prints f label value
 effect_seen code (coded.Makes class hidden values) f = Makes f class (hidden_slots hidden.items ++ values.items)
+effect_seen code (coded.MakesArray class kind count) f = Makes f class (new_elements kind count)
 effect_seen code (coded.Stores r slot value) f = Stores f r slot value
 effect_seen code (coded.StoresStatic place value) f = StoresStatic f place value
 effect_seen code (coded.SetsHidden r hidden) f = SetsHidden f r (hidden_slots hidden.items)

@@ -2,6 +2,7 @@
 
 use crate::frames::NewFrame;
 use scj_base::{ClassId, NodeId, Ref, RunFault, ScopeId, Value};
+use scj_rules::SlotKind;
 
 /// What one operation does besides the changes of its frame, which are made already.
 #[derive(Drop)]
@@ -10,11 +11,17 @@ pub enum Effect {
     Goes,
     /// It prints.
     Prints { label: NodeId, value: i32 },
-    /// It makes an object or an array in its area: hidden fields, and the values of the others or of the elements.
+    /// It makes an object in its area, with these hidden fields and these values of the others.
     Makes {
         class: ClassId,
         hidden: Vec<u64>,
         values: Vec<Value>,
+    },
+    /// It makes an array of so many elements in its area. They are listed when the area is known to have room for them.
+    MakesArray {
+        class: ClassId,
+        kind: SlotKind,
+        count: u32,
     },
     /// It stores a value into a slot or an element, counted with the hidden fields.
     Stores { r: Ref, slot: usize, value: Value },

@@ -1,6 +1,6 @@
 //! The frames of a job.
 
-ghost use Rattle.std.specs.Prelude.{◌≡◌, [], ◌∷◌, List, length, option_copied, slice_get, IfSome, IfNone, IfOk};
+ghost use Rattle.std.specs.Prelude.{◌≡◌, [], ◌∷◌, List, length, reverse, option_copied, slice_get, IfSome, IfNone, IfOk};
 ghost use Rattle.std.specs.Borrow.{sem};
 
 use crate::frames::Frame;
@@ -42,6 +42,13 @@ impl FrameStack {
         ensures { result ≡ length self.now }
     {
         self.items.len()
+    }
+
+    /// The frames, the highest one last.
+    pub fn in_order(&self) -> &[Frame]
+        ensures { reverse result.now ≡ self.now }
+    {
+        self.items.as_slice()
     }
 
     /// Puts a frame on top.

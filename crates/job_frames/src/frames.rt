@@ -89,6 +89,7 @@ impl Frame {
     pub fn push(&mut self, value: Value) -> Result<(), Memory>
         ensures pushed { IfOk result (λ _. self.new ≡ record self.old { operands = value ∷ self.old.operands }) }
         ensures works { self.new.works ≡ self.old.works }
+        ensures opened { self.new.opened ≡ self.old.opened }
     {
         self.operands.push(value)
     }
@@ -100,19 +101,19 @@ impl Frame {
         ensures none { IfNone result (self.old.operands ≡ []) }
         ensures same { IfNone result (self.new ≡ self.old) }
         ensures works { self.new.works ≡ self.old.works }
+        ensures opened { self.new.opened ≡ self.old.opened }
     {
         self.operands.pop()
     }
 
     /// Takes so many operands, in the order in which they were pushed, if there are so many.
     pub fn pop_all(&mut self, alloc: Global, count: usize) -> Result<Option<Vec<Value>>, Memory>
-        ensures some { IfOk result (λ taken. IfSome taken (λ values.
-            (code : CodeOfRun) (next : List ValueOfRun → FrameOfRun → EffectOfRun)
-            → pop_all count (frame_of code self.old) next ≡ next values.items (frame_of code self.new))) }
-        ensures none { IfOk result (λ taken. IfNone taken
-            ((code : CodeOfRun) (next : List ValueOfRun → FrameOfRun → EffectOfRun)
-            → pop_all count (frame_of code self.old) next ≡ Stuck)) }
+        ensures taken { (code : CodeOfRun) (next : List ValueOfRun → FrameOfRun → EffectOfRun) → IfOk result (λ taken.
+            pop_all count (frame_of code self.old) next
+            ≡ elim taken [ None ↦ Stuck | Some values ↦ next values.items (frame_of code self.new) ]) }
+        ensures same { self.new ≡ record self.old { operands = self.new.operands } }
         ensures works { self.new.works ≡ self.old.works }
+        ensures opened { self.new.opened ≡ self.old.opened }
     {
         self.operands.pop_all(alloc, count)
     }
@@ -142,6 +143,7 @@ impl Frame {
         ensures begun { IsBegun code.now.nodes self.new.works }
         ensures room { IfSome result (λ op. HasRoomFor code.now.nodes self.new.works op) }
         ensures same { self.new ≡ record self.old { works = self.new.works } }
+        ensures opened { self.new.opened ≡ self.old.opened }
     {
         self.works.next(code.checked(), code.layout())
     }
@@ -154,6 +156,7 @@ impl Frame {
             → rest (code_of code.now) self.new.works ≡ front ++ rest (code_of code.now) self.old.works }
         ensures begun { IsBegun code.now.nodes self.new.works }
         ensures same { self.new ≡ record self.old { works = self.new.works } }
+        ensures opened { self.new.opened ≡ self.old.opened }
     {
         self.works.branch(code.checked(), op, condition);
     }
