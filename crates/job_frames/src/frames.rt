@@ -88,6 +88,7 @@ impl Frame {
     #[inline]
     pub fn push(&mut self, value: Value) -> Result<(), Memory>
         ensures pushed { IfOk result (λ _. self.new ≡ record self.old { operands = value ∷ self.old.operands }) }
+        ensures same { self.new ≡ record self.old { operands = self.new.operands } }
         ensures works { self.new.works ≡ self.old.works }
         ensures opened { self.new.opened ≡ self.old.opened }
     {
@@ -99,7 +100,8 @@ impl Frame {
     pub fn pop(&mut self) -> Option<Value>
         ensures some { IfSome result (λ value. self.old ≡ record self.new { operands = value ∷ self.new.operands }) }
         ensures none { IfNone result (self.old.operands ≡ []) }
-        ensures same { IfNone result (self.new ≡ self.old) }
+        ensures kept { IfNone result (self.new ≡ self.old) }
+        ensures same { self.new ≡ record self.old { operands = self.new.operands } }
         ensures works { self.new.works ≡ self.old.works }
         ensures opened { self.new.opened ≡ self.old.opened }
     {
