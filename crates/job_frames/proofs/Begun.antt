@@ -4,7 +4,8 @@ use Rattle.scj_tree.specs.declared.nodes.Node.{Node}
 use Rattle.work_cursor.specs.Room.{IsBegun}
 use Rattle.job_frames.specs.Frames.{StoredFrame, AreBegun, below}
 
-pub below_begun : (nodes : List Node) (frames : List StoredFrame) → AreBegun nodes frames → AreBegun nodes (below frames)
+pub below_begun : (nodes : List Node) (frames : List StoredFrame) → AreBegun nodes frames →
+    AreBegun nodes (below frames)
 below_begun nodes [] h = tt
 below_begun nodes (f ∷ fs) h = h.1
 

@@ -3,3 +3,4 @@ pub mod Popping
 pub mod Tops
 pub mod Begun
 pub mod Seen
+pub mod Monitors

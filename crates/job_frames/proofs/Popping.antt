@@ -1,5 +1,5 @@
 -- Operands that are taken one by one, as the definitions take them.
-use Rattle.std.proofs.Common.{◌≡◌, ℕ, zero, suc, ◌<◌, List, [], ◌∷◌, ◌++◌, length, reverse, refl, ap, sym, ◌∙◌, append-nil, append_assoc, arith}
+use Rattle.std.proofs.Common.{◌≡◌, ℕ, zero, suc, ◌<◌, List, [], ◌∷◌, ◌++◌, length, reverse, refl, ap, sym, ◌∙◌, append-nil, append_assoc, arith, Option, Some, None, Result, Ok, Err, IfOk, IfSome, IfNone}
 use Rattle.std.proofs.lemmas.List.{reverse-append, reverse-reverse, length-reverse}
 use Rattle.scj_base.specs.declared.values.Value.{Value}
 use Rattle.scj_model.specs.Code.{Code}
@@ -39,3 +39,15 @@ all_popped code f count values left next e h =
 pub too_few : (code : Code) (f : StoredFrame) (count : ℕ) (next : List Value → Frame → Effect) →
     length f.operands < count → pop_all count (frame_of code f) next ≡ Stuck
 too_few code f count next h = too_few_from count f.operands [] (frame_of code f) next h
+
+-- the operands are taken, or there are too few
+pub popped : {V E : Type 0} (items : V → List Value) (code : Code) (f : StoredFrame) (count : ℕ) (left : List Value)
+    (next : List Value → Frame → Effect) (result : Result (Option V) E) →
+    IfOk result (λ taken. IfSome taken (λ values. f.operands ≡ reverse (items values) ++ left)) →
+    IfOk result (λ taken. IfSome taken (λ values. length (items values) ≡ count)) →
+    IfOk result (λ taken. IfNone taken (length f.operands < count)) →
+    IfOk result (λ taken. pop_all count (frame_of code f) next
+    ≡ elim taken [ None ↦ Stuck | Some values ↦ next (items values) (frame_of code (record f { operands = left })) ])
+popped items code f count left next (Ok (Some values)) e h few = all_popped code f count (items values) left next e h
+popped items code f count left next (Ok None) e h few = too_few code f count next few
+popped items code f count left next (Err error) e h few = tt

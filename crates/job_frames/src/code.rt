@@ -74,6 +74,7 @@ impl<'a> Code<'a> {
     }
 
     /// The node of a number, if there is one.
+    #[tactic(auto, using(work_cursor::proofs::CodeLemmas::nodes_are))]
     pub fn node(&self, id: NodeId) -> Option<&'a Node>
         ensures { option_copied result ≡ slice_get (code_of self.now).program.nodes id }
     {

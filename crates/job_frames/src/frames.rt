@@ -69,6 +69,7 @@ impl Frame {
             ≡ frame_called (code_of code.now) call arguments.items) }
         ensures begun { IfOk result (λ frame. IsBegun code.now.nodes frame.works) }
     {
+        code.accepted();
         check_body(code, call.body)?;
         let locals = Locals::new(arguments, locals_of(code, call.body))?;
         Ok(Frame {
