@@ -4,3 +4,4 @@ pub mod Tops
 pub mod Begun
 pub mod Seen
 pub mod Monitors
+pub mod NewFrames
