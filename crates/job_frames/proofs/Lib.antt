@@ -4,4 +4,3 @@ pub mod Tops
 pub mod Begun
 pub mod Seen
 pub mod Monitors
-pub mod NewFrames

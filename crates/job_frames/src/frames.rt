@@ -59,6 +59,7 @@ pub struct NewFrame {
 
 impl Frame {
     /// The frame of a call. No accepted program calls a node that isn't a body, and of such a one there is no frame.
+    #[tactic(auto, unfolding(scj_model::specs::Effects::new_frame))]
     pub fn new(
         alloc: Global,
         code: &Code<'_>,
