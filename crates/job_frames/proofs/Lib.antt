@@ -1,0 +1,6 @@
+pub mod Reversed
+pub mod Popping
+pub mod Tops
+pub mod Begun
+pub mod Seen
+pub mod Monitors

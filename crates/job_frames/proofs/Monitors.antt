@@ -1,0 +1,35 @@
+-- The monitors that frames hold.
+use Rattle.std.proofs.Common.{◌≡◌, ℕ, Bool, true, false, Option, None, if◌then◌else◌, refl, ap, sym, ◌∙◌}
+use Rattle.scj_tree.specs.Forest.{Forest}
+use Rattle.scj_rules.specs.declared.views.Body.{Body}
+use Rattle.scj_rules.specs.declared.views.Body.TheVariants.{Written, Empty}
+use Rattle.scj_rules.specs.Bodies.{is_synchronized_body}
+use Rattle.scj_rules.specs.Contexts.{declarations_of}
+use Rattle.scj_model.specs.Code.{code_of}
+use Rattle.scj_model.specs.Effects.{monitor_of}
+use Rattle.job_frames.specs.Frames.{StoredFrame, frame_of}
+
+-- the monitor of a body, called on an object
+abbrev held : Forest → Option ℕ → Body → Option ℕ
+held forest this body =
+    elim body [
+      | Written node ↦ if is_synchronized_body (declarations_of forest) node then this else None
+      | Empty ↦ None
+    ]
+
+held_by : (forest : Forest) (f : StoredFrame) → monitor_of (code_of forest) (frame_of (code_of forest) f)
+    ≡ held forest f.this f.body
+unfolding monitor_of code_of
+held_by forest f = refl
+
+pub monitor_is : (forest : Forest) (f : StoredFrame) (node : ℕ) → f.body ≡ Written node →
+    is_synchronized_body (declarations_of forest) node ≡ true →
+    f.this ≡ monitor_of (code_of forest) (frame_of (code_of forest) f)
+monitor_is forest f node e h =
+    sym (held_by forest f ∙ ap (held forest f.this) e ∙ ap (λ (b : Bool). if b then f.this else None) h)
+
+pub no_monitor : (forest : Forest) (f : StoredFrame) (node : ℕ) → f.body ≡ Written node →
+    is_synchronized_body (declarations_of forest) node ≡ false →
+    None ≡ monitor_of (code_of forest) (frame_of (code_of forest) f)
+no_monitor forest f node e h =
+    sym (held_by forest f ∙ ap (held forest f.this) e ∙ ap (λ (b : Bool). if b then f.this else None) h)
