@@ -1,7 +1,7 @@
 -- Lists with a change at one place.
-use Rattle.std.specs.Prelude.{Bool, true, false, Option, Some, None, slice_get, slice_set, drop, option_map, nat_lt, if◌then◌else◌}
+use Rattle.std.specs.Prelude.{Bool, true, false, Option, Some, None, slice_get, slice_set, drop, option_map, nat_lt}
 use Rattle.std.specs.List.{sum_by}
-use Rattle.std.proofs.Common.{◌≡◌, ◌≢◌, ◌∙◌, ◌≤◌, ◌<◌, ℕ, ◌+◌, ◌-◌, zero, suc, List, [], ◌∷◌, ◌++◌, length, map, get_or, refl, ap, sym, arith, length-set, length-drop}
+use Rattle.std.proofs.Common.{◌≡◌, ◌∙◌, ◌≤◌, ◌<◌, ℕ, ◌+◌, ◌-◌, List, length, map, get_or, refl, ap, sym, arith, length-set, length-drop}
 use Rattle.std.proofs.lemmas.Bool.Decides.{nat_tests}
 use Rattle.std.proofs.lemmas.List.{drop-set-lt, drop-set-add, get_or-drop, map-set}
 use Rattle.std.proofs.lemmas.List.Sums.{sum_by-set}
@@ -9,7 +9,8 @@ use Rattle.std.proofs.lemmas.Option.{slice_get-map, slice_get_within, get_or_fro
 use Rattle.scj_model.specs.State.{changed}
 
 module _ {A : Type 0} where
-  pub changed_there : (f : A → A) (place : ℕ) (xs : List A) (x : A) → slice_get xs place ≡ Some x → changed f place xs ≡ slice_set xs place (f x)
+  pub changed_there : (f : A → A) (place : ℕ) (xs : List A) (x : A) → slice_get xs place ≡ Some x →
+      changed f place xs ≡ slice_set xs place (f x)
   changed_there f place xs x e =
       ap (λ (o : Option A). elim o as (λ z. List A) [ None ↦ xs | Some y ↦ slice_set xs place (f y) ]) e
 
@@ -20,7 +21,8 @@ module _ {A : Type 0} where
   pub length_changed : (f : A → A) (place : ℕ) (xs : List A) → length (changed f place xs) ≡ length xs
   length_changed f place xs = go (slice_get xs place)
     where
-      go : (o : Option A) → length (elim o as (λ z. List A) [ None ↦ xs | Some y ↦ slice_set xs place (f y) ]) ≡ length xs
+      go : (o : Option A) → length (elim o as (λ z. List A) [ None ↦ xs | Some y ↦ slice_set xs place (f y) ])
+          ≡ length xs
       go None = refl
       go (Some y) = length-set xs place (f y)
 
@@ -51,7 +53,8 @@ module _ {A : Type 0} where
           ap (sum_by g) (drop-set-lt from xs place (f x) before)
       there x e false t =
           let behind : from ≤ place = grind (arith, nat_tests) in
-          let h : sum_by g (drop from (slice_set xs place (f x))) + g x ≡ sum_by g (drop from xs) + g (f x) = sum_dropped g from place xs x (f x) e behind in
+          let h : sum_by g (drop from (slice_set xs place (f x))) + g x ≡ sum_by g (drop from xs) + g (f x) =
+              sum_dropped g from place xs x (f x) e behind in
           let s : g (f x) ≡ g x = same x in
           omega (arith, h, s)
 
@@ -61,7 +64,8 @@ module _ {A : Type 0} where
           ap (λ zs. sum_by g (drop from zs)) (changed_there f place xs x e) ∙ there x e (nat_lt place from) refl
 
 -- a list that is seen through a function, changed
-pub map_changed : {A B : Type 0} (h : A → B) (f : A → A) (g : B → B) (place : ℕ) (xs : List A) → ((x : A) → h (f x) ≡ g (h x)) →
+pub map_changed : {A B : Type 0} (h : A → B) (f : A → A) (g : B → B) (place : ℕ) (xs : List A) →
+    ((x : A) → h (f x) ≡ g (h x)) →
     map h (changed f place xs) ≡ changed g place (map h xs)
 map_changed {A} h f g place xs same = go (slice_get xs place) refl
   where

@@ -1,21 +1,20 @@
 -- What is counted beside the releases stays right at each change of them.
-use Rattle.std.specs.Prelude.{Bool, true, false, ◌&&◌, ◌==◌, nat_lt, cond, drop, Option, Some, None, slice_get, slice_set, slice_index, if◌then◌else◌, filter, not}
-use Rattle.std.specs.List.{count_by, sum_by, fold}
-use Rattle.std.proofs.Common.{◌≡◌, ◌≢◌, ◌∙◌, ◌≤◌, ◌<◌, ℕ, ◌+◌, ◌-◌, List, [], ◌∷◌, ◌++◌, length, map, refl, ap, sym, arith, length-append}
-use Rattle.std.proofs.lemmas.Bool.Decides.{nat_tests}
-use Rattle.std.proofs.lemmas.List.{length-map, drop-map, drop-set-lt, drop_all}
-use Rattle.std.proofs.lemmas.Option.{slice_get_within}
-use Rattle.scj_rules.specs.Words.{◌>>=◌, holds}
+use Rattle.std.specs.Prelude.{true, false, ◌&&◌, ◌==◌, cond, drop, slice_set, slice_index, filter, not}
+use Rattle.std.specs.List.{count_by, fold}
+use Rattle.std.proofs.Common.{◌≡◌, ◌∙◌, ◌<◌, ℕ, ◌+◌, List, [], ◌∷◌, ◌++◌, length, map, refl, ap, sym, arith, length-append}
+use Rattle.std.proofs.lemmas.List.{length-map, drop-map, drop_all}
+use Rattle.scj_rules.specs.Words.{holds}
 use Rattle.scj_model.specs.State.{changed}
 use Rattle.scj_model.specs.Arrivals.{numbers_where}
 use Rattle.run_releases.specs.declared.rows.Release.{Release as StoredRelease}
 use Rattle.run_releases.specs.declared.rows.ReleaseStatus.{ReleaseStatus as StoredStatus}
 use Rattle.run_releases.specs.declared.rows.ReleaseStatus.TheVariants.{Waits, Started, Ended, Dropped}
 use Rattle.run_releases.specs.Rows.{dropped_row, dropped_status, emptied_row, emptied_status, is_live, waits, with_status}
-use Rattle.run_releases.specs.Releases.{count_of, is_of, new_row, waiting_count, waits_for}
+use Rattle.run_releases.specs.Releases.{count_of, is_of, waiting_row, waiting_count, waits_for}
 use Rattle.run_releases.specs.Counts.{AreCounted, is_live_at, live_places, one_less, row_is_live, waiting_handler}
-use Rattle.run_releases.proofs.Changes.{changed_nowhere, changed_there, length_changed, sum_dropped, sum_kept}
-use Rattle.run_releases.proofs.Counting.{count_mapped, count_none, count_push, one_less_at, one_more_at}
+use Rattle.run_releases.proofs.Changes.{length_changed, sum_kept}
+use Rattle.run_releases.proofs.Waiting.{waiting_left}
+use Rattle.run_releases.proofs.Counting.{and_false, and_true, count_mapped, count_none, count_push, one_more_at}
 use Rattle.run_releases.proofs.ByPlace.{changed_all, from_first, kept_there, numbers_changed, numbers_ended, numbers_push}
 
 pub nothing_counted : AreCounted [] [] [] 0 []
@@ -25,7 +24,8 @@ nothing_counted =
 
 -- the numbers may be kept in other lists that read the same
 pub same_counted : {live taken waiting taken' waiting' : List ℕ} {earlier : ℕ} {rows : List StoredRelease} →
-    ((k : ℕ) → slice_index taken' k ≡ slice_index taken k) → ((k : ℕ) → slice_index waiting' k ≡ slice_index waiting k) →
+    ((k : ℕ) → slice_index taken' k ≡ slice_index taken k) →
+        ((k : ℕ) → slice_index waiting' k ≡ slice_index waiting k) →
     AreCounted live taken waiting earlier rows → AreCounted live taken' waiting' earlier rows
 same_counted same_taken same_waiting c =
     record {
@@ -35,45 +35,33 @@ same_counted same_taken same_waiting c =
       behind = c.behind;
     }
 
-and_true : (b : Bool) → (b && true) ≡ b
-and_true true = refl
-and_true false = refl
-
-and_false : (b : Bool) → (b && false) ≡ false
-and_false true = refl
-and_false false = refl
-
-itself : (n : ℕ) → ◌≡◌ {A = ℕ} (cond ((n == n) && true) 1 0) 1
-itself n = ap (λ b. cond b 1 0) (and_true (n == n)) ∙ go (n == n) refl
-  where
-    go : (b : Bool) → (n == n) ≡ b → ◌≡◌ {A = ℕ} (cond b 1 0) 1
-    go true t = refl
-    go false t = absurd (let no : n ≢ n = grind (arith, nat_tests) in no refl)
-
 -- ---- one more that waits
 
-pub taken_counted : (live taken waiting : List ℕ) (earlier : ℕ) (rows : List StoredRelease) (handler number waits_now : ℕ) →
+pub taken_counted : (live taken waiting : List ℕ) (earlier : ℕ) (rows : List StoredRelease)
+    (handler number waits_now : ℕ) →
     handler < length taken → handler < length waiting →
     number ≡ slice_index taken handler + 1 → waits_now ≡ slice_index waiting handler + 1 →
     AreCounted live taken waiting earlier rows →
-    AreCounted (live ++ length rows ∷ []) (slice_set taken handler number) (slice_set waiting handler waits_now) earlier (rows ++ new_row handler number ∷ [])
+    AreCounted (live ++ length rows ∷ []) (slice_set taken handler number) (slice_set waiting handler waits_now) earlier
+        (rows ++ waiting_row handler number ∷ [])
 unfolding count_of live_places waiting_count
 taken_counted live taken waiting earlier rows handler number waits_now in_taken in_waiting next more c =
     record {
       all_live =
         ap (λ places. places ++ length rows ∷ []) c.all_live
-        ∙ (ap (λ n. numbers_where row_is_live 0 rows ++ n ∷ []) (let e : length rows ≡ 0 + length rows = omega arith in e)
-        ∙ sym (numbers_push row_is_live 0 rows (new_row handler number) refl));
+        ∙ (ap (λ n. numbers_where row_is_live 0 rows ++ n ∷ []) (let e : length rows ≡ 0 + length rows = omega arith in
+            e)
+        ∙ sym (numbers_push row_is_live 0 rows (waiting_row handler number) refl));
       each_taken = λ k.
         one_more_at taken handler number k in_taken next
         ∙ (ap (λ n. n + cond (handler == k) 1 0) (c.each_taken k)
-        ∙ sym (count_push (is_of k) earlier rows (new_row handler number) c.behind));
+        ∙ sym (count_push (is_of k) earlier rows (waiting_row handler number) c.behind));
       each_waiting = λ k.
         one_more_at waiting handler waits_now k in_waiting more
         ∙ (ap (λ n. n + cond (handler == k) 1 0) (c.each_waiting k)
         ∙ (ap (λ b. count_by (waits_for k) (drop earlier rows) + cond b 1 0) (sym (and_true (handler == k)))
-        ∙ sym (count_push (waits_for k) earlier rows (new_row handler number) c.behind)));
-      behind = omega (arith, c.behind, length-append rows (new_row handler number ∷ []));
+        ∙ sym (count_push (waits_for k) earlier rows (waiting_row handler number) c.behind)));
+      behind = omega (arith, c.behind, length-append rows (waiting_row handler number ∷ []));
     }
 
 -- ---- another mission
@@ -114,10 +102,12 @@ over_is_same Dropped over = refl
 
 -- a change at each live place is one of all
 pub dropped_everywhere : (rows : List StoredRelease) →
-    fold (λ (some : List StoredRelease) (place : ℕ). changed dropped_row place some) rows (live_places rows) ≡ map dropped_row rows
+    fold (λ (some : List StoredRelease) (place : ℕ). changed dropped_row place some) rows (live_places rows)
+        ≡ map dropped_row rows
 unfolding live_places
 dropped_everywhere rows =
-    changed_all row_is_live dropped_row 0 [] rows refl (λ r over. ap (λ status. with_status status r) (over_is_same r.status over))
+    changed_all row_is_live dropped_row 0 [] rows refl
+        (λ r over. ap (λ status. with_status status r) (over_is_same r.status over))
 
 pub dropped_counted : (live taken waiting : List ℕ) (earlier : ℕ) (rows : List StoredRelease) →
     AreCounted live taken waiting earlier rows →
@@ -127,118 +117,46 @@ dropped_counted live taken waiting earlier rows c =
     record {
       all_live =
         ap (filter (is_live_at (map dropped_row rows))) c.all_live
-        ∙ kept_there row_is_live dropped_row (map dropped_row rows) 0 rows (from_first (map dropped_row rows)) (λ r over. over_stays r.status over);
+        ∙ kept_there row_is_live dropped_row (map dropped_row rows) 0 rows (from_first (map dropped_row rows))
+            (λ r over. over_stays r.status over);
       each_taken = λ handler.
         c.each_taken handler
         ∙ sym (ap (count_by (is_of handler)) (drop-map dropped_row earlier rows)
         ∙ count_mapped (is_of handler) (is_of handler) dropped_row (λ r. refl) (drop earlier rows));
       each_waiting = λ handler.
         sym (ap (count_by (waits_for handler)) (drop-map dropped_row earlier rows)
-        ∙ (count_mapped (waits_for handler) (λ r. false) dropped_row (λ r. ap (λ b. (r.handler == handler) && b) (dropped_waits r.status) ∙ and_false (r.handler == handler)) (drop earlier rows)
+        ∙ (count_mapped (waits_for handler) (λ r. false) dropped_row
+            (λ r. ap (λ b. (r.handler == handler) && b) (dropped_waits r.status) ∙ and_false (r.handler == handler))
+            (drop earlier rows)
         ∙ count_none (λ r. false) (drop earlier rows) (λ r. refl)));
       behind = omega (arith, c.behind, length-map rows dropped_row);
     }
 
 -- ---- one is put under way or ends
 
-handler_in : Bool → Option StoredRelease → Option ℕ
-handler_in before found =
-    if before then None
-    else (found >>= (λ (r : StoredRelease). if waits r.status then Some r.handler else None))
-
-module _ (earlier place : ℕ) (rows : List StoredRelease) (status : StoredStatus) (waiting : List ℕ) (none : waits status ≡ false)
-  (each : (handler : ℕ) → slice_index waiting handler ≡ waiting_count earlier rows handler) where
-
-  weight : ℕ → StoredRelease → ℕ
-  weight k r = cond (waits_for k r) 1 0
-
-  -- the sum with the other status, and what the release had in it
-  other_sum : (k : ℕ) (r : StoredRelease) → slice_get rows place ≡ Some r → earlier ≤ place →
-      waiting_count earlier (slice_set rows place (with_status status r)) k + cond (waits_for k r) 1 0 ≡ waiting_count earlier rows k
-  unfolding waiting_count weight
-  other_sum k r e behind =
-      sum_dropped (weight k) earlier place rows r (with_status status r) e behind
-      ∙ (ap (λ b. sum_by (weight k) (drop earlier rows) + cond b 1 0) (ap (λ b. (r.handler == k) && b) none ∙ and_false (r.handler == k))
-      ∙ omega arith)
-
-  waited : (k : ℕ) (r : StoredRelease) → slice_get rows place ≡ Some r → earlier ≤ place → waits r.status ≡ true →
-      slice_index (one_less (Some r.handler) waiting) k ≡ waiting_count earlier (slice_set rows place (with_status status r)) k
-  waited k r e behind w =
-      let here : ◌≡◌ {A = ℕ} (cond (waits_for r.handler r) 1 0) 1 = ap (λ b. cond ((r.handler == r.handler) && b) 1 0) w ∙ itself r.handler in
-      let own : waiting_count earlier (slice_set rows place (with_status status r)) r.handler + cond (waits_for r.handler r) 1 0 ≡ waiting_count earlier rows r.handler = other_sum r.handler r e behind in
-      let some : 0 < slice_index waiting r.handler = omega (arith, own, here, each r.handler) in
-      let less : slice_index (slice_set waiting r.handler (slice_index waiting r.handler - 1)) k + cond (r.handler == k) 1 0 ≡ slice_index waiting k = one_less_at waiting r.handler k some in
-      let sum : waiting_count earlier (slice_set rows place (with_status status r)) k + cond (waits_for k r) 1 0 ≡ waiting_count earlier rows k = other_sum k r e behind in
-      let same : ◌≡◌ {A = ℕ} (cond (waits_for k r) 1 0) (cond (r.handler == k) 1 0) = ap (λ b. cond ((r.handler == k) && b) 1 0) w ∙ ap (λ b. cond b 1 0) (and_true (r.handler == k)) in
-      omega (arith, less, sum, same, each k)
-
-  stays : (k : ℕ) (r : StoredRelease) → slice_get rows place ≡ Some r → earlier ≤ place → waits r.status ≡ false →
-      slice_index waiting k ≡ waiting_count earlier (slice_set rows place (with_status status r)) k
-  stays k r e behind w =
-      let sum : waiting_count earlier (slice_set rows place (with_status status r)) k + cond (waits_for k r) 1 0 ≡ waiting_count earlier rows k = other_sum k r e behind in
-      let none_here : ◌≡◌ {A = ℕ} (cond (waits_for k r) 1 0) 0 = ap (λ b. cond ((r.handler == k) && b) 1 0) w ∙ ap (λ b. cond b 1 0) (and_false (r.handler == k)) in
-      omega (arith, sum, none_here, each k)
-
-  before_these : (k : ℕ) (r : StoredRelease) → place < earlier →
-      slice_index waiting k ≡ waiting_count earlier (slice_set rows place (with_status status r)) k
-  unfolding waiting_count
-  before_these k r before =
-      each k ∙ ap (count_by (waits_for k)) (sym (drop-set-lt earlier rows place (with_status status r) before))
-
-  counts_with : ℕ → Option ℕ → ℕ
-  counts_with k handler = slice_index (one_less handler waiting) k
-
-  left_there : (k : ℕ) (r : StoredRelease) → slice_get rows place ≡ Some r →
-      counts_with k (waiting_handler rows earlier place) ≡ waiting_count earlier (slice_set rows place (with_status status r)) k
-  unfolding counts_with handler_in
-  left_there k r e = go (nat_lt place earlier) refl
-    where
-      found : (b : Bool) → waits r.status ≡ b → earlier ≤ place → counts_with k (if b then Some r.handler else None) ≡ waiting_count earlier (slice_set rows place (with_status status r)) k
-      found true w behind = waited k r e behind w
-      found false w behind = stays k r e behind w
-
-      go : (b : Bool) → nat_lt place earlier ≡ b → counts_with k (waiting_handler rows earlier place) ≡ waiting_count earlier (slice_set rows place (with_status status r)) k
-      go true t =
-          let before : place < earlier = grind (arith, nat_tests) in
-          ap (λ b. counts_with k (handler_in b (slice_get rows place))) t ∙ before_these k r before
-      go false t =
-          let behind : earlier ≤ place = grind (arith, nat_tests) in
-          ap (λ b. counts_with k (handler_in b (slice_get rows place))) t
-          ∙ (ap (λ o. counts_with k (handler_in false o)) e ∙ found (waits r.status) refl behind)
-
-  pub waiting_left : (k : ℕ) → slice_index (one_less (waiting_handler rows earlier place) waiting) k ≡ waiting_count earlier (changed (with_status status) place rows) k
-  unfolding counts_with handler_in
-  waiting_left k = go (slice_get rows place) refl
-    where
-      nobody : (b : Bool) → counts_with k (handler_in b None) ≡ slice_index waiting k
-      nobody true = refl
-      nobody false = refl
-
-      go : (o : Option StoredRelease) → slice_get rows place ≡ o → counts_with k (waiting_handler rows earlier place) ≡ waiting_count earlier (changed (with_status status) place rows) k
-      go None e =
-          ap (λ o. counts_with k (handler_in (nat_lt place earlier) o)) e
-          ∙ (nobody (nat_lt place earlier)
-          ∙ (each k ∙ ap (λ xs. waiting_count earlier xs k) (sym (changed_nowhere (with_status status) place rows e))))
-      go (Some r) e =
-          left_there k r e ∙ ap (λ xs. waiting_count earlier xs k) (sym (changed_there (with_status status) place rows r e))
-
-taken_left : (earlier place : ℕ) (rows : List StoredRelease) (f : StoredRelease → StoredRelease) → ((r : StoredRelease) → (f r).handler ≡ r.handler) →
+taken_left : (earlier place : ℕ) (rows : List StoredRelease) (f : StoredRelease → StoredRelease) →
+    ((r : StoredRelease) → (f r).handler ≡ r.handler) →
     (k : ℕ) → count_of earlier rows k ≡ count_of earlier (changed f place rows) k
 unfolding count_of
 taken_left earlier place rows f same k =
-    sym (sum_kept (λ (r : StoredRelease). cond (is_of k r) 1 0) f earlier place rows (λ r. ap (λ n. cond (n == k) 1 0) (same r)))
+    sym (sum_kept (λ (r : StoredRelease). cond (is_of k r) 1 0) f earlier place rows
+        (λ r. ap (λ n. cond (n == k) 1 0) (same r)))
 
 -- a live release is put under way
-pub put_counted : (live taken waiting : List ℕ) (earlier : ℕ) (rows : List StoredRelease) (place : ℕ) (status : StoredStatus) →
+pub put_counted : (live taken waiting : List ℕ) (earlier : ℕ) (rows : List StoredRelease) (place : ℕ)
+    (status : StoredStatus) →
     is_live_at rows place ≡ true → is_live status ≡ true → waits status ≡ false →
     AreCounted live taken waiting earlier rows →
-    AreCounted live taken (one_less (waiting_handler rows earlier place) waiting) earlier (changed (with_status status) place rows)
+    AreCounted live taken (one_less (waiting_handler rows earlier place) waiting) earlier
+        (changed (with_status status) place rows)
 unfolding live_places
 put_counted live taken waiting earlier rows place status was is none c =
     record {
       all_live =
         c.all_live
-        ∙ sym (numbers_changed row_is_live (with_status status) place rows (λ r e. is ∙ sym (ap (λ o. holds o row_is_live) (sym e) ∙ was)));
+        ∙ sym
+            (numbers_changed row_is_live (with_status status) place rows
+            (λ r e. is ∙ sym (ap (λ o. holds o row_is_live) (sym e) ∙ was)));
       each_taken = λ k. c.each_taken k ∙ taken_left earlier place rows (with_status status) (λ r. refl) k;
       each_waiting = waiting_left earlier place rows status waiting none c.each_waiting;
       behind = omega (arith, c.behind, length_changed (with_status status) place rows);
@@ -247,7 +165,8 @@ put_counted live taken waiting earlier rows place status was is none c =
 -- a release ends
 pub ended_counted : (live taken waiting : List ℕ) (earlier : ℕ) (rows : List StoredRelease) (place : ℕ) →
     AreCounted live taken waiting earlier rows →
-    AreCounted (filter (λ other. not (other == place)) live) taken (one_less (waiting_handler rows earlier place) waiting) earlier (changed (with_status Ended) place rows)
+    AreCounted (filter (λ other. not (other == place)) live) taken
+        (one_less (waiting_handler rows earlier place) waiting) earlier (changed (with_status Ended) place rows)
 unfolding live_places
 ended_counted live taken waiting earlier rows place c =
     record {
@@ -282,6 +201,7 @@ emptied_counted live taken waiting earlier rows place c =
       each_taken = λ k. c.each_taken k ∙ taken_left earlier place rows emptied_row (λ r. refl) k;
       each_waiting = λ k.
         c.each_waiting k
-        ∙ sym (sum_kept (λ (r : StoredRelease). cond (waits_for k r) 1 0) emptied_row earlier place rows (λ r. ap (λ b. cond ((r.handler == k) && b) 1 0) (emptied_waits r.status)));
+        ∙ sym (sum_kept (λ (r : StoredRelease). cond (waits_for k r) 1 0) emptied_row earlier place rows
+            (λ r. ap (λ b. cond ((r.handler == k) && b) 1 0) (emptied_waits r.status)));
       behind = omega (arith, c.behind, length_changed emptied_row place rows);
     }

@@ -5,3 +5,4 @@ pub mod Counted
 pub mod Counting
 pub mod Seen
 pub mod Telling
+pub mod Waiting

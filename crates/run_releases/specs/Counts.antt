@@ -1,6 +1,6 @@
--- What the code counts beside the releases, so that no call costs more where many are over: the places of the live ones,
--- and for each handler how many releases it has in this mission, and how many of them wait.
-use Rattle.std.specs.Prelude.{◌≡◌, ◌≤◌, ◌-◌, ◌==◌, ℕ, nat_lt, Bool, not, false, List, [], ◌∷◌, length, filter, slice_get, slice_set, slice_index, Option, Some, None, if◌then◌else◌}
+-- What the code counts beside the releases, so that no call costs more where many are over: the places of the live
+-- ones, and for each handler how many releases it has in this mission, and how many of them wait.
+use Rattle.std.specs.Prelude.{◌≡◌, ◌≤◌, ◌-◌, ℕ, nat_lt, Bool, List, [], ◌∷◌, length, slice_get, slice_set, slice_index, Option, Some, None, if◌then◌else◌}
 use Rattle.scj_rules.specs.Words.{holds, ◌>>=◌}
 use Rattle.scj_model.specs.declared.events.Event.{Event}
 use Rattle.scj_model.specs.declared.events.Event.TheVariants.{Drop}

@@ -1,6 +1,6 @@
 -- What is done to the releases of a run, as the code keeps them, and what is asked of them.
 use Rattle.std.specs.Prelude.{ℕ, ◌+◌, ◌==◌, nat_lt, Bool, ◌&&◌, List, [], ◌∷◌, ◌++◌, length, map, drop, slice_get, Option, Some, None, if◌then◌else◌}
-use Rattle.std.specs.List.{count_by, list_any}
+use Rattle.std.specs.List.{count_by}
 use Rattle.scj_rules.specs.Words.{◌>>=◌}
 use Rattle.scj_model.specs.declared.events.Event.{Event}
 use Rattle.scj_model.specs.declared.events.Event.TheVariants.{Arrive, Lost}
@@ -10,7 +10,7 @@ use Rattle.job_frames.specs.declared.activities.Activity.{Activity as StoredActi
 use Rattle.run_releases.specs.declared.rows.Release.{Release as StoredRelease}
 use Rattle.run_releases.specs.declared.rows.ReleaseStatus.{ReleaseStatus as StoredStatus}
 use Rattle.run_releases.specs.declared.rows.ReleaseStatus.TheVariants.{Waits}
-use Rattle.run_releases.specs.Rows.{StoredReleases, activity_within, dropped_row, emptied_row, is_under_way, waits, with_status}
+use Rattle.run_releases.specs.Rows.{StoredReleases, activity_within, dropped_row, emptied_row, waits, with_status}
 
 abbrev pub is_of : ℕ → StoredRelease → Bool
 is_of handler r = r.handler == handler
@@ -33,12 +33,12 @@ next_number rs handler =
     else None
 
 -- one more release waits
-abbrev pub new_row : ℕ → ℕ → StoredRelease
-new_row handler number = record { handler = handler; number = number; status = Waits }
+abbrev pub waiting_row : ℕ → ℕ → StoredRelease
+waiting_row handler number = record { handler = handler; number = number; status = Waits }
 
 abbrev pub taken_in : ℕ → Option ℕ → StoredReleases → StoredReleases
 taken_in handler None rs = rs
-taken_in handler (Some number) rs = record rs { rows = rs.rows ++ new_row handler number ∷ [] }
+taken_in handler (Some number) rs = record rs { rows = rs.rows ++ waiting_row handler number ∷ [] }
 
 -- what the trace tells of it
 abbrev pub tell_taken : ℕ → ℕ → Option ℕ → List Event
@@ -63,6 +63,3 @@ activity_in rows place = slice_get rows place >>= (λ (r : StoredRelease). activ
 
 abbrev pub emptied_at : ℕ → StoredReleases → StoredReleases
 emptied_at place rs = record rs { rows = changed emptied_row place rs.rows }
-
-abbrev pub any_under_way : StoredReleases → Bool
-any_under_way rs = list_any (λ (r : StoredRelease). is_under_way r.status) rs.rows

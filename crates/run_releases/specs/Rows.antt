@@ -2,7 +2,7 @@
 -- (JSR 302: event handlers).
 use Rattle.std.specs.Prelude.{ℕ, Bool, true, false, List, map, Option, Some, None}
 use Rattle.scj_model.specs.Code.{Code}
-use Rattle.scj_model.specs.State.{Release, ReleaseStatus, State, changed}
+use Rattle.scj_model.specs.State.{Release, ReleaseStatus, State}
 use Rattle.scj_model.specs.State.{Waits as WaitsSeen, Started as StartedSeen, Ended as EndedSeen, Dropped as DroppedSeen}
 use Rattle.job_frames.specs.declared.activities.Activity.{Activity as StoredActivity}
 use Rattle.job_frames.specs.Frames.{activity_seen, empty_activity}

@@ -69,7 +69,10 @@ impl Releases {
     pub fn take_in(&mut self, handler: u8) -> Result<Option<u64>, Memory>
         ensures number { IfOk result (λ number. number ≡ next_number self.old handler) }
         ensures taken { IfOk result (λ number. self.new ≡ taken_in handler number self.old) }
-        ensures seen { (code : Code) (s : State) → IfOk result (λ number. release_taken (with_releases code s self.old) handler ≡ telling (with_releases code s self.new) (tell_taken s.unit handler number)) }
+        ensures seen { (code : Code) (s : State) →
+            IfOk result
+            (λ number. release_taken (with_releases code s self.old) handler ≡ telling (with_releases code s self.new)
+            (tell_taken s.unit handler number)) }
     {
         let place = handler as usize;
         let waiting = number_at(&self.waiting, place);
@@ -92,8 +95,11 @@ impl Releases {
     /// Lets those that wait go, and tells so in the order in which they arrived.
     pub fn drop_waiting(&mut self, unit: u64, told: &mut Vec<Event>) -> Result<(), Memory>
         ensures dropped { OnOk result (self.new ≡ all_dropped self.old) }
-        ensures seen { (code : Code) (s : State) → OnOk result (all_let_go (with_releases code s self.old) ≡ with_releases code s self.new) }
-        ensures told { (code : Code) (s : State) → OnOk result (told.new.items ≡ told.old.items ++ tell_dropped (at_unit (with_releases code s self.old) unit)) }
+        ensures seen { (code : Code) (s : State) →
+            OnOk result (all_let_go (with_releases code s self.old) ≡ with_releases code s self.new) }
+        ensures told { (code : Code) (s : State) →
+            OnOk result
+            (told.new.items ≡ told.old.items ++ tell_dropped (at_unit (with_releases code s self.old) unit)) }
     {
         tell_all(&self.rows, &self.live, unit, told)?;
         drop_all(&mut self.rows, &self.live);
@@ -122,7 +128,8 @@ impl Releases {
     pub fn take_activity(&mut self, place: usize, alloc: Global) -> Option<Activity>
         ensures taken { result ≡ activity_in self.old.rows place }
         ensures left { self.new ≡ emptied_at place self.old }
-        ensures seen { (code : Code) (s : State) → option_map (activity_seen code) result ≡ activity_of (with_releases code s self.old) (ReleaseAt place) }
+        ensures seen { (code : Code) (s : State) → option_map (activity_seen code) result ≡ activity_of
+            (with_releases code s self.old) (ReleaseAt place) }
     {
         take_from(&mut self.rows, place, Activity::empty(alloc))
     }
@@ -130,7 +137,10 @@ impl Releases {
     /// The release at a place, which waits or is under way, has this activity.
     pub fn put_activity(&mut self, place: usize, activity: Activity) -> Result<(), Memory>
         ensures put { OnOk result (self.new ≡ status_set place (ReleaseStatus.Started activity) self.old) }
-        ensures seen { (code : Code) (s : State) → OnOk result (with_activity (with_releases code s self.old) (ReleaseAt place) (activity_seen code activity) ≡ with_releases code s self.new) }
+        ensures seen { (code : Code) (s : State) →
+            OnOk result
+            (with_activity (with_releases code s self.old) (ReleaseAt place) (activity_seen code activity)
+            ≡ with_releases code s self.new) }
     {
         if !is_live_there(&self.rows, place) {
             return Err(Memory);
@@ -143,7 +153,8 @@ impl Releases {
     /// The release at a place has come to its end.
     pub fn end(&mut self, place: usize)
         ensures ended { self.new ≡ status_set place ReleaseStatus.Ended self.old }
-        ensures seen { (code : Code) (s : State) → state_with_status (with_releases code s self.old) place EndedSeen ≡ with_releases code s self.new }
+        ensures seen { (code : Code) (s : State) →
+            state_with_status (with_releases code s self.old) place EndedSeen ≡ with_releases code s self.new }
     {
         take_one(&mut self.waiting, waiting_there(&self.rows, self.earlier, place));
         forget(&mut self.live, place);
@@ -159,7 +170,8 @@ impl Releases {
 
     /// The place of the most urgent release, where the mission has these handlers.
     pub fn chosen(&self, registry: &[HandlerRow]) -> Option<usize>
-        ensures { (code : Code) (s : State) → result ≡ chosen (with_registry (with_releases code s self.now) registry.now) }
+        ensures { (code : Code) (s : State) →
+            result ≡ chosen (with_registry (with_releases code s self.now) registry.now) }
     {
         choose(registry, &self.rows, &self.live)
     }

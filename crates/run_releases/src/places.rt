@@ -114,7 +114,8 @@ fn drop_there(rows: &mut Vec<Release>, place: usize)
 
 /// Lets those of these releases go that wait.
 pub(crate) fn drop_all(rows: &mut Vec<Release>, places: &[usize])
-    ensures { rows.new.items ≡ fold (λ (some : List StoredRelease) (place : ℕ). changed dropped_row place some) rows.old.items places.now }
+    ensures { rows.new.items ≡ fold (λ (some : List StoredRelease) (place : ℕ). changed dropped_row place some)
+        rows.old.items places.now }
 {
     for place in places {
         drop_there(rows, *place);

@@ -1,7 +1,7 @@
-use Rattle.std.proofs.Common.{◌≡◌, ◌∙◌, ap, refl}
-use Rattle.scj_model.specs.State.{changed}
+use Rattle.std.proofs.Common.{◌≡◌, subst}
+use Rattle.scj_model.specs.State.{Ended as EndedSeen, with_status as state_with_status}
 use Rattle.run_releases.specs.declared.rows.ReleaseStatus.TheVariants.{Ended}
-use Rattle.run_releases.specs.Rows.{StoredReleases, with_releases, with_status}
+use Rattle.run_releases.specs.Rows.{StoredReleases, with_releases}
 use Rattle.run_releases.specs.Releases.{status_set}
 use Rattle.run_releases.proofs.Counted.{ended_counted}
 use Rattle.run_releases.proofs.Seen.{status_seen_at}
@@ -13,6 +13,9 @@ invariant_of-self c =
     (ended_counted _ _ _ _ _ c.args.place c.self.invariant)
 
 pub returns-clause-seen : goal.returns-clause-seen
-returns-clause-seen c =
+returns-clause-seen c = λ code s.
     let was : StoredReleases = record { rows = c.self.inside.rows.items; earlier = c.self.inside.earlier } in
-    λ code s. rw (c.set_status.ensures, ← c.self.view_is) (status_seen_at code s was c.args.place Ended)
+    let P : StoredReleases → Type 0 = λ rs.
+        state_with_status (with_releases code s rs) c.args.place EndedSeen ≡ with_releases code s
+            (status_set c.args.place Ended was) in
+    rw c.set_status.ensures (subst P c.self.view_is (status_seen_at code s was c.args.place Ended))
