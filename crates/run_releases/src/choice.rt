@@ -1,7 +1,7 @@
 //! The choice of the release that acts.
 
-ghost use Rattle.std.specs.Prelude.{◌≡◌, ◌-◌, drop, option_map, option_copied, slice_get, Some, None};
-ghost use Rattle.scj_model.specs.Choice.{is_more_urgent, most_urgent};
+ghost use Rattle.std.specs.Prelude.{◌≡◌};
+ghost use Rattle.scj_model.specs.Choice.{is_more_urgent};
 ghost use Rattle.run_releases.specs.Choosing.{candidate_at, candidate_by, chosen_among, preferred, priority_of};
 
 use crate::rows::{Release, ReleaseStatus};

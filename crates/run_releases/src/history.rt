@@ -1,11 +1,10 @@
 //! All releases of a run.
 
-ghost use Rattle.std.specs.Prelude.{◌≡◌, ◌++◌, map, [], IfOk, OnOk, option_copied, option_map, slice_get};
+ghost use Rattle.std.specs.Prelude.{◌≡◌, ◌++◌, [], IfOk, OnOk, option_copied, option_map, slice_get};
 ghost use Rattle.scj_model.specs.Code.{Code};
-ghost use Rattle.scj_model.specs.State.{ReleaseAt, State, activity_of, with_activity};
-ghost use Rattle.scj_model.specs.State.{Ended as EndedSeen, with_status as state_with_status};
+ghost use Rattle.scj_model.specs.State.{Ended as EndedSeen, ReleaseAt, State, activity_of, with_activity, with_status as state_with_status};
 ghost use Rattle.scj_model.specs.Steps.{telling};
-ghost use Rattle.scj_model.specs.Apply.{dropped_release, release_taken, tell_dropped};
+ghost use Rattle.scj_model.specs.Apply.{release_taken, tell_dropped};
 ghost use Rattle.scj_model.specs.Sequencer.{has_started};
 ghost use Rattle.scj_model.specs.Choice.{chosen};
 ghost use Rattle.job_frames.specs.Frames.{activity_seen};

@@ -1,11 +1,11 @@
 //! Releases by their places. Where there is none, nothing is done, and nothing is true of it.
 
-ghost use Rattle.std.specs.Prelude.{◌≡◌, ◌≤◌, ◌++◌, ◌∷◌, ◌==◌, [], ℕ, List, OnOk, OnErr, filter, length, not, option_copied, slice_get, if◌then◌else◌};
+ghost use Rattle.std.specs.Prelude.{◌≡◌, ◌++◌, ◌∷◌, ◌==◌, [], ℕ, List, OnOk, OnErr, filter, length, not, option_copied, slice_get};
 ghost use Rattle.std.specs.List.{flat_map, fold, list_any};
 ghost use Rattle.scj_model.specs.State.{changed};
 ghost use Rattle.job_frames.specs.Frames.{empty_activity};
 ghost use Rattle.run_releases.specs.declared.rows.Release.{Release as StoredRelease};
-ghost use Rattle.run_releases.specs.Rows.{activity_within, dropped_row, emptied_row, is_live, with_status};
+ghost use Rattle.run_releases.specs.Rows.{dropped_row, emptied_row, with_status};
 ghost use Rattle.run_releases.specs.Releases.{activity_in};
 ghost use Rattle.run_releases.specs.Counts.{is_live_at, is_under_way_at, tell_at, tell_row, waiting_handler};
 
