@@ -1,14 +1,19 @@
 -- Lists with a change at one place.
 use Rattle.std.specs.Prelude.{Bool, true, false, Option, Some, None, slice_get, slice_set, drop, option_map, nat_lt}
 use Rattle.std.specs.List.{sum_by}
-use Rattle.std.proofs.Common.{◌≡◌, ◌∙◌, ◌≤◌, ◌<◌, ℕ, ◌+◌, ◌-◌, List, length, map, get_or, refl, ap, sym, arith, length-set, length-drop}
+use Rattle.std.proofs.Common.{◌≡◌, ◌∙◌, ◌≤◌, ◌<◌, ℕ, ◌+◌, ◌-◌, zero, suc, [], ◌∷◌, List, length, map, get_or, refl, ap, sym, arith, length-set, length-drop}
 use Rattle.std.proofs.lemmas.Bool.Decides.{nat_tests}
-use Rattle.std.proofs.lemmas.List.{drop-set-lt, drop-set-add, get_or-drop, map-set}
+use Rattle.std.proofs.lemmas.List.{drop-set-lt, drop-set-add, get_or-drop, map-set, set-set}
 use Rattle.std.proofs.lemmas.List.Sums.{sum_by-set}
 use Rattle.std.proofs.lemmas.Option.{slice_get-map, slice_get_within, get_or_from_slice_get}
 use Rattle.scj_model.specs.State.{changed}
 
 module _ {A : Type 0} where
+  got_set : (xs : List A) (place : ℕ) (y : A) → place < length xs → slice_get (slice_set xs place y) place ≡ Some y
+  got_set [] place y within = absurd (omega (arith, within))
+  got_set (x ∷ xs) zero y within = refl
+  got_set (x ∷ xs) (suc place) y within = got_set xs place y (omega (arith, within))
+
   pub changed_there : (f : A → A) (place : ℕ) (xs : List A) (x : A) → slice_get xs place ≡ Some x →
       changed f place xs ≡ slice_set xs place (f x)
   changed_there f place xs x e =
@@ -25,6 +30,22 @@ module _ {A : Type 0} where
           ≡ length xs
       go None = refl
       go (Some y) = length-set xs place (f y)
+
+  -- two changes at a place are one
+  pub changed_twice : (f g : A → A) (place : ℕ) (xs : List A) →
+      changed f place (changed g place xs) ≡ changed (λ x. f (g x)) place xs
+  changed_twice f g place xs = go (slice_get xs place) refl
+    where
+      go : (o : Option A) → slice_get xs place ≡ o →
+          changed f place (changed g place xs) ≡ changed (λ x. f (g x)) place xs
+      go None e =
+          ap (changed f place) (changed_nowhere g place xs e)
+          ∙ (changed_nowhere f place xs e ∙ sym (changed_nowhere (λ x. f (g x)) place xs e))
+      go (Some x) e =
+          ap (changed f place) (changed_there g place xs x e)
+          ∙ (changed_there f place (slice_set xs place (g x)) (g x)
+              (got_set xs place (g x) (slice_get_within xs place x e))
+          ∙ (set-set xs place (g x) (f (g x)) ∙ sym (changed_there (λ x. f (g x)) place xs x e)))
 
   -- a sum over the elements from a place on, when one of them is another
   pub sum_dropped : (g : A → ℕ) (from place : ℕ) (xs : List A) (x y : A) → slice_get xs place ≡ Some x → from ≤ place →

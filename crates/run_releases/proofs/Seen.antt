@@ -22,12 +22,12 @@ use Rattle.job_frames.specs.Frames.{activity_seen}
 use Rattle.run_releases.specs.declared.rows.Release.{Release as StoredRelease}
 use Rattle.run_releases.specs.declared.rows.ReleaseStatus.{ReleaseStatus as StoredStatus}
 use Rattle.run_releases.specs.declared.rows.ReleaseStatus.TheVariants.{Waits, Started, Ended, Dropped}
-use Rattle.run_releases.specs.Rows.{StoredReleases, activity_within, dropped_row, dropped_status, is_live, is_under_way, release_seen, status_seen, waits, with_releases, with_status}
-use Rattle.run_releases.specs.Releases.{activity_in, all_dropped, count_of, is_of, waiting_row, next_number, status_set, taken_in, tell_taken, waiting_count, waits_for}
+use Rattle.run_releases.specs.Rows.{StoredReleases, activity_within, dropped_row, dropped_status, emptied_row, is_live, is_under_way, release_seen, status_seen, waits, with_releases, with_status}
+use Rattle.run_releases.specs.Releases.{activity_in, all_dropped, count_of, emptied_at, is_of, waiting_row, next_number, status_set, taken_in, tell_taken, waiting_count, waits_for}
 use Rattle.run_releases.specs.Counts.{is_under_way_at, live_places, row_is_live, tell_at, tell_row}
 use Rattle.run_releases.specs.Choosing.{chosen_among}
 use Rattle.run_releases.specs.OtherReleases.{all_let_go, at_unit, with_list, with_registry}
-use Rattle.run_releases.proofs.Changes.{map_changed}
+use Rattle.run_releases.proofs.Changes.{changed_twice, map_changed}
 use Rattle.run_releases.proofs.Choosing.{chosen_seen}
 use Rattle.run_releases.proofs.Counting.{count_both, count_mapped}
 use Rattle.run_releases.proofs.ByPlace.{any_there, from_first, told_there}
@@ -244,6 +244,16 @@ pub put_seen : (code : Code) (s : State) (rs : StoredReleases) (place : ℕ) (ac
         (status_set place (Started activity) rs)
 unfolding with_activity
 put_seen code s rs place activity = status_seen_at code s rs place (Started activity)
+
+-- the activity that was taken out is put back as if it had never been away
+pub put_back_seen : (code : Code) (s : State) (rs : StoredReleases) (place : ℕ) (activity : StoredActivity) →
+    with_activity (with_releases code s (emptied_at place rs)) (ReleaseAt place) (activity_seen code activity)
+    ≡ with_activity (with_releases code s rs) (ReleaseAt place) (activity_seen code activity)
+put_back_seen code s rs place activity =
+    put_seen code s (emptied_at place rs) place activity
+    ∙ (ap (λ rows. with_list (with_releases code s rs) (map (release_seen code) rows))
+    (changed_twice (with_status (Started activity)) emptied_row place rs.rows)
+    ∙ sym (put_seen code s rs place activity))
 
 -- ---- what is asked of all
 
