@@ -1,0 +1,9 @@
+use Rattle.std.proofs.Common.{◌≡◌, ◌+◌, ◌-◌, ℕ, vec_len}
+use Rattle.std.specs.Prelude.{slice_index}
+use Rattle.run_releases.proofs.counts.reach.Given as goal
+
+abbrev pub invariant-loop-numbers : goal.invariant-loop-numbers
+invariant-loop-numbers l = (k : ℕ) → slice_index l.numbers.items k ≡ slice_index l.initial.numbers.items k
+
+abbrev pub decreases-loop-numbers : goal.decreases-loop-numbers
+decreases-loop-numbers l = l.place + 1 - vec_len l.numbers

@@ -1,0 +1,5 @@
+pub mod Choosing
+pub mod Counts
+pub mod OtherReleases
+pub mod Releases
+pub mod Rows

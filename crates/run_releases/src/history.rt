@@ -1,0 +1,177 @@
+//! All releases of a run.
+
+ghost use Rattle.std.specs.Prelude.{◌≡◌, ◌++◌, [], IfOk, OnOk, option_copied, option_map, slice_get};
+ghost use Rattle.scj_model.specs.Code.{Code};
+ghost use Rattle.scj_model.specs.State.{Ended as EndedSeen, ReleaseAt, State, activity_of, with_activity, with_status as state_with_status};
+ghost use Rattle.scj_model.specs.Steps.{telling};
+ghost use Rattle.scj_model.specs.Apply.{release_taken, tell_dropped};
+ghost use Rattle.scj_model.specs.Sequencer.{has_started};
+ghost use Rattle.scj_model.specs.Choice.{chosen};
+ghost use Rattle.job_frames.specs.Frames.{activity_seen};
+ghost use Rattle.run_releases.specs.Rows.{with_releases};
+ghost use Rattle.run_releases.specs.Releases.{activity_in, all_dropped, emptied_at, mission_begun, next_number, status_set, taken_in, tell_taken};
+ghost use Rattle.run_releases.specs.OtherReleases.{all_let_go, at_unit, with_registry};
+
+use crate::choice::choose;
+use crate::counts::{number_at, one_more, reach, set_number, take_one};
+use crate::places::{any_started, drop_all, forget, is_live_there, keep_live, push_release, set_status, take_from, tell_all, waiting_there};
+use crate::rows::{Release, ReleaseStatus};
+use job_frames::Activity;
+use scj_base::Memory;
+use scj_model::{Event, HandlerRow};
+use std::alloc::Global;
+use std::marker::Model;
+
+/// How many releases of a handler wait at most.
+const MOST_WAITING: u64 = 64;
+
+/// All releases of a run. The list only grows, so that a place in it is a name.
+#[derive(Drop)]
+pub struct Releases {
+    rows: Vec<Release>,
+    /// How many there were when the mission began.
+    earlier: usize,
+    /// The places of those that wait or are under way, ascending.
+    live: Vec<usize>,
+    /// How many releases each handler has in this mission.
+    taken: Vec<u64>,
+    /// How many of those wait.
+    waiting: Vec<u64>,
+}
+
+impl Model for Releases {
+    ghost use Rattle.run_releases.specs.Rows.{StoredReleases};
+    ghost use Rattle.run_releases.specs.Counts.{AreCounted};
+
+    ghost Value = { StoredReleases };
+
+    ghost view = { λ a. record { rows = a.rows.items; earlier = a.earlier } };
+
+    ghost invariant = { λ a. AreCounted a.live.items a.taken.items a.waiting.items a.earlier a.rows.items };
+}
+
+impl Releases {
+    /// No releases.
+    pub fn new(alloc: Global) -> Releases
+        ensures { result ≡ record { rows = []; earlier = 0 } }
+    {
+        Releases {
+            rows: Vec::new(alloc),
+            earlier: 0,
+            live: Vec::new(alloc),
+            taken: Vec::new(alloc),
+            waiting: Vec::new(alloc),
+        }
+    }
+
+    /// One more release of a handler waits, and has this number; none does where as many wait as may.
+    pub fn take_in(&mut self, handler: u8) -> Result<Option<u64>, Memory>
+        ensures number { IfOk result (λ number. number ≡ next_number self.old handler) }
+        ensures taken { IfOk result (λ number. self.new ≡ taken_in handler number self.old) }
+        ensures seen { (code : Code) (s : State) →
+            IfOk result
+            (λ number. release_taken (with_releases code s self.old) handler ≡ telling (with_releases code s self.new)
+            (tell_taken s.unit handler number)) }
+    {
+        let place = handler as usize;
+        let waiting = number_at(&self.waiting, place);
+        if waiting >= MOST_WAITING {
+            return Ok(None);
+        }
+        let number = one_more(number_at(&self.taken, place))?;
+        reach(&mut self.taken, place)?;
+        reach(&mut self.waiting, place)?;
+        push_release(&mut self.rows, &mut self.live, Release {
+            handler,
+            number,
+            status: ReleaseStatus::Waits,
+        })?;
+        set_number(&mut self.taken, place, number);
+        set_number(&mut self.waiting, place, waiting + 1);
+        Ok(Some(number))
+    }
+
+    /// Lets those that wait go, and tells so in the order in which they arrived.
+    pub fn drop_waiting(&mut self, unit: u64, told: &mut Vec<Event>) -> Result<(), Memory>
+        ensures dropped { OnOk result (self.new ≡ all_dropped self.old) }
+        ensures seen { (code : Code) (s : State) →
+            OnOk result (all_let_go (with_releases code s self.old) ≡ with_releases code s self.new) }
+        ensures told { (code : Code) (s : State) →
+            OnOk result
+            (told.new.items ≡ told.old.items ++ tell_dropped (at_unit (with_releases code s self.old) unit)) }
+    {
+        tell_all(&self.rows, &self.live, unit, told)?;
+        drop_all(&mut self.rows, &self.live);
+        keep_live(&self.rows, &mut self.live);
+        self.waiting.clear();
+        Ok(())
+    }
+
+    /// From now on all releases are of earlier missions.
+    pub fn begin_mission(&mut self)
+        ensures { self.new ≡ mission_begun self.old }
+    {
+        self.earlier = self.rows.len();
+        self.taken.clear();
+        self.waiting.clear();
+    }
+
+    /// The release at a place, if there is one.
+    pub fn release(&self, place: usize) -> Option<&Release>
+        ensures { option_copied result ≡ slice_get self.now.rows place }
+    {
+        self.rows.get(place)
+    }
+
+    /// The activity of the release at a place, if it is under way. An empty one stays there.
+    pub fn take_activity(&mut self, place: usize, alloc: Global) -> Option<Activity>
+        ensures taken { result ≡ activity_in self.old.rows place }
+        ensures left { self.new ≡ emptied_at place self.old }
+        ensures seen { (code : Code) (s : State) → option_map (activity_seen code) result ≡ activity_of
+            (with_releases code s self.old) (ReleaseAt place) }
+    {
+        take_from(&mut self.rows, place, Activity::empty(alloc))
+    }
+
+    /// The release at a place, which waits or is under way, has this activity.
+    pub fn put_activity(&mut self, place: usize, activity: Activity) -> Result<(), Memory>
+        ensures put { OnOk result (self.new ≡ status_set place (ReleaseStatus.Started activity) self.old) }
+        ensures seen { (code : Code) (s : State) →
+            OnOk result
+            (with_activity (with_releases code s self.old) (ReleaseAt place) (activity_seen code activity)
+            ≡ with_releases code s self.new) }
+    {
+        if !is_live_there(&self.rows, place) {
+            return Err(Memory);
+        }
+        take_one(&mut self.waiting, waiting_there(&self.rows, self.earlier, place));
+        set_status(&mut self.rows, place, ReleaseStatus::Started(activity));
+        Ok(())
+    }
+
+    /// The release at a place has come to its end.
+    pub fn end(&mut self, place: usize)
+        ensures ended { self.new ≡ status_set place ReleaseStatus.Ended self.old }
+        ensures seen { (code : Code) (s : State) →
+            state_with_status (with_releases code s self.old) place EndedSeen ≡ with_releases code s self.new }
+    {
+        take_one(&mut self.waiting, waiting_there(&self.rows, self.earlier, place));
+        forget(&mut self.live, place);
+        set_status(&mut self.rows, place, ReleaseStatus::Ended);
+    }
+
+    /// Whether some release is under way.
+    pub fn has_started(&self) -> bool
+        ensures { (code : Code) (s : State) → result ≡ has_started (with_releases code s self.now) }
+    {
+        any_started(&self.rows, &self.live)
+    }
+
+    /// The place of the most urgent release, where the mission has these handlers.
+    pub fn chosen(&self, registry: &[HandlerRow]) -> Option<usize>
+        ensures { (code : Code) (s : State) →
+            result ≡ chosen (with_registry (with_releases code s self.now) registry.now) }
+    {
+        choose(registry, &self.rows, &self.live)
+    }
+}

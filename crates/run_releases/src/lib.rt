@@ -1,0 +1,12 @@
+//! The releases of a run and the choice of the one that acts, each as the definitions of a run have it, at the cost of
+//! the live ones alone.
+#![tactic(auto)]
+
+mod choice;
+mod counts;
+pub mod history;
+mod places;
+pub mod rows;
+
+pub use history::Releases;
+pub use rows::{Release, ReleaseStatus};
