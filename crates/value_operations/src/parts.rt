@@ -85,8 +85,8 @@ pub fn operator_of(node: &Node) -> Option<u8>
     }
 }
 
-/// The node that tells what the node of this number assigns: the target of an assignment, and the declaration of a local
-/// with a value.
+/// The node that tells what the node of this number assigns: the target of an assignment, and the declaration of a
+/// local with a value.
 #[tactic(auto, unfolding(scj_model::specs::Operations::assigned_node))]
 pub fn assigned_node(id: NodeId, node: &Node) -> Option<NodeId>
     ensures { result ≡ assigned_node id node.now }
