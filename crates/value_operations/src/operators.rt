@@ -1,0 +1,129 @@
+//! Operations on operands: the operators and casts (JLS 15.15 to 15.22).
+
+ghost use Rattle.std.specs.Prelude.{◌≡◌, ℕ, List, IfOk, slice_get, if◌then◌else◌};
+ghost use Rattle.scj_base.specs.declared.faults.RunFault.TheVariants.{ClassCast};
+ghost use Rattle.scj_base.specs.declared.values.Value.TheVariants.{At};
+ghost use Rattle.scj_rules.specs.Classes.{is_sub};
+ghost use Rattle.scj_model.specs.declared.plans.ReadingRow.{ReadingRow as Row};
+ghost use Rattle.scj_model.specs.Code.{code_of};
+ghost use Rattle.scj_model.specs.State.{Object as Listed};
+ghost use Rattle.scj_model.specs.Effects.{Faults, given, pushes};
+ghost use Rattle.scj_model.specs.Operations.{bin_op, cast_op, unary_op};
+ghost use Rattle.job_frames.specs.Frames.{frame_of};
+ghost use Rattle.job_frames.specs.EffectsSeen.{Does, world};
+
+use crate::readings::{class_at, is_sub, operator_at};
+use job_frames::{Code, Effect, Frame};
+use run_memory::RunMemory;
+use scj_base::{ClassId, Memory, NodeId, Ref, RunFault, Value};
+use value_operators::{binary, divides_by_zero};
+
+/// UNARY: an operator on one operand.
+pub fn unary(code: &Code<'_>, frame: &mut Frame, id: NodeId) -> Result<Effect, Memory>
+    ensures does { IfOk result (λ effect.
+        Does (code_of code.now) (unary_op (code_of code.now) (frame_of (code_of code.now) frame.old) id) effect
+        frame.new) }
+    ensures works { frame.new.works ≡ frame.old.works }
+    ensures opened { frame.new.opened ≡ frame.old.opened }
+{
+    let Some(operator) = operator_at(code, id) else {
+        return Ok(Effect::Stuck);
+    };
+    let Some(operand) = frame.pop() else {
+        return Ok(Effect::Stuck);
+    };
+    let Some(value) = value_operators::unary(operator, operand) else {
+        return Ok(Effect::Stuck);
+    };
+    frame.push(value)?;
+    Ok(Effect::Goes)
+}
+
+/// BIN: an operator on two operands.
+pub fn bin(code: &Code<'_>, frame: &mut Frame, id: NodeId) -> Result<Effect, Memory>
+    ensures does { IfOk result (λ effect.
+        Does (code_of code.now) (bin_op (code_of code.now) (frame_of (code_of code.now) frame.old) id) effect
+        frame.new) }
+    ensures works { frame.new.works ≡ frame.old.works }
+    ensures opened { frame.new.opened ≡ frame.old.opened }
+{
+    let Some(operator) = operator_at(code, id) else {
+        return Ok(Effect::Stuck);
+    };
+    let Some(right) = frame.pop() else {
+        return Ok(Effect::Stuck);
+    };
+    let Some(left) = frame.pop() else {
+        return Ok(Effect::Stuck);
+    };
+    let divisor = right;
+    if divides_by_zero(operator, divisor) {
+        return Ok(Effect::Faults {
+            fault: RunFault::DivideByZero,
+        });
+    }
+    let Some(value) = binary(operator, left, right) else {
+        return Ok(Effect::Stuck);
+    };
+    frame.push(value)?;
+    Ok(Effect::Goes)
+}
+
+/// The cast of an object to a class.
+fn cast_to(
+    code: &Code<'_>,
+    memory: &RunMemory,
+    frame: &mut Frame,
+    r: Ref,
+    class: ClassId,
+) -> Result<Effect, Memory>
+    ensures does { IfOk result (λ effect.
+        Does (code_of code.now)
+        (given (slice_get memory.now.objects r) (λ (o : Listed).
+        if is_sub (code_of code.now).program.classes o.class class
+        then pushes (frame_of (code_of code.now) frame.old) (At r) else Faults ClassCast))
+        effect frame.new) }
+    ensures works { frame.new.works ≡ frame.old.works }
+    ensures opened { frame.new.opened ≡ frame.old.opened }
+{
+    let Some(object) = memory.object(r) else {
+        return Ok(Effect::Stuck);
+    };
+    if !is_sub(code, object.class(), class) {
+        return Ok(Effect::Faults {
+            fault: RunFault::ClassCast,
+        });
+    }
+    frame.push(Value::At(r))?;
+    Ok(Effect::Goes)
+}
+
+/// CAST: a reference is asked to be of a class.
+pub fn cast(
+    code: &Code<'_>,
+    memory: &RunMemory,
+    frame: &mut Frame,
+    id: NodeId,
+) -> Result<Effect, Memory>
+    ensures does { (rows : List Row) (unit : ℕ) → IfOk result (λ effect.
+        Does (code_of code.now)
+        (cast_op (code_of code.now) (world memory.now rows unit) (frame_of (code_of code.now) frame.old) id)
+        effect frame.new) }
+    ensures works { frame.new.works ≡ frame.old.works }
+    ensures opened { frame.new.opened ≡ frame.old.opened }
+{
+    let Some(class) = class_at(code, id) else {
+        return Ok(Effect::Stuck);
+    };
+    let Some(operand) = frame.pop() else {
+        return Ok(Effect::Stuck);
+    };
+    match operand {
+        Value::At(r) => cast_to(code, memory, frame, r, class),
+        Value::Null => {
+            frame.push(Value::Null)?;
+            Ok(Effect::Goes)
+        }
+        _ => Ok(Effect::Stuck),
+    }
+}
