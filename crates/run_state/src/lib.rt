@@ -1,0 +1,6 @@
+//! The state of a run, and the steps of which all others are made.
+#![tactic(auto)]
+
+pub mod states;
+
+pub use states::{Acting, Job, NewArea, RunState, Turn};
