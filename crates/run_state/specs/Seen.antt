@@ -3,12 +3,11 @@ use Rattle.std.specs.Prelude.{ℕ, List, [], ◌∷◌, map, option_map}
 use Rattle.scj_tree.specs.declared.nodes.Node.{Node}
 use Rattle.scj_model.specs.Code.{Code}
 use Rattle.scj_model.specs.State.{Job as JobOfRun, TheSequencer, ReleaseAt, Turn as TurnOfRun, IdleTurn, TurnOf, State}
-use Rattle.run_memory.specs.Contents.{object_of}
 use Rattle.job_frames.specs.Frames.{StoredActivity, activity_seen, AreBegun}
-use Rattle.run_releases.specs.declared.releases.Release.{Release}
-use Rattle.run_releases.specs.declared.releases.ReleaseStatus.{ReleaseStatus}
-use Rattle.run_releases.specs.declared.releases.ReleaseStatus.TheVariants.{Started}
-use Rattle.run_releases.specs.Seen.{release_seen}
+use Rattle.run_releases.specs.declared.rows.Release.{Release}
+use Rattle.run_releases.specs.declared.rows.ReleaseStatus.{ReleaseStatus}
+use Rattle.run_releases.specs.declared.rows.ReleaseStatus.TheVariants.{Started}
+use Rattle.run_releases.specs.Rows.{release_seen}
 use Rattle.run_state.specs.declared.states.Job.{Job}
 use Rattle.run_state.specs.declared.states.Job.TheVariants.{Sequencer, Release as OfRelease}
 use Rattle.run_state.specs.declared.states.Turn.{Turn}

@@ -3,8 +3,9 @@
 use job_frames::Activity;
 use run_memory::RunMemory;
 use run_releases::Releases;
-use scj_base::{AreaId, Pos, Ref, ScopeId, Value};
+use scj_base::{AreaId, ClassId, Pos, Ref, ScopeId, Value};
 use scj_model::{HandlerRow, Phase, SeqOp};
+use scj_rules::SlotKind;
 
 /// A job: the mission sequencer, or the release at a place.
 #[derive(Clone, Copy, Debug)]
@@ -42,6 +43,28 @@ pub struct NewArea {
     pub parent: Option<AreaId>,
     /// How many bytes of objects it has room for.
     pub bytes: u64,
+}
+
+/// An object that is to be made.
+#[derive(Drop)]
+pub struct NewObject {
+    /// Its class.
+    pub class: ClassId,
+    /// The hidden fields of a handler.
+    pub hidden: Vec<u64>,
+    /// The other slots, or the elements.
+    pub values: Vec<Value>,
+}
+
+/// An array that is to be made.
+#[derive(Clone, Copy, Debug)]
+pub struct NewArray {
+    /// Its class.
+    pub class: ClassId,
+    /// The kind of its elements.
+    pub kind: SlotKind,
+    /// How many they are.
+    pub count: u32,
 }
 
 /// The state of a run. While a job acts, its activity is taken out.
