@@ -1,3 +1,11 @@
+pub mod Applying
 pub mod Begun
+pub mod CallLemmas
+pub mod EndLemmas
+pub mod JobLemmas
+pub mod LeavingLemmas
+pub mod RoomLemmas
 pub mod Rows
+pub mod SeenLemmas
 pub mod StepLemmas
+pub mod TellLemmas

@@ -6,7 +6,9 @@ use Rattle.scj_model.specs.State.{State, Frame}
 use Rattle.scj_model.specs.Steps.{Step}
 use Rattle.scj_model.specs.Effects.{Effect}
 use Rattle.scj_model.specs.Apply.{applied}
-use Rattle.job_frames.specs.Frames.{StoredFrame, StoredActivity, frame_of, frames_of, activity_seen}
+use Rattle.job_frames.specs.declared.activities.Activity.{Activity as StoredActivity}
+use Rattle.job_frames.specs.declared.frames.Frame.{Frame as StoredFrame}
+use Rattle.job_frames.specs.Frames.{frame_of, frames_of, activity_seen}
 use Rattle.run_state.specs.declared.states.Acting.{Acting}
 use Rattle.run_state.specs.declared.states.RunState.{RunState}
 use Rattle.run_state.specs.Seen.{state_of, job_seen, AreAllBegun}

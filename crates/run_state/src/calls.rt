@@ -1,17 +1,16 @@
 //! Calls: what comes of a new frame on top of the others (JSR 302: priority ceiling emulation).
 
 ghost use Rattle.std.specs.Prelude.{◌≡◌, ◌∷◌, ◌<◌, List, IfOk, OnOk, nat_lt};
-ghost use Rattle.scj_base.specs.declared.faults.RunFault.{RunFault as FaultOfRun};
 ghost use Rattle.scj_tree.specs.declared.nodes.Node.{Node as SyntaxNode};
-ghost use Rattle.scj_model.specs.declared.events.Event.{Event as EventOfRun};
 ghost use Rattle.scj_model.specs.Code.{Code as CodeOfRun, code_of};
 ghost use Rattle.scj_model.specs.State.{Frame as FrameOfRun};
 ghost use Rattle.scj_model.specs.Steps.{fault_in};
-ghost use Rattle.scj_model.specs.Effects.{Calls, Opens};
-ghost use Rattle.scj_model.specs.Apply.{called, ceiling_entered, is_full, opened_in};
-ghost use Rattle.job_frames.specs.Frames.{AreBegun, StoredActivity, activity_seen, frame_called, frames_of};
+ghost use Rattle.scj_model.specs.Apply.{called, ceiling_entered, is_full};
+ghost use Rattle.job_frames.specs.declared.activities.Activity.{Activity as StoredActivity};
+ghost use Rattle.job_frames.specs.Frames.{AreBegun, activity_seen, frame_called, frames_of};
 ghost use Rattle.run_state.specs.Seen.{AreAllBegun, job_seen, state_of};
-ghost use Rattle.run_state.specs.Steps.{HasOnTop, IsApplied, IsStep};
+ghost use Rattle.run_state.specs.Calls.{call_entered};
+ghost use Rattle.run_state.specs.Steps.{HasOnTop, IsStep};
 
 use crate::ends::fault_in;
 use crate::jobs::put_back;
@@ -59,7 +58,8 @@ pub(crate) fn refused(
     ensures { (code : CodeOfRun) (g : FrameOfRun) (before : StoredActivity) → HasOnTop code g before activity → AreAllBegun code.program.nodes state.old → IfOk result (λ _. IsStep code (fault_in (state_of code state.old) (job_seen acting.job) (activity_seen code before) acting.place fault) state.new told.old.items told.new.items) }
 {
     activity.frames.drop_top();
-    fault_in(state, acting, &activity, fault, told)
+    fault_in(state, acting, &activity, fault, told)?;
+    Ok(())
 }
 
 /// The ceiling of the monitor that the frame on top enters, if it enters one.
@@ -103,7 +103,8 @@ fn entered(
     let before = activity.priority;
     enter(&mut activity, ceiling);
     tell_priority(state, acting.job, before, ceiling, told)?;
-    put_back(state, acting.job, activity)
+    put_back(state, acting.job, activity)?;
+    Ok(())
 }
 
 /// A call whose frame is on top of the others: the priority becomes the ceiling of the monitor that it enters.
@@ -119,15 +120,21 @@ pub fn called(
     ensures { (g : FrameOfRun) (before : StoredActivity) → HasOnTop (code_of code.now) g before activity → IfOk result (λ _. IsStep (code_of code.now) (called (code_of code.now) (state_of (code_of code.now) state.old) (job_seen acting.job) (activity_seen (code_of code.now) before) (frames_of (code_of code.now) before.frames) acting.place g) state.new told.old.items told.new.items) }
 {
     if was_full(&activity) {
-        return refused(state, acting, activity, RunFault::DepthFull, told);
+        refused(state, acting, activity, RunFault::DepthFull, told)?;
+        return Ok(());
     }
     match ceiling_on_top(code, state, &activity) {
-        None => put_back(state, acting.job, activity),
+        None => {
+            put_back(state, acting.job, activity)?;
+            Ok(())
+        }
         Some(ceiling) => {
             if ceiling < activity.priority {
-                refused(state, acting, activity, RunFault::CeilingViolation, told)
+                refused(state, acting, activity, RunFault::CeilingViolation, told)?;
+                Ok(())
             } else {
-                entered(state, acting, activity, ceiling, told)
+                entered(state, acting, activity, ceiling, told)?;
+                Ok(())
             }
         }
     }

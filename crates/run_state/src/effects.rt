@@ -5,7 +5,8 @@ ghost use Rattle.std.specs.Prelude.{◌≡◌, ◌++◌, true, false, List, IfOk
 ghost use Rattle.scj_model.specs.declared.events.Event.{Event as EventOfRun};
 ghost use Rattle.scj_model.specs.Code.{Code};
 ghost use Rattle.scj_model.specs.Effects.{Faults, Goes, Leaves, Prints, Stuck};
-ghost use Rattle.job_frames.specs.Frames.{AreBegun, StoredActivity};
+ghost use Rattle.job_frames.specs.declared.activities.Activity.{Activity as StoredActivity};
+ghost use Rattle.job_frames.specs.Frames.{AreBegun};
 ghost use Rattle.run_state.specs.declared.states.Acting.{Acting as ActingOfRun};
 ghost use Rattle.run_state.specs.declared.states.RunState.{RunState as StateOfRun};
 ghost use Rattle.run_state.specs.Seen.{AreAllBegun};
@@ -24,7 +25,8 @@ use scj_model::Event;
 pub fn goes(state: &mut RunState, acting: Acting, activity: Activity) -> Result<(), Memory>
     ensures { (code : Code) (told : List EventOfRun) → AreAllBegun code.program.nodes state.old → AreBegun code.program.nodes activity.frames → IfOk result (λ _. IsApplied code state.old acting activity Goes true state.new told told) }
 {
-    put_back(state, acting.job, activity)
+    put_back(state, acting.job, activity)?;
+    Ok(())
 }
 
 /// It prints.
@@ -43,7 +45,8 @@ pub fn prints(
         label,
         value,
     })?;
-    put_back(state, acting.job, activity)
+    put_back(state, acting.job, activity)?;
+    Ok(())
 }
 
 /// It leaves.
@@ -56,7 +59,8 @@ pub fn leaves(
 ) -> Result<(), Memory>
     ensures { (code : Code) → AreAllBegun code.program.nodes state.old → AreBegun code.program.nodes activity.frames → IfOk result (λ _. IsApplied code state.old acting activity (λ f. Leaves f value) true state.new told.old.items told.new.items) }
 {
-    frame_left(state, acting.job, activity, value, told)
+    frame_left(state, acting.job, activity, value, told)?;
+    Ok(())
 }
 
 /// A fault.
@@ -69,13 +73,14 @@ pub fn faults(
 ) -> Result<(), Memory>
     ensures { (code : Code) → AreAllBegun code.program.nodes state.old → IfOk result (λ _. IsApplied code state.old acting activity (λ f. Faults fault) true state.new told.old.items told.new.items) }
 {
-    fault_in(state, acting, &activity, fault, told)
+    fault_in(state, acting, &activity, fault, told)?;
+    Ok(())
 }
 
 /// It can't be done.
 pub fn is_stuck() -> bool
     ensures went { result ≡ false }
-    ensures { (code : Code) (was st : StateOfRun) (acting : ActingOfRun) (activity : StoredActivity) (before after : List EventOfRun) → IsApplied code was acting activity (λ f. Stuck) result st before after }
+    ensures applied { (code : Code) (was st : StateOfRun) (acting : ActingOfRun) (activity : StoredActivity) (before after : List EventOfRun) → IsApplied code was acting activity (λ f. Stuck) result st before after }
 {
     false
 }

@@ -1,24 +1,25 @@
 //! A job ends: it leaves its last frame, or meets a fault.
 
-ghost use Rattle.std.specs.Prelude.{◌≡◌, ◌∷◌, ◌++◌, [], IfOk, List, map, reverse};
+ghost use Rattle.std.specs.Prelude.{◌≡◌, ◌∷◌, ◌++◌, [], IfOk, List, Option, reverse};
+ghost use Rattle.scj_base.specs.declared.values.Value.{Value as ValueOfRun};
 ghost use Rattle.scj_model.specs.Code.{Code};
 ghost use Rattle.scj_model.specs.State.{Activity as ActivityOfRun, ReleaseAt, State, TheSequencer};
 ghost use Rattle.scj_model.specs.Memory.{closed};
-ghost use Rattle.scj_model.specs.Steps.{closed_all, fault_in, job_ended, of_release};
-ghost use Rattle.scj_model.specs.declared.events.Event.TheVariants.{End};
-ghost use Rattle.job_frames.specs.Frames.{AreBegun, activity_seen, frame_of};
+ghost use Rattle.scj_model.specs.Steps.{closed_all, fault_in, job_ended};
+ghost use Rattle.job_frames.specs.Frames.{AreBegun, activity_seen, frames_of};
 ghost use Rattle.run_memory.specs.Contents.{with_memory};
 ghost use Rattle.run_state.specs.Seen.{AreAllBegun, job_seen, state_of};
 ghost use Rattle.run_state.specs.Steps.{IsStep};
 
 use crate::states::{Acting, Job, RunState};
-use crate::told::{tell_end, tell_two};
+use crate::told::{tell, tell_end, tell_two};
 use job_frames::{Activity, Frame};
 use run_memory::RunMemory;
 use scj_base::{AreaId, Memory, Pos, RunFault, Value};
 use scj_model::{Event, Phase, SeqOp};
 
 /// Closes the area that a frame opened, if it opened one.
+#[tactic(auto, unfolding(scj_model::specs::Memory::closed))]
 pub(crate) fn close_opened(memory: &mut RunMemory, opened: Option<AreaId>)
     ensures { (s : State) → closed (with_memory s memory.old) opened ≡ with_memory s memory.new }
 {
@@ -30,11 +31,11 @@ pub(crate) fn close_opened(memory: &mut RunMemory, opened: Option<AreaId>)
 
 /// Closes the areas that frames opened. The highest frame is the last one.
 fn close_all(memory: &mut RunMemory, frames: &[Frame])
-    ensures { (code : Code) (s : State) → closed_all (with_memory s memory.old) (map (frame_of code) (reverse frames.now)) ≡ with_memory s memory.new }
+    ensures { (code : Code) (s : State) → closed_all (with_memory s memory.old) (frames_of code (reverse frames.now)) ≡ with_memory s memory.new }
 {
     let mut rest = frames;
     while let [below @ .., frame] = rest {
-        close_opened(memory, frame.opened());
+        close_opened(memory, frame.opened);
         rest = below;
     }
 }
@@ -74,7 +75,7 @@ fn release_broken(
     let unit = state.unit;
     tell(told, Event::Fault { unit, fault, place })?;
     tell_end(state, release, told)?;
-    close_all(&mut state.memory, activity.frames());
+    close_all(&mut state.memory, activity.frames.in_order());
     state.releases.end(release);
     Ok(())
 }
@@ -90,8 +91,14 @@ pub fn fault_in(
     ensures { (code : Code) → AreAllBegun code.program.nodes state.old → IfOk result (λ _. IsStep code (fault_in (state_of code state.old) (job_seen acting.job) (activity_seen code activity.now) acting.place fault) state.new told.old.items told.new.items) }
 {
     match acting.job {
-        Job::Sequencer => halted(state, acting.place, fault, told),
-        Job::Release(release) => release_broken(state, release, activity, acting.place, fault, told),
+        Job::Sequencer => {
+            halted(state, acting.place, fault, told)?;
+            Ok(())
+        }
+        Job::Release(release) => {
+            release_broken(state, release, activity, acting.place, fault, told)?;
+            Ok(())
+        }
     }
 }
 
@@ -118,6 +125,9 @@ pub fn job_ended(
             sequencer_ended(state, activity, value);
             Ok(())
         }
-        Job::Release(release) => release_ended(state, release, told),
+        Job::Release(release) => {
+            release_ended(state, release, told)?;
+            Ok(())
+        }
     }
 }

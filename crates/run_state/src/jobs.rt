@@ -28,6 +28,7 @@ pub fn take_out(alloc: Global, state: &mut RunState, job: Job) -> Option<Activit
 }
 
 /// Gives a job its activity.
+#[tactic(auto, unfolding(crate::specs::Seen::state_of, scj_model::specs::State::with_activity))]
 pub fn put_back(state: &mut RunState, job: Job, activity: Activity) -> Result<(), Memory>
     ensures put { (code : Code) → OnOk result (state_of code state.new ≡ with_activity (state_of code state.old) (job_seen job) (activity_seen code activity)) }
     ensures begun { (nodes : List SyntaxNode) → AreAllBegun nodes state.old → AreBegun nodes activity.frames → OnOk result (AreAllBegun nodes state.new) }

@@ -5,7 +5,8 @@ ghost use Rattle.scj_tree.specs.declared.nodes.Node.{Node as SyntaxNode};
 ghost use Rattle.scj_model.specs.Code.{Code};
 ghost use Rattle.scj_model.specs.State.{Frame as FrameOfRun};
 ghost use Rattle.scj_model.specs.Apply.{frame_left, returned, without};
-ghost use Rattle.job_frames.specs.Frames.{AreBegun, StoredFrame, activity_seen, frame_of, frames_of};
+ghost use Rattle.job_frames.specs.declared.frames.Frame.{Frame as StoredFrame};
+ghost use Rattle.job_frames.specs.Frames.{AreBegun, activity_seen, frame_of, frames_of};
 ghost use Rattle.run_state.specs.Seen.{AreAllBegun, job_seen, state_of};
 ghost use Rattle.run_state.specs.Steps.{IsStep};
 ghost use Rattle.run_state.specs.Calls.{settled};
@@ -46,7 +47,10 @@ fn give_back(activity: &mut Activity, value: Option<Value>) -> Result<(), Memory
     ensures begun { (nodes : List SyntaxNode) → AreBegun nodes activity.old.frames → AreBegun nodes activity.new.frames }
 {
     match value {
-        Some(value) => activity.frames.push_on_top(value),
+        Some(value) => {
+            activity.frames.push_on_top(value)?;
+            Ok(())
+        }
         None => Ok(()),
     }
 }
@@ -59,7 +63,8 @@ fn step_down(activity: &mut Activity, left: Left, value: Option<Value>) -> Resul
     activity.frames.drop_top();
     activity.areas.remove(left.opened);
     activity.priority = left.saved.unwrap_or(activity.priority);
-    give_back(activity, value)
+    give_back(activity, value)?;
+    Ok(())
 }
 
 /// After a frame has left, the job ends where it was the last one.
@@ -73,9 +78,11 @@ fn settle(
     ensures { (code : Code) (below : List FrameOfRun) → length below ≡ length activity.frames → AreAllBegun code.program.nodes state.old → AreBegun code.program.nodes activity.frames → IfOk result (λ _. IsStep code (settled (state_of code state.old) (job_seen job) (activity_seen code activity) value below) state.new told.old.items told.new.items) }
 {
     if activity.frames.depth() == 0 {
-        job_ended(state, job, activity, value, told)
+        job_ended(state, job, activity, value, told)?;
+        Ok(())
     } else {
-        put_back(state, job, activity)
+        put_back(state, job, activity)?;
+        Ok(())
     }
 }
 
@@ -98,5 +105,6 @@ pub fn frame_left(
     step_down(&mut activity, left, value)?;
     tell_priority(state, job, before, activity.priority, told)?;
     close_opened(&mut state.memory, left.opened);
-    settle(state, job, activity, value, told)
+    settle(state, job, activity, value, told)?;
+    Ok(())
 }

@@ -5,14 +5,17 @@ ghost use Rattle.scj_tree.specs.declared.nodes.Node.{Node as SyntaxNode};
 ghost use Rattle.scj_base.specs.declared.places.Pos.{Pos as PosOfRun};
 ghost use Rattle.scj_base.specs.declared.faults.RunFault.TheVariants.{MemoryFull, StoreFull};
 ghost use Rattle.scj_model.specs.Code.{Code};
-ghost use Rattle.scj_model.specs.State.{Activity as ActivityOfRun, Job as JobOfRun, State};
-ghost use Rattle.scj_model.specs.Steps.{Step, allocating, fault_in, opening};
+ghost use Rattle.scj_model.specs.State.{Activity as ActivityOfRun, Job as JobOfRun};
+ghost use Rattle.scj_model.specs.Memory.{new_elements};
+ghost use Rattle.scj_model.specs.Steps.{allocating, fault_in, opening};
 ghost use Rattle.run_memory.specs.Contents.{hidden_slots};
 ghost use Rattle.run_state.specs.Seen.{AreAllBegun, state_of};
 ghost use Rattle.run_state.specs.Steps.{GoesOn};
 
-use crate::states::{NewArea, NewObject, RunState};
+use crate::states::{NewArea, NewArray, NewObject, RunState};
 use scj_base::{AreaId, Memory, Ref};
+use std::alloc::Global;
+use value_operators::default_of;
 
 /// Opens an area, if the store has room for it. Where it has none, nothing is changed, and there is a fault to tell.
 pub fn open_area(state: &mut RunState, area: NewArea) -> Result<Option<AreaId>, Memory>
@@ -64,7 +67,7 @@ pub fn make_array(
     if !state.memory.has_room(area, count) {
         return Ok(None);
     }
-    let elements = vec![in alloc; default_value(array.kind); count]?;
+    let elements = vec![in alloc; default_of(array.kind); count]?;
     let made = state.memory.make(array.class, area, Vec::new(alloc), elements)?;
     Ok(Some(made))
 }

@@ -7,8 +7,10 @@ ghost use Rattle.scj_model.specs.State.{Frame as FrameOfRun};
 ghost use Rattle.scj_model.specs.Memory.{area_with_scope};
 ghost use Rattle.scj_model.specs.Steps.{opening};
 ghost use Rattle.scj_model.specs.Apply.{opened_in};
-ghost use Rattle.job_frames.specs.Frames.{AreBegun, StoredActivity, activity_seen, frames_of};
+ghost use Rattle.job_frames.specs.declared.activities.Activity.{Activity as StoredActivity};
+ghost use Rattle.job_frames.specs.Frames.{AreBegun, activity_seen, frames_of};
 ghost use Rattle.run_state.specs.Seen.{AreAllBegun, job_seen, state_of};
+ghost use Rattle.run_state.specs.Calls.{call_opened};
 ghost use Rattle.run_state.specs.Steps.{HasOnTop, IsStep};
 
 use crate::calls::{refused, was_full};
@@ -35,7 +37,8 @@ fn move_in(activity: &mut Activity, area: AreaId) -> Result<(), Memory>
         frame.area = area;
         frame.opened = Some(area);
     }
-    activity.areas.push(area)
+    activity.areas.push(area)?;
+    Ok(())
 }
 
 /// The area in which the frame on top makes objects.
@@ -61,9 +64,13 @@ fn opened_on_top(
     match open_area(state, area)? {
         Some(opened) => {
             move_in(&mut activity, opened)?;
-            put_back(state, acting.job, activity)
+            put_back(state, acting.job, activity)?;
+            Ok(())
         }
-        None => refused(state, acting, activity, RunFault::StoreFull, told),
+        None => {
+            refused(state, acting, activity, RunFault::StoreFull, told)?;
+            Ok(())
+        }
     }
 }
 
@@ -79,11 +86,15 @@ pub fn opened_in(
     ensures { (code : Code) (g : FrameOfRun) (before : StoredActivity) → HasOnTop code g before activity → AreAllBegun code.program.nodes state.old → AreBegun code.program.nodes activity.frames → IfOk result (λ _. IsStep code (opened_in (state_of code state.old) (job_seen acting.job) (activity_seen code before) (frames_of code before.frames) acting.place g scope bytes) state.new told.old.items told.new.items) }
 {
     if is_cycle(state, &activity, scope) {
-        return refused(state, acting, activity, RunFault::ScopedCycle, told);
+        refused(state, acting, activity, RunFault::ScopedCycle, told)?;
+        return Ok(());
     }
     if was_full(&activity) {
-        return refused(state, acting, activity, RunFault::DepthFull, told);
+        refused(state, acting, activity, RunFault::DepthFull, told)?;
+        return Ok(());
     }
     let parent = area_on_top(&activity);
-    opened_on_top(state, acting, activity, NewArea { scope, parent, bytes }, told)
+    let area = NewArea { scope, parent, bytes };
+    opened_on_top(state, acting, activity, area, told)?;
+    Ok(())
 }

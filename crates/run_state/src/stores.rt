@@ -1,16 +1,16 @@
 //! Effects on the memory, each done to the state, and the activity put back.
 
-ghost use Rattle.std.specs.Prelude.{◌≡◌, ◌++◌, true, List, IfOk, OnOk};
-ghost use Rattle.scj_tree.specs.declared.nodes.Node.{Node as SyntaxNode};
+ghost use Rattle.std.specs.Prelude.{◌≡◌, ◌∷◌, ◌++◌, true, List, IfOk};
 ghost use Rattle.scj_model.specs.declared.events.Event.{Event as EventOfRun};
 ghost use Rattle.scj_model.specs.Code.{Code};
-ghost use Rattle.scj_model.specs.State.{Frame as FrameOfRun};
 ghost use Rattle.scj_model.specs.Memory.{new_elements};
 ghost use Rattle.scj_model.specs.Effects.{Makes, SetsCeiling, SetsHidden, Stores, StoresStatic};
 ghost use Rattle.run_memory.specs.Contents.{hidden_slots};
-ghost use Rattle.job_frames.specs.Frames.{AreBegun};
-ghost use Rattle.run_state.specs.Seen.{AreAllBegun};
-ghost use Rattle.run_state.specs.Steps.{IsApplied};
+ghost use Rattle.job_frames.specs.declared.frames.Frame.{Frame as StoredFrame};
+ghost use Rattle.job_frames.specs.Frames.{AreBegun, activity_seen, frame_of, frames_of};
+ghost use Rattle.run_state.specs.Seen.{AreAllBegun, job_seen, state_of};
+ghost use Rattle.run_state.specs.Calls.{made_or_full};
+ghost use Rattle.run_state.specs.Steps.{IsApplied, IsStep};
 
 use crate::ends::fault_in;
 use crate::jobs::put_back;
@@ -33,7 +33,8 @@ pub fn stores(
     ensures { (code : Code) (told : List EventOfRun) → AreAllBegun code.program.nodes state.old → AreBegun code.program.nodes activity.frames → IfOk result (λ _. IsApplied code state.old acting activity (λ f. Stores f r slot value) true state.new told told) }
 {
     state.memory.set_slot(r, slot, value)?;
-    put_back(state, acting.job, activity)
+    put_back(state, acting.job, activity)?;
+    Ok(())
 }
 
 /// It stores a value into a static field.
@@ -47,7 +48,8 @@ pub fn stores_static(
     ensures { (code : Code) (told : List EventOfRun) → AreAllBegun code.program.nodes state.old → AreBegun code.program.nodes activity.frames → IfOk result (λ _. IsApplied code state.old acting activity (λ f. StoresStatic f place value) true state.new told told) }
 {
     state.memory.set_static(place, value);
-    put_back(state, acting.job, activity)
+    put_back(state, acting.job, activity)?;
+    Ok(())
 }
 
 /// It sets the hidden fields of an object.
@@ -61,7 +63,8 @@ pub fn sets_hidden(
     ensures { (code : Code) (told : List EventOfRun) → AreAllBegun code.program.nodes state.old → AreBegun code.program.nodes activity.frames → IfOk result (λ _. IsApplied code state.old acting activity (λ f. SetsHidden f r (hidden_slots hidden.items)) true state.new told told) }
 {
     state.memory.set_hidden(r, hidden)?;
-    put_back(state, acting.job, activity)
+    put_back(state, acting.job, activity)?;
+    Ok(())
 }
 
 /// It sets the ceiling of an object, which only the sequencer may.
@@ -78,9 +81,13 @@ pub fn sets_ceiling(
     match acting.job {
         Job::Sequencer => {
             state.memory.set_ceiling(r, ceiling);
-            put_back(state, acting.job, activity)
+            put_back(state, acting.job, activity)?;
+            Ok(())
         }
-        Job::Release(_) => fault_in(state, acting, &activity, RunFault::NotInitializing, told),
+        Job::Release(_) => {
+            fault_in(state, acting, &activity, RunFault::NotInitializing, told)?;
+            Ok(())
+        }
     }
 }
 
@@ -107,9 +114,13 @@ fn made(
     match made {
         Some(r) => {
             activity.frames.push_on_top(Value::At(r))?;
-            put_back(state, acting.job, activity)
+            put_back(state, acting.job, activity)?;
+            Ok(())
         }
-        None => fault_in(state, acting, &activity, RunFault::MemoryFull, told),
+        None => {
+            fault_in(state, acting, &activity, RunFault::MemoryFull, told)?;
+            Ok(())
+        }
     }
 }
 
@@ -125,7 +136,8 @@ pub fn makes(
 {
     let area = area_of(&activity)?;
     let found = make_object(state, area, object)?;
-    made(state, acting, activity, found, told)
+    made(state, acting, activity, found, told)?;
+    Ok(())
 }
 
 /// It makes an array in its area.
@@ -141,5 +153,6 @@ pub fn makes_array(
 {
     let area = area_of(&activity)?;
     let found = make_array(alloc, state, area, array)?;
-    made(state, acting, activity, found, told)
+    made(state, acting, activity, found, told)?;
+    Ok(())
 }

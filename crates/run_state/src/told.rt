@@ -34,11 +34,11 @@ pub(crate) fn tell_end(state: &RunState, place: usize, told: &mut Vec<Event>) ->
     ensures { (code : Code) → OnOk result (told.new.items ≡ told.old.items ++ of_release (state_of code state.now) (ReleaseAt place) (λ r. End state.now.unit r.handler r.number ∷ [])) }
 {
     match state.releases.release(place) {
-        Some(release) => tell(told, Event::End {
-            unit: state.unit,
-            handler: release.handler,
-            number: release.number,
-        }),
+        Some(release) => {
+            let unit = state.unit;
+            tell(told, Event::End { unit, handler: release.handler, number: release.number })?;
+            Ok(())
+        }
         None => Ok(()),
     }
 }
@@ -48,16 +48,17 @@ fn tell_priority_of(state: &RunState, place: usize, priority: u8, told: &mut Vec
     ensures { (code : Code) → OnOk result (told.new.items ≡ told.old.items ++ of_release (state_of code state.now) (ReleaseAt place) (λ r. Prio state.now.unit r.handler priority ∷ [])) }
 {
     match state.releases.release(place) {
-        Some(release) => tell(told, Event::Prio {
-            unit: state.unit,
-            handler: release.handler,
-            priority,
-        }),
+        Some(release) => {
+            let unit = state.unit;
+            tell(told, Event::Prio { unit, handler: release.handler, priority })?;
+            Ok(())
+        }
         None => Ok(()),
     }
 }
 
 /// Tells the active priority of a release where it is another one than before.
+#[tactic(auto, using(crate::proofs::TellLemmas::told_same, crate::proofs::TellLemmas::told_other), unfolding(crate::specs::Seen::state_of))]
 pub(crate) fn tell_priority(
     state: &RunState,
     job: Job,
@@ -72,6 +73,9 @@ pub(crate) fn tell_priority(
     }
     match job {
         Job::Sequencer => Ok(()),
-        Job::Release(place) => tell_priority_of(state, place, after, told),
+        Job::Release(place) => {
+            tell_priority_of(state, place, after, told)?;
+            Ok(())
+        }
     }
 }
