@@ -1,16 +1,21 @@
 -- Calls by their cases, and a frame on top of others.
-use Rattle.std.specs.Prelude.{Bool, true, false, Option, Some, None, is_some, nat_lt}
-use Rattle.std.proofs.Common.{◌≡◌, ◌∙◌, ℕ, List, [], ◌∷◌, refl, ap, sym}
+use Rattle.std.specs.Prelude.{Bool, true, false, not, Option, Some, None, is_some, nat_lt, slice_get, unwrap_or}
+use Rattle.std.proofs.Common.{◌≡◌, ◌∙◌, ℕ, suc, List, [], ◌∷◌, ◌++◌, length, refl, ap, sym, arith}
+use Rattle.std.proofs.lemmas.Bool.{le-ltb, lt-ltb, ltb-false, ltb-true}
+use Rattle.std.proofs.lemmas.List.{length-map}
 use Rattle.scj_base.specs.declared.places.Pos.{Pos}
 use Rattle.scj_base.specs.declared.faults.RunFault.TheVariants.{ScopedCycle, CeilingViolation, DepthFull, StoreFull}
+use Rattle.scj_model.specs.declared.events.Event.{Event}
 use Rattle.scj_model.specs.Code.{Code}
-use Rattle.scj_model.specs.State.{Frame, Activity, Job, State, with_activity}
+use Rattle.scj_rules.specs.Words.{◌>>=◌}
+use Rattle.scj_model.specs.State.{Frame, Activity, Job, Object, State, object_at, with_activity}
+use Rattle.scj_model.specs.Effects.{monitor_of}
 use Rattle.scj_model.specs.Memory.{area_with_scope}
 use Rattle.scj_model.specs.Steps.{fault_in, silently}
-use Rattle.scj_model.specs.Apply.{called, ceiling_entered, is_full, opened_in}
+use Rattle.scj_model.specs.Apply.{called, ceiling_entered, is_full, opened_in, tell_priority}
 use Rattle.job_frames.specs.declared.activities.Activity.{Activity as StoredActivity}
 use Rattle.job_frames.specs.declared.frames.Frame.{Frame as StoredFrame}
-use Rattle.job_frames.specs.Frames.{activity_seen, below, frames_of}
+use Rattle.job_frames.specs.Frames.{activity_seen, below, frame_of, frames_of}
 use Rattle.run_state.specs.Calls.{call_entered, call_opened}
 use Rattle.run_state.specs.Steps.{HasOnTop}
 
@@ -26,6 +31,65 @@ pub without_top : (code : Code) (g : Frame) (before after : StoredActivity) → 
     (let a : StoredActivity = record after { frames = below after.frames } in a) ≡ before
 without_top code g before after h =
     ap (λ (x : StoredActivity). (let a : StoredActivity = record x { frames = below x.frames } in a)) h.whole
+
+-- the frames below are as many as may be where one more is on top
+pub full_below : (code : Code) (g : Frame) (before after : StoredActivity) (n : ℕ) → HasOnTop code g before after →
+    n ≡ length after.frames → nat_lt 64 n ≡ is_full (frames_of code before.frames)
+full_below code g before after n h e =
+    full_is (length (frames_of code before.frames)) n
+    (e ∙ (ap (λ (a : StoredActivity). length a.frames) h.whole
+    ∙ ap (λ (k : ℕ). suc k) (sym (length-map before.frames (frame_of code)))))
+  where
+    full_is : (k m : ℕ) → m ≡ suc k → nat_lt 64 m ≡ not (nat_lt k 64)
+    full_is k m f = go (nat_lt k 64) refl
+      where
+        go : (b : Bool) → nat_lt k 64 ≡ b → nat_lt 64 m ≡ not b
+        go true t = le-ltb 64 m (omega (arith, f, ltb-true k 64 t))
+        go false t = lt-ltb 64 m (omega (arith, f, ltb-false k 64 t))
+
+-- what the frame on top is, and what becomes of the activity when it changes
+pub top_is : (code : Code) (g : Frame) (before after : StoredActivity) (f : StoredFrame) → HasOnTop code g before after →
+    Some f ≡ slice_get after.frames 0 → frame_of code f ≡ g
+top_is code g before after f h e =
+    let k : Some f ≡ Some h.frame = e ∙ ap (λ (a : StoredActivity). slice_get a.frames 0) h.whole in
+    ap (λ (o : Option StoredFrame). frame_of code (unwrap_or o f)) k ∙ h.seen
+
+pub none_on_top : (code : Code) (g : Frame) (before after : StoredActivity) → HasOnTop code g before after →
+    None ≡ slice_get after.frames 0 → ⊥
+none_on_top code g before after h e =
+    let k : None ≡ Some h.frame = e ∙ ap (λ (a : StoredActivity). slice_get a.frames 0) h.whole in cc
+
+-- the priority that was before the call is told
+pub priority_below : (code : Code) (s : State) (job : Job) (g : Frame) (before after : StoredActivity) (ceiling : ℕ)
+    (first second : List Event) → HasOnTop code g before after →
+    second ≡ first ++ tell_priority s job after.priority ceiling →
+    second ≡ first ++ tell_priority s job before.priority ceiling
+priority_below code s job g before after ceiling first second h t =
+    t ∙ ap (λ (a : StoredActivity). first ++ tell_priority s job a.priority ceiling) h.whole
+
+-- another frame with the same works stands on top of begun ones
+pub entered_seen : (code : Code) (g : Frame) (before after : StoredActivity) (f : StoredFrame) (ceiling : ℕ) →
+    HasOnTop code g before after → after.frames ≡ f ∷ below after.frames →
+    (let a : Activity = activity_seen code (record after {
+      frames = record f { saved = Some after.priority } ∷ below after.frames;
+      priority = ceiling;
+    }) in a)
+    ≡ record (activity_seen code before) {
+      frames = record g { saved = Some before.priority } ∷ frames_of code before.frames;
+      priority = ceiling;
+    }
+entered_seen code g before after f ceiling h e =
+    let k : Some f ≡ Some h.frame =
+        ap (λ (fs : List StoredFrame). slice_get fs 0) (sym e) ∙ ap (λ (a : StoredActivity). slice_get a.frames 0) h.whole in
+    let same : frame_of code f ≡ g = ap (λ (o : Option StoredFrame). frame_of code (unwrap_or o f)) k ∙ h.seen in
+    ap (λ (a : StoredActivity). (let b : Activity = record (activity_seen code a) {
+      frames = record (frame_of code f) { saved = Some a.priority } ∷ frames_of code (below a.frames);
+      priority = ceiling;
+    } in b)) h.whole
+    ∙ ap (λ (x : Frame). (let b : Activity = record (activity_seen code before) {
+      frames = record x { saved = Some before.priority } ∷ frames_of code before.frames;
+      priority = ceiling;
+    } in b)) same
 
 -- ---- calls
 
@@ -69,3 +133,23 @@ module _ (code : Code) (s : State) (job : Job) (activity : Activity) (frames : L
       ≡ call_opened s job activity frames place g scope (Some g.area) bytes
   unfolding opened_in call_opened
   opened_in_new scope bytes e f = rw (e, f) refl
+
+-- ---- the ceiling of the monitor that is entered
+
+module _ (code : Code) (s : State) (g : Frame) where
+  pub no_monitor : None ≡ monitor_of code g → None ≡ ceiling_entered code s g
+  unfolding ceiling_entered
+  no_monitor e = ap (λ (m : Option ℕ). m >>= object_at s >>= (λ (o : Object). Some o.ceiling)) e
+
+  pub no_object : (r : ℕ) → Some r ≡ monitor_of code g → None ≡ object_at s r → None ≡ ceiling_entered code s g
+  unfolding ceiling_entered
+  no_object r e n =
+      ap (λ (x : Option Object). x >>= (λ (o : Object). Some o.ceiling)) n
+      ∙ ap (λ (m : Option ℕ). m >>= object_at s >>= (λ (o : Object). Some o.ceiling)) e
+
+  pub ceiling_there : (r : ℕ) (object : Object) → Some r ≡ monitor_of code g → Some object ≡ object_at s r →
+      Some object.ceiling ≡ ceiling_entered code s g
+  unfolding ceiling_entered
+  ceiling_there r object e n =
+      ap (λ (x : Option Object). x >>= (λ (o : Object). Some o.ceiling)) n
+      ∙ ap (λ (m : Option ℕ). m >>= object_at s >>= (λ (o : Object). Some o.ceiling)) e

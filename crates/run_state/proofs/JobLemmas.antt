@@ -1,10 +1,10 @@
 -- The activity of a release is taken out, put back, or dropped at its end.
-use Rattle.std.specs.Prelude.{Option, Some, None, slice_get, slice_set, map, IfSome, MatchOption}
+use Rattle.std.specs.Prelude.{Option, Some, None, option_map, slice_get, slice_set}
 use Rattle.std.proofs.Common.{◌≡◌, ◌∙◌, ℕ, List, [], ◌∷◌, refl, ap, sym, subst}
 use Rattle.scj_rules.specs.Words.{◌>>=◌}
 use Rattle.scj_tree.specs.declared.nodes.Node.{Node}
 use Rattle.scj_model.specs.Code.{Code}
-use Rattle.scj_model.specs.State.{Activity, Release as ReleaseOfRun, ReleaseAt, State, Started as StartedSeen, Ended as EndedSeen, changed, with_activity, with_status as state_with_status}
+use Rattle.scj_model.specs.State.{Activity, Release as ReleaseOfRun, ReleaseAt, Started as StartedSeen, changed, activity_in as activity_in_status, activity_of, with_activity}
 use Rattle.scj_model.specs.Run.{no_activity}
 use Rattle.job_frames.specs.declared.activities.Activity.{Activity as StoredActivity}
 use Rattle.job_frames.specs.Frames.{AreBegun, activity_seen, empty_activity}
@@ -12,13 +12,12 @@ use Rattle.run_memory.proofs.ChangedLists.{changed_there}
 use Rattle.run_releases.specs.declared.rows.Release.{Release}
 use Rattle.run_releases.specs.declared.rows.ReleaseStatus.{ReleaseStatus}
 use Rattle.run_releases.specs.declared.rows.ReleaseStatus.TheVariants.{Waits, Started, Ended, Dropped}
-use Rattle.run_releases.specs.Rows.{StoredReleases, activity_within, emptied_row, emptied_status, release_seen, with_releases, with_status}
+use Rattle.run_releases.specs.Rows.{StoredReleases, activity_within, emptied_row, emptied_status, release_seen, status_seen, with_status}
 use Rattle.run_releases.specs.Releases.{activity_in, emptied_at, status_set}
 use Rattle.run_state.specs.declared.states.RunState.{RunState}
 use Rattle.run_state.specs.Seen.{AreAllBegun, AreReleasesBegun, IsBegunStatus, state_of}
 use Rattle.run_state.proofs.Begun.{begun_at, begun_changed}
-use Rattle.run_state.proofs.Rows.{changed_map}
-use Rattle.run_state.proofs.SeenLemmas.{releases_seen, releases_there}
+use Rattle.run_state.proofs.Rows.{changed_map, get_map}
 
 -- ---- taken out
 
@@ -71,6 +70,27 @@ taken_begun nodes st place a e h =
         started_there (slice_get st.releases.rows place) a e in
     subst (IsBegunStatus nodes) found.2
     (begun_at nodes st.releases.rows place found.0 found.1 h.releases)
+
+-- the activity that the code finds is the one of the definitions
+pub found_activity : (code : Code) (st : RunState) (place : ℕ) →
+    option_map (activity_seen code) (activity_in st.releases.rows place) ≡ activity_of (state_of code st) (ReleaseAt place)
+unfolding state_of activity_of activity_in_status
+found_activity code st place =
+    of_found (slice_get st.releases.rows place)
+    ∙ ap (λ (o : Option ReleaseOfRun). o >>= (λ (r : ReleaseOfRun). activity_in_status r.status))
+    (sym (get_map (release_seen code) st.releases.rows place))
+  where
+    of_status : (status : ReleaseStatus) →
+        option_map (activity_seen code) (activity_within status) ≡ activity_in_status (status_seen code status)
+    of_status Waits = refl
+    of_status (Started a) = refl
+    of_status Ended = refl
+    of_status Dropped = refl
+
+    of_found : (o : Option Release) → option_map (activity_seen code) (o >>= (λ (r : Release). activity_within r.status))
+        ≡ (option_map (release_seen code) o >>= (λ (r : ReleaseOfRun). activity_in_status r.status))
+    of_found None = refl
+    of_found (Some r) = of_status r.status
 
 -- ---- put back, and ended
 

@@ -4,8 +4,10 @@ pub mod CallLemmas
 pub mod EndLemmas
 pub mod JobLemmas
 pub mod LeavingLemmas
+pub mod MakingLemmas
 pub mod RoomLemmas
 pub mod Rows
 pub mod SeenLemmas
 pub mod StepLemmas
 pub mod TellLemmas
+pub mod TopEffects

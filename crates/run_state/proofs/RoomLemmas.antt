@@ -46,3 +46,10 @@ module _ (s : State) (job : Job) (activity : Activity) (place : Pos) where
     missing = λ next e. absurd (cc);
     same = λ e. absurd (cc);
   }
+
+-- the step goes on where there is room, and is the fault where there is none
+pub goes_step : (s : State) (step : (State → ℕ → Step) → Step) (fault : State → Step) (after : State)
+    (next : State → ℕ → Step) (found : Option ℕ) → GoesOn s step (fault s) found after →
+    step next ≡ (elim found as (λ o. Step) [ None ↦ fault after | Some n ↦ next after n ])
+goes_step s step fault after next None h = h.missing next refl ∙ ap fault (sym (h.same refl))
+goes_step s step fault after next (Some n) h = h.there next n refl

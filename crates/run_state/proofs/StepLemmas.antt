@@ -1,6 +1,8 @@
 -- What the code did is a step, a step that may have no result, or what an effect leads to.
 use Rattle.std.specs.Prelude.{Bool, true, Option, Some, is_some, unwrap_or}
 use Rattle.std.proofs.Common.{◌≡◌, ◌∙◌, ℕ, List, [], ◌∷◌, ◌++◌, refl, ap, sym, subst}
+use Rattle.std.proofs.lemmas.List.{append-nil}
+use Rattle.scj_tree.specs.declared.nodes.Node.{Node}
 use Rattle.scj_model.specs.declared.events.Event.{Event}
 use Rattle.scj_model.specs.Code.{Code}
 use Rattle.scj_model.specs.State.{Frame, State, with_activity}
@@ -10,6 +12,7 @@ use Rattle.scj_model.specs.Apply.{applied, with_frame}
 use Rattle.job_frames.specs.declared.activities.Activity.{Activity as StoredActivity}
 use Rattle.job_frames.specs.declared.frames.Frame.{Frame as StoredFrame}
 use Rattle.job_frames.specs.Frames.{activity_seen, frame_of, frames_of}
+use Rattle.run_memory.specs.Contents.{Contents}
 use Rattle.run_state.specs.declared.states.Acting.{Acting}
 use Rattle.run_state.specs.declared.states.RunState.{RunState}
 use Rattle.run_state.specs.Seen.{AreAllBegun, job_seen, state_of}
@@ -23,7 +26,7 @@ same_step code st before after step other e h = subst (λ (x : Step). IsStep cod
 pub try_of : (code : Code) (st : RunState) (before after : List Event) (found : Option Step) (step : Step) →
     found ≡ Some step → IsStep code step st before after → IsTry code found true st before after
 try_of code st before after found step e h = record {
-  went = sym (ap (is_some {T = Step}) e);
+  went = sym (ap (λ (o : Option Step). is_some o) e);
   leads = λ done d.
       subst (λ (x : Step). IsStep code x st before after) (ap (λ (o : Option Step). unwrap_or o step) (sym e ∙ d)) h;
 }
@@ -54,3 +57,22 @@ applied_telling code was acting activity effect st before after s events same st
       Some (telling (with_activity s (job_seen acting.job)
       (record (activity_seen code activity) { frames = frames_of code fs })) events)) (sym e))
     (record { state = state; told = told; begun = begun })
+
+-- an effect that changes the memory, puts the frames back and tells nothing
+pub applied_on_memory : (code : Code) (was : RunState) (acting : Acting) (activity : StoredActivity)
+    (effect : Frame → Effect) (m : Contents) (st : RunState) (told : List Event) (s : State) →
+    ((f : Frame) (below : List Frame) →
+      applied code (state_of code was) (job_seen acting.job) (activity_seen code activity) below acting.place (effect f)
+      ≡ Some (telling (with_frame s (job_seen acting.job) (activity_seen code activity) f below) [])) →
+    state_of code (record was { memory = m }) ≡ s →
+    state_of code st
+    ≡ with_activity (state_of code (record was { memory = m })) (job_seen acting.job) (activity_seen code activity) →
+    AreAllBegun code.program.nodes st → IsApplied code was acting activity effect true st told told
+applied_on_memory code was acting activity effect m st told s same e put begun =
+    applied_telling code was acting activity effect st told told s [] same
+    (put ∙ ap (λ (x : State). with_activity x (job_seen acting.job) (activity_seen code activity)) e)
+    (sym (append-nil told)) begun
+
+pub memory_begun : (nodes : List Node) (st : RunState) (m : Contents) → AreAllBegun nodes st →
+    AreAllBegun nodes (record st { memory = m })
+memory_begun nodes st m h = record { sequencer = h.sequencer; releases = h.releases }

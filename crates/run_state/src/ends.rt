@@ -1,6 +1,6 @@
 //! A job ends: it leaves its last frame, or meets a fault.
 
-ghost use Rattle.std.specs.Prelude.{◌≡◌, ◌∷◌, ◌++◌, [], IfOk, List, Option, reverse};
+ghost use Rattle.std.specs.Prelude.{◌≡◌, ◌∷◌, ◌++◌, [], IfOk, Option as OptionOfRun, reverse};
 ghost use Rattle.scj_base.specs.declared.values.Value.{Value as ValueOfRun};
 ghost use Rattle.scj_model.specs.Code.{Code};
 ghost use Rattle.scj_model.specs.State.{Activity as ActivityOfRun, ReleaseAt, State, TheSequencer};

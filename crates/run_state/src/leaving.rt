@@ -29,15 +29,16 @@ struct Left {
 }
 
 /// What the highest frame gives back.
-fn left_by(activity: &Activity) -> Option<Left>
-    ensures { (f : StoredFrame) (below : List StoredFrame) → activity.now.frames ≡ f ∷ below → result ≡ Some (record { opened = f.opened; saved = f.saved }) }
+fn left_by(activity: &Activity) -> Result<Left, Memory>
+    ensures opened { (f : StoredFrame) (below : List StoredFrame) → activity.now.frames ≡ f ∷ below → IfOk result (λ left. left.opened ≡ f.opened) }
+    ensures saved { (f : StoredFrame) (below : List StoredFrame) → activity.now.frames ≡ f ∷ below → IfOk result (λ left. left.saved ≡ f.saved) }
 {
     match activity.frames.top() {
-        Some(frame) => Some(Left {
+        Some(frame) => Ok(Left {
             opened: frame.opened,
             saved: frame.saved,
         }),
-        None => None,
+        None => Err(Memory),
     }
 }
 
@@ -97,10 +98,7 @@ pub fn frame_left(
 ) -> Result<(), Memory>
     ensures { (code : Code) (f : StoredFrame) (below : List StoredFrame) → activity.frames ≡ f ∷ below → AreAllBegun code.program.nodes state.old → AreBegun code.program.nodes activity.frames → IfOk result (λ _. IsStep code (frame_left (state_of code state.old) (job_seen job) (activity_seen code activity) (frame_of code f) (frames_of code below) value) state.new told.old.items told.new.items) }
 {
-    let left = match left_by(&activity) {
-        Some(left) => left,
-        None => return Err(Memory),
-    };
+    let left = left_by(&activity)?;
     let before = activity.priority;
     step_down(&mut activity, left, value)?;
     tell_priority(state, job, before, activity.priority, told)?;
