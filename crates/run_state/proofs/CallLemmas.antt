@@ -17,6 +17,7 @@ use Rattle.job_frames.specs.declared.activities.Activity.{Activity as StoredActi
 use Rattle.job_frames.specs.declared.frames.Frame.{Frame as StoredFrame}
 use Rattle.job_frames.specs.Frames.{activity_seen, below, frame_of, frames_of}
 use Rattle.run_state.specs.Calls.{call_entered, call_opened}
+use Rattle.run_state.specs.Tops.{moved_in, with_saved}
 use Rattle.run_state.specs.Steps.{HasOnTop}
 
 -- ---- a frame on top
@@ -67,29 +68,42 @@ pub priority_below : (code : Code) (s : State) (job : Job) (g : Frame) (before a
 priority_below code s job g before after ceiling first second h t =
     t ∙ ap (λ (a : StoredActivity). first ++ tell_priority s job a.priority ceiling) h.whole
 
--- another frame with the same works stands on top of begun ones
-pub entered_seen : (code : Code) (g : Frame) (before after : StoredActivity) (f : StoredFrame) (ceiling : ℕ) →
-    HasOnTop code g before after → after.frames ≡ f ∷ below after.frames →
-    (let a : Activity = activity_seen code (record after {
-      frames = record f { saved = Some after.priority } ∷ below after.frames;
-      priority = ceiling;
-    }) in a)
+-- the frame on top saves the priority, or has moved into an area that it opened
+pub entered_seen : (code : Code) (g : Frame) (before after : StoredActivity) (frames : List StoredFrame) (ceiling : ℕ) →
+    HasOnTop code g before after → frames ≡ with_saved after.priority after.frames →
+    (let a : Activity = activity_seen code (record after { frames = frames; priority = ceiling }) in a)
     ≡ record (activity_seen code before) {
       frames = record g { saved = Some before.priority } ∷ frames_of code before.frames;
       priority = ceiling;
     }
-entered_seen code g before after f ceiling h e =
-    let k : Some f ≡ Some h.frame =
-        ap (λ (fs : List StoredFrame). slice_get fs 0) (sym e) ∙ ap (λ (a : StoredActivity). slice_get a.frames 0) h.whole in
-    let same : frame_of code f ≡ g = ap (λ (o : Option StoredFrame). frame_of code (unwrap_or o f)) k ∙ h.seen in
-    ap (λ (a : StoredActivity). (let b : Activity = record (activity_seen code a) {
-      frames = record (frame_of code f) { saved = Some a.priority } ∷ frames_of code (below a.frames);
-      priority = ceiling;
-    } in b)) h.whole
+entered_seen code g before after frames ceiling h e =
+    ap (λ (fs : List StoredFrame). (let a : Activity =
+      activity_seen code (record after { frames = fs; priority = ceiling }) in a)) e
+    ∙ (ap (λ (x : StoredActivity). (let a : Activity =
+      activity_seen code (record x { frames = with_saved x.priority x.frames; priority = ceiling }) in a)) h.whole
     ∙ ap (λ (x : Frame). (let b : Activity = record (activity_seen code before) {
       frames = record x { saved = Some before.priority } ∷ frames_of code before.frames;
       priority = ceiling;
-    } in b)) same
+    } in b)) h.seen)
+
+pub moved_seen : (code : Code) (g : Frame) (before after : StoredActivity) (frames : List StoredFrame) (areas : List ℕ)
+    (area : ℕ) → HasOnTop code g before after → frames ≡ moved_in area after.frames → areas ≡ area ∷ after.areas →
+    (let a : Activity = activity_seen code (record after { frames = frames; areas = areas }) in a)
+    ≡ record (activity_seen code before) {
+      frames = record g { area = area; opened = Some area } ∷ frames_of code before.frames;
+      areas = area ∷ before.areas;
+    }
+moved_seen code g before after frames areas area h e o =
+    ap (λ (fs : List StoredFrame). (let a : Activity =
+      activity_seen code (record after { frames = fs; areas = areas }) in a)) e
+    ∙ (ap (λ (os : List ℕ). (let a : Activity =
+      activity_seen code (record after { frames = moved_in area after.frames; areas = os }) in a)) o
+    ∙ (ap (λ (x : StoredActivity). (let a : Activity =
+      activity_seen code (record x { frames = moved_in area x.frames; areas = area ∷ x.areas }) in a)) h.whole
+    ∙ ap (λ (x : Frame). (let b : Activity = record (activity_seen code before) {
+      frames = record x { area = area; opened = Some area } ∷ frames_of code before.frames;
+      areas = area ∷ before.areas;
+    } in b)) h.seen))
 
 -- ---- calls
 

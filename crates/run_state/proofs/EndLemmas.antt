@@ -1,6 +1,6 @@
 -- A job ends: what the code did to memory and releases is what the definitions say.
-use Rattle.std.specs.Prelude.{Option, Some, None}
-use Rattle.std.proofs.Common.{◌≡◌, ◌∙◌, ℕ, List, [], ◌∷◌, ◌++◌, reverse, refl, ap, sym, subst}
+use Rattle.std.specs.Prelude.{Option, Some, None, slice_get}
+use Rattle.std.proofs.Common.{◌≡◌, ◌∙◌, ◌<◌, ℕ, zero, suc, List, [], ◌∷◌, ◌++◌, length, reverse, take, refl, ap, sym, subst, arith}
 use Rattle.std.proofs.lemmas.List.{append-nil, append_assoc}
 use Rattle.scj_base.specs.declared.faults.RunFault.{RunFault}
 use Rattle.scj_base.specs.declared.places.Pos.{Pos}
@@ -37,6 +37,16 @@ closed_last code s was now rest below f e h =
     ap (λ (fs : List StoredFrame). closed_all (with_memory s was) (frames_of code (reverse fs))) e
     ∙ (ap (λ (fs : List StoredFrame). closed_all (with_memory s was) (frames_of code fs)) (last_first below f)
     ∙ ap (λ (t : State). closed_all t (frames_of code (reverse below))) (h s))
+
+take_one : (xs : List StoredFrame) (n : ℕ) (x : StoredFrame) → slice_get xs n ≡ Some x → take (suc n) xs ≡ take n xs ++ x ∷ []
+take_one [] n x e = absurd (cc)
+take_one (y ∷ ys) zero x e = let k : y ≡ x = cc in ap (λ (z : StoredFrame). z ∷ []) k
+take_one (y ∷ ys) (suc n) x e = ap (λ (zs : List StoredFrame). y ∷ zs) (take_one ys n x e)
+
+got_none : (xs : List StoredFrame) (n : ℕ) → n < length xs → slice_get xs n ≡ None → ⊥
+got_none [] n h e = omega (arith, h)
+got_none (y ∷ ys) zero h e = cc
+got_none (y ∷ ys) (suc n) h e = got_none ys n (omega (arith, h)) e
 
 -- ---- a release with another status
 
@@ -96,3 +106,17 @@ module _ (code : Code) (st : RunState) (n : ℕ) (rs : StoredReleases) (first la
         begun = subst (λ (x : StoredReleases). AreAllBegun code.program.nodes (record with_m { releases = x })) (sym e)
             (status_begun code.program.nodes with_m n Ended tt begun_m);
       }
+
+-- one place further down
+pub closed_next : (code : Code) (s : State) (was now : Contents) (frames : List StoredFrame) (left : ℕ) →
+    left < length frames →
+    ((f : StoredFrame) → Some f ≡ slice_get frames left → (t : State) → closed (with_memory t was) f.opened ≡ with_memory t now) →
+    closed_all (with_memory s was) (frames_of code (reverse (take (suc left) frames)))
+    ≡ closed_all (with_memory s now) (frames_of code (reverse (take left frames)))
+closed_next code s was now frames left within h = go (slice_get frames left) refl
+  where
+    go : (o : Option StoredFrame) → slice_get frames left ≡ o →
+        closed_all (with_memory s was) (frames_of code (reverse (take (suc left) frames)))
+        ≡ closed_all (with_memory s now) (frames_of code (reverse (take left frames)))
+    go None e = absurd (got_none frames left within e)
+    go (Some f) e = closed_last code s was now (take (suc left) frames) (take left frames) f (take_one frames left f e) (h f (sym e))

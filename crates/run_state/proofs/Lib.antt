@@ -5,6 +5,7 @@ pub mod EndLemmas
 pub mod JobLemmas
 pub mod LeavingLemmas
 pub mod MakingLemmas
+pub mod OpeningLemmas
 pub mod RoomLemmas
 pub mod Rows
 pub mod SeenLemmas

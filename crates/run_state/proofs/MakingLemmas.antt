@@ -1,5 +1,5 @@
 -- What was made is the last operand of the highest frame, or its area is full.
-use Rattle.std.specs.Prelude.{Bool, true, Option, Some, None}
+use Rattle.std.specs.Prelude.{Bool, true, Option, Some, None, slice_get, unwrap_or}
 use Rattle.std.proofs.Common.{◌≡◌, ◌∙◌, ℕ, List, [], ◌∷◌, refl, ap, sym}
 use Rattle.scj_base.specs.declared.faults.RunFault.TheVariants.{MemoryFull}
 use Rattle.scj_base.specs.declared.values.Value.{Value}
@@ -61,3 +61,9 @@ made_applied code was acting activity class area slots found middle st before af
       (state_of code middle) next found goes)
       (makes f below e));
 }
+
+pub top_area : (activity : StoredActivity) (f : StoredFrame) (below : List StoredFrame) (top : StoredFrame) →
+    activity.frames ≡ f ∷ below → Some top ≡ slice_get activity.frames 0 → top.area ≡ f.area
+top_area activity f below top e t =
+    let k : Some top ≡ Some f = t ∙ ap (λ (fs : List StoredFrame). slice_get fs 0) e in
+    ap (λ (o : Option StoredFrame). (unwrap_or o f).area) k

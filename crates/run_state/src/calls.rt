@@ -16,6 +16,7 @@ use crate::ends::fault_in;
 use crate::jobs::put_back;
 use crate::states::{Acting, RunState};
 use crate::told::tell_priority;
+use crate::tops::save_priority;
 use job_frames::{Activity, Code, Frame, NewFrame};
 use scj_base::{Memory, RunFault, Value};
 use scj_model::Event;
@@ -83,10 +84,7 @@ fn enter(activity: &mut Activity, ceiling: u8)
     ensures entered { (code : CodeOfRun) (g : FrameOfRun) (before : StoredActivity) → HasOnTop code g before activity.old → activity_seen code activity.new ≡ record (activity_seen code before) { frames = record g { saved = Some before.priority } ∷ frames_of code before.frames; priority = ceiling } }
     ensures begun { (nodes : List SyntaxNode) → AreBegun nodes activity.old.frames → AreBegun nodes activity.new.frames }
 {
-    let before = activity.priority;
-    if let Some(frame) = activity.frames.top_mut() {
-        frame.saved = Some(before);
-    }
+    save_priority(&mut activity.frames, activity.priority);
     activity.priority = ceiling;
 }
 

@@ -1,11 +1,11 @@
 //! A job ends: it leaves its last frame, or meets a fault.
 
-ghost use Rattle.std.specs.Prelude.{◌≡◌, ◌∷◌, ◌++◌, [], IfOk, Option as OptionOfRun, reverse};
-ghost use Rattle.scj_base.specs.declared.values.Value.{Value as ValueOfRun};
+ghost use Rattle.std.specs.Prelude.{◌≡◌, ◌∷◌, ◌++◌, [], IfOk, None, Some, reverse, slice_get};
 ghost use Rattle.scj_model.specs.Code.{Code};
 ghost use Rattle.scj_model.specs.State.{Activity as ActivityOfRun, ReleaseAt, State, TheSequencer};
 ghost use Rattle.scj_model.specs.Memory.{closed};
 ghost use Rattle.scj_model.specs.Steps.{closed_all, fault_in, job_ended};
+ghost use Rattle.job_frames.specs.declared.frames.Frame.{Frame as StoredFrame};
 ghost use Rattle.job_frames.specs.Frames.{AreBegun, activity_seen, frames_of};
 ghost use Rattle.run_memory.specs.Contents.{with_memory};
 ghost use Rattle.run_state.specs.Seen.{AreAllBegun, job_seen, state_of};
@@ -29,14 +29,23 @@ pub(crate) fn close_opened(memory: &mut RunMemory, opened: Option<AreaId>)
     }
 }
 
+/// Closes the area that the frame at a place opened.
+fn close_of(memory: &mut RunMemory, frames: &[Frame], place: usize)
+    ensures { (f : StoredFrame) → Some f ≡ slice_get frames.now place → (s : State) → closed (with_memory s memory.old) f.opened ≡ with_memory s memory.new }
+{
+    if let Some(frame) = frames.get(place) {
+        close_opened(memory, frame.opened);
+    }
+}
+
 /// Closes the areas that frames opened. The highest frame is the last one.
 fn close_all(memory: &mut RunMemory, frames: &[Frame])
     ensures { (code : Code) (s : State) → closed_all (with_memory s memory.old) (frames_of code (reverse frames.now)) ≡ with_memory s memory.new }
 {
-    let mut rest = frames;
-    while let [below @ .., frame] = rest {
-        close_opened(memory, frame.opened);
-        rest = below;
+    let mut left = frames.len();
+    while left > 0 {
+        left -= 1;
+        close_of(memory, frames, left);
     }
 }
 
@@ -54,7 +63,7 @@ pub fn halted(state: &mut RunState, place: Pos, fault: RunFault, told: &mut Vec<
 
 /// The release at a place has come to its end.
 fn release_ended(state: &mut RunState, release: usize, told: &mut Vec<Event>) -> Result<(), Memory>
-    ensures { (code : Code) (activity : ActivityOfRun) (value : Option<Value>) → AreAllBegun code.program.nodes state.old → IfOk result (λ _. IsStep code (job_ended (state_of code state.old) (ReleaseAt release) activity value) state.new told.old.items told.new.items) }
+    ensures { (code : Code) (activity : ActivityOfRun) → AreAllBegun code.program.nodes state.old → IfOk result (λ _. IsStep code (job_ended (state_of code state.old) (ReleaseAt release) activity None) state.new told.old.items told.new.items) }
 {
     tell_end(state, release, told)?;
     state.releases.end(release);

@@ -101,8 +101,10 @@ pub fn frame_left(
     let left = left_by(&activity)?;
     let before = activity.priority;
     step_down(&mut activity, left, value)?;
-    tell_priority(state, job, before, activity.priority, told)?;
-    close_opened(&mut state.memory, left.opened);
+    let after = activity.priority;
+    tell_priority(state, job, before, after, told)?;
+    let opened = left.opened;
+    close_opened(&mut state.memory, opened);
     settle(state, job, activity, value, told)?;
     Ok(())
 }

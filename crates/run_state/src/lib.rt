@@ -11,5 +11,6 @@ pub mod openings;
 pub mod states;
 pub mod stores;
 pub mod told;
+mod tops;
 
 pub use states::{Acting, Job, NewArea, NewArray, NewObject, RunState, Turn};

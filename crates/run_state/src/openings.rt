@@ -17,6 +17,7 @@ use crate::calls::{refused, was_full};
 use crate::jobs::put_back;
 use crate::memory::open_area;
 use crate::states::{Acting, NewArea, RunState};
+use crate::tops::move_into;
 use job_frames::Activity;
 use scj_base::{AreaId, Memory, RunFault, ScopeId};
 use scj_model::Event;
@@ -33,10 +34,7 @@ fn move_in(activity: &mut Activity, area: AreaId) -> Result<(), Memory>
     ensures moved { (code : Code) (g : FrameOfRun) (before : StoredActivity) → HasOnTop code g before activity.old → OnOk result (activity_seen code activity.new ≡ record (activity_seen code before) { frames = record g { area = area; opened = Some area } ∷ frames_of code before.frames; areas = area ∷ before.areas }) }
     ensures begun { (nodes : List SyntaxNode) → AreBegun nodes activity.old.frames → AreBegun nodes activity.new.frames }
 {
-    if let Some(frame) = activity.frames.top_mut() {
-        frame.area = area;
-        frame.opened = Some(area);
-    }
+    move_into(&mut activity.frames, area);
     activity.areas.push(area)?;
     Ok(())
 }

@@ -1,8 +1,19 @@
-use Rattle.std.proofs.Common.{◌∙◌}
-use Rattle.run_state.proofs.EndLemmas.{closed_last}
+use Rattle.std.proofs.Common.{◌≡◌, ◌∙◌, ◌<◌, ◌-◌, ◌+◌, ℕ, suc, List, length, reverse, take, refl, ap, sym, arith, rules}
+use Rattle.std.proofs.lemmas.List.{take_all}
+use Rattle.scj_model.specs.Steps.{closed_all}
+use Rattle.job_frames.specs.declared.frames.Frame.{Frame as StoredFrame}
+use Rattle.job_frames.specs.Frames.{frames_of}
+use Rattle.run_memory.specs.Contents.{with_memory}
+use Rattle.run_state.proofs.EndLemmas.{closed_next}
 use Rattle.run_state.proofs.ends.close_all.Goals as goal
 
-pub loop-rest-preserved : goal.loop-rest-preserved
-loop-rest-preserved c = λ code s.
-    c.loop-rest.invariant code s ∙ closed_last code s c.loop-rest.memory c.close_opened.new.memory _ _ c.loop-rest-item
-    _ c.close_opened.ensures
+pub loop-left-preserved : goal.loop-left-preserved
+loop-left-preserved c =
+    let one : c.loop-left.left ≡ suc (c.loop-left.left - 1) = omega (arith, search rules) in
+    record {
+      within = omega (arith, c.loop-left.invariant.within);
+      same = λ code s. c.loop-left.invariant.same code s
+          ∙ (ap (λ (n : ℕ). closed_all (with_memory s c.loop-left.memory) (frames_of code (reverse (take n c.args.frames.now)))) one
+          ∙ closed_next code s c.loop-left.memory c.close_of.new.memory c.args.frames.now (c.loop-left.left - 1)
+          (omega (arith, one, c.loop-left.invariant.within)) c.close_of.ensures);
+    }

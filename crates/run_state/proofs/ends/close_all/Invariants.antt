@@ -1,4 +1,4 @@
-use Rattle.std.proofs.Common.{◌≡◌, ℕ, length, reverse}
+use Rattle.std.proofs.Common.{◌≡◌, ◌≤◌, ℕ, length, reverse, take}
 use Rattle.scj_model.specs.Code.{Code}
 use Rattle.scj_model.specs.State.{State}
 use Rattle.scj_model.specs.Steps.{closed_all}
@@ -7,10 +7,13 @@ use Rattle.run_memory.specs.Contents.{with_memory}
 use Rattle.run_state.proofs.ends.close_all.Given as goal
 
 -- what is left to be closed leads to the same
-abbrev pub invariant-loop-rest : goal.invariant-loop-rest
-invariant-loop-rest l = (code : Code) (s : State) →
-    closed_all (with_memory s l.initial.memory) (frames_of code (reverse l.initial.rest))
-    ≡ closed_all (with_memory s l.memory) (frames_of code (reverse l.rest))
+abbrev pub invariant-loop-left : goal.invariant-loop-left
+invariant-loop-left l = record {
+  within : l.left ≤ length l.frames;
+  same : (code : Code) (s : State) →
+      closed_all (with_memory s l.initial.memory) (frames_of code (reverse l.frames))
+      ≡ closed_all (with_memory s l.memory) (frames_of code (reverse (take l.left l.frames)));
+}
 
-abbrev pub decreases-loop-rest : goal.decreases-loop-rest
-decreases-loop-rest l = length l.rest
+abbrev pub decreases-loop-left : goal.decreases-loop-left
+decreases-loop-left l = l.left

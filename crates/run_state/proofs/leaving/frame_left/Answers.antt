@@ -13,4 +13,4 @@ returns c = λ code f below e begun frames.
     (c.in_ok-step_down.ensures.after code f below e) (c.in_ok-tell_priority.ensures code) c.close_opened.ensures
     (λ rest count. c.in_ok-settle.ensures code rest count
     (memory_begun code.program.nodes c.args.state.now c.close_opened.new.memory begun)
-    (c.step_down.ensures.begun code.program.nodes frames))
+    (c.in_ok-step_down.ensures.begun code.program.nodes frames))

@@ -1,5 +1,4 @@
 use Rattle.std.proofs.Common.{List, sym, subst}
-use Rattle.job_frames.specs.declared.frames.Frame.{Frame as StoredFrame}
 use Rattle.job_frames.specs.Frames.{AreBegun, activity_seen}
 use Rattle.job_frames.proofs.Begun.{below_begun}
 use Rattle.run_state.proofs.LeavingLemmas.{stepped}
@@ -13,5 +12,10 @@ returns-clause-after c = λ code f rest e.
 
 pub returns-clause-begun : goal.returns-clause-begun
 returns-clause-begun c = λ nodes h.
-    c.in_ok-give_back.ensures.begun nodes (subst (AreBegun nodes) (sym c.drop_top.ensures)
+    c.give_back.ensures.begun nodes (subst (AreBegun nodes) (sym c.drop_top.ensures)
+    (below_begun nodes c.args.activity.now.frames h))
+
+pub returns-in_err-give_back-clause-begun : goal.returns-in_err-give_back-clause-begun
+returns-in_err-give_back-clause-begun c = λ nodes h.
+    c.give_back.ensures.begun nodes (subst (AreBegun nodes) (sym c.drop_top.ensures)
     (below_begun nodes c.args.activity.now.frames h))
