@@ -49,7 +49,8 @@ full_below code g before after n h e =
         go false t = lt-ltb 64 m (omega (arith, f, ltb-false k 64 t))
 
 -- what the frame on top is, and what becomes of the activity when it changes
-pub top_is : (code : Code) (g : Frame) (before after : StoredActivity) (f : StoredFrame) → HasOnTop code g before after →
+pub top_is : (code : Code) (g : Frame) (before after : StoredActivity) (f : StoredFrame) →
+    HasOnTop code g before after →
     Some f ≡ slice_get after.frames 0 → frame_of code f ≡ g
 top_is code g before after f h e =
     let k : Some f ≡ Some h.frame = e ∙ ap (λ (a : StoredActivity). slice_get a.frames 0) h.whole in
@@ -107,13 +108,16 @@ moved_seen code g before after frames areas area h e o =
 
 -- ---- calls
 
-module _ (code : Code) (s : State) (job : Job) (activity : Activity) (frames : List Frame) (place : Pos) (g : Frame) where
-  pub called_full : is_full frames ≡ true → called code s job activity frames place g ≡ fault_in s job activity place DepthFull
+module _ (code : Code) (s : State) (job : Job) (activity : Activity) (frames : List Frame) (place : Pos)
+    (g : Frame) where
+  pub called_full : is_full frames ≡ true →
+      called code s job activity frames place g ≡ fault_in s job activity place DepthFull
   unfolding called
   called_full e = rw e refl
 
   pub called_plainly : is_full frames ≡ false → ceiling_entered code s g ≡ None →
-      called code s job activity frames place g ≡ silently (with_activity s job (record activity { frames = g ∷ frames }))
+      called code s job activity frames place g ≡ silently
+          (with_activity s job (record activity { frames = g ∷ frames }))
   unfolding called
   called_plainly e c = rw (e, c) refl
 
@@ -137,7 +141,8 @@ module _ (code : Code) (s : State) (job : Job) (activity : Activity) (frames : L
   opened_in_cycle scope bytes e = rw e refl
 
   pub opened_in_full : (scope bytes : ℕ) → is_some (area_with_scope s scope activity.areas) ≡ false →
-      is_full frames ≡ true → opened_in s job activity frames place g scope bytes ≡ fault_in s job activity place DepthFull
+      is_full frames ≡ true → opened_in s job activity frames place g scope bytes ≡ fault_in s job activity place
+          DepthFull
   unfolding opened_in
   opened_in_full scope bytes e f = rw (e, f) refl
 

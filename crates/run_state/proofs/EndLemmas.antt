@@ -38,7 +38,8 @@ closed_last code s was now rest below f e h =
     ∙ (ap (λ (fs : List StoredFrame). closed_all (with_memory s was) (frames_of code fs)) (last_first below f)
     ∙ ap (λ (t : State). closed_all t (frames_of code (reverse below))) (h s))
 
-take_one : (xs : List StoredFrame) (n : ℕ) (x : StoredFrame) → slice_get xs n ≡ Some x → take (suc n) xs ≡ take n xs ++ x ∷ []
+take_one : (xs : List StoredFrame) (n : ℕ) (x : StoredFrame) → slice_get xs n ≡ Some x → take (suc n) xs ≡ take n xs
+    ++ x ∷ []
 take_one [] n x e = absurd (cc)
 take_one (y ∷ ys) zero x e = let k : y ≡ x = cc in ap (λ (z : StoredFrame). z ∷ []) k
 take_one (y ∷ ys) (suc n) x e = ap (λ (zs : List StoredFrame). y ∷ zs) (take_one ys n x e)
@@ -110,7 +111,8 @@ module _ (code : Code) (st : RunState) (n : ℕ) (rs : StoredReleases) (first la
 -- one place further down
 pub closed_next : (code : Code) (s : State) (was now : Contents) (frames : List StoredFrame) (left : ℕ) →
     left < length frames →
-    ((f : StoredFrame) → Some f ≡ slice_get frames left → (t : State) → closed (with_memory t was) f.opened ≡ with_memory t now) →
+    ((f : StoredFrame) → Some f ≡ slice_get frames left → (t : State) →
+        closed (with_memory t was) f.opened ≡ with_memory t now) →
     closed_all (with_memory s was) (frames_of code (reverse (take (suc left) frames)))
     ≡ closed_all (with_memory s now) (frames_of code (reverse (take left frames)))
 closed_next code s was now frames left within h = go (slice_get frames left) refl
@@ -119,4 +121,5 @@ closed_next code s was now frames left within h = go (slice_get frames left) ref
         closed_all (with_memory s was) (frames_of code (reverse (take (suc left) frames)))
         ≡ closed_all (with_memory s now) (frames_of code (reverse (take left frames)))
     go None e = absurd (got_none frames left within e)
-    go (Some f) e = closed_last code s was now (take (suc left) frames) (take left frames) f (take_one frames left f e) (h f (sym e))
+    go (Some f) e = closed_last code s was now (take (suc left) frames) (take left frames) f (take_one frames left f e)
+        (h f (sym e))

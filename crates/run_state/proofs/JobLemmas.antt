@@ -22,7 +22,8 @@ use Rattle.run_state.proofs.Rows.{changed_map, get_map}
 -- ---- taken out
 
 started_there : (found : Option Release) (a : StoredActivity) →
-    (found >>= (λ (r : Release). activity_within r.status)) ≡ Some a → (r : Release) × (found ≡ Some r) × (r.status ≡ Started a)
+    (found >>= (λ (r : Release). activity_within r.status)) ≡ Some a → (r : Release) × (found ≡ Some r) ×
+        (r.status ≡ Started a)
 started_there None a e = absurd (cc)
 started_there (Some r) a e = (r, refl, of_status r.status e)
   where
@@ -32,20 +33,24 @@ started_there (Some r) a e = (r, refl, of_status r.status e)
     of_status Ended h = absurd (cc)
     of_status Dropped h = absurd (cc)
 
-pub emptied : (code : Code) (st : RunState) (place : ℕ) (a : StoredActivity) → activity_in st.releases.rows place ≡ Some a →
+pub emptied : (code : Code) (st : RunState) (place : ℕ) (a : StoredActivity) →
+    activity_in st.releases.rows place ≡ Some a →
     state_of code (record st { releases = emptied_at place st.releases })
     ≡ with_activity (state_of code st) (ReleaseAt place) no_activity
 unfolding state_of with_activity
 emptied code st place a e =
     let found : (r : Release) × (slice_get st.releases.rows place ≡ Some r) × (r.status ≡ Started a) =
         started_there (slice_get st.releases.rows place) a e in
-    let rows : changed emptied_row place st.releases.rows ≡ changed (with_status (Started empty_activity)) place st.releases.rows =
+    let rows : changed emptied_row place st.releases.rows ≡ changed (with_status (Started empty_activity)) place
+        st.releases.rows =
         changed_there emptied_row place st.releases.rows found.0 found.1
-        ∙ (ap (λ (s : ReleaseStatus). slice_set st.releases.rows place (record found.0 { status = emptied_status s })) found.2
+        ∙ (ap (λ (s : ReleaseStatus). slice_set st.releases.rows place (record found.0 { status = emptied_status s }))
+            found.2
         ∙ sym (changed_there (with_status (Started empty_activity)) place st.releases.rows found.0 found.1)) in
     ap (λ (rs : List Release). state_of code (record st { releases = record st.releases { rows = rs } })) rows
     ∙ ap (λ (rs : List ReleaseOfRun). record (state_of code st) { releases = rs })
-    (changed_map (release_seen code) (with_status (Started empty_activity)) (λ r. record r { status = StartedSeen no_activity })
+    (changed_map (release_seen code) (with_status (Started empty_activity))
+        (λ r. record r { status = StartedSeen no_activity })
     place st.releases.rows (λ r. refl))
 
 pub emptied_begun : (nodes : List Node) (st : RunState) (place : ℕ) → AreAllBegun nodes st →
@@ -73,7 +78,8 @@ taken_begun nodes st place a e h =
 
 -- the activity that the code finds is the one of the definitions
 pub found_activity : (code : Code) (st : RunState) (place : ℕ) →
-    option_map (activity_seen code) (activity_in st.releases.rows place) ≡ activity_of (state_of code st) (ReleaseAt place)
+    option_map (activity_seen code) (activity_in st.releases.rows place) ≡ activity_of (state_of code st)
+        (ReleaseAt place)
 unfolding state_of activity_of activity_in_status
 found_activity code st place =
     of_found (slice_get st.releases.rows place)
@@ -87,14 +93,16 @@ found_activity code st place =
     of_status Ended = refl
     of_status Dropped = refl
 
-    of_found : (o : Option Release) → option_map (activity_seen code) (o >>= (λ (r : Release). activity_within r.status))
+    of_found : (o : Option Release) →
+        option_map (activity_seen code) (o >>= (λ (r : Release). activity_within r.status))
         ≡ (option_map (release_seen code) o >>= (λ (r : ReleaseOfRun). activity_in_status r.status))
     of_found None = refl
     of_found (Some r) = of_status r.status
 
 -- ---- put back, and ended
 
-pub status_begun : (nodes : List Node) (st : RunState) (place : ℕ) (status : ReleaseStatus) → IsBegunStatus nodes status →
+pub status_begun : (nodes : List Node) (st : RunState) (place : ℕ) (status : ReleaseStatus) →
+    IsBegunStatus nodes status →
     AreAllBegun nodes st → AreAllBegun nodes (record st { releases = status_set place status st.releases })
 status_begun nodes st place status h all = record {
   sequencer = all.sequencer;

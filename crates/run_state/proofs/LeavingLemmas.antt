@@ -29,7 +29,8 @@ pub left_step : (code : Code) (s : State) (job : Job) (activity : Activity) (f :
     (value : Option Value) (middle st : RunState) (first second third : List Event) →
     state_of code middle ≡ closed s f.opened →
     second ≡ first ++ tell_priority s job activity.priority (unwrap_or f.saved activity.priority) →
-    IsStep code (settled (state_of code middle) job (after_leaving activity f below value) value below) st second third →
+    IsStep code (settled (state_of code middle) job (after_leaving activity f below value) value below) st second
+        third →
     IsStep code (frame_left s job activity f below value) st first third
 unfolding frame_left settled
 left_step code s job activity f below value middle st first second third e t h =
@@ -64,11 +65,13 @@ pub left_all : (code : Code) (st : RunState) (job : Job) (activity after : Store
     ((rest : List Frame) → length rest ≡ length after.frames →
       IsStep code (settled (state_of code (record st { memory = m })) job (activity_seen code after) value rest)
       final second third) →
-    IsStep code (frame_left (state_of code st) job (activity_seen code activity) (frame_of code f) (frames_of code below) value)
+    IsStep code
+        (frame_left (state_of code st) job (activity_seen code activity) (frame_of code f) (frames_of code below) value)
     final first third
 unfolding state_of
 left_all code st job activity after f below value opened saved m final first second third o p a t closes settles =
-    let seen : activity_seen code after ≡ after_leaving (activity_seen code activity) (frame_of code f) (frames_of code below) value =
+    let seen : activity_seen code after ≡ after_leaving (activity_seen code activity) (frame_of code f)
+        (frames_of code below) value =
         a ∙ (ap (λ (x : Option ℕ). (let b : Activity = record (activity_seen code activity) {
           frames = returned value (frames_of code below);
           areas = without x activity.areas;
@@ -86,7 +89,9 @@ left_all code st job activity after f below value opened saved m final first sec
     middle final first second third
     (sym (closes (state_of code st)) ∙ ap (closed (state_of code st)) o)
     (t ∙ ap (λ (b : Activity). first ++ tell_priority (state_of code st) job activity.priority b.priority) seen)
-    (subst (λ (b : Activity). IsStep code (settled (state_of code middle) job b value (frames_of code below)) final second third)
+    (subst
+        (λ (b : Activity). IsStep code (settled (state_of code middle) job b value (frames_of code below)) final second
+        third)
     seen (settles (frames_of code below) count))
 
 -- ---- the steps of the code

@@ -49,11 +49,13 @@ made_applied code was acting activity class area slots found middle st before af
   tried = λ f below e.
       let next : State → ℕ → Step = λ s r. silently (with_frame s (job_seen acting.job) (activity_seen code activity)
           (record (frame_of code f) { operands = At r ∷ f.operands }) (frames_of code below)) in
-      let step : Step = allocating (state_of code was) (job_seen acting.job) (activity_seen code activity) acting.place class
+      let step : Step =
+          allocating (state_of code was) (job_seen acting.job) (activity_seen code activity) acting.place class
           f.area slots next in
       try_of code st before after (Some step) step refl
       (same_step code st before after _ step
-      (ap (λ (n : ℕ). allocating (state_of code was) (job_seen acting.job) (activity_seen code activity) acting.place class
+      (ap (λ (n : ℕ). allocating (state_of code was) (job_seen acting.job) (activity_seen code activity) acting.place
+          class
       n slots next) (sym (there f below e))
       ∙ goes_step (state_of code was)
       (allocating (state_of code was) (job_seen acting.job) (activity_seen code activity) acting.place class area slots)

@@ -15,7 +15,8 @@ use Rattle.run_state.specs.Seen.{job_seen, state_of}
 use Rattle.run_state.specs.Steps.{IsApplied, IsStep}
 use Rattle.run_state.proofs.StepLemmas.{applied_as}
 
-module _ (code : Code) (was : RunState) (acting : Acting) (activity : StoredActivity) (g : Frame) (st : RunState) (before after : List Event) where
+module _ (code : Code) (was : RunState) (acting : Acting) (activity : StoredActivity) (g : Frame) (st : RunState)
+    (before after : List Event) where
   pub calls_applied :
       IsStep code
       (called code (state_of code was) (job_seen acting.job) (activity_seen code activity)

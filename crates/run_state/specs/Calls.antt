@@ -39,6 +39,7 @@ settled s job after value below =
 unfoldable pub made_or_full : State → Job → Activity → Frame → List Frame → Pos → Option ℕ → Step
 made_or_full s job activity f below place made =
     elim made [
-      | Some r ↦ silently (with_activity s job (record activity { frames = record f { operands = At r ∷ f.operands } ∷ below }))
+      | Some r ↦ silently
+          (with_activity s job (record activity { frames = record f { operands = At r ∷ f.operands } ∷ below }))
       | None ↦ fault_in s job activity place MemoryFull
     ]

@@ -20,12 +20,14 @@ pub record IsStep (code : Code) (step : Step) (st : RunState) (before after : Li
   pub begun : AreAllBegun code.program.nodes st
 
 -- a step that may have no result: the code answers whether it has one, and if so it is a step
-pub record IsTry (code : Code) (step : Option Step) (answer : Bool) (st : RunState) (before after : List Event) : Type 0 where
+pub record IsTry (code : Code) (step : Option Step) (answer : Bool) (st : RunState) (before after : List Event) : Type 0
+    where
   pub went : answer ≡ is_some step
   pub leads : (done : Step) → step ≡ Some done → IsStep code done st before after
 
 -- what an effect of the highest frame does, if the activity has that frame as the operation left it
-pub record IsApplied (code : Code) (was : RunState) (acting : Acting) (activity : StoredActivity) (effect : Frame → Effect) (answer : Bool) (st : RunState) (before after : List Event) : Type 0 where
+pub record IsApplied (code : Code) (was : RunState) (acting : Acting) (activity : StoredActivity)
+    (effect : Frame → Effect) (answer : Bool) (st : RunState) (before after : List Event) : Type 0 where
   pub tried : (f : StoredFrame) (below : List StoredFrame) → activity.frames ≡ f ∷ below →
       IsTry code
       (applied code (state_of code was) (job_seen acting.job) (activity_seen code activity)
@@ -40,7 +42,8 @@ pub record HasOnTop (code : Code) (g : Frame) (before after : StoredActivity) : 
 
 -- where there is room, a step goes on with what was made, in this state; where there is none it is this fault, and the
 -- state is as it was
-pub record GoesOn (before : State) (step : (State → ℕ → Step) → Step) (fault : Step) (made : Option ℕ) (after : State) : Type 0 where
+pub record GoesOn (before : State) (step : (State → ℕ → Step) → Step) (fault : Step) (made : Option ℕ)
+    (after : State) : Type 0 where
   pub there : (next : State → ℕ → Step) (n : ℕ) → made ≡ Some n → step next ≡ next after n
   pub missing : (next : State → ℕ → Step) → made ≡ None → step next ≡ fault
   pub same : made ≡ None → after ≡ before

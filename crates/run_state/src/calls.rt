@@ -33,8 +33,10 @@ pub fn put_on_top(
     call: NewFrame,
     arguments: Vec<Value>,
 ) -> Result<(), Memory>
-    ensures put { OnOk result (HasOnTop (code_of code.now) (frame_called (code_of code.now) call arguments.items) activity.old activity.new) }
-    ensures begun { AreBegun code.now.nodes activity.old.frames → OnOk result (AreBegun code.now.nodes activity.new.frames) }
+    ensures put { OnOk result
+        (HasOnTop (code_of code.now) (frame_called (code_of code.now) call arguments.items) activity.old activity.new) }
+    ensures begun { AreBegun code.now.nodes activity.old.frames →
+        OnOk result (AreBegun code.now.nodes activity.new.frames) }
 {
     let frame = Frame::new(alloc, code, call, arguments)?;
     activity.frames.push(frame)?;
@@ -43,7 +45,8 @@ pub fn put_on_top(
 
 /// Whether the job had as many frames as it may have before there was the one on top.
 pub(crate) fn was_full(activity: &Activity) -> bool
-    ensures { (code : CodeOfRun) (g : FrameOfRun) (before : StoredActivity) → HasOnTop code g before activity.now → result ≡ is_full (frames_of code before.frames) }
+    ensures { (code : CodeOfRun) (g : FrameOfRun) (before : StoredActivity) → HasOnTop code g before activity.now →
+        result ≡ is_full (frames_of code before.frames) }
 {
     activity.frames.depth() > MOST_FRAMES
 }
@@ -56,7 +59,12 @@ pub(crate) fn refused(
     fault: RunFault,
     told: &mut Vec<Event>,
 ) -> Result<(), Memory>
-    ensures { (code : CodeOfRun) (g : FrameOfRun) (before : StoredActivity) → HasOnTop code g before activity → AreAllBegun code.program.nodes state.old → IfOk result (λ _. IsStep code (fault_in (state_of code state.old) (job_seen acting.job) (activity_seen code before) acting.place fault) state.new told.old.items told.new.items) }
+    ensures { (code : CodeOfRun) (g : FrameOfRun) (before : StoredActivity) → HasOnTop code g before activity →
+        AreAllBegun code.program.nodes state.old →
+        IfOk result
+        (λ _. IsStep code
+        (fault_in (state_of code state.old) (job_seen acting.job) (activity_seen code before) acting.place fault)
+        state.new told.old.items told.new.items) }
 {
     activity.frames.drop_top();
     fault_in(state, acting, &activity, fault, told)?;
@@ -65,7 +73,8 @@ pub(crate) fn refused(
 
 /// The ceiling of the monitor that the frame on top enters, if it enters one.
 fn ceiling_on_top(code: &Code<'_>, state: &RunState, activity: &Activity) -> Option<u8>
-    ensures { (g : FrameOfRun) (before : StoredActivity) → HasOnTop (code_of code.now) g before activity.now → result ≡ ceiling_entered (code_of code.now) (state_of (code_of code.now) state.now) g }
+    ensures { (g : FrameOfRun) (before : StoredActivity) → HasOnTop (code_of code.now) g before activity.now →
+        result ≡ ceiling_entered (code_of code.now) (state_of (code_of code.now) state.now) g }
 {
     match activity.frames.top() {
         Some(frame) => match frame.monitor(code) {
@@ -81,8 +90,13 @@ fn ceiling_on_top(code: &Code<'_>, state: &RunState, activity: &Activity) -> Opt
 
 /// The frame on top keeps the priority, which becomes the ceiling of the monitor that it enters.
 fn enter(activity: &mut Activity, ceiling: u8)
-    ensures entered { (code : CodeOfRun) (g : FrameOfRun) (before : StoredActivity) → HasOnTop code g before activity.old → activity_seen code activity.new ≡ record (activity_seen code before) { frames = record g { saved = Some before.priority } ∷ frames_of code before.frames; priority = ceiling } }
-    ensures begun { (nodes : List SyntaxNode) → AreBegun nodes activity.old.frames → AreBegun nodes activity.new.frames }
+    ensures entered { (code : CodeOfRun) (g : FrameOfRun) (before : StoredActivity) →
+        HasOnTop code g before activity.old →
+        activity_seen code activity.new ≡ record
+        (activity_seen code before) { frames = record g { saved = Some before.priority }
+        ∷ frames_of code before.frames; priority = ceiling } }
+    ensures begun { (nodes : List SyntaxNode) → AreBegun nodes activity.old.frames →
+        AreBegun nodes activity.new.frames }
 {
     save_priority(&mut activity.frames, activity.priority);
     activity.priority = ceiling;
@@ -96,7 +110,11 @@ fn entered(
     ceiling: u8,
     told: &mut Vec<Event>,
 ) -> Result<(), Memory>
-    ensures { (code : CodeOfRun) (g : FrameOfRun) (before : StoredActivity) → HasOnTop code g before activity → AreAllBegun code.program.nodes state.old → AreBegun code.program.nodes activity.frames → IfOk result (λ _. IsStep code (call_entered (state_of code state.old) (job_seen acting.job) (activity_seen code before) (frames_of code before.frames) g ceiling) state.new told.old.items told.new.items) }
+    ensures { (code : CodeOfRun) (g : FrameOfRun) (before : StoredActivity) → HasOnTop code g before activity →
+        AreAllBegun code.program.nodes state.old → AreBegun code.program.nodes activity.frames →
+        IfOk result
+        (λ _. IsStep code (call_entered (state_of code state.old) (job_seen acting.job) (activity_seen code before)
+        (frames_of code before.frames) g ceiling) state.new told.old.items told.new.items) }
 {
     let before = activity.priority;
     enter(&mut activity, ceiling);
@@ -115,7 +133,12 @@ pub fn called(
 ) -> Result<(), Memory>
     requires begun { AreAllBegun code.now.nodes state.old }
     requires frames { AreBegun code.now.nodes activity.frames }
-    ensures { (g : FrameOfRun) (before : StoredActivity) → HasOnTop (code_of code.now) g before activity → IfOk result (λ _. IsStep (code_of code.now) (called (code_of code.now) (state_of (code_of code.now) state.old) (job_seen acting.job) (activity_seen (code_of code.now) before) (frames_of (code_of code.now) before.frames) acting.place g) state.new told.old.items told.new.items) }
+    ensures { (g : FrameOfRun) (before : StoredActivity) → HasOnTop (code_of code.now) g before activity →
+        IfOk result
+        (λ _. IsStep (code_of code.now)
+        (called (code_of code.now) (state_of (code_of code.now) state.old) (job_seen acting.job)
+        (activity_seen (code_of code.now) before) (frames_of (code_of code.now) before.frames) acting.place g) state.new
+        told.old.items told.new.items) }
 {
     if was_full(&activity) {
         refused(state, acting, activity, RunFault::DepthFull, told)?;

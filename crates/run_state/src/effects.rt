@@ -1,5 +1,5 @@
-//! Effects, each done to the state, and the activity put back. The three that ask something of the mission stand with the
-//! mission's steps.
+//! Effects, each done to the state, and the activity put back. The three that ask something of the mission stand with
+//! the mission's steps.
 
 ghost use Rattle.std.specs.Prelude.{◌≡◌, ◌++◌, true, false, List, IfOk};
 ghost use Rattle.scj_model.specs.declared.events.Event.{Event as EventOfRun};
@@ -23,7 +23,9 @@ use scj_model::Event;
 
 /// The frame goes on.
 pub fn goes(state: &mut RunState, acting: Acting, activity: Activity) -> Result<(), Memory>
-    ensures { (code : Code) (told : List EventOfRun) → AreAllBegun code.program.nodes state.old → AreBegun code.program.nodes activity.frames → IfOk result (λ _. IsApplied code state.old acting activity Goes true state.new told told) }
+    ensures { (code : Code) (told : List EventOfRun) → AreAllBegun code.program.nodes state.old →
+        AreBegun code.program.nodes activity.frames →
+        IfOk result (λ _. IsApplied code state.old acting activity Goes true state.new told told) }
 {
     put_back(state, acting.job, activity)?;
     Ok(())
@@ -38,7 +40,10 @@ pub fn prints(
     value: i32,
     told: &mut Vec<Event>,
 ) -> Result<(), Memory>
-    ensures { (code : Code) → AreAllBegun code.program.nodes state.old → AreBegun code.program.nodes activity.frames → IfOk result (λ _. IsApplied code state.old acting activity (λ f. Prints f label value) true state.new told.old.items told.new.items) }
+    ensures { (code : Code) → AreAllBegun code.program.nodes state.old → AreBegun code.program.nodes activity.frames →
+        IfOk result
+        (λ _. IsApplied code state.old acting activity (λ f. Prints f label value) true state.new told.old.items
+        told.new.items) }
 {
     tell(told, Event::Print {
         unit: state.unit,
@@ -57,7 +62,10 @@ pub fn leaves(
     value: Option<Value>,
     told: &mut Vec<Event>,
 ) -> Result<(), Memory>
-    ensures { (code : Code) → AreAllBegun code.program.nodes state.old → AreBegun code.program.nodes activity.frames → IfOk result (λ _. IsApplied code state.old acting activity (λ f. Leaves f value) true state.new told.old.items told.new.items) }
+    ensures { (code : Code) → AreAllBegun code.program.nodes state.old → AreBegun code.program.nodes activity.frames →
+        IfOk result
+        (λ _. IsApplied code state.old acting activity (λ f. Leaves f value) true state.new told.old.items
+        told.new.items) }
 {
     frame_left(state, acting.job, activity, value, told)?;
     Ok(())
@@ -71,7 +79,10 @@ pub fn faults(
     fault: RunFault,
     told: &mut Vec<Event>,
 ) -> Result<(), Memory>
-    ensures { (code : Code) → AreAllBegun code.program.nodes state.old → IfOk result (λ _. IsApplied code state.old acting activity (λ f. Faults fault) true state.new told.old.items told.new.items) }
+    ensures { (code : Code) → AreAllBegun code.program.nodes state.old →
+        IfOk result
+        (λ _. IsApplied code state.old acting activity (λ f. Faults fault) true state.new told.old.items
+        told.new.items) }
 {
     fault_in(state, acting, &activity, fault, told)?;
     Ok(())
@@ -80,7 +91,8 @@ pub fn faults(
 /// It can't be done.
 pub fn is_stuck() -> bool
     ensures went { result ≡ false }
-    ensures applied { (code : Code) (was st : StateOfRun) (acting : ActingOfRun) (activity : StoredActivity) (before after : List EventOfRun) → IsApplied code was acting activity (λ f. Stuck) result st before after }
+    ensures applied { (code : Code) (was st : StateOfRun) (acting : ActingOfRun) (activity : StoredActivity)
+        (before after : List EventOfRun) → IsApplied code was acting activity (λ f. Stuck) result st before after }
 {
     false
 }

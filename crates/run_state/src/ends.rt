@@ -31,7 +31,8 @@ pub(crate) fn close_opened(memory: &mut RunMemory, opened: Option<AreaId>)
 
 /// Closes the area that the frame at a place opened.
 fn close_of(memory: &mut RunMemory, frames: &[Frame], place: usize)
-    ensures { (f : StoredFrame) → Some f ≡ slice_get frames.now place → (s : State) → closed (with_memory s memory.old) f.opened ≡ with_memory s memory.new }
+    ensures { (f : StoredFrame) → Some f ≡ slice_get frames.now place → (s : State) →
+        closed (with_memory s memory.old) f.opened ≡ with_memory s memory.new }
 {
     if let Some(frame) = frames.get(place) {
         close_opened(memory, frame.opened);
@@ -40,7 +41,8 @@ fn close_of(memory: &mut RunMemory, frames: &[Frame], place: usize)
 
 /// Closes the areas that frames opened. The highest frame is the last one.
 fn close_all(memory: &mut RunMemory, frames: &[Frame])
-    ensures { (code : Code) (s : State) → closed_all (with_memory s memory.old) (frames_of code (reverse frames.now)) ≡ with_memory s memory.new }
+    ensures { (code : Code) (s : State) → closed_all (with_memory s memory.old) (frames_of code (reverse frames.now))
+        ≡ with_memory s memory.new }
 {
     let mut left = frames.len();
     while left > 0 {
@@ -51,7 +53,10 @@ fn close_all(memory: &mut RunMemory, frames: &[Frame])
 
 /// The sequencer meets a fault, and the run is over.
 pub fn halted(state: &mut RunState, place: Pos, fault: RunFault, told: &mut Vec<Event>) -> Result<(), Memory>
-    ensures { (code : Code) (activity : ActivityOfRun) → AreAllBegun code.program.nodes state.old → IfOk result (λ _. IsStep code (fault_in (state_of code state.old) TheSequencer activity place fault) state.new told.old.items told.new.items) }
+    ensures { (code : Code) (activity : ActivityOfRun) → AreAllBegun code.program.nodes state.old →
+        IfOk result
+        (λ _. IsStep code (fault_in (state_of code state.old) TheSequencer activity place fault) state.new
+        told.old.items told.new.items) }
 {
     let unit = state.unit;
     tell_two(told, Event::Fault { unit, fault, place }, Event::Halted { unit })?;
@@ -63,7 +68,10 @@ pub fn halted(state: &mut RunState, place: Pos, fault: RunFault, told: &mut Vec<
 
 /// The release at a place has come to its end.
 fn release_ended(state: &mut RunState, release: usize, told: &mut Vec<Event>) -> Result<(), Memory>
-    ensures { (code : Code) (activity : ActivityOfRun) → AreAllBegun code.program.nodes state.old → IfOk result (λ _. IsStep code (job_ended (state_of code state.old) (ReleaseAt release) activity None) state.new told.old.items told.new.items) }
+    ensures { (code : Code) (activity : ActivityOfRun) → AreAllBegun code.program.nodes state.old →
+        IfOk result
+        (λ _. IsStep code (job_ended (state_of code state.old) (ReleaseAt release) activity None) state.new
+        told.old.items told.new.items) }
 {
     tell_end(state, release, told)?;
     state.releases.end(release);
@@ -79,7 +87,11 @@ fn release_broken(
     fault: RunFault,
     told: &mut Vec<Event>,
 ) -> Result<(), Memory>
-    ensures { (code : Code) → AreAllBegun code.program.nodes state.old → IfOk result (λ _. IsStep code (fault_in (state_of code state.old) (ReleaseAt release) (activity_seen code activity.now) place fault) state.new told.old.items told.new.items) }
+    ensures { (code : Code) → AreAllBegun code.program.nodes state.old →
+        IfOk result
+        (λ _. IsStep code
+        (fault_in (state_of code state.old) (ReleaseAt release) (activity_seen code activity.now) place fault) state.new
+        told.old.items told.new.items) }
 {
     let unit = state.unit;
     tell(told, Event::Fault { unit, fault, place })?;
@@ -97,7 +109,11 @@ pub fn fault_in(
     fault: RunFault,
     told: &mut Vec<Event>,
 ) -> Result<(), Memory>
-    ensures { (code : Code) → AreAllBegun code.program.nodes state.old → IfOk result (λ _. IsStep code (fault_in (state_of code state.old) (job_seen acting.job) (activity_seen code activity.now) acting.place fault) state.new told.old.items told.new.items) }
+    ensures { (code : Code) → AreAllBegun code.program.nodes state.old →
+        IfOk result
+        (λ _. IsStep code
+        (fault_in (state_of code state.old) (job_seen acting.job) (activity_seen code activity.now) acting.place fault)
+        state.new told.old.items told.new.items) }
 {
     match acting.job {
         Job::Sequencer => {
@@ -113,7 +129,9 @@ pub fn fault_in(
 
 /// The operation of the sequencer is done, with this value or null.
 fn sequencer_ended(state: &mut RunState, activity: Activity, value: Option<Value>)
-    ensures { (code : Code) → AreAllBegun code.program.nodes state.old → AreBegun code.program.nodes activity.frames → IsStep code (job_ended (state_of code state.old) TheSequencer (activity_seen code activity) value) state.new [] [] }
+    ensures { (code : Code) → AreAllBegun code.program.nodes state.old → AreBegun code.program.nodes activity.frames →
+        IsStep code (job_ended (state_of code state.old) TheSequencer (activity_seen code activity) value) state.new []
+        [] }
 {
     state.activity = activity;
     state.outcome = Some(value.unwrap_or(Value::Null));
@@ -127,7 +145,10 @@ pub fn job_ended(
     value: Option<Value>,
     told: &mut Vec<Event>,
 ) -> Result<(), Memory>
-    ensures { (code : Code) → AreAllBegun code.program.nodes state.old → AreBegun code.program.nodes activity.frames → IfOk result (λ _. IsStep code (job_ended (state_of code state.old) (job_seen job) (activity_seen code activity) value) state.new told.old.items told.new.items) }
+    ensures { (code : Code) → AreAllBegun code.program.nodes state.old → AreBegun code.program.nodes activity.frames →
+        IfOk result
+        (λ _. IsStep code (job_ended (state_of code state.old) (job_seen job) (activity_seen code activity) value)
+        state.new told.old.items told.new.items) }
 {
     match job {
         Job::Sequencer => {

@@ -16,10 +16,13 @@ use std::mem;
 
 /// Takes the activity of a job out of the state, if it is under way. An empty one stays there.
 pub fn take_out(alloc: Global, state: &mut RunState, job: Job) -> Option<Activity>
-    ensures taken { (code : Code) → option_map (activity_seen code) result ≡ activity_of (state_of code state.old) (job_seen job) }
-    ensures left { (code : Code) → OnSome result (state_of code state.new ≡ with_activity (state_of code state.old) (job_seen job) no_activity) }
+    ensures taken { (code : Code) → option_map (activity_seen code) result ≡ activity_of (state_of code state.old)
+        (job_seen job) }
+    ensures left { (code : Code) →
+        OnSome result (state_of code state.new ≡ with_activity (state_of code state.old) (job_seen job) no_activity) }
     ensures begun { (nodes : List SyntaxNode) → AreAllBegun nodes state.old → AreAllBegun nodes state.new }
-    ensures frames { (nodes : List SyntaxNode) → AreAllBegun nodes state.old → IfSome result (λ activity. AreBegun nodes activity.frames) }
+    ensures frames { (nodes : List SyntaxNode) → AreAllBegun nodes state.old →
+        IfSome result (λ activity. AreBegun nodes activity.frames) }
 {
     match job {
         Job::Sequencer => Some(mem::replace(&mut state.activity, Activity::empty(alloc))),
@@ -30,8 +33,12 @@ pub fn take_out(alloc: Global, state: &mut RunState, job: Job) -> Option<Activit
 /// Gives a job its activity.
 #[tactic(auto, unfolding(crate::specs::Seen::state_of, scj_model::specs::State::with_activity))]
 pub fn put_back(state: &mut RunState, job: Job, activity: Activity) -> Result<(), Memory>
-    ensures put { (code : Code) → OnOk result (state_of code state.new ≡ with_activity (state_of code state.old) (job_seen job) (activity_seen code activity)) }
-    ensures begun { (nodes : List SyntaxNode) → AreAllBegun nodes state.old → AreBegun nodes activity.frames → OnOk result (AreAllBegun nodes state.new) }
+    ensures put { (code : Code) →
+        OnOk result
+        (state_of code state.new ≡ with_activity (state_of code state.old) (job_seen job)
+        (activity_seen code activity)) }
+    ensures begun { (nodes : List SyntaxNode) → AreAllBegun nodes state.old → AreBegun nodes activity.frames →
+        OnOk result (AreAllBegun nodes state.new) }
 {
     match job {
         Job::Sequencer => {

@@ -30,8 +30,10 @@ struct Left {
 
 /// What the highest frame gives back.
 fn left_by(activity: &Activity) -> Result<Left, Memory>
-    ensures opened { (f : StoredFrame) (below : List StoredFrame) → activity.now.frames ≡ f ∷ below → IfOk result (λ left. left.opened ≡ f.opened) }
-    ensures saved { (f : StoredFrame) (below : List StoredFrame) → activity.now.frames ≡ f ∷ below → IfOk result (λ left. left.saved ≡ f.saved) }
+    ensures opened { (f : StoredFrame) (below : List StoredFrame) → activity.now.frames ≡ f ∷ below →
+        IfOk result (λ left. left.opened ≡ f.opened) }
+    ensures saved { (f : StoredFrame) (below : List StoredFrame) → activity.now.frames ≡ f ∷ below →
+        IfOk result (λ left. left.saved ≡ f.saved) }
 {
     match activity.frames.top() {
         Some(frame) => Ok(Left {
@@ -44,8 +46,12 @@ fn left_by(activity: &Activity) -> Result<Left, Memory>
 
 /// Gives the frame that is the highest now the value with which the one above left.
 fn give_back(activity: &mut Activity, value: Option<Value>) -> Result<(), Memory>
-    ensures given { (code : Code) → OnOk result (activity_seen code activity.new ≡ record (activity_seen code activity.old) { frames = returned value (frames_of code activity.old.frames) }) }
-    ensures begun { (nodes : List SyntaxNode) → AreBegun nodes activity.old.frames → AreBegun nodes activity.new.frames }
+    ensures given { (code : Code) →
+        OnOk result
+        (activity_seen code activity.new ≡ record (activity_seen code activity.old)
+        { frames = returned value (frames_of code activity.old.frames) }) }
+    ensures begun { (nodes : List SyntaxNode) → AreBegun nodes activity.old.frames →
+        AreBegun nodes activity.new.frames }
 {
     match value {
         Some(value) => {
@@ -58,8 +64,13 @@ fn give_back(activity: &mut Activity, value: Option<Value>) -> Result<(), Memory
 
 /// Takes the highest frame away, with what it gives back.
 fn step_down(activity: &mut Activity, left: Left, value: Option<Value>) -> Result<(), Memory>
-    ensures after { (code : Code) (f : StoredFrame) (below : List StoredFrame) → activity.old.frames ≡ f ∷ below → OnOk result (activity_seen code activity.new ≡ record (activity_seen code activity.old) { frames = returned value (frames_of code below); areas = without left.opened activity.old.areas; priority = unwrap_or left.saved activity.old.priority }) }
-    ensures begun { (nodes : List SyntaxNode) → AreBegun nodes activity.old.frames → AreBegun nodes activity.new.frames }
+    ensures after { (code : Code) (f : StoredFrame) (below : List StoredFrame) → activity.old.frames ≡ f ∷ below →
+        OnOk result
+        (activity_seen code activity.new ≡ record (activity_seen code activity.old)
+        { frames = returned value (frames_of code below); areas = without left.opened activity.old.areas;
+        priority = unwrap_or left.saved activity.old.priority }) }
+    ensures begun { (nodes : List SyntaxNode) → AreBegun nodes activity.old.frames →
+        AreBegun nodes activity.new.frames }
 {
     activity.frames.drop_top();
     activity.areas.remove(left.opened);
@@ -76,7 +87,11 @@ fn settle(
     value: Option<Value>,
     told: &mut Vec<Event>,
 ) -> Result<(), Memory>
-    ensures { (code : Code) (below : List FrameOfRun) → length below ≡ length activity.frames → AreAllBegun code.program.nodes state.old → AreBegun code.program.nodes activity.frames → IfOk result (λ _. IsStep code (settled (state_of code state.old) (job_seen job) (activity_seen code activity) value below) state.new told.old.items told.new.items) }
+    ensures { (code : Code) (below : List FrameOfRun) → length below ≡ length activity.frames →
+        AreAllBegun code.program.nodes state.old → AreBegun code.program.nodes activity.frames →
+        IfOk result
+        (λ _. IsStep code (settled (state_of code state.old) (job_seen job) (activity_seen code activity) value below)
+        state.new told.old.items told.new.items) }
 {
     if activity.frames.depth() == 0 {
         job_ended(state, job, activity, value, told)?;
@@ -96,7 +111,12 @@ pub fn frame_left(
     value: Option<Value>,
     told: &mut Vec<Event>,
 ) -> Result<(), Memory>
-    ensures { (code : Code) (f : StoredFrame) (below : List StoredFrame) → activity.frames ≡ f ∷ below → AreAllBegun code.program.nodes state.old → AreBegun code.program.nodes activity.frames → IfOk result (λ _. IsStep code (frame_left (state_of code state.old) (job_seen job) (activity_seen code activity) (frame_of code f) (frames_of code below) value) state.new told.old.items told.new.items) }
+    ensures { (code : Code) (f : StoredFrame) (below : List StoredFrame) → activity.frames ≡ f ∷ below →
+        AreAllBegun code.program.nodes state.old → AreBegun code.program.nodes activity.frames →
+        IfOk result
+        (λ _. IsStep code
+        (frame_left (state_of code state.old) (job_seen job) (activity_seen code activity) (frame_of code f)
+        (frames_of code below) value) state.new told.old.items told.new.items) }
 {
     let left = left_by(&activity)?;
     let before = activity.priority;

@@ -13,13 +13,18 @@ ghost use Rattle.run_state.specs.Seen.{AreAllBegun, state_of};
 ghost use Rattle.run_state.specs.Steps.{GoesOn};
 
 use crate::states::{NewArea, NewArray, NewObject, RunState};
-use scj_base::{AreaId, Memory, Ref};
+use scj_base::{AreaId, Memory, Ref, Value};
+use scj_rules::SlotKind;
 use std::alloc::Global;
 use value_operators::default_of;
 
 /// Opens an area, if the store has room for it. Where it has none, nothing is changed, and there is a fault to tell.
 pub fn open_area(state: &mut RunState, area: NewArea) -> Result<Option<AreaId>, Memory>
-    ensures opened { (code : Code) (job : JobOfRun) (activity : ActivityOfRun) (place : PosOfRun) → IfOk result (λ opened. GoesOn (state_of code state.old) (opening (state_of code state.old) job activity place area.scope area.parent area.bytes) (fault_in (state_of code state.old) job activity place StoreFull) opened (state_of code state.new)) }
+    ensures opened { (code : Code) (job : JobOfRun) (activity : ActivityOfRun) (place : PosOfRun) →
+        IfOk result
+        (λ opened. GoesOn (state_of code state.old)
+        (opening (state_of code state.old) job activity place area.scope area.parent area.bytes)
+        (fault_in (state_of code state.old) job activity place StoreFull) opened (state_of code state.new)) }
     ensures begun { (nodes : List SyntaxNode) → AreAllBegun nodes state.old → AreAllBegun nodes state.new }
 {
     if !state.memory.has_store_for(area.bytes) {
@@ -41,7 +46,12 @@ fn count_slots(object: &NewObject) -> Result<usize, Memory>
 
 /// Makes an object, if its area has room for it. Where it has none, nothing is changed, and there is a fault to tell.
 pub fn make_object(state: &mut RunState, area: AreaId, object: NewObject) -> Result<Option<Ref>, Memory>
-    ensures made { (code : Code) (job : JobOfRun) (activity : ActivityOfRun) (place : PosOfRun) → IfOk result (λ made. GoesOn (state_of code state.old) (allocating (state_of code state.old) job activity place object.class area (hidden_slots object.hidden.items ++ object.values.items)) (fault_in (state_of code state.old) job activity place MemoryFull) made (state_of code state.new)) }
+    ensures made { (code : Code) (job : JobOfRun) (activity : ActivityOfRun) (place : PosOfRun) →
+        IfOk result
+        (λ made. GoesOn (state_of code state.old)
+        (allocating (state_of code state.old) job activity place object.class area (hidden_slots object.hidden.items
+        ++ object.values.items)) (fault_in (state_of code state.old) job activity place MemoryFull) made
+        (state_of code state.new)) }
     ensures begun { (nodes : List SyntaxNode) → AreAllBegun nodes state.old → AreAllBegun nodes state.new }
 {
     let count = count_slots(&object)?;
@@ -52,6 +62,14 @@ pub fn make_object(state: &mut RunState, area: AreaId, object: NewObject) -> Res
     Ok(Some(made))
 }
 
+/// So many elements, each with the default of its kind.
+fn elements_of(alloc: Global, kind: SlotKind, count: usize) -> Result<Vec<Value>, Memory>
+    ensures { IfOk result (λ elements. elements.items ≡ new_elements kind count) }
+{
+    let elements = vec![in alloc; default_of(kind); count]?;
+    Ok(elements)
+}
+
 /// Makes an array of elements that have the default of their kind, if its area has room for it. Where it has none,
 /// nothing is changed, and there is a fault to tell.
 pub fn make_array(
@@ -60,14 +78,19 @@ pub fn make_array(
     area: AreaId,
     array: NewArray,
 ) -> Result<Option<Ref>, Memory>
-    ensures made { (code : Code) (job : JobOfRun) (activity : ActivityOfRun) (place : PosOfRun) → IfOk result (λ made. GoesOn (state_of code state.old) (allocating (state_of code state.old) job activity place array.class area (new_elements array.kind array.count)) (fault_in (state_of code state.old) job activity place MemoryFull) made (state_of code state.new)) }
+    ensures made { (code : Code) (job : JobOfRun) (activity : ActivityOfRun) (place : PosOfRun) →
+        IfOk result
+        (λ made. GoesOn (state_of code state.old)
+        (allocating (state_of code state.old) job activity place array.class area (new_elements array.kind array.count))
+        (fault_in (state_of code state.old) job activity place MemoryFull) made (state_of code state.new)) }
     ensures begun { (nodes : List SyntaxNode) → AreAllBegun nodes state.old → AreAllBegun nodes state.new }
 {
     let count = array.count as usize;
     if !state.memory.has_room(area, count) {
         return Ok(None);
     }
-    let elements = vec![in alloc; default_of(array.kind); count]?;
-    let made = state.memory.make(array.class, area, Vec::new(alloc), elements)?;
+    let elements = elements_of(alloc, array.kind, count)?;
+    let hidden = Vec::new(alloc);
+    let made = state.memory.make(array.class, area, hidden, elements)?;
     Ok(Some(made))
 }

@@ -31,8 +31,13 @@ fn is_cycle(state: &RunState, activity: &Activity, scope: ScopeId) -> bool
 
 /// The frame on top has opened an area, and makes its objects there.
 fn move_in(activity: &mut Activity, area: AreaId) -> Result<(), Memory>
-    ensures moved { (code : Code) (g : FrameOfRun) (before : StoredActivity) → HasOnTop code g before activity.old → OnOk result (activity_seen code activity.new ≡ record (activity_seen code before) { frames = record g { area = area; opened = Some area } ∷ frames_of code before.frames; areas = area ∷ before.areas }) }
-    ensures begun { (nodes : List SyntaxNode) → AreBegun nodes activity.old.frames → AreBegun nodes activity.new.frames }
+    ensures moved { (code : Code) (g : FrameOfRun) (before : StoredActivity) → HasOnTop code g before activity.old →
+        OnOk result
+        (activity_seen code activity.new ≡ record
+        (activity_seen code before) { frames = record g { area = area; opened = Some area }
+        ∷ frames_of code before.frames; areas = area ∷ before.areas }) }
+    ensures begun { (nodes : List SyntaxNode) → AreBegun nodes activity.old.frames →
+        AreBegun nodes activity.new.frames }
 {
     move_into(&mut activity.frames, area);
     activity.areas.push(area)?;
@@ -41,7 +46,8 @@ fn move_in(activity: &mut Activity, area: AreaId) -> Result<(), Memory>
 
 /// The area in which the frame on top makes objects.
 fn area_on_top(activity: &Activity) -> Option<AreaId>
-    ensures { (code : Code) (g : FrameOfRun) (before : StoredActivity) → HasOnTop code g before activity.now → result ≡ Some g.area }
+    ensures { (code : Code) (g : FrameOfRun) (before : StoredActivity) → HasOnTop code g before activity.now →
+        result ≡ Some g.area }
 {
     match activity.frames.top() {
         Some(frame) => Some(frame.area),
@@ -57,7 +63,12 @@ fn opened_on_top(
     area: NewArea,
     told: &mut Vec<Event>,
 ) -> Result<(), Memory>
-    ensures { (code : Code) (g : FrameOfRun) (before : StoredActivity) → HasOnTop code g before activity → AreAllBegun code.program.nodes state.old → AreBegun code.program.nodes activity.frames → IfOk result (λ _. IsStep code (call_opened (state_of code state.old) (job_seen acting.job) (activity_seen code before) (frames_of code before.frames) acting.place g area.scope area.parent area.bytes) state.new told.old.items told.new.items) }
+    ensures { (code : Code) (g : FrameOfRun) (before : StoredActivity) → HasOnTop code g before activity →
+        AreAllBegun code.program.nodes state.old → AreBegun code.program.nodes activity.frames →
+        IfOk result
+        (λ _. IsStep code (call_opened (state_of code state.old) (job_seen acting.job) (activity_seen code before)
+        (frames_of code before.frames) acting.place g area.scope area.parent area.bytes) state.new told.old.items
+        told.new.items) }
 {
     match open_area(state, area)? {
         Some(opened) => {
@@ -81,7 +92,11 @@ pub fn opened_in(
     bytes: u64,
     told: &mut Vec<Event>,
 ) -> Result<(), Memory>
-    ensures { (code : Code) (g : FrameOfRun) (before : StoredActivity) → HasOnTop code g before activity → AreAllBegun code.program.nodes state.old → AreBegun code.program.nodes activity.frames → IfOk result (λ _. IsStep code (opened_in (state_of code state.old) (job_seen acting.job) (activity_seen code before) (frames_of code before.frames) acting.place g scope bytes) state.new told.old.items told.new.items) }
+    ensures { (code : Code) (g : FrameOfRun) (before : StoredActivity) → HasOnTop code g before activity →
+        AreAllBegun code.program.nodes state.old → AreBegun code.program.nodes activity.frames →
+        IfOk result
+        (λ _. IsStep code (opened_in (state_of code state.old) (job_seen acting.job) (activity_seen code before)
+        (frames_of code before.frames) acting.place g scope bytes) state.new told.old.items told.new.items) }
 {
     if is_cycle(state, &activity, scope) {
         refused(state, acting, activity, RunFault::ScopedCycle, told)?;

@@ -30,7 +30,10 @@ pub fn stores(
     slot: usize,
     value: Value,
 ) -> Result<(), Memory>
-    ensures { (code : Code) (told : List EventOfRun) → AreAllBegun code.program.nodes state.old → AreBegun code.program.nodes activity.frames → IfOk result (λ _. IsApplied code state.old acting activity (λ f. Stores f r slot value) true state.new told told) }
+    ensures { (code : Code) (told : List EventOfRun) → AreAllBegun code.program.nodes state.old →
+        AreBegun code.program.nodes activity.frames →
+        IfOk result
+        (λ _. IsApplied code state.old acting activity (λ f. Stores f r slot value) true state.new told told) }
 {
     state.memory.set_slot(r, slot, value)?;
     put_back(state, acting.job, activity)?;
@@ -45,7 +48,10 @@ pub fn stores_static(
     place: usize,
     value: Value,
 ) -> Result<(), Memory>
-    ensures { (code : Code) (told : List EventOfRun) → AreAllBegun code.program.nodes state.old → AreBegun code.program.nodes activity.frames → IfOk result (λ _. IsApplied code state.old acting activity (λ f. StoresStatic f place value) true state.new told told) }
+    ensures { (code : Code) (told : List EventOfRun) → AreAllBegun code.program.nodes state.old →
+        AreBegun code.program.nodes activity.frames →
+        IfOk result
+        (λ _. IsApplied code state.old acting activity (λ f. StoresStatic f place value) true state.new told told) }
 {
     state.memory.set_static(place, value);
     put_back(state, acting.job, activity)?;
@@ -60,7 +66,11 @@ pub fn sets_hidden(
     r: Ref,
     hidden: Vec<u64>,
 ) -> Result<(), Memory>
-    ensures { (code : Code) (told : List EventOfRun) → AreAllBegun code.program.nodes state.old → AreBegun code.program.nodes activity.frames → IfOk result (λ _. IsApplied code state.old acting activity (λ f. SetsHidden f r (hidden_slots hidden.items)) true state.new told told) }
+    ensures { (code : Code) (told : List EventOfRun) → AreAllBegun code.program.nodes state.old →
+        AreBegun code.program.nodes activity.frames →
+        IfOk result
+        (λ _. IsApplied code state.old acting activity (λ f. SetsHidden f r (hidden_slots hidden.items)) true state.new
+        told told) }
 {
     state.memory.set_hidden(r, hidden)?;
     put_back(state, acting.job, activity)?;
@@ -76,7 +86,10 @@ pub fn sets_ceiling(
     ceiling: u8,
     told: &mut Vec<Event>,
 ) -> Result<(), Memory>
-    ensures { (code : Code) → AreAllBegun code.program.nodes state.old → AreBegun code.program.nodes activity.frames → IfOk result (λ _. IsApplied code state.old acting activity (λ f. SetsCeiling f r ceiling) true state.new told.old.items told.new.items) }
+    ensures { (code : Code) → AreAllBegun code.program.nodes state.old → AreBegun code.program.nodes activity.frames →
+        IfOk result
+        (λ _. IsApplied code state.old acting activity (λ f. SetsCeiling f r ceiling) true state.new told.old.items
+        told.new.items) }
 {
     match acting.job {
         Job::Sequencer => {
@@ -93,7 +106,8 @@ pub fn sets_ceiling(
 
 /// The area in which the highest frame makes objects.
 fn area_of(activity: &Activity) -> Result<AreaId, Memory>
-    ensures { (f : StoredFrame) (below : List StoredFrame) → activity.now.frames ≡ f ∷ below → IfOk result (λ area. area ≡ f.area) }
+    ensures { (f : StoredFrame) (below : List StoredFrame) → activity.now.frames ≡ f ∷ below →
+        IfOk result (λ area. area ≡ f.area) }
 {
     match activity.frames.top() {
         Some(frame) => Ok(frame.area),
@@ -109,7 +123,11 @@ fn made(
     made: Option<Ref>,
     told: &mut Vec<Event>,
 ) -> Result<(), Memory>
-    ensures { (code : Code) → AreAllBegun code.program.nodes state.old → AreBegun code.program.nodes activity.frames → (f : StoredFrame) (below : List StoredFrame) → activity.frames ≡ f ∷ below → IfOk result (λ _. IsStep code (made_or_full (state_of code state.old) (job_seen acting.job) (activity_seen code activity) (frame_of code f) (frames_of code below) acting.place made) state.new told.old.items told.new.items) }
+    ensures { (code : Code) → AreAllBegun code.program.nodes state.old → AreBegun code.program.nodes activity.frames →
+        (f : StoredFrame) (below : List StoredFrame) → activity.frames ≡ f ∷ below →
+        IfOk result
+        (λ _. IsStep code (made_or_full (state_of code state.old) (job_seen acting.job) (activity_seen code activity)
+        (frame_of code f) (frames_of code below) acting.place made) state.new told.old.items told.new.items) }
 {
     match made {
         Some(r) => {
@@ -132,7 +150,11 @@ pub fn makes(
     object: NewObject,
     told: &mut Vec<Event>,
 ) -> Result<(), Memory>
-    ensures { (code : Code) → AreAllBegun code.program.nodes state.old → AreBegun code.program.nodes activity.frames → IfOk result (λ _. IsApplied code state.old acting activity (λ f. Makes f object.class (hidden_slots object.hidden.items ++ object.values.items)) true state.new told.old.items told.new.items) }
+    ensures { (code : Code) → AreAllBegun code.program.nodes state.old → AreBegun code.program.nodes activity.frames →
+        IfOk result
+        (λ _. IsApplied code state.old acting activity
+        (λ f. Makes f object.class (hidden_slots object.hidden.items ++ object.values.items)) true state.new
+        told.old.items told.new.items) }
 {
     let area = area_of(&activity)?;
     let found = make_object(state, area, object)?;
@@ -149,7 +171,10 @@ pub fn makes_array(
     array: NewArray,
     told: &mut Vec<Event>,
 ) -> Result<(), Memory>
-    ensures { (code : Code) → AreAllBegun code.program.nodes state.old → AreBegun code.program.nodes activity.frames → IfOk result (λ _. IsApplied code state.old acting activity (λ f. Makes f array.class (new_elements array.kind array.count)) true state.new told.old.items told.new.items) }
+    ensures { (code : Code) → AreAllBegun code.program.nodes state.old → AreBegun code.program.nodes activity.frames →
+        IfOk result
+        (λ _. IsApplied code state.old acting activity (λ f. Makes f array.class (new_elements array.kind array.count))
+        true state.new told.old.items told.new.items) }
 {
     let area = area_of(&activity)?;
     let found = make_array(alloc, state, area, array)?;

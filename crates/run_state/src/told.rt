@@ -31,7 +31,9 @@ pub fn tell_two(told: &mut Vec<Event>, first: Event, second: Event) -> Result<()
 
 /// Tells that the release at a place ends.
 pub(crate) fn tell_end(state: &RunState, place: usize, told: &mut Vec<Event>) -> Result<(), Memory>
-    ensures { (code : Code) → OnOk result (told.new.items ≡ told.old.items ++ of_release (state_of code state.now) (ReleaseAt place) (λ r. End state.now.unit r.handler r.number ∷ [])) }
+    ensures { (code : Code) →
+        OnOk result (told.new.items ≡ told.old.items ++ of_release (state_of code state.now) (ReleaseAt place)
+        (λ r. End state.now.unit r.handler r.number ∷ [])) }
 {
     match state.releases.release(place) {
         Some(release) => {
@@ -45,7 +47,9 @@ pub(crate) fn tell_end(state: &RunState, place: usize, told: &mut Vec<Event>) ->
 
 /// Tells another priority of the release at a place.
 fn tell_priority_of(state: &RunState, place: usize, priority: u8, told: &mut Vec<Event>) -> Result<(), Memory>
-    ensures { (code : Code) → OnOk result (told.new.items ≡ told.old.items ++ of_release (state_of code state.now) (ReleaseAt place) (λ r. Prio state.now.unit r.handler priority ∷ [])) }
+    ensures { (code : Code) →
+        OnOk result (told.new.items ≡ told.old.items ++ of_release (state_of code state.now) (ReleaseAt place)
+        (λ r. Prio state.now.unit r.handler priority ∷ [])) }
 {
     match state.releases.release(place) {
         Some(release) => {
@@ -58,7 +62,8 @@ fn tell_priority_of(state: &RunState, place: usize, priority: u8, told: &mut Vec
 }
 
 /// Tells the active priority of a release where it is another one than before.
-#[tactic(auto, using(crate::proofs::TellLemmas::told_same, crate::proofs::TellLemmas::told_other), unfolding(crate::specs::Seen::state_of))]
+#[tactic(auto, using(crate::proofs::TellLemmas::told_same, crate::proofs::TellLemmas::told_other),
+    unfolding(crate::specs::Seen::state_of))]
 pub(crate) fn tell_priority(
     state: &RunState,
     job: Job,
@@ -66,7 +71,9 @@ pub(crate) fn tell_priority(
     after: u8,
     told: &mut Vec<Event>,
 ) -> Result<(), Memory>
-    ensures { (code : Code) → OnOk result (told.new.items ≡ told.old.items ++ tell_priority (state_of code state.now) (job_seen job) before after) }
+    ensures { (code : Code) →
+        OnOk result
+        (told.new.items ≡ told.old.items ++ tell_priority (state_of code state.now) (job_seen job) before after) }
 {
     if before == after {
         return Ok(());

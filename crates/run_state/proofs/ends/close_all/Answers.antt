@@ -13,7 +13,9 @@ loop-left-preserved c =
     record {
       within = omega (arith, c.loop-left.invariant.within);
       same = λ code s. c.loop-left.invariant.same code s
-          ∙ (ap (λ (n : ℕ). closed_all (with_memory s c.loop-left.memory) (frames_of code (reverse (take n c.args.frames.now)))) one
+          ∙ (ap
+              (λ (n : ℕ). closed_all (with_memory s c.loop-left.memory)
+              (frames_of code (reverse (take n c.args.frames.now)))) one
           ∙ closed_next code s c.loop-left.memory c.close_of.new.memory c.args.frames.now (c.loop-left.left - 1)
           (omega (arith, one, c.loop-left.invariant.within)) c.close_of.ensures);
     }
