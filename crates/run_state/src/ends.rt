@@ -1,6 +1,6 @@
 //! A job ends: it leaves its last frame, or meets a fault.
 
-ghost use Rattle.std.specs.Prelude.{◌≡◌, ◌∷◌, ◌++◌, [], IfOk, None, Some, reverse, slice_get};
+ghost use Rattle.std.specs.Prelude.{◌≡◌, ◌∷◌, ◌++◌, [], IfOk, None, Some, option_copied, reverse, slice_get};
 ghost use Rattle.scj_model.specs.Code.{Code};
 ghost use Rattle.scj_model.specs.State.{Activity as ActivityOfRun, ReleaseAt, State, TheSequencer};
 ghost use Rattle.scj_model.specs.Memory.{closed};
@@ -29,12 +29,19 @@ pub(crate) fn close_opened(memory: &mut RunMemory, opened: Option<AreaId>)
     }
 }
 
+/// The frame at a place, if there is one.
+fn frame_at(frames: &[Frame], place: usize) -> Option<&Frame>
+    ensures { option_copied result ≡ slice_get frames.now place }
+{
+    frames.get(place)
+}
+
 /// Closes the area that the frame at a place opened.
 fn close_of(memory: &mut RunMemory, frames: &[Frame], place: usize)
     ensures { (f : StoredFrame) → Some f ≡ slice_get frames.now place → (s : State) →
         closed (with_memory s memory.old) f.opened ≡ with_memory s memory.new }
 {
-    if let Some(frame) = frames.get(place) {
+    if let Some(frame) = frame_at(frames, place) {
         close_opened(memory, frame.opened);
     }
 }

@@ -119,11 +119,11 @@ pub fn frame_left(
         (frames_of code below) value) state.new told.old.items told.new.items) }
 {
     let left = left_by(&activity)?;
+    let opened = left.opened;
     let before = activity.priority;
     step_down(&mut activity, left, value)?;
     let after = activity.priority;
     tell_priority(state, job, before, after, told)?;
-    let opened = left.opened;
     close_opened(&mut state.memory, opened);
     settle(state, job, activity, value, told)?;
     Ok(())

@@ -2,6 +2,7 @@ use Rattle.std.specs.Prelude.{Some, None, true, false, nat_lt}
 use Rattle.std.proofs.Common.{◌≡◌, ◌∙◌, ap, rules, sym}
 use Rattle.std.proofs.lemmas.Bool.{le-ltb, lt-ltb}
 use Rattle.std.proofs.lemmas.List.{append-nil}
+use Rattle.scj_rules.specs.Contexts.{declarations_of}
 use Rattle.scj_model.specs.Code.{code_of}
 use Rattle.scj_model.specs.State.{Activity, with_activity}
 use Rattle.scj_model.specs.Apply.{ceiling_entered, is_full}
@@ -13,6 +14,7 @@ use Rattle.run_state.proofs.StepLemmas.{same_step}
 use Rattle.run_state.proofs.calls.called.Goals as goal
 
 pub returns-then-was_full : goal.returns-then-was_full
+unfolding code_of declarations_of
 returns-then-was_full c = λ g before h.
     let code = code_of c.args.code.now in
     let full : c.was_full.result ≡ true = search rules in
@@ -22,6 +24,7 @@ returns-then-was_full c = λ g before h.
     (c.in_ok-refused.ensures code g before h c.requires.begun)
 
 pub returns-in_ok-put_back-in-None : goal.returns-in_ok-put_back-in-None
+unfolding code_of declarations_of
 returns-in_ok-put_back-in-None c = λ g before h.
     let code = code_of c.args.code.now in
     let few : c.was_full.result ≡ false = search rules in
@@ -38,10 +41,11 @@ returns-in_ok-put_back-in-None c = λ g before h.
     })
 
 pub returns-in_ok-refused-in-Some : goal.returns-in_ok-refused-in-Some
+unfolding code_of declarations_of
 returns-in_ok-refused-in-Some c = λ g before h.
     let code = code_of c.args.code.now in
     let few : c.was_full.result ≡ false = search rules in
-    same_step code c.refused-in-Some.new.state c.args.told.now.items c.refused-in-Some.new.told.items _ _
+    same_step code c.refused-then-ceiling-activity.new.state c.args.told.now.items c.refused-then-ceiling-activity.new.told.items _ _
     (called_above code (state_of code c.args.state.now) (job_seen c.args.acting.job) (activity_seen code before)
     (frames_of code before.frames) c.args.acting.place g c.in-Some.ceiling
     (sym (c.was_full.ensures code g before h) ∙ few) (sym (c.in-Some.ensures g before h))
@@ -50,6 +54,7 @@ returns-in_ok-refused-in-Some c = λ g before h.
     (c.in_ok-refused-in-Some.ensures code g before h c.requires.begun)
 
 pub returns-in_ok-entered-in-Some : goal.returns-in_ok-entered-in-Some
+unfolding code_of declarations_of
 returns-in_ok-entered-in-Some c = λ g before h.
     let code = code_of c.args.code.now in
     let few : c.was_full.result ≡ false = search rules in

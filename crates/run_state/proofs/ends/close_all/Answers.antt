@@ -1,4 +1,4 @@
-use Rattle.std.proofs.Common.{◌≡◌, ◌∙◌, ◌-◌, ℕ, suc, List, reverse, take, ap, sym, arith}
+use Rattle.std.proofs.Common.{◌≡◌, ◌∙◌, ◌-◌, ℕ, suc, List, length, reverse, take, ap, sym, arith}
 use Rattle.std.proofs.lemmas.List.{take_all}
 use Rattle.scj_model.specs.Steps.{closed_all}
 use Rattle.job_frames.specs.declared.frames.Frame.{Frame as StoredFrame}
@@ -9,9 +9,9 @@ use Rattle.run_state.proofs.ends.close_all.Goals as goal
 
 pub loop-left-init : goal.loop-left-init
 loop-left-init c = record {
-  within = omega (arith, c.len.ensures);
+  within = omega arith;
   same = λ code s. ap (λ (fs : List StoredFrame). closed_all (with_memory s c.args.memory.now) (frames_of code (reverse fs)))
-      (sym (take_all c.len.result c.args.frames.now (omega (arith, c.len.ensures))));
+      (sym (take_all (length c.args.frames.now) c.args.frames.now (omega arith)));
 }
 
 pub loop-left-preserved : goal.loop-left-preserved

@@ -29,7 +29,7 @@ returns-then-was_full c = λ code g before h begun frames.
     (ap (λ (a : StoredActivity). is_some (area_with_scope (state_of code c.args.state.now) c.args.scope a.areas))
     (sym h.whole) ∙ (sym (c.is_cycle.ensures code) ∙ other))
     (sym (c.was_full.ensures code g before h) ∙ full))
-    (c.in_ok-refused-then-was_full.ensures code g before h begun)
+    (c.in_ok-refused-2.ensures code g before h begun)
 
 pub returns : goal.returns
 returns c = λ code g before h begun frames.
