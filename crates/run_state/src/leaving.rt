@@ -44,6 +44,17 @@ fn left_by(activity: &Activity) -> Result<Left, Memory>
     }
 }
 
+/// The area that the highest frame opened.
+fn opened_by(activity: &Activity) -> Result<Option<AreaId>, Memory>
+    ensures { (f : StoredFrame) (below : List StoredFrame) → activity.now.frames ≡ f ∷ below →
+        IfOk result (λ opened. opened ≡ f.opened) }
+{
+    match activity.frames.top() {
+        Some(frame) => Ok(frame.opened),
+        None => Err(Memory),
+    }
+}
+
 /// Gives the frame that is the highest now the value with which the one above left.
 fn give_back(activity: &mut Activity, value: Option<Value>) -> Result<(), Memory>
     ensures given { (code : Code) →
@@ -119,7 +130,7 @@ pub fn frame_left(
         (frames_of code below) value) state.new told.old.items told.new.items) }
 {
     let left = left_by(&activity)?;
-    let opened = left.opened;
+    let opened = opened_by(&activity)?;
     let before = activity.priority;
     step_down(&mut activity, left, value)?;
     let after = activity.priority;
