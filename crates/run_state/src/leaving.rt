@@ -133,8 +133,7 @@ pub fn frame_left(
     let opened = opened_by(&activity)?;
     let before = activity.priority;
     step_down(&mut activity, left, value)?;
-    let after = activity.priority;
-    tell_priority(state, job, before, after, told)?;
+    tell_priority(state, job, before, activity.priority, told)?;
     close_opened(&mut state.memory, opened);
     settle(state, job, activity, value, told)?;
     Ok(())
