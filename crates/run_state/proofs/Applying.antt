@@ -1,0 +1,87 @@
+-- What an effect leads to depends on the highest frame of the activity by the area alone that this frame opened: so the
+-- frame may stand there as it was before the operation, or as the operation left it.
+use Rattle.std.specs.Prelude.{Option, Some, None, is_some, if◌then◌else◌, nat_lt, option_map}
+use Rattle.std.proofs.Common.{◌≡◌, ◌∙◌, ℕ, List, [], ◌∷◌, refl, ap, sym}
+use Rattle.scj_base.specs.declared.places.Pos.{Pos}
+use Rattle.scj_base.specs.declared.faults.RunFault.{RunFault}
+use Rattle.scj_base.specs.declared.faults.RunFault.TheVariants.{MemoryFull, StoreFull, NotInitializing, TooManyHandlers, DepthFull, CeilingViolation, ScopedCycle}
+use Rattle.scj_base.specs.declared.values.Value.{Value}
+use Rattle.scj_model.specs.declared.events.Event.{Event}
+use Rattle.scj_model.specs.declared.events.Event.TheVariants.{Fault, End}
+use Rattle.scj_model.specs.Code.{Code}
+use Rattle.scj_model.specs.State.{Frame, Activity, Object, Ended, Release, Job, TheSequencer, ReleaseAt, State, object_at, with_activity, with_status}
+use Rattle.scj_model.specs.Memory.{closed}
+use Rattle.scj_model.specs.Steps.{Step, allocating, closed_all, fault_in, of_release, opening, silently, telling}
+use Rattle.scj_model.specs.Effects.{Effect, Goes, Prints, Makes, Stores, StoresStatic, SetsHidden, SetsCeiling, Calls, Opens, Leaves, AsksRegistration, AsksRelease, AsksTermination, Faults, Stuck}
+use Rattle.scj_model.specs.Apply.{applied, called, ceiling_entered, frame_left, is_full, opened_in, registered, tell_priority, with_frame}
+
+module _ (code : Code) (s : State) (job : Job) (activity : Activity) (below : List Frame) (place : Pos) where
+  abbrev pub topped : Frame → Activity
+  topped f = record activity { frames = f ∷ below }
+
+  fault_alike : (f g : Frame) (fault : RunFault) → f.opened ≡ g.opened →
+      fault_in s job (topped f) place fault ≡ fault_in s job (topped g) place fault
+  unfolding fault_in closed_all
+  fault_alike f g fault e = go job
+    where
+      go : (j : Job) → fault_in s j (topped f) place fault ≡ fault_in s j (topped g) place fault
+      go TheSequencer = refl
+      go (ReleaseAt n) =
+          ap (λ (o : Option ℕ). telling (with_status (closed_all (closed s o) below) n Ended)
+          (Fault s.unit fault place ∷ of_release s (ReleaseAt n) (λ (r : Release). End s.unit r.handler r.number ∷ [])))
+              e
+
+  registered_alike : (f g : Frame) (r : ℕ) (o : Object) (after : State) → f.opened ≡ g.opened →
+      registered code s job (topped f) place r o after ≡ registered code s job (topped g) place r o after
+  unfolding registered
+  registered_alike f g r o after e =
+      rw (fault_alike f g NotInitializing e, fault_alike f g TooManyHandlers e) refl
+
+  abbrev called_by : Frame → Frame → Activity → Option ℕ → Step
+  called_by h k a found =
+      if is_full (h ∷ below) then fault_in s job a place DepthFull
+      else (elim found [
+        | None ↦ silently (with_activity s job (record a { frames = k ∷ h ∷ below }))
+        | Some ceiling ↦
+            if nat_lt ceiling a.priority then fault_in s job a place CeilingViolation
+            else telling
+            (with_activity s job (record a {
+              frames = record k { saved = Some a.priority } ∷ h ∷ below;
+              priority = ceiling;
+            }))
+            (tell_priority s job a.priority ceiling)
+      ])
+
+  called_alike : (f g h k : Frame) → f.opened ≡ g.opened → (found : Option ℕ) →
+      called_by h k (topped f) found ≡ called_by h k (topped g) found
+  called_alike f g h k e None = rw (fault_alike f g DepthFull e) refl
+  called_alike f g h k e (Some ceiling) =
+      rw (fault_alike f g DepthFull e, fault_alike f g CeilingViolation e) refl
+
+  pub applied_alike : (f g : Frame) → f.opened ≡ g.opened → (effect : Effect) →
+      applied code s job (topped f) below place effect ≡ applied code s job (topped g) below place effect
+  unfolding applied allocating called opened_in opening frame_left
+  applied_alike f g e (Goes h) = refl
+  applied_alike f g e (Prints h label value) = refl
+  applied_alike f g e (Makes h class slots) = rw (fault_alike f g MemoryFull e) refl
+  applied_alike f g e (Stores h r slot value) = refl
+  applied_alike f g e (StoresStatic h n value) = refl
+  applied_alike f g e (SetsHidden h r values) = refl
+  applied_alike f g e (SetsCeiling h r ceiling) = rw (fault_alike f g NotInitializing e) refl
+  applied_alike f g e (Calls h k) =
+      ap (λ (t : Step). Some t) (called_alike f g h k e (ceiling_entered code s k))
+  applied_alike f g e (Opens h k scope bytes) =
+      rw (fault_alike f g ScopedCycle e, fault_alike f g DepthFull e, fault_alike f g StoreFull e) refl
+  applied_alike f g e (Leaves h value) = refl
+  applied_alike f g e (AsksRegistration h r) = go (object_at s r)
+    where
+      go : (o : Option Object) →
+          option_map (λ (x : Object). registered code s job (topped f) place r x (with_frame s job activity h below)) o
+          ≡ option_map (λ (x : Object). registered code s job (topped g) place r x (with_frame s job activity h below))
+              o
+      go None = refl
+      go (Some x) = ap (λ (t : Step). Some t) (registered_alike f g r x (with_frame s job activity h below) e)
+  applied_alike f g e (AsksRelease h r) = refl
+  applied_alike f g e (AsksTermination h r) = refl
+  applied_alike f g e (Faults fault) = ap (λ (t : Step). Some t) (fault_alike f g fault e)
+  applied_alike f g e Stuck = refl

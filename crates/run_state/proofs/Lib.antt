@@ -1,0 +1,14 @@
+pub mod Applying
+pub mod Begun
+pub mod CallLemmas
+pub mod EndLemmas
+pub mod JobLemmas
+pub mod LeavingLemmas
+pub mod MakingLemmas
+pub mod OpeningLemmas
+pub mod RoomLemmas
+pub mod Rows
+pub mod SeenLemmas
+pub mod StepLemmas
+pub mod TellLemmas
+pub mod TopEffects

@@ -1,0 +1,29 @@
+-- Lists that are seen through a map: what is at a place of them, and a change of one element.
+use Rattle.std.specs.Prelude.{Option, Some, None, slice_get, slice_set, map, option_map}
+use Rattle.std.proofs.Common.{◌≡◌, ◌∙◌, ℕ, zero, suc, List, [], ◌∷◌, refl, ap, sym}
+use Rattle.scj_model.specs.State.{changed}
+use Rattle.run_memory.proofs.ChangedLists.{changed_there, changed_nowhere}
+
+module _ {A B : Type 0} where
+  pub get_map : (g : A → B) (xs : List A) (n : ℕ) → slice_get (map g xs) n ≡ option_map g (slice_get xs n)
+  get_map g [] n = refl
+  get_map g (x ∷ xs) zero = refl
+  get_map g (x ∷ xs) (suc n) = get_map g xs n
+
+  pub set_map : (g : A → B) (xs : List A) (n : ℕ) (y : A) → map g (slice_set xs n y) ≡ slice_set (map g xs) n (g y)
+  set_map g [] n y = refl
+  set_map g (x ∷ xs) zero y = refl
+  set_map g (x ∷ xs) (suc n) y = ap (λ (zs : List B). g x ∷ zs) (set_map g xs n y)
+
+  pub changed_map : (g : A → B) (f : A → A) (h : B → B) (n : ℕ) (xs : List A) → ((x : A) → g (f x) ≡ h (g x)) →
+      map g (changed f n xs) ≡ changed h n (map g xs)
+  changed_map g f h n xs same = go (slice_get xs n) refl
+    where
+      go : (o : Option A) → slice_get xs n ≡ o → map g (changed f n xs) ≡ changed h n (map g xs)
+      go None e =
+          ap (map g) (changed_nowhere f n xs e)
+          ∙ sym (changed_nowhere h n (map g xs) (get_map g xs n ∙ ap (option_map g) e))
+      go (Some x) e =
+          ap (map g) (changed_there f n xs x e) ∙ (set_map g xs n (f x)
+          ∙ (ap (slice_set (map g xs) n) (same x)
+          ∙ sym (changed_there h n (map g xs) (g x) (get_map g xs n ∙ ap (option_map g) e))))

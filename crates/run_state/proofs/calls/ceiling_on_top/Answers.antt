@@ -1,0 +1,32 @@
+use Rattle.std.specs.Prelude.{Some, None}
+use Rattle.std.proofs.Common.{◌∙◌, ap}
+use Rattle.scj_model.specs.Code.{code_of}
+use Rattle.scj_model.specs.Effects.{monitor_of}
+use Rattle.scj_model.specs.State.{Frame}
+use Rattle.run_state.specs.Seen.{state_of}
+use Rattle.run_state.proofs.CallLemmas.{ceiling_there, no_monitor, no_object, top_is}
+use Rattle.run_state.proofs.calls.ceiling_on_top.Goals as goal
+
+pub returns-in-Some-object : goal.returns-in-Some-object
+unfolding state_of
+returns-in-Some-object c = λ g before h.
+    let same = top_is (code_of c.args.code.now) g before c.args.activity.now c.in-Some.frame.now h c.in-Some.ensures in
+    ap Some c.ceiling.ensures
+        ∙ ceiling_there (code_of c.args.code.now) (state_of (code_of c.args.code.now) c.args.state.now) g
+    c.in-Some-monitor.r c.in-Some-object.object.now
+    (c.in-Some-monitor.ensures ∙ ap (λ (f : Frame). monitor_of (code_of c.args.code.now) f) same)
+        c.in-Some-object.ensures
+
+pub returns-in-None-object : goal.returns-in-None-object
+unfolding state_of
+returns-in-None-object c = λ g before h.
+    let same = top_is (code_of c.args.code.now) g before c.args.activity.now c.in-Some.frame.now h c.in-Some.ensures in
+    no_object (code_of c.args.code.now) (state_of (code_of c.args.code.now) c.args.state.now) g c.in-Some-monitor.r
+    (c.in-Some-monitor.ensures ∙ ap (λ (f : Frame). monitor_of (code_of c.args.code.now) f) same)
+        c.in-None-object.ensures
+
+pub returns-in-None-monitor : goal.returns-in-None-monitor
+returns-in-None-monitor c = λ g before h.
+    let same = top_is (code_of c.args.code.now) g before c.args.activity.now c.in-Some.frame.now h c.in-Some.ensures in
+    no_monitor (code_of c.args.code.now) (state_of (code_of c.args.code.now) c.args.state.now) g
+    (c.in-None-monitor.ensures ∙ ap (λ (f : Frame). monitor_of (code_of c.args.code.now) f) same)

@@ -1,0 +1,13 @@
+use Rattle.std.specs.Prelude.{Some}
+use Rattle.std.proofs.Common.{refl}
+use Rattle.job_frames.specs.Frames.{frame_of, frames_of}
+use Rattle.run_state.proofs.StepLemmas.{try_of}
+use Rattle.scj_model.specs.Apply.{applied}
+use Rattle.run_state.proofs.effects.leaves.Goals as goal
+
+pub returns : goal.returns
+unfolding applied
+returns c = λ code begun frames. record {
+  tried = λ f below e. try_of code c.frame_left.new.state c.args.told.now.items c.frame_left.new.told.items _ _ refl
+      (c.in_ok-frame_left.ensures code f below e begun frames);
+}

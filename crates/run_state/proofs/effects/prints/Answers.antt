@@ -1,0 +1,24 @@
+use Rattle.std.proofs.Common.{◌≡◌, ◌∙◌, [], ap, refl, sym}
+use Rattle.std.proofs.lemmas.List.{append-nil}
+use Rattle.scj_model.specs.State.{with_activity}
+use Rattle.scj_model.specs.Apply.{applied, with_ceiling, with_first}
+use Rattle.scj_model.specs.Memory.{with_slot}
+use Rattle.run_memory.specs.Contents.{Contents, hidden_slots}
+use Rattle.run_state.specs.declared.states.RunState.{RunState}
+use Rattle.run_state.specs.Seen.{job_seen, state_of}
+use Rattle.run_state.proofs.StepLemmas.{applied_as, applied_on_memory, applied_telling, memory_begun}
+use Rattle.std.proofs.Common.{◌∷◌, ◌++◌, ℤ, rules}
+use Rattle.scj_model.specs.declared.events.Event.TheVariants.{Print}
+use Rattle.scj_model.specs.Effects.{Prints}
+use Rattle.run_state.proofs.effects.prints.Goals as goal
+
+pub returns : goal.returns
+unfolding applied state_of
+returns c = λ code begun frames.
+    applied_telling code c.args.state.now c.args.acting c.args.activity (λ f. Prints f c.args.label c.args.value)
+    c.put_back.new.state c.args.told.now.items c.tell.new.told.items
+    (state_of code c.args.state.now) (Print c.args.state.now.unit c.args.label c.args.value ∷ []) (λ f below. refl)
+    (c.in_ok-put_back.ensures.put code)
+        (c.in_ok-tell.ensures
+        ∙ ap (λ (v : ℤ). c.args.told.now.items ++ (Print c.args.state.now.unit c.args.label v ∷ [])) (search rules))
+    (c.in_ok-put_back.ensures.begun code.program.nodes begun frames)

@@ -1,0 +1,12 @@
+use Rattle.std.proofs.Common.{refl}
+use Rattle.scj_model.specs.Steps.{fault_in}
+use Rattle.run_state.specs.Seen.{state_of}
+use Rattle.run_state.proofs.ends.halted.Goals as goal
+
+pub returns : goal.returns
+unfolding fault_in state_of
+returns c = λ code activity begun. record {
+  state = refl;
+  told = c.in_ok-tell_two.ensures;
+  begun = record { sequencer = begun.sequencer; releases = begun.releases };
+}

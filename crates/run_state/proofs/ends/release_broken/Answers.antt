@@ -1,0 +1,15 @@
+use Rattle.std.proofs.Common.{List, ap, sym, ◌∙◌}
+use Rattle.scj_model.specs.Steps.{closed_all}
+use Rattle.job_frames.specs.declared.frames.Frame.{Frame as StoredFrame}
+use Rattle.job_frames.specs.Frames.{frames_of}
+use Rattle.run_memory.specs.Contents.{with_memory}
+use Rattle.run_state.proofs.EndLemmas.{release_at_fault}
+use Rattle.run_state.proofs.ends.release_broken.Goals as goal
+
+pub returns : goal.returns
+returns c = λ code begun.
+    release_at_fault code c.args.state.now c.args.release c.end.new.self c.args.told.now.items c.tell_end.new.told.items
+    c.close_all.new.memory c.args.activity.now c.args.place c.args.fault c.tell.new.told.items
+    (λ s. ap (λ (fs : List StoredFrame). closed_all (with_memory s c.args.state.now.memory) (frames_of code fs))
+    (sym c.in_order.ensures) ∙ c.close_all.ensures code s)
+    c.end.ensures.ended c.in_ok-tell.ensures (c.in_ok-tell_end.ensures code) begun

@@ -1,0 +1,35 @@
+use Rattle.std.proofs.Common.{◌∙◌, ap, sym}
+use Rattle.std.proofs.lemmas.List.{append-nil}
+use Rattle.scj_model.specs.State.{Activity, with_activity}
+use Rattle.job_frames.specs.Frames.{activity_seen, frames_of}
+use Rattle.run_state.specs.Seen.{job_seen, state_of}
+use Rattle.run_state.proofs.OpeningLemmas.{opened_step, unopened_step}
+use Rattle.run_state.proofs.openings.opened_on_top.Goals as goal
+
+pub returns-in_ok-put_back-in-Some : goal.returns-in_ok-put_back-in-Some
+returns-in_ok-put_back-in-Some c = λ code g before h begun frames.
+    opened_step code (state_of code c.args.state.now) (job_seen c.args.acting.job) (activity_seen code before)
+    (frames_of code before.frames) c.args.acting.place g c.args.area.scope c.args.area.parent c.args.area.bytes
+    (state_of code c.open_area.new.state) c.put_back.new.state c.args.told.now.items c.args.told.now.items
+        c.in-Some.opened
+    (rw c.in-Some.is at
+        (c.in_ok-opened.ensures.opened code (job_seen c.args.acting.job)
+        (activity_seen code before) c.args.acting.place))
+    (record {
+      state = c.in_ok-put_back-in-Some.ensures.put code ∙ ap (λ (a : Activity).
+          with_activity (state_of code c.open_area.new.state) (job_seen c.args.acting.job) a)
+          (c.in_ok-move_in-in-Some.ensures.moved code g before h);
+      told = sym (append-nil c.args.told.now.items);
+      begun = c.in_ok-put_back-in-Some.ensures.begun code.program.nodes
+          (c.open_area.ensures.begun code.program.nodes begun) (c.move_in.ensures.begun code.program.nodes frames);
+    })
+
+pub returns-in_ok-refused-in-None : goal.returns-in_ok-refused-in-None
+returns-in_ok-refused-in-None c = λ code g before h begun frames.
+    unopened_step code (state_of code c.args.state.now) (job_seen c.args.acting.job) (activity_seen code before)
+    (frames_of code before.frames) c.args.acting.place g c.args.area.scope c.args.area.parent c.args.area.bytes
+    (state_of code c.open_area.new.state) c.refused.new.state c.args.told.now.items c.refused.new.told.items
+    (rw c.in-None.is at
+        (c.in_ok-opened.ensures.opened code (job_seen c.args.acting.job)
+        (activity_seen code before) c.args.acting.place))
+    (c.in_ok-refused-in-None.ensures code g before h (c.open_area.ensures.begun code.program.nodes begun))

@@ -1,0 +1,15 @@
+use Rattle.run_memory.specs.Contents.{hidden_slots}
+use Rattle.std.proofs.Common.{◌++◌}
+use Rattle.run_state.specs.Seen.{job_seen}
+use Rattle.job_frames.specs.Frames.{activity_seen}
+use Rattle.run_state.proofs.MakingLemmas.{made_applied}
+use Rattle.run_state.proofs.stores.makes.Goals as goal
+
+pub returns : goal.returns
+returns c = λ code begun frames.
+    made_applied code c.args.state.now c.args.acting c.args.activity c.args.object.class c.in_ok-area.area
+    (hidden_slots c.args.object.hidden.items ++ c.args.object.values.items) c.in_ok-found.found c.make_object.new.state
+    c.made.new.state c.args.told.now.items c.made.new.told.items c.in_ok-area.ensures
+    (c.in_ok-found.ensures.made code (job_seen c.args.acting.job) (activity_seen code c.args.activity)
+        c.args.acting.place)
+    (λ f below e. c.in_ok-made.ensures code (c.make_object.ensures.begun code.program.nodes begun) frames f below e)

@@ -1,0 +1,27 @@
+use Rattle.std.proofs.Common.{◌≡◌, ◌∙◌, [], ap, refl, sym}
+use Rattle.std.proofs.lemmas.List.{append-nil}
+use Rattle.scj_model.specs.State.{with_activity}
+use Rattle.scj_model.specs.Apply.{applied, with_ceiling, with_first}
+use Rattle.scj_model.specs.Memory.{with_slot}
+use Rattle.run_memory.specs.Contents.{Contents, hidden_slots}
+use Rattle.run_state.specs.declared.states.RunState.{RunState}
+use Rattle.run_state.specs.Seen.{job_seen, state_of}
+use Rattle.run_state.proofs.StepLemmas.{applied_as, applied_on_memory, applied_telling, memory_begun}
+use Rattle.scj_model.specs.Effects.{SetsHidden}
+use Rattle.scj_model.specs.State.{changed}
+use Rattle.run_state.proofs.stores.sets_hidden.Goals as goal
+
+pub returns : goal.returns
+unfolding applied state_of
+returns c = λ code told begun frames.
+    applied_on_memory code c.args.state.now c.args.acting c.args.activity
+        (λ f. SetsHidden f c.args.r (hidden_slots c.args.hidden.items))
+    c.set_hidden.new.self c.put_back.new.state told
+    (record
+        (state_of code c.args.state.now) { objects = changed (with_first (hidden_slots c.args.hidden.items)) c.args.r
+        (state_of code c.args.state.now).objects }) (λ f below. refl)
+    (ap (λ (m : Contents). state_of code (let st : RunState = record c.args.state.now { memory = m } in st))
+        c.in_ok-set_hidden.ensures.ok)
+    (c.in_ok-put_back.ensures.put code)
+    (c.in_ok-put_back.ensures.begun code.program.nodes
+        (memory_begun code.program.nodes c.args.state.now c.set_hidden.new.self begun) frames)

@@ -1,0 +1,98 @@
+//! Effects, each done to the state, and the activity put back. The three that ask something of the mission stand with
+//! the mission's steps.
+
+ghost use Rattle.std.specs.Prelude.{◌≡◌, ◌++◌, true, false, List, IfOk};
+ghost use Rattle.scj_model.specs.declared.events.Event.{Event as EventOfRun};
+ghost use Rattle.scj_model.specs.Code.{Code};
+ghost use Rattle.scj_model.specs.Effects.{Faults, Goes, Leaves, Prints, Stuck};
+ghost use Rattle.job_frames.specs.declared.activities.Activity.{Activity as StoredActivity};
+ghost use Rattle.job_frames.specs.Frames.{AreBegun};
+ghost use Rattle.run_state.specs.declared.states.Acting.{Acting as ActingOfRun};
+ghost use Rattle.run_state.specs.declared.states.RunState.{RunState as StateOfRun};
+ghost use Rattle.run_state.specs.Seen.{AreAllBegun};
+ghost use Rattle.run_state.specs.Steps.{IsApplied};
+
+use crate::ends::fault_in;
+use crate::jobs::put_back;
+use crate::leaving::frame_left;
+use crate::states::{Acting, RunState};
+use crate::told::tell;
+use job_frames::Activity;
+use scj_base::{Memory, NodeId, RunFault, Value};
+use scj_model::Event;
+
+/// The frame goes on.
+pub fn goes(state: &mut RunState, acting: Acting, activity: Activity) -> Result<(), Memory>
+    ensures { (code : Code) (told : List EventOfRun) → AreAllBegun code.program.nodes state.old →
+        AreBegun code.program.nodes activity.frames →
+        IfOk result (λ _. IsApplied code state.old acting activity Goes true state.new told told) }
+{
+    put_back(state, acting.job, activity)?;
+    Ok(())
+}
+
+/// It prints.
+pub fn prints(
+    state: &mut RunState,
+    acting: Acting,
+    activity: Activity,
+    label: NodeId,
+    value: i32,
+    told: &mut Vec<Event>,
+) -> Result<(), Memory>
+    ensures { (code : Code) → AreAllBegun code.program.nodes state.old → AreBegun code.program.nodes activity.frames →
+        IfOk result
+        (λ _. IsApplied code state.old acting activity (λ f. Prints f label value) true state.new told.old.items
+        told.new.items) }
+{
+    tell(told, Event::Print {
+        unit: state.unit,
+        label,
+        value,
+    })?;
+    put_back(state, acting.job, activity)?;
+    Ok(())
+}
+
+/// It leaves.
+pub fn leaves(
+    state: &mut RunState,
+    acting: Acting,
+    activity: Activity,
+    value: Option<Value>,
+    told: &mut Vec<Event>,
+) -> Result<(), Memory>
+    ensures { (code : Code) → AreAllBegun code.program.nodes state.old → AreBegun code.program.nodes activity.frames →
+        IfOk result
+        (λ _. IsApplied code state.old acting activity (λ f. Leaves f value) true state.new told.old.items
+        told.new.items) }
+{
+    frame_left(state, acting.job, activity, value, told)?;
+    Ok(())
+}
+
+/// A fault.
+pub fn faults(
+    state: &mut RunState,
+    acting: Acting,
+    activity: Activity,
+    fault: RunFault,
+    told: &mut Vec<Event>,
+) -> Result<(), Memory>
+    ensures { (code : Code) → AreAllBegun code.program.nodes state.old →
+        IfOk result
+        (λ _. IsApplied code state.old acting activity (λ f. Faults fault) true state.new told.old.items
+        told.new.items) }
+{
+    fault_in(state, acting, &activity, fault, told)?;
+    Ok(())
+}
+
+/// It can't be done.
+pub fn is_stuck() -> bool
+    ensures went { result ≡ false }
+    ensures applied { (code : Code) (was st : StateOfRun) (acting : ActingOfRun) (activity : StoredActivity)
+        (before after : List EventOfRun) → IsApplied code was acting activity (λ f. Stuck) result st before after }
+{
+    false
+}

@@ -1,0 +1,170 @@
+//! A job ends: it leaves its last frame, or meets a fault.
+
+ghost use Rattle.std.specs.Prelude.{◌≡◌, ◌∷◌, ◌++◌, [], IfOk, None, Some, option_copied, reverse, slice_get};
+ghost use Rattle.scj_model.specs.Code.{Code};
+ghost use Rattle.scj_model.specs.State.{Activity as ActivityOfRun, ReleaseAt, State, TheSequencer};
+ghost use Rattle.scj_model.specs.Memory.{closed};
+ghost use Rattle.scj_model.specs.Steps.{closed_all, fault_in, job_ended};
+ghost use Rattle.job_frames.specs.declared.frames.Frame.{Frame as StoredFrame};
+ghost use Rattle.job_frames.specs.Frames.{AreBegun, activity_seen, frames_of};
+ghost use Rattle.run_memory.specs.Contents.{with_memory};
+ghost use Rattle.run_state.specs.Seen.{AreAllBegun, job_seen, state_of};
+ghost use Rattle.run_state.specs.Steps.{IsStep};
+
+use crate::states::{Acting, Job, RunState};
+use crate::told::{tell, tell_end, tell_two};
+use job_frames::{Activity, Frame};
+use run_memory::RunMemory;
+use scj_base::{AreaId, Memory, Pos, RunFault, Value};
+use scj_model::{Event, Phase, SeqOp};
+
+/// Closes the area that a frame opened, if it opened one.
+#[tactic(auto, unfolding(scj_model::specs::Memory::closed))]
+pub(crate) fn close_opened(memory: &mut RunMemory, opened: Option<AreaId>)
+    ensures { (s : State) → closed (with_memory s memory.old) opened ≡ with_memory s memory.new }
+{
+    match opened {
+        Some(area) => memory.close(area),
+        None => {}
+    }
+}
+
+/// The frame at a place, if there is one.
+fn frame_at(frames: &[Frame], place: usize) -> Option<&Frame>
+    ensures { option_copied result ≡ slice_get frames.now place }
+{
+    frames.get(place)
+}
+
+/// Closes the area that the frame at a place opened.
+fn close_of(memory: &mut RunMemory, frames: &[Frame], place: usize)
+    ensures { (f : StoredFrame) → Some f ≡ slice_get frames.now place → (s : State) →
+        closed (with_memory s memory.old) f.opened ≡ with_memory s memory.new }
+{
+    if let Some(frame) = frame_at(frames, place) {
+        close_opened(memory, frame.opened);
+    }
+}
+
+/// Closes the areas that frames opened. The highest frame is the last one.
+fn close_all(memory: &mut RunMemory, frames: &[Frame])
+    ensures { (code : Code) (s : State) → closed_all (with_memory s memory.old) (frames_of code (reverse frames.now))
+        ≡ with_memory s memory.new }
+{
+    let mut left = frames.len();
+    while left > 0 {
+        left -= 1;
+        close_of(memory, frames, left);
+    }
+}
+
+/// The sequencer meets a fault, and the run is over.
+pub fn halted(state: &mut RunState, place: Pos, fault: RunFault, told: &mut Vec<Event>) -> Result<(), Memory>
+    ensures { (code : Code) (activity : ActivityOfRun) → AreAllBegun code.program.nodes state.old →
+        IfOk result
+        (λ _. IsStep code (fault_in (state_of code state.old) TheSequencer activity place fault) state.new
+        told.old.items told.new.items) }
+{
+    let unit = state.unit;
+    tell_two(told, Event::Fault { unit, fault, place }, Event::Halted { unit })?;
+    state.phase = Phase::Over;
+    state.operation = SeqOp::Finished;
+    state.outcome = None;
+    Ok(())
+}
+
+/// The release at a place has come to its end.
+fn release_ended(state: &mut RunState, release: usize, told: &mut Vec<Event>) -> Result<(), Memory>
+    ensures { (code : Code) (activity : ActivityOfRun) → AreAllBegun code.program.nodes state.old →
+        IfOk result
+        (λ _. IsStep code (job_ended (state_of code state.old) (ReleaseAt release) activity None) state.new
+        told.old.items told.new.items) }
+{
+    tell_end(state, release, told)?;
+    state.releases.end(release);
+    Ok(())
+}
+
+/// A release meets a fault: its frames are dropped, and the areas that they opened are closed.
+fn release_broken(
+    state: &mut RunState,
+    release: usize,
+    activity: &Activity,
+    place: Pos,
+    fault: RunFault,
+    told: &mut Vec<Event>,
+) -> Result<(), Memory>
+    ensures { (code : Code) → AreAllBegun code.program.nodes state.old →
+        IfOk result
+        (λ _. IsStep code
+        (fault_in (state_of code state.old) (ReleaseAt release) (activity_seen code activity.now) place fault) state.new
+        told.old.items told.new.items) }
+{
+    let unit = state.unit;
+    tell(told, Event::Fault { unit, fault, place })?;
+    tell_end(state, release, told)?;
+    close_all(&mut state.memory, activity.frames.in_order());
+    state.releases.end(release);
+    Ok(())
+}
+
+/// A fault ends a release, and halts the run of the sequencer.
+pub fn fault_in(
+    state: &mut RunState,
+    acting: Acting,
+    activity: &Activity,
+    fault: RunFault,
+    told: &mut Vec<Event>,
+) -> Result<(), Memory>
+    ensures { (code : Code) → AreAllBegun code.program.nodes state.old →
+        IfOk result
+        (λ _. IsStep code
+        (fault_in (state_of code state.old) (job_seen acting.job) (activity_seen code activity.now) acting.place fault)
+        state.new told.old.items told.new.items) }
+{
+    match acting.job {
+        Job::Sequencer => {
+            halted(state, acting.place, fault, told)?;
+            Ok(())
+        }
+        Job::Release(release) => {
+            release_broken(state, release, activity, acting.place, fault, told)?;
+            Ok(())
+        }
+    }
+}
+
+/// The operation of the sequencer is done, with this value or null.
+fn sequencer_ended(state: &mut RunState, activity: Activity, value: Option<Value>)
+    ensures { (code : Code) → AreAllBegun code.program.nodes state.old → AreBegun code.program.nodes activity.frames →
+        IsStep code (job_ended (state_of code state.old) TheSequencer (activity_seen code activity) value) state.new []
+        [] }
+{
+    state.activity = activity;
+    state.outcome = Some(value.unwrap_or(Value::Null));
+}
+
+/// A job has left its last frame.
+pub fn job_ended(
+    state: &mut RunState,
+    job: Job,
+    activity: Activity,
+    value: Option<Value>,
+    told: &mut Vec<Event>,
+) -> Result<(), Memory>
+    ensures { (code : Code) → AreAllBegun code.program.nodes state.old → AreBegun code.program.nodes activity.frames →
+        IfOk result
+        (λ _. IsStep code (job_ended (state_of code state.old) (job_seen job) (activity_seen code activity) value)
+        state.new told.old.items told.new.items) }
+{
+    match job {
+        Job::Sequencer => {
+            sequencer_ended(state, activity, value);
+            Ok(())
+        }
+        Job::Release(release) => {
+            release_ended(state, release, told)?;
+            Ok(())
+        }
+    }
+}

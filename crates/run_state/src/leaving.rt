@@ -1,0 +1,141 @@
+//! A frame leaves (JSR 302: ManagedMemory, priority ceiling emulation).
+
+ghost use Rattle.std.specs.Prelude.{◌≡◌, ◌∷◌, List, IfOk, OnOk, length, unwrap_or};
+ghost use Rattle.scj_tree.specs.declared.nodes.Node.{Node as SyntaxNode};
+ghost use Rattle.scj_model.specs.Code.{Code};
+ghost use Rattle.scj_model.specs.State.{Frame as FrameOfRun};
+ghost use Rattle.scj_model.specs.Apply.{frame_left, returned, without};
+ghost use Rattle.job_frames.specs.declared.frames.Frame.{Frame as StoredFrame};
+ghost use Rattle.job_frames.specs.Frames.{AreBegun, activity_seen, frame_of, frames_of};
+ghost use Rattle.run_state.specs.Seen.{AreAllBegun, job_seen, state_of};
+ghost use Rattle.run_state.specs.Steps.{IsStep};
+ghost use Rattle.run_state.specs.Calls.{settled};
+
+use crate::ends::{close_opened, job_ended};
+use crate::jobs::put_back;
+use crate::states::{Job, RunState};
+use crate::told::tell_priority;
+use job_frames::Activity;
+use scj_base::{AreaId, Memory, Value};
+use scj_model::Event;
+
+/// What a frame gives back when it leaves.
+#[derive(Clone, Copy)]
+struct Left {
+    /// The area that it opened.
+    opened: Option<AreaId>,
+    /// The priority that it saved.
+    saved: Option<u8>,
+}
+
+/// What the highest frame gives back.
+fn left_by(activity: &Activity) -> Result<Left, Memory>
+    ensures opened { (f : StoredFrame) (below : List StoredFrame) → activity.now.frames ≡ f ∷ below →
+        IfOk result (λ left. left.opened ≡ f.opened) }
+    ensures saved { (f : StoredFrame) (below : List StoredFrame) → activity.now.frames ≡ f ∷ below →
+        IfOk result (λ left. left.saved ≡ f.saved) }
+{
+    match activity.frames.top() {
+        Some(frame) => Ok(Left {
+            opened: frame.opened,
+            saved: frame.saved,
+        }),
+        None => Err(Memory),
+    }
+}
+
+/// The area that the highest frame opened.
+fn opened_by(activity: &Activity) -> Result<Option<AreaId>, Memory>
+    ensures { (f : StoredFrame) (below : List StoredFrame) → activity.now.frames ≡ f ∷ below →
+        IfOk result (λ opened. opened ≡ f.opened) }
+{
+    match activity.frames.top() {
+        Some(frame) => Ok(frame.opened),
+        None => Err(Memory),
+    }
+}
+
+/// Gives the frame that is the highest now the value with which the one above left.
+fn give_back(activity: &mut Activity, value: Option<Value>) -> Result<(), Memory>
+    ensures given { (code : Code) →
+        OnOk result
+        (activity_seen code activity.new ≡ record (activity_seen code activity.old)
+        { frames = returned value (frames_of code activity.old.frames) }) }
+    ensures begun { (nodes : List SyntaxNode) → AreBegun nodes activity.old.frames →
+        AreBegun nodes activity.new.frames }
+{
+    match value {
+        Some(value) => {
+            activity.frames.push_on_top(value)?;
+            Ok(())
+        }
+        None => Ok(()),
+    }
+}
+
+/// Takes the highest frame away, with what it gives back.
+fn step_down(activity: &mut Activity, left: Left, value: Option<Value>) -> Result<(), Memory>
+    ensures after { (code : Code) (f : StoredFrame) (below : List StoredFrame) → activity.old.frames ≡ f ∷ below →
+        OnOk result
+        (activity_seen code activity.new ≡ record (activity_seen code activity.old)
+        { frames = returned value (frames_of code below); areas = without left.opened activity.old.areas;
+        priority = unwrap_or left.saved activity.old.priority }) }
+    ensures begun { (nodes : List SyntaxNode) → AreBegun nodes activity.old.frames →
+        AreBegun nodes activity.new.frames }
+{
+    activity.frames.drop_top();
+    activity.areas.remove(left.opened);
+    activity.priority = left.saved.unwrap_or(activity.priority);
+    give_back(activity, value)?;
+    Ok(())
+}
+
+/// After a frame has left, the job ends where it was the last one.
+fn settle(
+    state: &mut RunState,
+    job: Job,
+    activity: Activity,
+    value: Option<Value>,
+    told: &mut Vec<Event>,
+) -> Result<(), Memory>
+    ensures { (code : Code) (below : List FrameOfRun) → length below ≡ length activity.frames →
+        AreAllBegun code.program.nodes state.old → AreBegun code.program.nodes activity.frames →
+        IfOk result
+        (λ _. IsStep code (settled (state_of code state.old) (job_seen job) (activity_seen code activity) value below)
+        state.new told.old.items told.new.items) }
+{
+    if activity.frames.depth() == 0 {
+        job_ended(state, job, activity, value, told)?;
+        Ok(())
+    } else {
+        put_back(state, job, activity)?;
+        Ok(())
+    }
+}
+
+/// The highest frame leaves: its area is closed, the priority that it saved comes back, and with the last frame the job
+/// ends.
+pub fn frame_left(
+    state: &mut RunState,
+    job: Job,
+    mut activity: Activity,
+    value: Option<Value>,
+    told: &mut Vec<Event>,
+) -> Result<(), Memory>
+    ensures { (code : Code) (f : StoredFrame) (below : List StoredFrame) → activity.frames ≡ f ∷ below →
+        AreAllBegun code.program.nodes state.old → AreBegun code.program.nodes activity.frames →
+        IfOk result
+        (λ _. IsStep code
+        (frame_left (state_of code state.old) (job_seen job) (activity_seen code activity) (frame_of code f)
+        (frames_of code below) value) state.new told.old.items told.new.items) }
+{
+    let left = left_by(&activity)?;
+    let opened = opened_by(&activity)?;
+    let before = activity.priority;
+    let given = value;
+    step_down(&mut activity, left, given)?;
+    tell_priority(state, job, before, activity.priority, told)?;
+    close_opened(&mut state.memory, opened);
+    settle(state, job, activity, value, told)?;
+    Ok(())
+}

@@ -1,0 +1,16 @@
+//! The state of a run, and the steps of which all others are made.
+#![tactic(auto)]
+
+pub mod calls;
+pub mod effects;
+pub mod ends;
+pub mod jobs;
+pub mod leaving;
+pub mod memory;
+pub mod openings;
+pub mod states;
+pub mod stores;
+pub mod told;
+mod tops;
+
+pub use states::{Acting, Job, NewArea, NewArray, NewObject, RunState, Turn};

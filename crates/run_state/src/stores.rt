@@ -1,0 +1,183 @@
+//! Effects on the memory, each done to the state, and the activity put back.
+
+ghost use Rattle.std.specs.Prelude.{◌≡◌, ◌∷◌, ◌++◌, true, List, IfOk};
+ghost use Rattle.scj_model.specs.declared.events.Event.{Event as EventOfRun};
+ghost use Rattle.scj_model.specs.Code.{Code};
+ghost use Rattle.scj_model.specs.Memory.{new_elements};
+ghost use Rattle.scj_model.specs.Effects.{Makes, SetsCeiling, SetsHidden, Stores, StoresStatic};
+ghost use Rattle.run_memory.specs.Contents.{hidden_slots};
+ghost use Rattle.job_frames.specs.declared.frames.Frame.{Frame as StoredFrame};
+ghost use Rattle.job_frames.specs.Frames.{AreBegun, activity_seen, frame_of, frames_of};
+ghost use Rattle.run_state.specs.Seen.{AreAllBegun, job_seen, state_of};
+ghost use Rattle.run_state.specs.Calls.{made_or_full};
+ghost use Rattle.run_state.specs.Steps.{IsApplied, IsStep};
+
+use crate::ends::fault_in;
+use crate::jobs::put_back;
+use crate::memory::{make_array, make_object};
+use crate::states::{Acting, Job, NewArray, NewObject, RunState};
+use job_frames::Activity;
+use scj_base::{AreaId, Memory, Ref, RunFault, Value};
+use scj_model::Event;
+use std::alloc::Global;
+
+/// It stores a value into a slot or an element.
+pub fn stores(
+    state: &mut RunState,
+    acting: Acting,
+    activity: Activity,
+    r: Ref,
+    slot: usize,
+    value: Value,
+) -> Result<(), Memory>
+    ensures { (code : Code) (told : List EventOfRun) → AreAllBegun code.program.nodes state.old →
+        AreBegun code.program.nodes activity.frames →
+        IfOk result
+        (λ _. IsApplied code state.old acting activity (λ f. Stores f r slot value) true state.new told told) }
+{
+    state.memory.set_slot(r, slot, value)?;
+    put_back(state, acting.job, activity)?;
+    Ok(())
+}
+
+/// It stores a value into a static field.
+pub fn stores_static(
+    state: &mut RunState,
+    acting: Acting,
+    activity: Activity,
+    place: usize,
+    value: Value,
+) -> Result<(), Memory>
+    ensures { (code : Code) (told : List EventOfRun) → AreAllBegun code.program.nodes state.old →
+        AreBegun code.program.nodes activity.frames →
+        IfOk result
+        (λ _. IsApplied code state.old acting activity (λ f. StoresStatic f place value) true state.new told told) }
+{
+    state.memory.set_static(place, value);
+    put_back(state, acting.job, activity)?;
+    Ok(())
+}
+
+/// It sets the hidden fields of an object.
+pub fn sets_hidden(
+    state: &mut RunState,
+    acting: Acting,
+    activity: Activity,
+    r: Ref,
+    hidden: Vec<u64>,
+) -> Result<(), Memory>
+    ensures { (code : Code) (told : List EventOfRun) → AreAllBegun code.program.nodes state.old →
+        AreBegun code.program.nodes activity.frames →
+        IfOk result
+        (λ _. IsApplied code state.old acting activity (λ f. SetsHidden f r (hidden_slots hidden.items)) true state.new
+        told told) }
+{
+    state.memory.set_hidden(r, hidden)?;
+    put_back(state, acting.job, activity)?;
+    Ok(())
+}
+
+/// It sets the ceiling of an object, which only the sequencer may.
+pub fn sets_ceiling(
+    state: &mut RunState,
+    acting: Acting,
+    activity: Activity,
+    r: Ref,
+    ceiling: u8,
+    told: &mut Vec<Event>,
+) -> Result<(), Memory>
+    ensures { (code : Code) → AreAllBegun code.program.nodes state.old → AreBegun code.program.nodes activity.frames →
+        IfOk result
+        (λ _. IsApplied code state.old acting activity (λ f. SetsCeiling f r ceiling) true state.new told.old.items
+        told.new.items) }
+{
+    match acting.job {
+        Job::Sequencer => {
+            state.memory.set_ceiling(r, ceiling);
+            put_back(state, acting.job, activity)?;
+            Ok(())
+        }
+        Job::Release(_) => {
+            fault_in(state, acting, &activity, RunFault::NotInitializing, told)?;
+            Ok(())
+        }
+    }
+}
+
+/// The area in which the highest frame makes objects.
+fn area_of(activity: &Activity) -> Result<AreaId, Memory>
+    ensures { (f : StoredFrame) (below : List StoredFrame) → activity.now.frames ≡ f ∷ below →
+        IfOk result (λ area. area ≡ f.area) }
+{
+    match activity.frames.top() {
+        Some(frame) => Ok(frame.area),
+        None => Err(Memory),
+    }
+}
+
+/// What was made is the last operand of the highest frame; a fault where it wasn't made.
+fn made(
+    state: &mut RunState,
+    acting: Acting,
+    mut activity: Activity,
+    made: Option<Ref>,
+    told: &mut Vec<Event>,
+) -> Result<(), Memory>
+    ensures { (code : Code) → AreAllBegun code.program.nodes state.old → AreBegun code.program.nodes activity.frames →
+        (f : StoredFrame) (below : List StoredFrame) → activity.frames ≡ f ∷ below →
+        IfOk result
+        (λ _. IsStep code (made_or_full (state_of code state.old) (job_seen acting.job) (activity_seen code activity)
+        (frame_of code f) (frames_of code below) acting.place made) state.new told.old.items told.new.items) }
+{
+    match made {
+        Some(r) => {
+            activity.frames.push_on_top(Value::At(r))?;
+            put_back(state, acting.job, activity)?;
+            Ok(())
+        }
+        None => {
+            fault_in(state, acting, &activity, RunFault::MemoryFull, told)?;
+            Ok(())
+        }
+    }
+}
+
+/// It makes an object in its area.
+pub fn makes(
+    state: &mut RunState,
+    acting: Acting,
+    activity: Activity,
+    object: NewObject,
+    told: &mut Vec<Event>,
+) -> Result<(), Memory>
+    ensures { (code : Code) → AreAllBegun code.program.nodes state.old → AreBegun code.program.nodes activity.frames →
+        IfOk result
+        (λ _. IsApplied code state.old acting activity
+        (λ f. Makes f object.class (hidden_slots object.hidden.items ++ object.values.items)) true state.new
+        told.old.items told.new.items) }
+{
+    let area = area_of(&activity)?;
+    let found = make_object(state, area, object)?;
+    made(state, acting, activity, found, told)?;
+    Ok(())
+}
+
+/// It makes an array in its area.
+pub fn makes_array(
+    alloc: Global,
+    state: &mut RunState,
+    acting: Acting,
+    activity: Activity,
+    array: NewArray,
+    told: &mut Vec<Event>,
+) -> Result<(), Memory>
+    ensures { (code : Code) → AreAllBegun code.program.nodes state.old → AreBegun code.program.nodes activity.frames →
+        IfOk result
+        (λ _. IsApplied code state.old acting activity (λ f. Makes f array.class (new_elements array.kind array.count))
+        true state.new told.old.items told.new.items) }
+{
+    let area = area_of(&activity)?;
+    let found = make_array(alloc, state, area, array)?;
+    made(state, acting, activity, found, told)?;
+    Ok(())
+}

@@ -1,0 +1,88 @@
+//! What the trace tells of a release.
+
+ghost use Rattle.std.specs.Prelude.{◌≡◌, ◌∷◌, ◌++◌, [], OnOk};
+ghost use Rattle.scj_model.specs.Code.{Code};
+ghost use Rattle.scj_model.specs.State.{ReleaseAt};
+ghost use Rattle.scj_model.specs.Steps.{of_release};
+ghost use Rattle.scj_model.specs.Apply.{tell_priority};
+ghost use Rattle.scj_model.specs.declared.events.Event.TheVariants.{End, Prio};
+ghost use Rattle.run_state.specs.Seen.{job_seen, state_of};
+
+use crate::states::{Job, RunState};
+use scj_base::Memory;
+use scj_model::Event;
+
+/// Tells one thing.
+pub fn tell(told: &mut Vec<Event>, event: Event) -> Result<(), Memory>
+    ensures { OnOk result (told.new.items ≡ told.old.items ++ event ∷ []) }
+{
+    told.push(event)?;
+    Ok(())
+}
+
+/// Tells two things.
+pub fn tell_two(told: &mut Vec<Event>, first: Event, second: Event) -> Result<(), Memory>
+    ensures { OnOk result (told.new.items ≡ told.old.items ++ first ∷ second ∷ []) }
+{
+    tell(told, first)?;
+    tell(told, second)?;
+    Ok(())
+}
+
+/// Tells that the release at a place ends.
+pub(crate) fn tell_end(state: &RunState, place: usize, told: &mut Vec<Event>) -> Result<(), Memory>
+    ensures { (code : Code) →
+        OnOk result (told.new.items ≡ told.old.items ++ of_release (state_of code state.now) (ReleaseAt place)
+        (λ r. End state.now.unit r.handler r.number ∷ [])) }
+{
+    match state.releases.release(place) {
+        Some(release) => {
+            let unit = state.unit;
+            tell(told, Event::End { unit, handler: release.handler, number: release.number })?;
+            Ok(())
+        }
+        None => Ok(()),
+    }
+}
+
+/// Tells another priority of the release at a place.
+fn tell_priority_of(state: &RunState, place: usize, priority: u8, told: &mut Vec<Event>) -> Result<(), Memory>
+    ensures { (code : Code) →
+        OnOk result (told.new.items ≡ told.old.items ++ of_release (state_of code state.now) (ReleaseAt place)
+        (λ r. Prio state.now.unit r.handler priority ∷ [])) }
+{
+    match state.releases.release(place) {
+        Some(release) => {
+            let unit = state.unit;
+            tell(told, Event::Prio { unit, handler: release.handler, priority })?;
+            Ok(())
+        }
+        None => Ok(()),
+    }
+}
+
+/// Tells the active priority of a release where it is another one than before.
+#[tactic(auto, using(crate::proofs::TellLemmas::told_same, crate::proofs::TellLemmas::told_other),
+    unfolding(crate::specs::Seen::state_of))]
+pub(crate) fn tell_priority(
+    state: &RunState,
+    job: Job,
+    before: u8,
+    after: u8,
+    told: &mut Vec<Event>,
+) -> Result<(), Memory>
+    ensures { (code : Code) →
+        OnOk result
+        (told.new.items ≡ told.old.items ++ tell_priority (state_of code state.now) (job_seen job) before after) }
+{
+    if before == after {
+        return Ok(());
+    }
+    match job {
+        Job::Sequencer => Ok(()),
+        Job::Release(place) => {
+            tell_priority_of(state, place, after, told)?;
+            Ok(())
+        }
+    }
+}
