@@ -1,5 +1,5 @@
--- How operations go on once their last operands are taken: parts of their definitions, which the functions that do these
--- parts cite.
+-- How operations go on once their last operands are taken: parts of their definitions, which the functions that do them
+-- cite.
 use Rattle.std.specs.Prelude.{ℕ, Bool, List, [], ◌∷◌, Option, Some, None, if◌then◌else◌}
 use Rattle.scj_base.specs.declared.values.Value.{Value}
 use Rattle.scj_base.specs.declared.values.Value.TheVariants.{Int}

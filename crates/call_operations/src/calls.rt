@@ -13,7 +13,7 @@ use job_frames::{Code, Effect, Frame, NewFrame};
 use run_memory::RunMemory;
 use scj_base::{Memory, MethodId, NodeId, RunFault, Value};
 use std::alloc::Global;
-use value_operations::{argument_count_at, method_at, static_method_at};
+use value_operations::readings::{argument_count_at, method_at, static_method_at};
 
 /// The call of a method on the last operand, with these arguments.
 fn call_on(
@@ -25,7 +25,8 @@ fn call_on(
     arguments: Vec<Value>,
 ) -> Effect
     ensures does { Does (code_of code.now)
-        (calling (code_of code.now) (objects_of memory.now) id method arguments.items (frame_of (code_of code.now) frame.old))
+        (calling (code_of code.now) (objects_of memory.now) id method arguments.items
+            (frame_of (code_of code.now) frame.old))
         result frame.new }
     ensures works { frame.new.works ≡ frame.old.works }
     ensures opened { frame.new.opened ≡ frame.old.opened }

@@ -13,7 +13,7 @@ use job_frames::{Code, Effect, Frame, NewFrame};
 use scj_base::{Memory, NodeId, Value};
 use scj_rules::Body;
 use std::alloc::Global;
-use value_operations::{argument_count_at, class_at};
+use value_operations::readings::{argument_count_at, class_at};
 
 /// Puts an operand back, where it stays.
 fn put_back(frame: &mut Frame, operand: Value, stays: bool) -> Result<(), Memory>

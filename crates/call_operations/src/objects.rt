@@ -16,7 +16,7 @@ use job_frames::{Code, Effect, Frame};
 use scj_base::{ClassId, Memory, NodeId, RunFault, Value};
 use scj_rules::SlotKind;
 use std::alloc::Global;
-use value_operations::class_at;
+use value_operations::readings::class_at;
 
 /// A new object of a class.
 #[tactic(auto, using(crate::proofs::NewSlots::made_is), unfolding(job_frames::specs::EffectsSeen::effect_seen))]

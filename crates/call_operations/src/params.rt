@@ -13,7 +13,7 @@ use job_frames::{Code, Effect, Frame};
 use scj_base::ids::{MISSION_SEQUENCER, PERIODIC_EVENT_HANDLER};
 use scj_base::{Memory, NodeId, Ref};
 use std::alloc::Global;
-use value_operations::class_at;
+use value_operations::readings::class_at;
 
 /// The last operands are the parameters of a periodic handler.
 fn periodic(alloc: Global, frame: &mut Frame, r: Ref, count: usize) -> Result<Effect, Memory>

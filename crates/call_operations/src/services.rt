@@ -14,7 +14,7 @@ use crate::numbers::{is_port, is_priority};
 use job_frames::{Code, Effect, Frame};
 use run_plan::Plan;
 use scj_base::{Memory, NodeId, Ref, RunFault, Value};
-use value_operations::first_argument_at;
+use value_operations::readings::first_argument_at;
 
 /// The ceiling of an object is set.
 fn sets_ceiling(r: Ref, ceiling: i32) -> Effect
