@@ -5,7 +5,8 @@ ghost use Rattle.scj_model.specs.declared.plans.ReadingRow.{ReadingRow as Row};
 ghost use Rattle.scj_model.specs.Code.{code_of};
 ghost use Rattle.scj_model.specs.Operations.{enter_op, execute_in_op};
 ghost use Rattle.job_frames.specs.EffectsSeen.{Does, world};
-ghost use Rattle.job_frames.specs.Frames.{StoredFrame, frame_of};
+ghost use Rattle.job_frames.specs.declared.frames.Frame.{Frame as StoredFrame};
+ghost use Rattle.job_frames.specs.Frames.{frame_of};
 ghost use Rattle.call_operations.specs.Continued.{entering, objects_of, running};
 
 use crate::asked::{private_scope, run_of};

@@ -2,16 +2,16 @@
 //! what the definition of the operation says, and tells the effect.
 #![tactic(auto, unfolding(job_frames::specs::EffectsSeen::effect_seen))]
 
+mod all_operations;
 mod areas;
 mod asked;
 mod calls;
 mod constructors;
 mod numbers;
 mod objects;
-mod operate;
 mod parameters;
 mod params;
 mod services;
 mod slots;
 
-pub use operate::{World, operate};
+pub use all_operations::{World, operate};

@@ -8,7 +8,8 @@ ghost use Rattle.scj_model.specs.Effects.{Faults, Makes};
 ghost use Rattle.scj_model.specs.Memory.{new_elements, new_slots};
 ghost use Rattle.scj_model.specs.Operations.{alloc_op, alloc_array_op};
 ghost use Rattle.job_frames.specs.EffectsSeen.{Does};
-ghost use Rattle.job_frames.specs.Frames.{StoredFrame, frame_of};
+ghost use Rattle.job_frames.specs.declared.frames.Frame.{Frame as StoredFrame};
+ghost use Rattle.job_frames.specs.Frames.{frame_of};
 
 use crate::asked::element_kind;
 use crate::slots::{hidden_start, values_of};

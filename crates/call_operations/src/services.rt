@@ -7,7 +7,8 @@ ghost use Rattle.scj_model.specs.Code.{Code as CodeOfRun, code_of};
 ghost use Rattle.scj_model.specs.Effects.{Faults, SetsCeiling};
 ghost use Rattle.scj_model.specs.Operations.{is_priority, print_op, read_op, register_op, release_op, set_ceiling_op, terminate_op};
 ghost use Rattle.job_frames.specs.EffectsSeen.{Does, world};
-ghost use Rattle.job_frames.specs.Frames.{StoredFrame, frame_of};
+ghost use Rattle.job_frames.specs.declared.frames.Frame.{Frame as StoredFrame};
+ghost use Rattle.job_frames.specs.Frames.{frame_of};
 ghost use Rattle.run_memory.specs.Contents.{Contents};
 
 use crate::numbers::{is_port, is_priority};
