@@ -39,7 +39,7 @@ pub fn operate(
     requires room { HasRoomFor code.now.nodes frame.old.works op }
     ensures does { IfOk result (λ effect. Does (code_of code.now)
         (effect_of (code_of code.now)
-            (environment world.entry.memory.now world.entry.plan.now.readings world.entry.unit)
+        (environment world.entry.memory.now world.entry.plan.now.readings world.entry.unit)
         (frame_of (code_of code.now) frame.old) op) effect frame.new) }
     ensures begun { IsBegun code.now.nodes frame.new.works }
     ensures opened { frame.new.opened ≡ frame.old.opened }

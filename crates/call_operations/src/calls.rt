@@ -26,7 +26,7 @@ fn call_on(
 ) -> Effect
     ensures does { Does (code_of code.now)
         (calling (code_of code.now) (objects_of memory.now) id method arguments.items
-            (frame_of (code_of code.now) frame.old))
+        (frame_of (code_of code.now) frame.old))
         result frame.new }
     ensures works { frame.new.works ≡ frame.old.works }
     ensures opened { frame.new.opened ≡ frame.old.opened }
