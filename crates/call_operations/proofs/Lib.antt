@@ -1,0 +1,2 @@
+mod NewSlots
+mod NumberLemmas

@@ -1,0 +1,153 @@
+//! The calls in other memory areas (JSR 302: ManagedMemory).
+
+ghost use Rattle.std.specs.Prelude.{◌≡◌, ℕ, List};
+ghost use Rattle.scj_model.specs.declared.plans.ReadingRow.{ReadingRow as Row};
+ghost use Rattle.scj_model.specs.Code.{code_of};
+ghost use Rattle.scj_model.specs.Operations.{enter_op, execute_in_op};
+ghost use Rattle.job_frames.specs.EffectsSeen.{Does, world};
+ghost use Rattle.job_frames.specs.declared.frames.Frame.{Frame as StoredFrame};
+ghost use Rattle.job_frames.specs.Frames.{frame_of};
+ghost use Rattle.call_operations.specs.Continued.{entering, objects_of, running};
+
+use crate::asked::{private_scope, run_of};
+use job_frames::{Code, Effect, Frame, NewFrame};
+use run_memory::RunMemory;
+use scj_base::{NodeId, Ref, RunFault, Value};
+use std::alloc::Global;
+
+/// The call of `run` on an object in a new area of so many bytes, inside the caller's.
+fn opens(
+    code: &Code<'_>,
+    memory: &RunMemory,
+    frame: &Frame,
+    id: NodeId,
+    r: Ref,
+    bytes: u32,
+) -> Effect
+    ensures { Does (code_of code.now)
+        (entering (code_of code.now) (objects_of memory.now) id r bytes (frame_of (code_of code.now) frame.now))
+        result frame.now }
+{
+    let Some(object) = memory.object(r) else {
+        return Effect::Stuck;
+    };
+    let Some(body) = run_of(code, object.class()) else {
+        return Effect::Stuck;
+    };
+    match private_scope(code, object.class()) {
+        Some(scope) => Effect::Opens {
+            call: NewFrame {
+                body,
+                called_at: Some(id),
+                this: Some(r),
+                area: frame.area,
+            },
+            scope,
+            bytes: u64::from(bytes),
+        },
+        None => Effect::Stuck,
+    }
+}
+
+/// `enterPrivateMemory`.
+pub fn enter(code: &Code<'_>, memory: &RunMemory, frame: &mut Frame, id: NodeId) -> Effect
+    ensures does { (rows : List Row) (unit : ℕ) →
+        Does (code_of code.now)
+        (enter_op (code_of code.now) (world memory.now rows unit) (frame_of (code_of code.now) frame.old) id)
+        result frame.new }
+    ensures works { frame.new.works ≡ frame.old.works }
+    ensures opened { frame.new.opened ≡ frame.old.opened }
+{
+    let Some(runnable) = frame.pop() else {
+        return Effect::Stuck;
+    };
+    let Some(size) = frame.pop() else {
+        return Effect::Stuck;
+    };
+    match runnable {
+        Value::At(r) => match size {
+            Value::Int(bytes) => {
+                if bytes < 0 {
+                    return Effect::Faults {
+                        fault: RunFault::NegativeSize,
+                    };
+                }
+                opens(code, memory, frame, id, r, bytes.unsigned_abs())
+            }
+            _ => Effect::Stuck,
+        },
+        Value::Null => Effect::Faults {
+            fault: RunFault::NullPointer,
+        },
+        _ => Effect::Stuck,
+    }
+}
+
+/// The call of `run` on an object in the area of another one.
+fn runs_in(
+    alloc: Global,
+    code: &Code<'_>,
+    memory: &RunMemory,
+    id: NodeId,
+    place: Ref,
+    r: Ref,
+) -> Effect
+    ensures { (frame : StoredFrame) → Does (code_of code.now)
+        (running (code_of code.now) (objects_of memory.now) id place r (frame_of (code_of code.now) frame))
+        result frame }
+{
+    let Some(there) = memory.object(place) else {
+        return Effect::Stuck;
+    };
+    let Some(object) = memory.object(r) else {
+        return Effect::Stuck;
+    };
+    match run_of(code, object.class()) {
+        Some(body) => Effect::Calls {
+            call: NewFrame {
+                body,
+                called_at: Some(id),
+                this: Some(r),
+                area: there.area(),
+            },
+            arguments: Vec::new(alloc),
+        },
+        None => Effect::Stuck,
+    }
+}
+
+/// `executeInAreaOf`.
+pub fn execute_in(
+    alloc: Global,
+    code: &Code<'_>,
+    memory: &RunMemory,
+    frame: &mut Frame,
+    id: NodeId,
+) -> Effect
+    ensures does { (rows : List Row) (unit : ℕ) →
+        Does (code_of code.now)
+        (execute_in_op (code_of code.now) (world memory.now rows unit) (frame_of (code_of code.now) frame.old) id)
+        result frame.new }
+    ensures works { frame.new.works ≡ frame.old.works }
+    ensures opened { frame.new.opened ≡ frame.old.opened }
+{
+    let Some(runnable) = frame.pop() else {
+        return Effect::Stuck;
+    };
+    let Some(object) = frame.pop() else {
+        return Effect::Stuck;
+    };
+    match object {
+        Value::At(place) => match runnable {
+            Value::At(r) => runs_in(alloc, code, memory, id, place, r),
+            Value::Null => Effect::Faults {
+                fault: RunFault::NullPointer,
+            },
+            _ => Effect::Stuck,
+        },
+        Value::Null => Effect::Faults {
+            fault: RunFault::NullPointer,
+        },
+        _ => Effect::Stuck,
+    }
+}
