@@ -25,7 +25,7 @@ pub top_is : (items : List StoredFrame) (n : ℕ) → n ≡ length items → (o 
     IfSome o (λ x. reverse items ≡ x.now ∷ below (reverse items))
 top_is items n e (Some x) h v =
     last_apart items x.now (omega (arith, e, h.0 refl))
-        ∙ ap (λ (m : ℕ). get_or items (m - 1) x.now ∷ reverse (take (length items - 1) items)) (sym e)
+    ∙ ap (λ (m : ℕ). get_or items (m - 1) x.now ∷ reverse (take (length items - 1) items)) (sym e)
     ∙ ap (λ y. y ∷ reverse (take (length items - 1) items)) (sym v)
     ∙ ap (λ below. x.now ∷ below) (others_below items)
 top_is items n e None h v = tt

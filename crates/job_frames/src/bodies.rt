@@ -33,13 +33,7 @@ pub(crate) fn check_body(code: &Code<'_>, body: Body) -> Result<(), Memory>
         Body::Empty => return Ok(()),
     };
     match code.program().get(id) {
-        Some(node) => {
-            if is_body(node) {
-                Ok(())
-            } else {
-                Err(Memory)
-            }
-        }
+        Some(node) => { if is_body(node) { Ok(()) } else { Err(Memory) } }
         None => Err(Memory),
     }
 }

@@ -10,7 +10,10 @@ pub enum Effect {
     /// The frame goes on.
     Goes,
     /// It prints.
-    Prints { label: NodeId, value: i32 },
+    Prints {
+        label: NodeId,
+        value: i32,
+    },
     /// It makes an object in its area, with these hidden fields and these values of the others.
     Makes {
         class: ClassId,
@@ -24,15 +27,31 @@ pub enum Effect {
         count: u32,
     },
     /// It stores a value into a slot or an element, counted with the hidden fields.
-    Stores { r: Ref, slot: usize, value: Value },
+    Stores {
+        r: Ref,
+        slot: usize,
+        value: Value,
+    },
     /// It stores a value into a static field.
-    StoresStatic { place: usize, value: Value },
+    StoresStatic {
+        place: usize,
+        value: Value,
+    },
     /// It sets the hidden fields of an object.
-    SetsHidden { r: Ref, hidden: Vec<u64> },
+    SetsHidden {
+        r: Ref,
+        hidden: Vec<u64>,
+    },
     /// It sets the ceiling of an object.
-    SetsCeiling { r: Ref, ceiling: u8 },
+    SetsCeiling {
+        r: Ref,
+        ceiling: u8,
+    },
     /// It calls.
-    Calls { call: NewFrame, arguments: Vec<Value> },
+    Calls {
+        call: NewFrame,
+        arguments: Vec<Value>,
+    },
     /// It opens an area of this scope and so many bytes inside its own, and calls in it, without arguments.
     Opens {
         call: NewFrame,
@@ -40,15 +59,25 @@ pub enum Effect {
         bytes: u64,
     },
     /// It leaves, with a value if it has one.
-    Leaves { value: Option<Value> },
+    Leaves {
+        value: Option<Value>,
+    },
     /// It asks that a handler is registered.
-    AsksRegistration { r: Ref },
+    AsksRegistration {
+        r: Ref,
+    },
     /// It asks that a handler is released.
-    AsksRelease { r: Ref },
+    AsksRelease {
+        r: Ref,
+    },
     /// It asks that a mission ends.
-    AsksTermination { r: Ref },
+    AsksTermination {
+        r: Ref,
+    },
     /// A fault.
-    Faults { fault: RunFault },
+    Faults {
+        fault: RunFault,
+    },
     /// It can't be done. This never happens in an accepted program.
     Stuck,
 }

@@ -30,11 +30,12 @@ area_opened used reserved areas objects scope parent bytes c =
       all_areas = length-append used (0 ∷ [])
           ∙ (ap (λ n. n + 1) c.all_areas ∙ sym (length-append areas (new_area scope parent bytes ∷ [])));
       store =
-        let h : sum_by area_words (areas ++ new_area scope parent bytes ∷ []) ≡ sum_by area_words areas + sum_by
-            area_words (new_area scope parent bytes ∷ []) =
-            sum_by-append area_words areas (new_area scope parent bytes ∷ []) in
-        let e : reserved ≡ sum_by area_words areas = c.store in
-        rw (h, e) (omega arith) }
+          let h : sum_by area_words (areas ++ new_area scope parent bytes ∷ []) ≡ sum_by area_words areas + sum_by
+          area_words (new_area scope parent bytes ∷ []) =
+          sum_by-append area_words areas (new_area scope parent bytes ∷ []) in
+          let e : reserved ≡ sum_by area_words areas = c.store in
+          rw (h, e) (omega arith);
+    }
 
 pub area_closed : (used : List ℕ) (reserved : ℕ) (areas : List MemoryArea) (objects : List Object) (a : ℕ) →
     IsCounted used reserved areas objects →
@@ -49,9 +50,9 @@ pub words_left : (areas : List MemoryArea) (a : ℕ) (x : MemoryArea) (reserved 
 unfolding reserved_bytes
 words_left areas a x reserved e r =
     let h : sum_by area_words (slice_set areas a (closed_area x)) + area_words x ≡ sum_by area_words areas + 0 =
-        sum_set area_words areas a x (closed_area x) (sym e) in
+    sum_set area_words areas a x (closed_area x) (sym e) in
     let s : sum_by area_words (changed closed_area a areas) ≡ sum_by area_words (slice_set areas a (closed_area x)) =
-        ap (sum_by area_words) (changed_there closed_area a areas x (sym e)) in
+    ap (sum_by area_words) (changed_there closed_area a areas x (sym e)) in
     let t : reserved ≡ sum_by area_words areas = r in
     omega (arith, h, s, t)
 
@@ -66,7 +67,8 @@ object_changed used reserved areas objects r change same c =
     record {
       each_area = λ a. c.each_area a ∙ sym (sum_changed (bytes_in a) change r objects (λ o e. same o e a));
       all_areas = c.all_areas;
-      store = c.store }
+      store = c.store;
+    }
 
 pub object_made : (used : List ℕ) (reserved : ℕ) (areas : List MemoryArea) (objects : List Object) (o : Object) →
     o.area < length areas →
@@ -77,7 +79,8 @@ object_made used reserved areas objects o there c =
     record {
       each_area = each;
       all_areas = length-set used o.area (slice_index used o.area + object_bytes o) ∙ c.all_areas;
-      store = c.store }
+      store = c.store;
+    }
   where
     cases : (t : Bool) → (t ≡ true) ⊎ (t ≡ false)
     cases true = inl refl
@@ -101,14 +104,14 @@ object_made used reserved areas objects o there c =
             let b : bytes_in a o ≡ object_bytes o = rw t refl in
             let within : o.area < length used = rw c.all_areas there in
             let h : slice_index (slice_set used o.area (slice_index used o.area + object_bytes o)) a ≡ slice_index used
-                a + object_bytes o =
-                rw s (get_or-set_same used o.area (slice_index used o.area + object_bytes o) 0 within) in
+            a + object_bytes o =
+            rw s (get_or-set_same used o.area (slice_index used o.area + object_bytes o) 0 within) in
             h ∙ (rw (was, more, b) (omega arith))
         go (inr t) =
             let s : a ≢ o.area = (λ e. grind (arith, nat_tests)) in
             let b : bytes_in a o ≡ 0 = rw t refl in
             let h : slice_index (slice_set used o.area (slice_index used o.area + object_bytes o)) a ≡ slice_index used
-                a = get_or-set_other used o.area a (slice_index used o.area + object_bytes o) 0 s in
+            a = get_or-set_other used o.area a (slice_index used o.area + object_bytes o) 0 s in
             h ∙ (rw (was, more, b) (omega arith))
 
 -- a slot that is set takes no more bytes, nor do first slots that are set
@@ -121,5 +124,5 @@ pub same_with_first : (a : ℕ) (first : List Value) (o : Object) → length fir
     bytes_in a (with_first first o) ≡ bytes_in a o
 same_with_first a first o within =
     let e : length (first ++ drop (length first) o.slots) ≡ length o.slots =
-        omega (arith, within, length-append first (drop (length first) o.slots), length-drop (length first) o.slots) in
+    omega (arith, within, length-append first (drop (length first) o.slots), length-drop (length first) o.slots) in
     ap (λ n. if o.area == a then size_with_slots n else 0) e

@@ -10,11 +10,11 @@ pub nearest_more : (s : State) (scope : ℕ) (opened : List ℕ) (i area : ℕ) 
     area ≡ get_or opened i area →
     found ≡ area_with_scope s scope (reverse (take i opened)) →
     (if holds (area_at s area) (λ x. x.scope == scope) then Some area else found) ≡ area_with_scope s scope
-        (reverse (take (i + 1) opened))
+    (reverse (take (i + 1) opened))
 unfolding area_with_scope
 nearest_more s scope opened i area found within is so_far =
     let more : reverse (take (i + 1) opened) ≡ area ∷ reverse (take i opened) =
-        ap reverse (take_more opened i area within)
-        ∙ (reverse-append (take i opened) (get_or opened i area ∷ [])
-        ∙ ap (λ y. y ∷ reverse (take i opened)) (sym is)) in
+    ap reverse (take_more opened i area within)
+    ∙ (reverse-append (take i opened) (get_or opened i area ∷ [])
+    ∙ ap (λ y. y ∷ reverse (take i opened)) (sym is)) in
     rw (more, so_far) refl

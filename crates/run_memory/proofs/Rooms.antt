@@ -26,13 +26,13 @@ sum_kept {A} f p (x ∷ xs) = go (p x) refl (sum_kept f p xs)
         sum (map f (filter p (x ∷ xs))) ≡ sum_by g (x ∷ xs)
     go true e rest =
         let a : sum (map f (filter p (x ∷ xs))) ≡ f x + sum (map f (filter p xs)) =
-            ap (λ b. sum (map f (cond b (x ∷ filter p xs) (filter p xs)))) e
-                ∙ sum_by-cons (λ y. y) (f x) (map f (filter p xs)) in
+        ap (λ b. sum (map f (cond b (x ∷ filter p xs) (filter p xs)))) e
+        ∙ sum_by-cons (λ y. y) (f x) (map f (filter p xs)) in
         let d : g x ≡ f x = ap (λ b. if b then f x else 0) e in
         omega (arith, a, all, d, rest)
     go false e rest =
         let a : sum (map f (filter p (x ∷ xs))) ≡ sum (map f (filter p xs)) =
-            ap (λ b. sum (map f (cond b (x ∷ filter p xs) (filter p xs)))) e in
+        ap (λ b. sum (map f (cond b (x ∷ filter p xs) (filter p xs)))) e in
         let d : g x ≡ 0 = ap (λ b. if b then f x else 0) e in
         omega (arith, a, all, d, rest)
 
@@ -53,16 +53,16 @@ pub room_found : (s : State) (m : Contents) (area count taken bytes : ℕ) (x : 
 unfolding has_room
 room_found s m area count taken bytes x e b t =
     rw (b, t, ← used_is s m area)
-        (ap
-        (λ (o : Option MemoryArea). holds o
-        (λ x. not (nat_lt x.bytes (used (with_memory s m) area + size_with_slots count)))) e)
+    (ap
+    (λ (o : Option MemoryArea). holds o
+    (λ x. not (nat_lt x.bytes (used (with_memory s m) area + size_with_slots count)))) e)
 
 pub room_nowhere : (s : State) (m : Contents) (area count : ℕ) → None ≡ slice_get m.areas area →
     false ≡ has_room (with_memory s m) area count
 unfolding has_room
 room_nowhere s m area count e =
     ap (λ (o : Option MemoryArea). holds o
-        (λ x. not (nat_lt x.bytes (used (with_memory s m) area + size_with_slots count)))) e
+    (λ x. not (nat_lt x.bytes (used (with_memory s m) area + size_with_slots count)))) e
 
 -- ---- an area in the store
 

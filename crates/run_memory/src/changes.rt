@@ -10,7 +10,11 @@ use crate::objects::Object;
 use scj_base::{Memory, Value};
 
 /// Puts an area last, in which nothing is used.
-pub(crate) fn push_area(areas: &mut Vec<MemoryArea>, used: &mut Vec<u64>, area: MemoryArea) -> Result<(), Memory>
+pub(crate) fn push_area(
+    areas: &mut Vec<MemoryArea>,
+    used: &mut Vec<u64>,
+    area: MemoryArea,
+) -> Result<(), Memory>
     ensures areas { OnOk result (areas.new.items ≡ areas.old.items ++ area ∷ []) }
     ensures used { OnOk result (used.new.items ≡ used.old.items ++ 0 ∷ []) }
     ensures areas_err { OnErr result (areas.new.items ≡ areas.old.items) }
@@ -35,7 +39,12 @@ pub(crate) fn close_at(areas: &mut Vec<MemoryArea>, place: usize)
 }
 
 /// Sets a slot of the object at a place, counted with the hidden ones. A hidden one isn't set.
-pub(crate) fn set_slot_at(objects: &mut Vec<Object>, place: usize, slot: usize, value: Value) -> Result<(), Memory>
+pub(crate) fn set_slot_at(
+    objects: &mut Vec<Object>,
+    place: usize,
+    slot: usize,
+    value: Value,
+) -> Result<(), Memory>
     ensures ok { OnOk result
         (objects.new.items ≡ changed (λ o. record o { slots = slice_set o.slots slot value }) place objects.old.items) }
     ensures err { OnErr result (objects.new.items ≡ objects.old.items) }
@@ -47,7 +56,11 @@ pub(crate) fn set_slot_at(objects: &mut Vec<Object>, place: usize, slot: usize, 
 }
 
 /// Sets the hidden fields of the object at a place, if it has as many.
-pub(crate) fn set_hidden_at(objects: &mut Vec<Object>, place: usize, hidden: Vec<u64>) -> Result<(), Memory>
+pub(crate) fn set_hidden_at(
+    objects: &mut Vec<Object>,
+    place: usize,
+    hidden: Vec<u64>,
+) -> Result<(), Memory>
     ensures ok { OnOk result
         (objects.new.items ≡ changed (with_first (hidden_slots hidden.items)) place objects.old.items) }
     ensures size { OnOk result ((o : ObjectOfState) → slice_get objects.old.items place ≡ Some o →

@@ -9,7 +9,9 @@ ghost use Rattle.run_memory.specs.Contents.{with_memory, changing_object, closin
 
 use crate::areas::MemoryArea;
 use crate::changes::{close_at, push_area, set_ceiling_at, set_hidden_at, set_slot_at};
-use crate::counts::{next_number, object_fits, reserved_without, store_fits, with_object_bytes, with_words};
+use crate::counts::{
+    next_number, object_fits, reserved_without, store_fits, with_object_bytes, with_words,
+};
 use crate::objects::Object;
 use crate::places::{number_at, set_number, set_value, value_at};
 use scj_base::{AreaId, ClassId, Memory, Ref, ScopeId, Value};
@@ -34,9 +36,7 @@ impl Model for RunMemory {
 
     ghost Value = { Contents };
 
-    ghost view =
-        { λ a. record { store = a.store; areas = a.areas.items; objects = a.objects.items; statics = a.statics.items }
-        };
+    ghost view = { λ a. record { store = a.store; areas = a.areas.items; objects = a.objects.items; statics = a.statics.items } };
 
     ghost invariant = { λ a. IsCounted a.used.items a.reserved a.areas.items a.objects.items };
 }
@@ -99,7 +99,11 @@ impl RunMemory {
             ≡ (if holds (slice_get self.now.areas area) (λ x. x.scope == scope) then Some area else found) }
     {
         match self.area(area) {
-            Some(row) => if row.scope() == scope { Some(area) } else { found },
+            Some(row) => if row.scope() == scope {
+                Some(area)
+            } else {
+                found
+            },
             None => found,
         }
     }
@@ -119,14 +123,23 @@ impl RunMemory {
     }
 
     /// Opens an area inside another one, if there is memory for it and for its number.
-    pub fn open(&mut self, scope: ScopeId, parent: Option<AreaId>, bytes: u64) -> Result<AreaId, Memory>
+    pub fn open(
+        &mut self,
+        scope: ScopeId,
+        parent: Option<AreaId>,
+        bytes: u64,
+    ) -> Result<AreaId, Memory>
         ensures number { IfOk result (λ area. area ≡ length self.old.areas) }
         ensures opened { OnOk result (self.new ≡ opening_area self.old scope parent bytes) }
         ensures err { OnErr result (self.new ≡ self.old) }
     {
         let number = next_number(self.areas.len())?;
         let reserved = with_words(self.reserved, bytes)?;
-        push_area(&mut self.areas, &mut self.used, MemoryArea::new(scope, parent, bytes))?;
+        push_area(
+            &mut self.areas,
+            &mut self.used,
+            MemoryArea::new(scope, parent, bytes),
+        )?;
         self.reserved = reserved;
         Ok(AreaId::at(number))
     }
@@ -142,7 +155,13 @@ impl RunMemory {
     }
 
     /// Makes an object in an area, if there is memory for it and for its number.
-    pub fn make(&mut self, class: ClassId, area: AreaId, hidden: Vec<u64>, values: Vec<Value>) -> Result<Ref, Memory>
+    pub fn make(
+        &mut self,
+        class: ClassId,
+        area: AreaId,
+        hidden: Vec<u64>,
+        values: Vec<Value>,
+    ) -> Result<Ref, Memory>
         requires { area < length self.old.areas }
         ensures number { IfOk result (λ r. r ≡ length self.old.objects) }
         ensures made { OnOk result

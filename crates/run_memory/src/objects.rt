@@ -28,9 +28,13 @@ impl Model for Object {
 
     ghost Value = { ObjectOfState };
 
-    ghost view =
-        { λ a. record { class = a.class; area = a.area; slots = hidden_slots a.hidden.items
-        ++ a.values.items; ceiling = a.ceiling } };
+    ghost view = { λ a. record {
+      class = a.class;
+      area = a.area;
+      slots = hidden_slots a.hidden.items
+          ++ a.values.items;
+      ceiling = a.ceiling;
+    } };
 }
 
 impl Object {

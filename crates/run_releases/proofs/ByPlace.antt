@@ -25,8 +25,10 @@ module _ {A : Type 0} where
   pub are_next : {rows : List A} {place : ℕ} {x : A} {xs : List A} → IsFrom rows place (x ∷ xs) →
       IsFrom rows (place + 1) xs
   are_next {rows} {place} h =
-      record { at = λ k. ap (slice_get rows) (let e : (place + 1) + k ≡ place + suc k = omega arith in e)
-          ∙ h.at (suc k) }
+      record {
+        at = λ k. ap (slice_get rows) (let e : (place + 1) + k ≡ place + suc k = omega arith in e)
+            ∙ h.at (suc k);
+      }
 
   -- ---- one more element, and another one at a place
 
@@ -121,7 +123,7 @@ module _ {A : Type 0} where
       go same rest false = here ∙ sym rest
   numbers_without test m n (suc place) (x ∷ xs) y at e there =
       go (grind (arith, nat_tests))
-          (numbers_without test m (n + 1) place xs y (omega (arith, at)) e (omega (arith, there))) (test x)
+      (numbers_without test m (n + 1) place xs y (omega (arith, at)) e (omega (arith, there))) (test x)
     where
       go : not (n == m) ≡ true → numbers_where test (n + 1) (slice_set xs place y) ≡ filter (λ other. not (other == m))
           (numbers_where test (n + 1) xs) →
@@ -140,7 +142,7 @@ module _ {A : Type 0} where
           (λ other. not (other == place)) (numbers_where test 0 xs)
       go None e =
           ap (numbers_where test 0) (changed_nowhere f place xs e)
-              ∙ sym (numbers_below test place 0 place xs (omega arith) e)
+          ∙ sym (numbers_below test place 0 place xs (omega arith) e)
       go (Some x) e =
           ap (numbers_where test 0) (changed_there f place xs x e)
           ∙ numbers_without test place 0 place xs (f x) (omega arith) (ends x) (slice_get_within xs place x e)
@@ -159,7 +161,7 @@ module _ {A : Type 0} where
       go : list_any (λ place. holds (slice_get rows place) chosen) (numbers_where test (n + 1) xs) ≡ list_any chosen
           xs →
           (b : Bool) → test x ≡ b → list_any (λ place. holds (slice_get rows place) chosen)
-              ((if b then n ∷ [] else []) ++ numbers_where test (n + 1) xs) ≡ (chosen x || list_any chosen xs)
+          ((if b then n ∷ [] else []) ++ numbers_where test (n + 1) xs) ≡ (chosen x || list_any chosen xs)
       go rest true e =
           ap
           (λ o. holds o chosen || list_any (λ place. holds (slice_get rows place) chosen)
@@ -170,7 +172,7 @@ module _ {A : Type 0} where
   pub told_there : {B : Type 0} (test : A → Bool) (tell : A → List B) (at : ℕ → List B) (rows : List A) (n : ℕ)
       (xs : List A) → IsFrom rows n xs →
       ((x : A) → test x ≡ false → tell x ≡ []) →
-          ((place : ℕ) (x : A) → slice_get rows place ≡ Some x → at place ≡ tell x) →
+      ((place : ℕ) (x : A) → slice_get rows place ≡ Some x → at place ≡ tell x) →
       flat_map at (numbers_where test n xs) ≡ flat_map tell xs
   unfolding numbers_where
   told_there test tell at rows n [] h none same = refl
@@ -197,7 +199,7 @@ module _ {A : Type 0} where
       here : filter (λ place. holds (slice_get rows place) test) (numbers_where test (n + 1) xs) ≡ numbers_where test
           (n + 1) (map f xs) →
           (b : Bool) → cond b (n ∷ filter (λ place. holds (slice_get rows place) test) (numbers_where test (n + 1) xs))
-              (filter (λ place. holds (slice_get rows place) test) (numbers_where test (n + 1) xs))
+          (filter (λ place. holds (slice_get rows place) test) (numbers_where test (n + 1) xs))
           ≡ (if b then n ∷ [] else []) ++ numbers_where test (n + 1) (map f xs)
       here rest true = ap (λ zs. n ∷ zs) rest
       here rest false = rest
@@ -205,7 +207,7 @@ module _ {A : Type 0} where
       go : filter (λ place. holds (slice_get rows place) test) (numbers_where test (n + 1) xs) ≡ numbers_where test
           (n + 1) (map f xs) →
           (b : Bool) → test x ≡ b → filter (λ place. holds (slice_get rows place) test)
-              ((if b then n ∷ [] else []) ++ numbers_where test (n + 1) xs)
+          ((if b then n ∷ [] else []) ++ numbers_where test (n + 1) xs)
           ≡ (if test (f x) then n ∷ [] else []) ++ numbers_where test (n + 1) (map f xs)
       go rest true e =
           ap (λ b. cond b (n ∷ filter (λ place. holds (slice_get rows place) test) (numbers_where test (n + 1) xs))
@@ -240,14 +242,14 @@ module _ {A : Type 0} where
       go : fold (λ (some : List A) (place : ℕ). changed f place some) ((ys ++ f x ∷ []) ++ xs)
           (numbers_where test (n + 1) xs) ≡ (ys ++ f x ∷ []) ++ map f xs →
           (b : Bool) → test x ≡ b → fold (λ (some : List A) (place : ℕ). changed f place some) (ys ++ x ∷ xs)
-              ((if b then n ∷ [] else []) ++ numbers_where test (n + 1) xs) ≡ ys ++ f x ∷ map f xs
+          ((if b then n ∷ [] else []) ++ numbers_where test (n + 1) xs) ≡ ys ++ f x ∷ map f xs
       go rest true e =
           ap (λ place. fold (λ (some : List A) (place : ℕ). changed f place some) (changed f place (ys ++ x ∷ xs))
-              (numbers_where test (n + 1) xs)) at
+          (numbers_where test (n + 1) xs)) at
           ∙ (ap (λ zs. fold (λ (some : List A) (place : ℕ). changed f place some) zs (numbers_where test (n + 1) xs))
-              (changed_here f ys x xs ∙ sym (put_in xs))
+          (changed_here f ys x xs ∙ sym (put_in xs))
           ∙ (rest ∙ put_in (map f xs)))
       go rest false e =
           ap (λ zs. fold (λ (some : List A) (place : ℕ). changed f place some) zs (numbers_where test (n + 1) xs))
-              (ap (λ z. ys ++ z ∷ xs) (sym (same x e)) ∙ sym (put_in xs))
+          (ap (λ z. ys ++ z ∷ xs) (sym (same x e)) ∙ sym (put_in xs))
           ∙ (rest ∙ put_in (map f xs))

@@ -44,7 +44,7 @@ module _ {A : Type 0} where
       go (Some x) e =
           ap (changed f place) (changed_there g place xs x e)
           ∙ (changed_there f place (slice_set xs place (g x)) (g x)
-              (got_set xs place (g x) (slice_get_within xs place x e))
+          (got_set xs place (g x) (slice_get_within xs place x e))
           ∙ (set-set xs place (g x) (f (g x)) ∙ sym (changed_there (λ x. f (g x)) place xs x e)))
 
   -- a sum over the elements from a place on, when one of them is another
@@ -55,9 +55,9 @@ module _ {A : Type 0} where
       let at : from + (place - from) ≡ place = omega arith in
       let there : place - from < length (drop from xs) = omega (arith, length-drop from xs) in
       let cut : drop from (slice_set xs place y) ≡ slice_set (drop from xs) (place - from) y =
-          ap (λ n. drop from (slice_set xs n y)) (sym at) ∙ drop-set-add from xs (place - from) y in
+      ap (λ n. drop from (slice_set xs n y)) (sym at) ∙ drop-set-add from xs (place - from) y in
       let was : get_or (drop from xs) (place - from) x ≡ x =
-          get_or-drop from xs (place - from) x ∙ (ap (λ n. get_or xs n x) at ∙ get_or_from_slice_get xs place x x e) in
+      get_or-drop from xs (place - from) x ∙ (ap (λ n. get_or xs n x) at ∙ get_or_from_slice_get xs place x x e) in
       ap (λ zs. sum_by g zs + g x) cut
       ∙ (ap (λ z. sum_by g (slice_set (drop from xs) (place - from) y) + g z) (sym was)
       ∙ sum_by-set g (drop from xs) (place - from) y x there)
@@ -75,7 +75,7 @@ module _ {A : Type 0} where
       there x e false t =
           let behind : from ≤ place = grind (arith, nat_tests) in
           let h : sum_by g (drop from (slice_set xs place (f x))) + g x ≡ sum_by g (drop from xs) + g (f x) =
-              sum_dropped g from place xs x (f x) e behind in
+          sum_dropped g from place xs x (f x) e behind in
           let s : g (f x) ≡ g x = same x in
           omega (arith, h, s)
 

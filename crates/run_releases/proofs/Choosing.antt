@@ -45,13 +45,13 @@ pub one_before : (registry : List HandlerRow) (rows : List StoredRelease) (place
     (found : Option Candidate) →
     left < length places → after ≡ left + 1 → found ≡ most_urgent (candidates_at registry rows (drop after places)) →
     preferred (candidate_at registry rows (slice_index places left)) found ≡ most_urgent
-        (candidates_at registry rows (drop left places))
+    (candidates_at registry rows (drop left places))
 unfolding candidates_at
 one_before registry rows places left after found within next e =
     ap (preferred (candidate_at registry rows (slice_index places left))) e
     ∙ (sym
-        (preferred_first (candidate_at registry rows (slice_index places left))
-        (candidates_at registry rows (drop after places)))
+    (preferred_first (candidate_at registry rows (slice_index places left))
+    (candidates_at registry rows (drop after places)))
     ∙ (ap (λ n. most_urgent (candidates_at registry rows (slice_index places left ∷ drop n places))) next
     ∙ ap (λ ps. most_urgent (candidates_at registry rows ps)) (sym (drop_more places left 0 within))))
 
@@ -64,13 +64,13 @@ unfolding chosen_among
 all_chosen registry rows places left found none e =
     let first : left ≡ 0 = omega arith in
     ap (option_map (λ (c : Candidate). c.place))
-        (e ∙ ap (λ n. most_urgent (candidates_at registry rows (drop n places))) first)
+    (e ∙ ap (λ n. most_urgent (candidates_at registry rows (drop n places))) first)
 
 -- ---- the candidates of a state
 
 seen_candidate : (code : Code) (s : State) (place handler number : ℕ) (status : StoredStatus) →
     candidate s place (record { handler = handler; number = number; status = status_seen code status })
-        ≡ candidate_by s.registry place handler status
+    ≡ candidate_by s.registry place handler status
 unfolding candidate
 seen_candidate code s place handler number Waits = refl
 seen_candidate code s place handler number (Started activity) = refl
@@ -95,31 +95,31 @@ candidates_seen code s rows n (x ∷ xs) h =
     here : candidates_at s.registry rows (numbers_where row_is_live (n + 1) xs) ≡ candidates_from s (n + 1)
         (map (release_seen code) xs) →
         option_to_list (candidate_by s.registry n x.handler x.status)
-            ++ candidates_at s.registry rows (numbers_where row_is_live (n + 1) xs)
+        ++ candidates_at s.registry rows (numbers_where row_is_live (n + 1) xs)
         ≡ candidates_from s n (map (release_seen code) (x ∷ xs))
     here rest =
         ap (λ o. option_to_list o ++ candidates_at s.registry rows (numbers_where row_is_live (n + 1) xs))
-            (sym (seen_candidate code s n x.handler x.number x.status))
+        (sym (seen_candidate code s n x.handler x.number x.status))
         ∙ ap (λ cs. option_to_list (candidate s n (release_seen code x)) ++ cs) rest
 
     go : candidates_at s.registry rows (numbers_where row_is_live (n + 1) xs) ≡ candidates_from s (n + 1)
         (map (release_seen code) xs) →
         (b : Bool) → is_live x.status ≡ b →
         candidates_at s.registry rows ((if b then n ∷ [] else []) ++ numbers_where row_is_live (n + 1) xs)
-            ≡ candidates_from s n (map (release_seen code) (x ∷ xs))
+        ≡ candidates_from s n (map (release_seen code) (x ∷ xs))
     go rest true e =
         ap (λ o. option_to_list (o >>= (λ (r : StoredRelease). candidate_by s.registry n r.handler r.status))
-            ++ candidates_at s.registry rows (numbers_where row_is_live (n + 1) xs)) (is_first h)
+        ++ candidates_at s.registry rows (numbers_where row_is_live (n + 1) xs)) (is_first h)
         ∙ here rest
     go rest false e =
         ap (λ o. option_to_list o ++ candidates_at s.registry rows (numbers_where row_is_live (n + 1) xs))
-            (sym (over_is_none s.registry n x.handler x.status e))
+        (sym (over_is_none s.registry n x.handler x.status e))
         ∙ here rest
 
 pub chosen_seen : (code : Code) (s : State) (rows : List StoredRelease) →
     chosen_among s.registry rows (live_places rows) ≡ option_map (λ (c : Candidate). c.place)
-        (most_urgent (candidates_from s 0 (map (release_seen code) rows)))
+    (most_urgent (candidates_from s 0 (map (release_seen code) rows)))
 unfolding chosen_among live_places
 chosen_seen code s rows =
     ap (λ cs. option_map (λ (c : Candidate). c.place) (most_urgent cs))
-        (candidates_seen code s rows 0 rows (from_first rows))
+    (candidates_seen code s rows 0 rows (from_first rows))

@@ -25,7 +25,7 @@ nothing_counted =
 -- the numbers may be kept in other lists that read the same
 pub same_counted : {live taken waiting taken' waiting' : List ℕ} {earlier : ℕ} {rows : List StoredRelease} →
     ((k : ℕ) → slice_index taken' k ≡ slice_index taken k) →
-        ((k : ℕ) → slice_index waiting' k ≡ slice_index waiting k) →
+    ((k : ℕ) → slice_index waiting' k ≡ slice_index waiting k) →
     AreCounted live taken waiting earlier rows → AreCounted live taken' waiting' earlier rows
 same_counted same_taken same_waiting c =
     record {
@@ -43,24 +43,24 @@ pub taken_counted : (live taken waiting : List ℕ) (earlier : ℕ) (rows : List
     number ≡ slice_index taken handler + 1 → waits_now ≡ slice_index waiting handler + 1 →
     AreCounted live taken waiting earlier rows →
     AreCounted (live ++ length rows ∷ []) (slice_set taken handler number) (slice_set waiting handler waits_now) earlier
-        (rows ++ waiting_row handler number ∷ [])
+    (rows ++ waiting_row handler number ∷ [])
 unfolding count_of live_places waiting_count
 taken_counted live taken waiting earlier rows handler number waits_now in_taken in_waiting next more c =
     record {
       all_live =
-        ap (λ places. places ++ length rows ∷ []) c.all_live
-        ∙ (ap (λ n. numbers_where row_is_live 0 rows ++ n ∷ []) (let e : length rows ≡ 0 + length rows = omega arith in
-            e)
-        ∙ sym (numbers_push row_is_live 0 rows (waiting_row handler number) refl));
+          ap (λ places. places ++ length rows ∷ []) c.all_live
+          ∙ (ap (λ n. numbers_where row_is_live 0 rows ++ n ∷ []) (let e : length rows ≡ 0 + length rows = omega arith in
+          e)
+          ∙ sym (numbers_push row_is_live 0 rows (waiting_row handler number) refl));
       each_taken = λ k.
-        one_more_at taken handler number k in_taken next
-        ∙ (ap (λ n. n + cond (handler == k) 1 0) (c.each_taken k)
-        ∙ sym (count_push (is_of k) earlier rows (waiting_row handler number) c.behind));
+          one_more_at taken handler number k in_taken next
+          ∙ (ap (λ n. n + cond (handler == k) 1 0) (c.each_taken k)
+          ∙ sym (count_push (is_of k) earlier rows (waiting_row handler number) c.behind));
       each_waiting = λ k.
-        one_more_at waiting handler waits_now k in_waiting more
-        ∙ (ap (λ n. n + cond (handler == k) 1 0) (c.each_waiting k)
-        ∙ (ap (λ b. count_by (waits_for k) (drop earlier rows) + cond b 1 0) (sym (and_true (handler == k)))
-        ∙ sym (count_push (waits_for k) earlier rows (waiting_row handler number) c.behind)));
+          one_more_at waiting handler waits_now k in_waiting more
+          ∙ (ap (λ n. n + cond (handler == k) 1 0) (c.each_waiting k)
+          ∙ (ap (λ b. count_by (waits_for k) (drop earlier rows) + cond b 1 0) (sym (and_true (handler == k)))
+          ∙ sym (count_push (waits_for k) earlier rows (waiting_row handler number) c.behind)));
       behind = omega (arith, c.behind, length-append rows (waiting_row handler number ∷ []));
     }
 
@@ -103,11 +103,11 @@ over_is_same Dropped over = refl
 -- a change at each live place is one of all
 pub dropped_everywhere : (rows : List StoredRelease) →
     fold (λ (some : List StoredRelease) (place : ℕ). changed dropped_row place some) rows (live_places rows)
-        ≡ map dropped_row rows
+    ≡ map dropped_row rows
 unfolding live_places
 dropped_everywhere rows =
     changed_all row_is_live dropped_row 0 [] rows refl
-        (λ r over. ap (λ status. with_status status r) (over_is_same r.status over))
+    (λ r over. ap (λ status. with_status status r) (over_is_same r.status over))
 
 pub dropped_counted : (live taken waiting : List ℕ) (earlier : ℕ) (rows : List StoredRelease) →
     AreCounted live taken waiting earlier rows →
@@ -116,19 +116,19 @@ unfolding count_of live_places waiting_count
 dropped_counted live taken waiting earlier rows c =
     record {
       all_live =
-        ap (filter (is_live_at (map dropped_row rows))) c.all_live
-        ∙ kept_there row_is_live dropped_row (map dropped_row rows) 0 rows (from_first (map dropped_row rows))
-            (λ r over. over_stays r.status over);
+          ap (filter (is_live_at (map dropped_row rows))) c.all_live
+          ∙ kept_there row_is_live dropped_row (map dropped_row rows) 0 rows (from_first (map dropped_row rows))
+          (λ r over. over_stays r.status over);
       each_taken = λ handler.
-        c.each_taken handler
-        ∙ sym (ap (count_by (is_of handler)) (drop-map dropped_row earlier rows)
-        ∙ count_mapped (is_of handler) (is_of handler) dropped_row (λ r. refl) (drop earlier rows));
+          c.each_taken handler
+          ∙ sym (ap (count_by (is_of handler)) (drop-map dropped_row earlier rows)
+          ∙ count_mapped (is_of handler) (is_of handler) dropped_row (λ r. refl) (drop earlier rows));
       each_waiting = λ handler.
-        sym (ap (count_by (waits_for handler)) (drop-map dropped_row earlier rows)
-        ∙ (count_mapped (waits_for handler) (λ r. false) dropped_row
-            (λ r. ap (λ b. (r.handler == handler) && b) (dropped_waits r.status) ∙ and_false (r.handler == handler))
-            (drop earlier rows)
-        ∙ count_none (λ r. false) (drop earlier rows) (λ r. refl)));
+          sym (ap (count_by (waits_for handler)) (drop-map dropped_row earlier rows)
+          ∙ (count_mapped (waits_for handler) (λ r. false) dropped_row
+          (λ r. ap (λ b. (r.handler == handler) && b) (dropped_waits r.status) ∙ and_false (r.handler == handler))
+          (drop earlier rows)
+          ∙ count_none (λ r. false) (drop earlier rows) (λ r. refl)));
       behind = omega (arith, c.behind, length-map rows dropped_row);
     }
 
@@ -140,7 +140,7 @@ taken_left : (earlier place : ℕ) (rows : List StoredRelease) (f : StoredReleas
 unfolding count_of
 taken_left earlier place rows f same k =
     sym (sum_kept (λ (r : StoredRelease). cond (is_of k r) 1 0) f earlier place rows
-        (λ r. ap (λ n. cond (n == k) 1 0) (same r)))
+    (λ r. ap (λ n. cond (n == k) 1 0) (same r)))
 
 -- a live release is put under way
 pub put_counted : (live taken waiting : List ℕ) (earlier : ℕ) (rows : List StoredRelease) (place : ℕ)
@@ -148,15 +148,15 @@ pub put_counted : (live taken waiting : List ℕ) (earlier : ℕ) (rows : List S
     is_live_at rows place ≡ true → is_live status ≡ true → waits status ≡ false →
     AreCounted live taken waiting earlier rows →
     AreCounted live taken (one_less (waiting_handler rows earlier place) waiting) earlier
-        (changed (with_status status) place rows)
+    (changed (with_status status) place rows)
 unfolding live_places
 put_counted live taken waiting earlier rows place status was is none c =
     record {
       all_live =
-        c.all_live
-        ∙ sym
-            (numbers_changed row_is_live (with_status status) place rows
-            (λ r e. is ∙ sym (ap (λ o. holds o row_is_live) (sym e) ∙ was)));
+          c.all_live
+          ∙ sym
+          (numbers_changed row_is_live (with_status status) place rows
+          (λ r e. is ∙ sym (ap (λ o. holds o row_is_live) (sym e) ∙ was)));
       each_taken = λ k. c.each_taken k ∙ taken_left earlier place rows (with_status status) (λ r. refl) k;
       each_waiting = waiting_left earlier place rows status waiting none c.each_waiting;
       behind = omega (arith, c.behind, length_changed (with_status status) place rows);
@@ -166,13 +166,13 @@ put_counted live taken waiting earlier rows place status was is none c =
 pub ended_counted : (live taken waiting : List ℕ) (earlier : ℕ) (rows : List StoredRelease) (place : ℕ) →
     AreCounted live taken waiting earlier rows →
     AreCounted (filter (λ other. not (other == place)) live) taken
-        (one_less (waiting_handler rows earlier place) waiting) earlier (changed (with_status Ended) place rows)
+    (one_less (waiting_handler rows earlier place) waiting) earlier (changed (with_status Ended) place rows)
 unfolding live_places
 ended_counted live taken waiting earlier rows place c =
     record {
       all_live =
-        ap (filter (λ other. not (other == place))) c.all_live
-        ∙ sym (numbers_ended row_is_live (with_status Ended) place rows (λ r. refl));
+          ap (filter (λ other. not (other == place))) c.all_live
+          ∙ sym (numbers_ended row_is_live (with_status Ended) place rows (λ r. refl));
       each_taken = λ k. c.each_taken k ∙ taken_left earlier place rows (with_status Ended) (λ r. refl) k;
       each_waiting = waiting_left earlier place rows Ended waiting refl c.each_waiting;
       behind = omega (arith, c.behind, length_changed (with_status Ended) place rows);
@@ -200,8 +200,8 @@ emptied_counted live taken waiting earlier rows place c =
       all_live = c.all_live ∙ sym (numbers_changed row_is_live emptied_row place rows (λ r e. emptied_live r.status));
       each_taken = λ k. c.each_taken k ∙ taken_left earlier place rows emptied_row (λ r. refl) k;
       each_waiting = λ k.
-        c.each_waiting k
-        ∙ sym (sum_kept (λ (r : StoredRelease). cond (waits_for k r) 1 0) emptied_row earlier place rows
-            (λ r. ap (λ b. cond ((r.handler == k) && b) 1 0) (emptied_waits r.status)));
+          c.each_waiting k
+          ∙ sym (sum_kept (λ (r : StoredRelease). cond (waits_for k r) 1 0) emptied_row earlier place rows
+          (λ r. ap (λ b. cond ((r.handler == k) && b) 1 0) (emptied_waits r.status)));
       behind = omega (arith, c.behind, length_changed emptied_row place rows);
     }

@@ -31,7 +31,7 @@ module _ {A : Type 0} where
       count_by test (drop from (xs ++ x ∷ [])) ≡ count_by test (drop from xs) + cond (test x) 1 0
   count_push test from xs x behind =
       ap (count_by test) (drop-append-le from xs (x ∷ []) behind)
-          ∙ sum_by_push (λ y. cond (test y) 1 0) (drop from xs) x
+      ∙ sum_by_push (λ y. cond (test y) 1 0) (drop from xs) x
 
   pub count_none : (test : A → Bool) (xs : List A) → ((x : A) → test x ≡ false) → count_by test xs ≡ 0
   count_none test [] none = refl
@@ -46,7 +46,7 @@ module _ {A : Type 0} where
     where
       here : count_by other (filter test xs) ≡ count_by (λ x. test x && other x) xs →
           (b : Bool) → count_by other (cond b (x ∷ filter test xs) (filter test xs)) ≡ cond
-              (b && other x) 1 0 + count_by (λ x. test x && other x) xs
+          (b && other x) 1 0 + count_by (λ x. test x && other x) xs
       here rest true = sum_by-cons (λ y. cond (other y) 1 0) x (filter test xs) ∙ ap (λ n. cond (other x) 1 0 + n) rest
       here rest false = rest ∙ omega arith
 
@@ -82,7 +82,7 @@ one_more_at numbers place number k there e = go (place == k) refl
 
 pub one_less_at : (numbers : List ℕ) (place k : ℕ) → 0 < slice_index numbers place →
     slice_index (slice_set numbers place (slice_index numbers place - 1)) k + cond (place == k) 1 0
-        ≡ slice_index numbers k
+    ≡ slice_index numbers k
 one_less_at numbers place k some = go (place == k) refl
   where
     there : place < length numbers
@@ -100,7 +100,7 @@ one_less_at numbers place k some = go (place == k) refl
     go true t =
         let s : k ≡ place = grind (arith, nat_tests) in
         let h : slice_index (slice_set numbers place (slice_index numbers place - 1)) place ≡ slice_index numbers place
-            - 1 = get_or-set_same numbers place (slice_index numbers place - 1) 0 there in
+        - 1 = get_or-set_same numbers place (slice_index numbers place - 1) 0 there in
         rw s (omega (arith, h, some))
     go false t =
         let s : k ≢ place = (λ same. grind (arith, nat_tests)) in

@@ -69,18 +69,18 @@ count_seen code s rs handler =
     length-filter (λ (r : Release). r.handler == handler) (drop rs.earlier (map (release_seen code) rs.rows))
     ∙ (ap (count_by (λ (r : Release). r.handler == handler)) (drop-map (release_seen code) rs.earlier rs.rows)
     ∙ count_mapped (λ (r : Release). r.handler == handler) (is_of handler) (release_seen code) (λ r. refl)
-        (drop rs.earlier rs.rows))
+    (drop rs.earlier rs.rows))
 
 waiting_seen : (code : Code) (s : State) (rs : StoredReleases) (handler : ℕ) →
     length (waiting_of (with_releases code s rs) handler) ≡ waiting_count rs.earlier rs.rows handler
 unfolding waiting_count
 waiting_seen code s rs handler =
     count_both (λ (r : Release). r.handler == handler) (λ (r : Release). is_waiting r.status)
-        (drop rs.earlier (map (release_seen code) rs.rows))
+    (drop rs.earlier (map (release_seen code) rs.rows))
     ∙ (ap (count_by (λ (r : Release). (r.handler == handler) && is_waiting r.status))
-        (drop-map (release_seen code) rs.earlier rs.rows)
+    (drop-map (release_seen code) rs.earlier rs.rows)
     ∙ count_mapped (λ (r : Release). (r.handler == handler) && is_waiting r.status) (waits_for handler)
-        (release_seen code)
+    (release_seen code)
     (λ r. ap (λ b. (r.handler == handler) && b) (waits_seen code r.status)) (drop rs.earlier rs.rows))
 
 -- by how many wait and how many there are
@@ -98,31 +98,31 @@ told_with code s rs handler number =
 pub taken_seen : (code : Code) (s : State) (rs : StoredReleases) (handler : ℕ) →
     release_taken (with_releases code s rs) handler
     ≡ telling (with_releases code s (taken_in handler (next_number rs handler) rs))
-        (tell_taken s.unit handler (next_number rs handler))
+    (tell_taken s.unit handler (next_number rs handler))
 unfolding release_taken taken_by
 taken_seen code s rs handler =
     ap (λ n. taken_by (with_releases code s rs) handler n (length (releases_of (with_releases code s rs) handler)))
-        (waiting_seen code s rs handler)
+    (waiting_seen code s rs handler)
     ∙ (ap (taken_by (with_releases code s rs) handler (waiting_count rs.earlier rs.rows handler))
-        (count_seen code s rs handler)
+    (count_seen code s rs handler)
     ∙ go (nat_lt (waiting_count rs.earlier rs.rows handler) most_waiting))
   where
     go : (b : Bool) →
         (if not b then telling (with_releases code s rs) (Lost s.unit handler ∷ [])
         else telling
-            (with_list (with_releases code s rs)
-            (map (release_seen code) rs.rows
-            ++ record { handler = handler; number = count_of rs.earlier rs.rows handler + 1; status = WaitsSeen } ∷ []))
+        (with_list (with_releases code s rs)
+        (map (release_seen code) rs.rows
+        ++ record { handler = handler; number = count_of rs.earlier rs.rows handler + 1; status = WaitsSeen } ∷ []))
         (Arrive s.unit handler (count_of rs.earlier rs.rows handler + 1) ∷ []))
         ≡ telling
-            (with_releases code s
-            (taken_in handler (if b then Some (count_of rs.earlier rs.rows handler + 1) else None) rs))
+        (with_releases code s
+        (taken_in handler (if b then Some (count_of rs.earlier rs.rows handler + 1) else None) rs))
         (tell_taken s.unit handler (if b then Some (count_of rs.earlier rs.rows handler + 1) else None))
     go true =
         ap (λ xs. telling (with_list (with_releases code s rs) xs)
-            (Arrive s.unit handler (count_of rs.earlier rs.rows handler + 1) ∷ []))
+        (Arrive s.unit handler (count_of rs.earlier rs.rows handler + 1) ∷ []))
         (sym (map-append (release_seen code) rs.rows (waiting_row handler (count_of rs.earlier rs.rows handler + 1)
-            ∷ [])))
+        ∷ [])))
     go false = refl
 
 full : (waiting : ℕ) → most_waiting ≤ waiting → nat_lt waiting most_waiting ≡ false
@@ -143,10 +143,10 @@ full_seen code s rs handler waiting count as_many =
 -- one more may wait
 pub room_seen : (code : Code) (s : State) (rs : StoredReleases) (handler waiting number : ℕ) →
     waiting ≡ waiting_count rs.earlier rs.rows handler → waiting < most_waiting →
-        number ≡ count_of rs.earlier rs.rows handler + 1 →
+    number ≡ count_of rs.earlier rs.rows handler + 1 →
     release_taken (with_releases code s rs) handler
     ≡ telling (with_releases code s (record rs { rows = rs.rows ++ waiting_row handler number ∷ [] }))
-        (Arrive s.unit handler number ∷ [])
+    (Arrive s.unit handler number ∷ [])
 room_seen code s rs handler waiting number count fewer next =
     taken_seen code s rs handler
     ∙ (ap (λ b. told_with code s rs handler (if b then Some (count_of rs.earlier rs.rows handler + 1) else None))
@@ -180,7 +180,7 @@ tell_of unit r = Drop unit r.handler r.number
 
 all_told : (code : Code) (unit : ℕ) (rows : List StoredRelease) →
     flat_map (tell_row unit) rows ≡ map (tell_of unit)
-        (filter (λ (r : Release). is_waiting r.status) (map (release_seen code) rows))
+    (filter (λ (r : Release). is_waiting r.status) (map (release_seen code) rows))
 unfolding tell_of
 all_told code unit [] = refl
 all_told code unit (r ∷ rows) = go (all_told code unit rows) (waits r.status)
@@ -193,8 +193,8 @@ all_told code unit (r ∷ rows) = go (all_told code unit rows) (waits r.status)
         (filter (λ (r : Release). is_waiting r.status) (map (release_seen code) rows)) →
         (b : Bool) → (if b then Drop unit r.handler r.number ∷ [] else []) ++ flat_map (tell_row unit) rows
         ≡ map (tell_of unit)
-            (cond b (release_seen code r ∷ filter (λ (r : Release). is_waiting r.status) (map (release_seen code) rows))
-            (filter (λ (r : Release). is_waiting r.status) (map (release_seen code) rows)))
+        (cond b (release_seen code r ∷ filter (λ (r : Release). is_waiting r.status) (map (release_seen code) rows))
+        (filter (λ (r : Release). is_waiting r.status) (map (release_seen code) rows)))
     go rest true = ap (λ es. Drop unit r.handler r.number ∷ es) rest
     go rest false = rest
 
@@ -205,14 +205,14 @@ told_seen code s rs unit =
     told_there row_is_live (tell_row unit) (tell_at rs.rows unit) rs.rows 0 rs.rows (from_first rs.rows)
     (λ r over. ap (λ b. if b then Drop unit r.handler r.number ∷ [] else []) (over_waits_not r.status over))
     (λ place r e. ap
-        (λ (o : Option StoredRelease). elim o as (λ z. List Event) [ None ↦ [] | Some x ↦ tell_row unit x ]) e)
+    (λ (o : Option StoredRelease). elim o as (λ z. List Event) [ None ↦ [] | Some x ↦ tell_row unit x ]) e)
     ∙ all_told code unit rs.rows
 
 -- ---- activities
 
 pub activity_seen_at : (code : Code) (s : State) (rs : StoredReleases) (place : ℕ) →
     option_map (activity_seen code) (activity_in rs.rows place) ≡ activity_of (with_releases code s rs)
-        (ReleaseAt place)
+    (ReleaseAt place)
 unfolding activity_of activity_in_status
 activity_seen_at code s rs place = go (slice_get rs.rows place)
     ∙ ap (λ (o : Option Release). o >>= (λ r. activity_in_status r.status))
@@ -227,21 +227,21 @@ activity_seen_at code s rs place = go (slice_get rs.rows place)
 
     go : (o : Option StoredRelease) →
         option_map (activity_seen code) (o >>= (λ (r : StoredRelease). activity_within r.status)) ≡ option_map
-            (release_seen code) o >>= (λ r. activity_in_status r.status)
+        (release_seen code) o >>= (λ r. activity_in_status r.status)
     go None = refl
     go (Some r) = within r.status
 
 pub status_seen_at : (code : Code) (s : State) (rs : StoredReleases) (place : ℕ) (status : StoredStatus) →
     state_with_status (with_releases code s rs) place (status_seen code status) ≡ with_releases code s
-        (status_set place status rs)
+    (status_set place status rs)
 status_seen_at code s rs place status =
     ap (with_list (with_releases code s rs))
     (sym (map_changed (release_seen code) (with_status status)
-        (λ (r : Release). record r { status = status_seen code status }) place rs.rows (λ r. refl)))
+    (λ (r : Release). record r { status = status_seen code status }) place rs.rows (λ r. refl)))
 
 pub put_seen : (code : Code) (s : State) (rs : StoredReleases) (place : ℕ) (activity : StoredActivity) →
     with_activity (with_releases code s rs) (ReleaseAt place) (activity_seen code activity) ≡ with_releases code s
-        (status_set place (Started activity) rs)
+    (status_set place (Started activity) rs)
 unfolding with_activity
 put_seen code s rs place activity = status_seen_at code s rs place (Started activity)
 
@@ -259,7 +259,7 @@ put_back_seen code s rs place activity =
 
 any_started_seen : (code : Code) (rows : List StoredRelease) →
     list_any (λ (r : StoredRelease). is_under_way r.status) rows ≡ list_any (λ (r : Release). is_started r.status)
-        (map (release_seen code) rows)
+    (map (release_seen code) rows)
 any_started_seen code [] = refl
 any_started_seen code (r ∷ rows) =
     ap (λ b. b || list_any (λ (r : StoredRelease). is_under_way r.status) rows) (sym (started_seen code r.status))
@@ -270,7 +270,7 @@ pub has_started_seen : (code : Code) (s : State) (rs : StoredReleases) →
 unfolding live_places
 has_started_seen code s rs =
     any_there row_is_live (λ (r : StoredRelease). is_under_way r.status) rs.rows 0 rs.rows (from_first rs.rows)
-        (λ r over. over_is_not_started r.status over)
+    (λ r over. over_is_not_started r.status over)
     ∙ any_started_seen code rs.rows
 
 pub choice_seen : (code : Code) (s : State) (rs : StoredReleases) (registry : List HandlerRow) →

@@ -10,5 +10,5 @@ pub told_nowhere : (told : List Event) (rows : List StoredRelease) (unit place :
     told ≡ told ++ tell_at rows unit place
 told_nowhere told rows unit place e =
     sym (append-nil told)
-        ∙ ap (λ (o : Option StoredRelease). told
-        ++ elim o as (λ z. List Event) [ None ↦ [] | Some r ↦ tell_row unit r ]) e
+    ∙ ap (λ (o : Option StoredRelease). told
+    ++ elim o as (λ z. List Event) [ None ↦ [] | Some r ↦ tell_row unit r ]) e

@@ -21,46 +21,45 @@ handler_in before found =
 
 module _ (earlier place : ℕ) (rows : List StoredRelease) (status : StoredStatus) (waiting : List ℕ)
     (none : waits status ≡ false)
-  (each : (handler : ℕ) → slice_index waiting handler ≡ waiting_count earlier rows handler) where
-
+    (each : (handler : ℕ) → slice_index waiting handler ≡ waiting_count earlier rows handler) where
   weight : ℕ → StoredRelease → ℕ
   weight k r = cond (waits_for k r) 1 0
 
   -- the sum with the other status, and what the release had in it
   other_sum : (k : ℕ) (r : StoredRelease) → slice_get rows place ≡ Some r → earlier ≤ place →
       waiting_count earlier (slice_set rows place (with_status status r)) k + cond (waits_for k r) 1 0
-          ≡ waiting_count earlier rows k
+      ≡ waiting_count earlier rows k
   unfolding waiting_count weight
   other_sum k r e behind =
       sum_dropped (weight k) earlier place rows r (with_status status r) e behind
       ∙ (ap (λ b. sum_by (weight k) (drop earlier rows) + cond b 1 0) (ap (λ b. (r.handler == k) && b) none
-          ∙ and_false (r.handler == k))
+      ∙ and_false (r.handler == k))
       ∙ omega arith)
 
   waited : (k : ℕ) (r : StoredRelease) → slice_get rows place ≡ Some r → earlier ≤ place → waits r.status ≡ true →
       slice_index (one_less (Some r.handler) waiting) k ≡ waiting_count earlier
-          (slice_set rows place (with_status status r)) k
+      (slice_set rows place (with_status status r)) k
   waited k r e behind w =
       let here : ◌≡◌ {A = ℕ} (cond (waits_for r.handler r) 1 0) 1 = ap (λ b. cond ((r.handler == r.handler) && b) 1 0) w
-          ∙ itself r.handler in
+      ∙ itself r.handler in
       let own : waiting_count earlier (slice_set rows place (with_status status r)) r.handler + cond
-          (waits_for r.handler r) 1 0 ≡ waiting_count earlier rows r.handler = other_sum r.handler r e behind in
+      (waits_for r.handler r) 1 0 ≡ waiting_count earlier rows r.handler = other_sum r.handler r e behind in
       let some : 0 < slice_index waiting r.handler = omega (arith, own, here, each r.handler) in
       let less : slice_index (slice_set waiting r.handler (slice_index waiting r.handler - 1)) k + cond
-          (r.handler == k) 1 0 ≡ slice_index waiting k = one_less_at waiting r.handler k some in
+      (r.handler == k) 1 0 ≡ slice_index waiting k = one_less_at waiting r.handler k some in
       let sum : waiting_count earlier (slice_set rows place (with_status status r)) k + cond (waits_for k r) 1 0
-          ≡ waiting_count earlier rows k = other_sum k r e behind in
+      ≡ waiting_count earlier rows k = other_sum k r e behind in
       let same : ◌≡◌ {A = ℕ} (cond (waits_for k r) 1 0) (cond (r.handler == k) 1 0) =
-          ap (λ b. cond ((r.handler == k) && b) 1 0) w ∙ ap (λ b. cond b 1 0) (and_true (r.handler == k)) in
+      ap (λ b. cond ((r.handler == k) && b) 1 0) w ∙ ap (λ b. cond b 1 0) (and_true (r.handler == k)) in
       omega (arith, less, sum, same, each k)
 
   stays : (k : ℕ) (r : StoredRelease) → slice_get rows place ≡ Some r → earlier ≤ place → waits r.status ≡ false →
       slice_index waiting k ≡ waiting_count earlier (slice_set rows place (with_status status r)) k
   stays k r e behind w =
       let sum : waiting_count earlier (slice_set rows place (with_status status r)) k + cond (waits_for k r) 1 0
-          ≡ waiting_count earlier rows k = other_sum k r e behind in
+      ≡ waiting_count earlier rows k = other_sum k r e behind in
       let none_here : ◌≡◌ {A = ℕ} (cond (waits_for k r) 1 0) 0 = ap (λ b. cond ((r.handler == k) && b) 1 0) w
-          ∙ ap (λ b. cond b 1 0) (and_false (r.handler == k)) in
+      ∙ ap (λ b. cond b 1 0) (and_false (r.handler == k)) in
       omega (arith, sum, none_here, each k)
 
   before_these : (k : ℕ) (r : StoredRelease) → place < earlier →
@@ -74,7 +73,7 @@ module _ (earlier place : ℕ) (rows : List StoredRelease) (status : StoredStatu
 
   left_there : (k : ℕ) (r : StoredRelease) → slice_get rows place ≡ Some r →
       counts_with k (waiting_handler rows earlier place) ≡ waiting_count earlier
-          (slice_set rows place (with_status status r)) k
+      (slice_set rows place (with_status status r)) k
   unfolding counts_with handler_in
   left_there k r e = go (nat_lt place earlier) refl
     where
@@ -113,4 +112,4 @@ module _ (earlier place : ℕ) (rows : List StoredRelease) (status : StoredStatu
           ∙ (each k ∙ ap (λ xs. waiting_count earlier xs k) (sym (changed_nowhere (with_status status) place rows e))))
       go (Some r) e =
           left_there k r e
-              ∙ ap (λ xs. waiting_count earlier xs k) (sym (changed_there (with_status status) place rows r e))
+          ∙ ap (λ xs. waiting_count earlier xs k) (sym (changed_there (with_status status) place rows r e))

@@ -83,7 +83,11 @@ fn preferred(candidate: Option<Candidate>, later: Option<Candidate>) -> Option<C
     ensures { result ≡ preferred candidate later }
 {
     match (candidate, later) {
-        (Some(first), Some(second)) => Some(if second.is_more_urgent(first) { second } else { first }),
+        (Some(first), Some(second)) => Some(if second.is_more_urgent(first) {
+            second
+        } else {
+            first
+        }),
         (Some(first), None) => Some(first),
         (None, second) => second,
     }

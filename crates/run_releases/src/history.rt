@@ -14,7 +14,10 @@ ghost use Rattle.run_releases.specs.OtherReleases.{all_let_go, at_unit, with_reg
 
 use crate::choice::choose;
 use crate::counts::{number_at, one_more, reach, set_number, take_one};
-use crate::places::{any_started, drop_all, forget, is_live_there, keep_live, push_release, set_status, take_from, tell_all, waiting_there};
+use crate::places::{
+    any_started, drop_all, forget, is_live_there, keep_live, push_release, set_status, take_from,
+    tell_all, waiting_there,
+};
 use crate::rows::{Release, ReleaseStatus};
 use job_frames::Activity;
 use scj_base::Memory;
@@ -81,11 +84,15 @@ impl Releases {
         let number = one_more(number_at(&self.taken, place))?;
         reach(&mut self.taken, place)?;
         reach(&mut self.waiting, place)?;
-        push_release(&mut self.rows, &mut self.live, Release {
-            handler,
-            number,
-            status: ReleaseStatus::Waits,
-        })?;
+        push_release(
+            &mut self.rows,
+            &mut self.live,
+            Release {
+                handler,
+                number,
+                status: ReleaseStatus::Waits,
+            },
+        )?;
         set_number(&mut self.taken, place, number);
         set_number(&mut self.waiting, place, waiting + 1);
         Ok(Some(number))
@@ -144,7 +151,10 @@ impl Releases {
         if !is_live_there(&self.rows, place) {
             return Err(Memory);
         }
-        take_one(&mut self.waiting, waiting_there(&self.rows, self.earlier, place));
+        take_one(
+            &mut self.waiting,
+            waiting_there(&self.rows, self.earlier, place),
+        );
         set_status(&mut self.rows, place, ReleaseStatus::Started(activity));
         Ok(())
     }
@@ -155,7 +165,10 @@ impl Releases {
         ensures seen { (code : Code) (s : State) →
             state_with_status (with_releases code s self.old) place EndedSeen ≡ with_releases code s self.new }
     {
-        take_one(&mut self.waiting, waiting_there(&self.rows, self.earlier, place));
+        take_one(
+            &mut self.waiting,
+            waiting_there(&self.rows, self.earlier, place),
+        );
         forget(&mut self.live, place);
         set_status(&mut self.rows, place, ReleaseStatus::Ended);
     }

@@ -61,13 +61,21 @@ pub(crate) fn waiting_there(rows: &[Release], earlier: usize, place: usize) -> O
         return None;
     }
     match rows.get(place) {
-        Some(release) => if release.is_waiting() { Some(release.handler) } else { None },
+        Some(release) => if release.is_waiting() {
+            Some(release.handler)
+        } else {
+            None
+        },
         None => None,
     }
 }
 
 /// Puts a release that waits last, and its place behind the live ones.
-pub(crate) fn push_release(rows: &mut Vec<Release>, live: &mut Vec<usize>, release: Release) -> Result<(), Memory>
+pub(crate) fn push_release(
+    rows: &mut Vec<Release>,
+    live: &mut Vec<usize>,
+    release: Release,
+) -> Result<(), Memory>
     ensures rows { OnOk result (rows.new.items ≡ rows.old.items ++ release ∷ []) }
     ensures live { OnOk result (live.new.items ≡ live.old.items ++ length rows.old.items ∷ []) }
     ensures rows_err { OnErr result (rows.new.items ≡ rows.old.items) }
@@ -127,13 +135,22 @@ fn tell_release(release: &Release, unit: u64, told: &mut Vec<Event>) -> Result<(
     ensures { OnOk result (told.new.items ≡ told.old.items ++ tell_row unit release.now) }
 {
     if release.is_waiting() {
-        told.push(Event::Drop { unit, handler: release.handler, number: release.number })?;
+        told.push(Event::Drop {
+            unit,
+            handler: release.handler,
+            number: release.number,
+        })?;
     }
     Ok(())
 }
 
 /// The same of the release at a place.
-fn tell_there(rows: &[Release], place: usize, unit: u64, told: &mut Vec<Event>) -> Result<(), Memory>
+fn tell_there(
+    rows: &[Release],
+    place: usize,
+    unit: u64,
+    told: &mut Vec<Event>,
+) -> Result<(), Memory>
     ensures { OnOk result (told.new.items ≡ told.old.items ++ tell_at rows.now unit place) }
 {
     match row_there(rows, place) {
@@ -143,7 +160,12 @@ fn tell_there(rows: &[Release], place: usize, unit: u64, told: &mut Vec<Event>) 
 }
 
 /// Tells of those of these releases that wait that they are let go.
-pub(crate) fn tell_all(rows: &[Release], places: &[usize], unit: u64, told: &mut Vec<Event>) -> Result<(), Memory>
+pub(crate) fn tell_all(
+    rows: &[Release],
+    places: &[usize],
+    unit: u64,
+    told: &mut Vec<Event>,
+) -> Result<(), Memory>
     ensures { OnOk result (told.new.items ≡ told.old.items ++ flat_map (tell_at rows.now unit) places.now) }
 {
     for place in places {

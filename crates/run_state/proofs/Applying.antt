@@ -29,7 +29,7 @@ module _ (code : Code) (s : State) (job : Job) (activity : Activity) (below : Li
       go (ReleaseAt n) =
           ap (λ (o : Option ℕ). telling (with_status (closed_all (closed s o) below) n Ended)
           (Fault s.unit fault place ∷ of_release s (ReleaseAt n) (λ (r : Release). End s.unit r.handler r.number ∷ [])))
-              e
+          e
 
   registered_alike : (f g : Frame) (r : ℕ) (o : Object) (after : State) → f.opened ≡ g.opened →
       registered code s job (topped f) place r o after ≡ registered code s job (topped g) place r o after
@@ -78,7 +78,7 @@ module _ (code : Code) (s : State) (job : Job) (activity : Activity) (below : Li
       go : (o : Option Object) →
           option_map (λ (x : Object). registered code s job (topped f) place r x (with_frame s job activity h below)) o
           ≡ option_map (λ (x : Object). registered code s job (topped g) place r x (with_frame s job activity h below))
-              o
+          o
       go None = refl
       go (Some x) = ap (λ (t : Step). Some t) (registered_alike f g r x (with_frame s job activity h below) e)
   applied_alike f g e (AsksRelease h r) = refl

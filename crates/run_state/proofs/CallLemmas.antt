@@ -26,7 +26,7 @@ pub on_top_seen : (code : Code) (g : Frame) (before after : StoredActivity) → 
     activity_seen code after ≡ record (activity_seen code before) { frames = g ∷ frames_of code before.frames }
 on_top_seen code g before after h =
     ap (activity_seen code) h.whole ∙ ap (λ (f : Frame). (
-      let a : Activity = record (activity_seen code before) { frames = f ∷ frames_of code before.frames } in a)) h.seen
+    let a : Activity = record (activity_seen code before) { frames = f ∷ frames_of code before.frames } in a)) h.seen
 
 pub without_top : (code : Code) (g : Frame) (before after : StoredActivity) → HasOnTop code g before after →
     (let a : StoredActivity = record after { frames = below after.frames } in a) ≡ before
@@ -79,9 +79,9 @@ pub entered_seen : (code : Code) (g : Frame) (before after : StoredActivity) (fr
     }
 entered_seen code g before after frames ceiling h e =
     ap (λ (fs : List StoredFrame). (let a : Activity =
-      activity_seen code (record after { frames = fs; priority = ceiling }) in a)) e
+    activity_seen code (record after { frames = fs; priority = ceiling }) in a)) e
     ∙ (ap (λ (x : StoredActivity). (let a : Activity =
-      activity_seen code (record x { frames = with_saved x.priority x.frames; priority = ceiling }) in a)) h.whole
+    activity_seen code (record x { frames = with_saved x.priority x.frames; priority = ceiling }) in a)) h.whole
     ∙ ap (λ (x : Frame). (let b : Activity = record (activity_seen code before) {
       frames = record x { saved = Some before.priority } ∷ frames_of code before.frames;
       priority = ceiling;
@@ -96,11 +96,11 @@ pub moved_seen : (code : Code) (g : Frame) (before after : StoredActivity) (fram
     }
 moved_seen code g before after frames areas area h e o =
     ap (λ (fs : List StoredFrame). (let a : Activity =
-      activity_seen code (record after { frames = fs; areas = areas }) in a)) e
+    activity_seen code (record after { frames = fs; areas = areas }) in a)) e
     ∙ (ap (λ (os : List ℕ). (let a : Activity =
-      activity_seen code (record after { frames = moved_in area after.frames; areas = os }) in a)) o
+    activity_seen code (record after { frames = moved_in area after.frames; areas = os }) in a)) o
     ∙ (ap (λ (x : StoredActivity). (let a : Activity =
-      activity_seen code (record x { frames = moved_in area x.frames; areas = area ∷ x.areas }) in a)) h.whole
+    activity_seen code (record x { frames = moved_in area x.frames; areas = area ∷ x.areas }) in a)) h.whole
     ∙ ap (λ (x : Frame). (let b : Activity = record (activity_seen code before) {
       frames = record x { area = area; opened = Some area } ∷ frames_of code before.frames;
       areas = area ∷ before.areas;
@@ -117,7 +117,7 @@ module _ (code : Code) (s : State) (job : Job) (activity : Activity) (frames : L
 
   pub called_plainly : is_full frames ≡ false → ceiling_entered code s g ≡ None →
       called code s job activity frames place g ≡ silently
-          (with_activity s job (record activity { frames = g ∷ frames }))
+      (with_activity s job (record activity { frames = g ∷ frames }))
   unfolding called
   called_plainly e c = rw (e, c) refl
 
@@ -142,7 +142,7 @@ module _ (code : Code) (s : State) (job : Job) (activity : Activity) (frames : L
 
   pub opened_in_full : (scope bytes : ℕ) → is_some (area_with_scope s scope activity.areas) ≡ false →
       is_full frames ≡ true → opened_in s job activity frames place g scope bytes ≡ fault_in s job activity place
-          DepthFull
+      DepthFull
   unfolding opened_in
   opened_in_full scope bytes e f = rw (e, f) refl
 

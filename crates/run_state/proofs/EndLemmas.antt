@@ -97,7 +97,7 @@ module _ (code : Code) (st : RunState) (n : ℕ) (rs : StoredReleases) (first la
   release_at_fault m activity place fault middle closes e t u begun =
       let with_m : RunState = record st { memory = m } in
       let begun_m : AreAllBegun code.program.nodes with_m =
-          record { sequencer = begun.sequencer; releases = begun.releases } in
+      record { sequencer = begun.sequencer; releases = begun.releases } in
       record {
         state = ap (λ (x : StoredReleases). state_of code (record with_m { releases = x })) e
             ∙ (status_is_seen code with_m n Ended
@@ -112,7 +112,7 @@ module _ (code : Code) (st : RunState) (n : ℕ) (rs : StoredReleases) (first la
 pub closed_next : (code : Code) (s : State) (was now : Contents) (frames : List StoredFrame) (left : ℕ) →
     left < length frames →
     ((f : StoredFrame) → Some f ≡ slice_get frames left → (t : State) →
-        closed (with_memory t was) f.opened ≡ with_memory t now) →
+    closed (with_memory t was) f.opened ≡ with_memory t now) →
     closed_all (with_memory s was) (frames_of code (reverse (take (suc left) frames)))
     ≡ closed_all (with_memory s now) (frames_of code (reverse (take left frames)))
 closed_next code s was now frames left within h = go (slice_get frames left) refl

@@ -23,7 +23,7 @@ use Rattle.run_state.proofs.Rows.{changed_map, get_map}
 
 started_there : (found : Option Release) (a : StoredActivity) →
     (found >>= (λ (r : Release). activity_within r.status)) ≡ Some a → (r : Release) × (found ≡ Some r) ×
-        (r.status ≡ Started a)
+    (r.status ≡ Started a)
 started_there None a e = absurd (cc)
 started_there (Some r) a e = (r, refl, of_status r.status e)
   where
@@ -40,17 +40,17 @@ pub emptied : (code : Code) (st : RunState) (place : ℕ) (a : StoredActivity) �
 unfolding state_of with_activity
 emptied code st place a e =
     let found : (r : Release) × (slice_get st.releases.rows place ≡ Some r) × (r.status ≡ Started a) =
-        started_there (slice_get st.releases.rows place) a e in
+    started_there (slice_get st.releases.rows place) a e in
     let rows : changed emptied_row place st.releases.rows ≡ changed (with_status (Started empty_activity)) place
-        st.releases.rows =
-        changed_there emptied_row place st.releases.rows found.0 found.1
-        ∙ (ap (λ (s : ReleaseStatus). slice_set st.releases.rows place (record found.0 { status = emptied_status s }))
-            found.2
-        ∙ sym (changed_there (with_status (Started empty_activity)) place st.releases.rows found.0 found.1)) in
+    st.releases.rows =
+    changed_there emptied_row place st.releases.rows found.0 found.1
+    ∙ (ap (λ (s : ReleaseStatus). slice_set st.releases.rows place (record found.0 { status = emptied_status s }))
+    found.2
+    ∙ sym (changed_there (with_status (Started empty_activity)) place st.releases.rows found.0 found.1)) in
     ap (λ (rs : List Release). state_of code (record st { releases = record st.releases { rows = rs } })) rows
     ∙ ap (λ (rs : List ReleaseOfRun). record (state_of code st) { releases = rs })
     (changed_map (release_seen code) (with_status (Started empty_activity))
-        (λ r. record r { status = StartedSeen no_activity })
+    (λ r. record r { status = StartedSeen no_activity })
     place st.releases.rows (λ r. refl))
 
 pub emptied_begun : (nodes : List Node) (st : RunState) (place : ℕ) → AreAllBegun nodes st →
@@ -72,14 +72,14 @@ pub taken_begun : (nodes : List Node) (st : RunState) (place : ℕ) (a : StoredA
 unfolding IsBegunStatus
 taken_begun nodes st place a e h =
     let found : (r : Release) × (slice_get st.releases.rows place ≡ Some r) × (r.status ≡ Started a) =
-        started_there (slice_get st.releases.rows place) a e in
+    started_there (slice_get st.releases.rows place) a e in
     subst (IsBegunStatus nodes) found.2
     (begun_at nodes st.releases.rows place found.0 found.1 h.releases)
 
 -- the activity that the code finds is the one of the definitions
 pub found_activity : (code : Code) (st : RunState) (place : ℕ) →
     option_map (activity_seen code) (activity_in st.releases.rows place) ≡ activity_of (state_of code st)
-        (ReleaseAt place)
+    (ReleaseAt place)
 unfolding state_of activity_of activity_in_status
 found_activity code st place =
     of_found (slice_get st.releases.rows place)

@@ -30,7 +30,7 @@ pub left_step : (code : Code) (s : State) (job : Job) (activity : Activity) (f :
     state_of code middle ≡ closed s f.opened →
     second ≡ first ++ tell_priority s job activity.priority (unwrap_or f.saved activity.priority) →
     IsStep code (settled (state_of code middle) job (after_leaving activity f below value) value below) st second
-        third →
+    third →
     IsStep code (frame_left s job activity f below value) st first third
 unfolding frame_left settled
 left_step code s job activity f below value middle st first second third e t h =
@@ -39,8 +39,8 @@ left_step code s job activity f below value middle st first second third e t h =
     record {
       state = h.state ∙ ap (λ (x : State). (settled x job after value below).state) e;
       told = h.told ∙ (ap (λ (x : State). second ++ (settled x job after value below).events) e
-      ∙ (ap (λ (es : List Event). es ++ (settled (closed s f.opened) job after value below).events) t
-      ∙ append_assoc first told (settled (closed s f.opened) job after value below).events));
+          ∙ (ap (λ (es : List Event). es ++ (settled (closed s f.opened) job after value below).events) t
+          ∙ append_assoc first told (settled (closed s f.opened) job after value below).events));
       begun = h.begun;
     }
 
@@ -63,35 +63,35 @@ pub left_all : (code : Code) (st : RunState) (job : Job) (activity after : Store
     second ≡ first ++ tell_priority (state_of code st) job activity.priority after.priority →
     ((s : State) → closed (with_memory s st.memory) opened ≡ with_memory s m) →
     ((rest : List Frame) → length rest ≡ length after.frames →
-      IsStep code (settled (state_of code (record st { memory = m })) job (activity_seen code after) value rest)
-      final second third) →
+    IsStep code (settled (state_of code (record st { memory = m })) job (activity_seen code after) value rest)
+    final second third) →
     IsStep code
-        (frame_left (state_of code st) job (activity_seen code activity) (frame_of code f) (frames_of code below) value)
+    (frame_left (state_of code st) job (activity_seen code activity) (frame_of code f) (frames_of code below) value)
     final first third
 unfolding state_of
 left_all code st job activity after f below value opened saved m final first second third o p a t closes settles =
     let seen : activity_seen code after ≡ after_leaving (activity_seen code activity) (frame_of code f)
-        (frames_of code below) value =
-        a ∙ (ap (λ (x : Option ℕ). (let b : Activity = record (activity_seen code activity) {
-          frames = returned value (frames_of code below);
-          areas = without x activity.areas;
-          priority = unwrap_or saved activity.priority;
-        } in b)) o ∙ ap (λ (x : Option ℕ). (let b : Activity = record (activity_seen code activity) {
-          frames = returned value (frames_of code below);
-          areas = without f.opened activity.areas;
-          priority = unwrap_or x activity.priority;
-        } in b)) p) in
+    (frames_of code below) value =
+    a ∙ (ap (λ (x : Option ℕ). (let b : Activity = record (activity_seen code activity) {
+      frames = returned value (frames_of code below);
+      areas = without x activity.areas;
+      priority = unwrap_or saved activity.priority;
+    } in b)) o ∙ ap (λ (x : Option ℕ). (let b : Activity = record (activity_seen code activity) {
+      frames = returned value (frames_of code below);
+      areas = without f.opened activity.areas;
+      priority = unwrap_or x activity.priority;
+    } in b)) p) in
     let count : length (frames_of code below) ≡ length after.frames =
-        sym (as_many value (frames_of code below)) ∙ (ap (λ (b : Activity). length b.frames) (sym seen)
-        ∙ length-map after.frames (frame_of code)) in
+    sym (as_many value (frames_of code below)) ∙ (ap (λ (b : Activity). length b.frames) (sym seen)
+    ∙ length-map after.frames (frame_of code)) in
     let middle : RunState = record st { memory = m } in
     left_step code (state_of code st) job (activity_seen code activity) (frame_of code f) (frames_of code below) value
     middle final first second third
     (sym (closes (state_of code st)) ∙ ap (closed (state_of code st)) o)
     (t ∙ ap (λ (b : Activity). first ++ tell_priority (state_of code st) job activity.priority b.priority) seen)
     (subst
-        (λ (b : Activity). IsStep code (settled (state_of code middle) job b value (frames_of code below)) final second
-        third)
+    (λ (b : Activity). IsStep code (settled (state_of code middle) job b value (frames_of code below)) final second
+    third)
     seen (settles (frames_of code below) count))
 
 -- ---- the steps of the code

@@ -40,22 +40,22 @@ pub made_applied : (code : Code) (was : RunState) (acting : Acting) (activity : 
     (fault_in (state_of code was) (job_seen acting.job) (activity_seen code activity) acting.place MemoryFull) found
     (state_of code middle) →
     ((f : StoredFrame) (below : List StoredFrame) → activity.frames ≡ f ∷ below →
-      IsStep code
-      (made_or_full (state_of code middle) (job_seen acting.job) (activity_seen code activity) (frame_of code f)
-      (frames_of code below) acting.place found) st before after) →
+    IsStep code
+    (made_or_full (state_of code middle) (job_seen acting.job) (activity_seen code activity) (frame_of code f)
+    (frames_of code below) acting.place found) st before after) →
     IsApplied code was acting activity (λ f. Makes f class slots) true st before after
 unfolding applied made_or_full
 made_applied code was acting activity class area slots found middle st before after there goes makes = record {
   tried = λ f below e.
       let next : State → ℕ → Step = λ s r. silently (with_frame s (job_seen acting.job) (activity_seen code activity)
-          (record (frame_of code f) { operands = At r ∷ f.operands }) (frames_of code below)) in
+      (record (frame_of code f) { operands = At r ∷ f.operands }) (frames_of code below)) in
       let step : Step =
-          allocating (state_of code was) (job_seen acting.job) (activity_seen code activity) acting.place class
-          f.area slots next in
+      allocating (state_of code was) (job_seen acting.job) (activity_seen code activity) acting.place class
+      f.area slots next in
       try_of code st before after (Some step) step refl
       (same_step code st before after _ step
       (ap (λ (n : ℕ). allocating (state_of code was) (job_seen acting.job) (activity_seen code activity) acting.place
-          class
+      class
       n slots next) (sym (there f below e))
       ∙ goes_step (state_of code was)
       (allocating (state_of code was) (job_seen acting.job) (activity_seen code activity) acting.place class area slots)

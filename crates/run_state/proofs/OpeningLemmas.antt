@@ -22,7 +22,7 @@ module _ (code : Code) (s : State) (job : Job) (activity : Activity) (frames : L
 
   pub opened_step : (area : ℕ) →
       GoesOn s (opening s job activity place scope parent bytes) (fault_in s job activity place StoreFull)
-          (Some area) after →
+      (Some area) after →
       IsStep code (moved after area) st first last →
       IsStep code (call_opened s job activity frames place g scope parent bytes) st first last
   unfolding call_opened

@@ -22,7 +22,7 @@ module _ (s : State) (job : Job) (activity : Activity) (place : Pos) where
   pub area_there : (scope : ℕ) (parent : Option ℕ) (bytes n : ℕ) (after : State) → has_store_for s bytes ≡ true →
       n ≡ length s.areas → after ≡ with_area s scope parent bytes →
       GoesOn s (opening s job activity place scope parent bytes) (fault_in s job activity place StoreFull)
-          (Some n) after
+      (Some n) after
   unfolding opening
   area_there scope parent bytes n after h k a = record {
     there = λ next m e. rw h (
@@ -40,7 +40,7 @@ module _ (s : State) (job : Job) (activity : Activity) (place : Pos) where
   pub object_there : (class area : ℕ) (slots : List Value) (n : ℕ) (after : State) →
       has_room s area (length slots) ≡ true → n ≡ length s.objects → after ≡ with_object s class area slots →
       GoesOn s (allocating s job activity place class area slots) (fault_in s job activity place MemoryFull)
-          (Some n) after
+      (Some n) after
   unfolding allocating
   object_there class area slots n after h k a = record {
     there = λ next m e. rw h (

@@ -38,7 +38,7 @@ tell_found tell o = elim o [ None ↦ [] | Some r ↦ tell r ]
 
 pub told_of : (code : Code) (st : RunState) (n : ℕ) (tell : ReleaseOfRun → List Event) (r : Release) →
     Some r ≡ slice_get st.releases.rows n → of_release (state_of code st) (ReleaseAt n) tell ≡ tell
-        (release_seen code r)
+    (release_seen code r)
 unfolding state_of tell_found
 told_of code st n tell r e =
     ap (tell_found tell) (get_map (release_seen code) st.releases.rows n ∙ ap (option_map (release_seen code)) (sym e))

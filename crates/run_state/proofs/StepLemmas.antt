@@ -35,8 +35,8 @@ try_of code st before after found step e h = record {
 pub applied_as : (code : Code) (was : RunState) (acting : Acting) (activity : StoredActivity) (effect : Frame → Effect)
     (st : RunState) (before after : List Event) (step : Step) →
     ((f : StoredFrame) (below : List StoredFrame) → activity.frames ≡ f ∷ below →
-      applied code (state_of code was) (job_seen acting.job) (activity_seen code activity) (frames_of code below)
-      acting.place (effect (frame_of code f)) ≡ Some step) →
+    applied code (state_of code was) (job_seen acting.job) (activity_seen code activity) (frames_of code below)
+    acting.place (effect (frame_of code f)) ≡ Some step) →
     IsStep code step st before after → IsApplied code was acting activity effect true st before after
 applied_as code was acting activity effect st before after step same h =
     record { tried = λ f below e. try_of code st before after _ step (same f below e) h }
@@ -45,8 +45,8 @@ applied_as code was acting activity effect st before after step same h =
 pub applied_telling : (code : Code) (was : RunState) (acting : Acting) (activity : StoredActivity)
     (effect : Frame → Effect) (st : RunState) (before after : List Event) (s : State) (events : List Event) →
     ((f : Frame) (below : List Frame) →
-      applied code (state_of code was) (job_seen acting.job) (activity_seen code activity) below acting.place (effect f)
-      ≡ Some (telling (with_frame s (job_seen acting.job) (activity_seen code activity) f below) events)) →
+    applied code (state_of code was) (job_seen acting.job) (activity_seen code activity) below acting.place (effect f)
+    ≡ Some (telling (with_frame s (job_seen acting.job) (activity_seen code activity) f below) events)) →
     state_of code st ≡ with_activity s (job_seen acting.job) (activity_seen code activity) →
     after ≡ before ++ events → AreAllBegun code.program.nodes st →
     IsApplied code was acting activity effect true st before after
@@ -54,16 +54,16 @@ applied_telling code was acting activity effect st before after s events same st
     applied_as code was acting activity effect st before after
     (telling (with_activity s (job_seen acting.job) (activity_seen code activity)) events)
     (λ f below e. same (frame_of code f) (frames_of code below) ∙ ap (λ (fs : List StoredFrame).
-      Some (telling (with_activity s (job_seen acting.job)
-      (record (activity_seen code activity) { frames = frames_of code fs })) events)) (sym e))
+    Some (telling (with_activity s (job_seen acting.job)
+    (record (activity_seen code activity) { frames = frames_of code fs })) events)) (sym e))
     (record { state = state; told = told; begun = begun })
 
 -- an effect that changes the memory, puts the frames back and tells nothing
 pub applied_on_memory : (code : Code) (was : RunState) (acting : Acting) (activity : StoredActivity)
     (effect : Frame → Effect) (m : Contents) (st : RunState) (told : List Event) (s : State) →
     ((f : Frame) (below : List Frame) →
-      applied code (state_of code was) (job_seen acting.job) (activity_seen code activity) below acting.place (effect f)
-      ≡ Some (telling (with_frame s (job_seen acting.job) (activity_seen code activity) f below) [])) →
+    applied code (state_of code was) (job_seen acting.job) (activity_seen code activity) below acting.place (effect f)
+    ≡ Some (telling (with_frame s (job_seen acting.job) (activity_seen code activity) f below) [])) →
     state_of code (record was { memory = m }) ≡ s →
     state_of code st
     ≡ with_activity (state_of code (record was { memory = m })) (job_seen acting.job) (activity_seen code activity) →

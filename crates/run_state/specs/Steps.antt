@@ -21,9 +21,9 @@ pub record IsStep (code : Code) (step : Step) (st : RunState) (before after : Li
 
 -- a step that may have no result: the code answers whether it has one, and if so it is a step
 pub record IsTry (code : Code) (step : Option Step) (answer : Bool) (st : RunState) (before after : List Event) : Type 0
-    where
-  pub went : answer ≡ is_some step
-  pub leads : (done : Step) → step ≡ Some done → IsStep code done st before after
+  where
+    pub went : answer ≡ is_some step
+    pub leads : (done : Step) → step ≡ Some done → IsStep code done st before after
 
 -- what an effect of the highest frame does, if the activity has that frame as the operation left it
 pub record IsApplied (code : Code) (was : RunState) (acting : Acting) (activity : StoredActivity)

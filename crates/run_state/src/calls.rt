@@ -93,8 +93,11 @@ fn enter(activity: &mut Activity, ceiling: u8)
     ensures entered { (code : CodeOfRun) (g : FrameOfRun) (before : StoredActivity) →
         HasOnTop code g before activity.old →
         activity_seen code activity.new ≡ record
-        (activity_seen code before) { frames = record g { saved = Some before.priority }
-        ∷ frames_of code before.frames; priority = ceiling } }
+        (activity_seen code before) {
+          frames = record g { saved = Some before.priority }
+              ∷ frames_of code before.frames;
+          priority = ceiling;
+        } }
     ensures begun { (nodes : List SyntaxNode) → AreBegun nodes activity.old.frames →
         AreBegun nodes activity.new.frames }
 {

@@ -45,11 +45,14 @@ pub fn prints(
         (λ _. IsApplied code state.old acting activity (λ f. Prints f label value) true state.new told.old.items
         told.new.items) }
 {
-    tell(told, Event::Print {
-        unit: state.unit,
-        label,
-        value,
-    })?;
+    tell(
+        told,
+        Event::Print {
+            unit: state.unit,
+            label,
+            value,
+        },
+    )?;
     put_back(state, acting.job, activity)?;
     Ok(())
 }

@@ -59,14 +59,23 @@ fn close_all(memory: &mut RunMemory, frames: &[Frame])
 }
 
 /// The sequencer meets a fault, and the run is over.
-pub fn halted(state: &mut RunState, place: Pos, fault: RunFault, told: &mut Vec<Event>) -> Result<(), Memory>
+pub fn halted(
+    state: &mut RunState,
+    place: Pos,
+    fault: RunFault,
+    told: &mut Vec<Event>,
+) -> Result<(), Memory>
     ensures { (code : Code) (activity : ActivityOfRun) → AreAllBegun code.program.nodes state.old →
         IfOk result
         (λ _. IsStep code (fault_in (state_of code state.old) TheSequencer activity place fault) state.new
         told.old.items told.new.items) }
 {
     let unit = state.unit;
-    tell_two(told, Event::Fault { unit, fault, place }, Event::Halted { unit })?;
+    tell_two(
+        told,
+        Event::Fault { unit, fault, place },
+        Event::Halted { unit },
+    )?;
     state.phase = Phase::Over;
     state.operation = SeqOp::Finished;
     state.outcome = None;

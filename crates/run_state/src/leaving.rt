@@ -77,9 +77,11 @@ fn give_back(activity: &mut Activity, value: Option<Value>) -> Result<(), Memory
 fn step_down(activity: &mut Activity, left: Left, value: Option<Value>) -> Result<(), Memory>
     ensures after { (code : Code) (f : StoredFrame) (below : List StoredFrame) → activity.old.frames ≡ f ∷ below →
         OnOk result
-        (activity_seen code activity.new ≡ record (activity_seen code activity.old)
-        { frames = returned value (frames_of code below); areas = without left.opened activity.old.areas;
-        priority = unwrap_or left.saved activity.old.priority }) }
+        (activity_seen code activity.new ≡ record (activity_seen code activity.old) {
+          frames = returned value (frames_of code below);
+          areas = without left.opened activity.old.areas;
+          priority = unwrap_or left.saved activity.old.priority;
+        }) }
     ensures begun { (nodes : List SyntaxNode) → AreBegun nodes activity.old.frames →
         AreBegun nodes activity.new.frames }
 {

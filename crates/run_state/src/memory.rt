@@ -45,7 +45,11 @@ fn count_slots(object: &NewObject) -> Result<usize, Memory>
 }
 
 /// Makes an object, if its area has room for it. Where it has none, nothing is changed, and there is a fault to tell.
-pub fn make_object(state: &mut RunState, area: AreaId, object: NewObject) -> Result<Option<Ref>, Memory>
+pub fn make_object(
+    state: &mut RunState,
+    area: AreaId,
+    object: NewObject,
+) -> Result<Option<Ref>, Memory>
     ensures made { (code : Code) (job : JobOfRun) (activity : ActivityOfRun) (place : PosOfRun) →
         IfOk result
         (λ made. GoesOn (state_of code state.old)
@@ -58,7 +62,9 @@ pub fn make_object(state: &mut RunState, area: AreaId, object: NewObject) -> Res
     if !state.memory.has_room(area, count) {
         return Ok(None);
     }
-    let made = state.memory.make(object.class, area, object.hidden, object.values)?;
+    let made = state
+        .memory
+        .make(object.class, area, object.hidden, object.values)?;
     Ok(Some(made))
 }
 

@@ -26,7 +26,10 @@ use scj_model::Event;
 fn is_cycle(state: &RunState, activity: &Activity, scope: ScopeId) -> bool
     ensures { (code : Code) → result ≡ is_some (area_with_scope (state_of code state.now) scope activity.now.areas) }
 {
-    state.memory.area_with_scope(scope, activity.areas.in_order()).is_some()
+    state
+        .memory
+        .area_with_scope(scope, activity.areas.in_order())
+        .is_some()
 }
 
 /// The frame on top has opened an area, and makes its objects there.
@@ -34,8 +37,11 @@ fn move_in(activity: &mut Activity, area: AreaId) -> Result<(), Memory>
     ensures moved { (code : Code) (g : FrameOfRun) (before : StoredActivity) → HasOnTop code g before activity.old →
         OnOk result
         (activity_seen code activity.new ≡ record
-        (activity_seen code before) { frames = record g { area = area; opened = Some area }
-        ∷ frames_of code before.frames; areas = area ∷ before.areas }) }
+        (activity_seen code before) {
+          frames = record g { area = area; opened = Some area }
+              ∷ frames_of code before.frames;
+          areas = area ∷ before.areas;
+        }) }
     ensures begun { (nodes : List SyntaxNode) → AreBegun nodes activity.old.frames →
         AreBegun nodes activity.new.frames }
 {
@@ -107,7 +113,11 @@ pub fn opened_in(
         return Ok(());
     }
     let parent = area_on_top(&activity);
-    let area = NewArea { scope, parent, bytes };
+    let area = NewArea {
+        scope,
+        parent,
+        bytes,
+    };
     opened_on_top(state, acting, activity, area, told)?;
     Ok(())
 }

@@ -38,7 +38,14 @@ pub(crate) fn tell_end(state: &RunState, place: usize, told: &mut Vec<Event>) ->
     match state.releases.release(place) {
         Some(release) => {
             let unit = state.unit;
-            tell(told, Event::End { unit, handler: release.handler, number: release.number })?;
+            tell(
+                told,
+                Event::End {
+                    unit,
+                    handler: release.handler,
+                    number: release.number,
+                },
+            )?;
             Ok(())
         }
         None => Ok(()),
@@ -46,7 +53,12 @@ pub(crate) fn tell_end(state: &RunState, place: usize, told: &mut Vec<Event>) ->
 }
 
 /// Tells another priority of the release at a place.
-fn tell_priority_of(state: &RunState, place: usize, priority: u8, told: &mut Vec<Event>) -> Result<(), Memory>
+fn tell_priority_of(
+    state: &RunState,
+    place: usize,
+    priority: u8,
+    told: &mut Vec<Event>,
+) -> Result<(), Memory>
     ensures { (code : Code) →
         OnOk result (told.new.items ≡ told.old.items ++ of_release (state_of code state.now) (ReleaseAt place)
         (λ r. Prio state.now.unit r.handler priority ∷ [])) }
@@ -54,7 +66,14 @@ fn tell_priority_of(state: &RunState, place: usize, priority: u8, told: &mut Vec
     match state.releases.release(place) {
         Some(release) => {
             let unit = state.unit;
-            tell(told, Event::Prio { unit, handler: release.handler, priority })?;
+            tell(
+                told,
+                Event::Prio {
+                    unit,
+                    handler: release.handler,
+                    priority,
+                },
+            )?;
             Ok(())
         }
         None => Ok(()),
@@ -62,8 +81,7 @@ fn tell_priority_of(state: &RunState, place: usize, priority: u8, told: &mut Vec
 }
 
 /// Tells the active priority of a release where it is another one than before.
-#[tactic(auto, using(crate::proofs::TellLemmas::told_same, crate::proofs::TellLemmas::told_other),
-    unfolding(crate::specs::Seen::state_of))]
+#[tactic(auto, using(crate::proofs::TellLemmas::told_same, crate::proofs::TellLemmas::told_other), unfolding(crate::specs::Seen::state_of))]
 pub(crate) fn tell_priority(
     state: &RunState,
     job: Job,

@@ -9,13 +9,13 @@ use Rattle.run_memory.proofs.counts.reserved_without.Goals as goal
 pub without_words-requires : goal.without_words-requires
 without_words-requires c =
     let h : reserved_bytes (changed closed_area c.args.place c.args.areas.now) + area_words c.in-Some.area.now
-        ≡ c.args.reserved = words_left _ _ _ _ c.in-Some.ensures c.requires in
+    ≡ c.args.reserved = words_left _ _ _ _ c.in-Some.ensures c.requires in
     omega (arith, h)
 
 pub returns-in-Some : goal.returns-in-Some
 returns-in-Some c =
     let h : reserved_bytes (changed closed_area c.args.place c.args.areas.now) + area_words c.in-Some.area.now
-        ≡ c.args.reserved = words_left _ _ _ _ c.in-Some.ensures c.requires in
+    ≡ c.args.reserved = words_left _ _ _ _ c.in-Some.ensures c.requires in
     omega (arith, h, c.without_words.ensures)
 
 pub returns-in-None : goal.returns-in-None

@@ -16,10 +16,10 @@ loop-left-preserved c =
     record {
       within = omega arith;
       best =
-        c.preferred-found.ensures
-        ∙ rw c.candidate_there.ensures
-        (one_before c.args.registry.now c.args.rows.now c.args.places.now (c.loop-left.left - 1) c.loop-left.left
-            c.loop-left.found (omega arith) (omega arith) c.loop-left.invariant.best);
+          c.preferred-found.ensures
+          ∙ rw c.candidate_there.ensures
+          (one_before c.args.registry.now c.args.rows.now c.args.places.now (c.loop-left.left - 1) c.loop-left.left
+          c.loop-left.found (omega arith) (omega arith) c.loop-left.invariant.best);
     }
 
 pub returns-in-Some : goal.returns-in-Some
@@ -27,10 +27,10 @@ returns-in-Some c =
     ap (λ (x : Candidate). Some x.place) c.candidate.view_is
     ∙ (ap (option_map (λ (x : Candidate). x.place)) (sym c.in-Some.is)
     ∙ all_chosen c.args.registry.now c.args.rows.now c.args.places.now c.loop-left.left c.loop-left.found
-        (omega arith) c.loop-left.invariant.best)
+    (omega arith) c.loop-left.invariant.best)
 
 pub returns-in-None : goal.returns-in-None
 returns-in-None c =
     ap (option_map (λ (x : Candidate). x.place)) (sym c.in-None.is)
     ∙ all_chosen c.args.registry.now c.args.rows.now c.args.places.now c.loop-left.left c.loop-left.found
-        (omega arith) c.loop-left.invariant.best
+    (omega arith) c.loop-left.invariant.best

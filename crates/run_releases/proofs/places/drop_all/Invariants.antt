@@ -8,4 +8,4 @@ use Rattle.run_releases.proofs.places.drop_all.Given as goal
 abbrev pub invariant-loop-place : goal.invariant-loop-place
 invariant-loop-place l =
     l.rows.items ≡ fold (λ (some : List StoredRelease) (place : ℕ). changed dropped_row place some) l.initial.rows.items
-        (take l.place-index l.places)
+    (take l.place-index l.places)

@@ -50,7 +50,7 @@ returns-in_ok-refused-in-Some c = λ g before h.
     (frames_of code before.frames) c.args.acting.place g c.in-Some.ceiling
     (sym (c.was_full.ensures code g before h) ∙ few) (sym (c.in-Some.ensures g before h))
     (lt-ltb c.in-Some.ceiling before.priority
-        (rw (sym (ap (λ (a : StoredActivity). a.priority) h.whole)) (search rules))))
+    (rw (sym (ap (λ (a : StoredActivity). a.priority) h.whole)) (search rules))))
     (c.in_ok-refused-in-Some.ensures code g before h c.requires.begun)
 
 pub returns-in_ok-entered-in-Some : goal.returns-in_ok-entered-in-Some
@@ -63,5 +63,5 @@ returns-in_ok-entered-in-Some c = λ g before h.
     (frames_of code before.frames) c.args.acting.place g c.in-Some.ceiling
     (sym (c.was_full.ensures code g before h) ∙ few) (sym (c.in-Some.ensures g before h))
     (le-ltb c.in-Some.ceiling before.priority
-        (rw (sym (ap (λ (a : StoredActivity). a.priority) h.whole)) (search rules))))
+    (rw (sym (ap (λ (a : StoredActivity). a.priority) h.whole)) (search rules))))
     (c.in_ok-entered-in-Some.ensures code g before h c.requires.begun c.requires.frames)

@@ -12,10 +12,10 @@ unfolding state_of
 returns-in-Some-object c = λ g before h.
     let same = top_is (code_of c.args.code.now) g before c.args.activity.now c.in-Some.frame.now h c.in-Some.ensures in
     ap Some c.ceiling.ensures
-        ∙ ceiling_there (code_of c.args.code.now) (state_of (code_of c.args.code.now) c.args.state.now) g
+    ∙ ceiling_there (code_of c.args.code.now) (state_of (code_of c.args.code.now) c.args.state.now) g
     c.in-Some-monitor.r c.in-Some-object.object.now
     (c.in-Some-monitor.ensures ∙ ap (λ (f : Frame). monitor_of (code_of c.args.code.now) f) same)
-        c.in-Some-object.ensures
+    c.in-Some-object.ensures
 
 pub returns-in-None-object : goal.returns-in-None-object
 unfolding state_of
@@ -23,7 +23,7 @@ returns-in-None-object c = λ g before h.
     let same = top_is (code_of c.args.code.now) g before c.args.activity.now c.in-Some.frame.now h c.in-Some.ensures in
     no_object (code_of c.args.code.now) (state_of (code_of c.args.code.now) c.args.state.now) g c.in-Some-monitor.r
     (c.in-Some-monitor.ensures ∙ ap (λ (f : Frame). monitor_of (code_of c.args.code.now) f) same)
-        c.in-None-object.ensures
+    c.in-None-object.ensures
 
 pub returns-in-None-monitor : goal.returns-in-None-monitor
 returns-in-None-monitor c = λ g before h.

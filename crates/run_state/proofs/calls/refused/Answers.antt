@@ -12,11 +12,11 @@ use Rattle.run_state.proofs.calls.refused.Goals as goal
 pub returns : goal.returns
 returns c = λ code g before h begun.
     let same : (let a : StoredActivity = record c.args.activity { frames = c.drop_top.new.self } in a) ≡ before =
-        ap (λ (fs : List StoredFrame). (let a : StoredActivity = record c.args.activity { frames = fs } in a))
-            c.drop_top.ensures
-        ∙ without_top code g before c.args.activity h in
+    ap (λ (fs : List StoredFrame). (let a : StoredActivity = record c.args.activity { frames = fs } in a))
+    c.drop_top.ensures
+    ∙ without_top code g before c.args.activity h in
     subst (λ (a : StoredActivity). IsStep code
-      (fault_in (state_of code c.args.state.now) (job_seen c.args.acting.job) (activity_seen code a) c.args.acting.place
-          c.args.fault)
-      c.fault_in.new.state c.args.told.now.items c.fault_in.new.told.items)
+    (fault_in (state_of code c.args.state.now) (job_seen c.args.acting.job) (activity_seen code a) c.args.acting.place
+    c.args.fault)
+    c.fault_in.new.state c.args.told.now.items c.fault_in.new.told.items)
     same (c.in_ok-fault_in.ensures code begun)

@@ -19,6 +19,6 @@ returns c = λ code begun frames.
     c.put_back.new.state c.args.told.now.items c.tell.new.told.items
     (state_of code c.args.state.now) (Print c.args.state.now.unit c.args.label c.args.value ∷ []) (λ f below. refl)
     (c.in_ok-put_back.ensures.put code)
-        (c.in_ok-tell.ensures
-        ∙ ap (λ (v : ℤ). c.args.told.now.items ++ (Print c.args.state.now.unit c.args.label v ∷ [])) (search rules))
+    (c.in_ok-tell.ensures
+    ∙ ap (λ (v : ℤ). c.args.told.now.items ++ (Print c.args.state.now.unit c.args.label v ∷ [])) (search rules))
     (c.in_ok-put_back.ensures.begun code.program.nodes begun frames)

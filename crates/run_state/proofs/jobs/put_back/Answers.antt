@@ -16,7 +16,7 @@ pub returns-in_ok-put_activity-in-Release-clause-begun : goal.returns-in_ok-put_
 unfolding IsBegunStatus
 returns-in_ok-put_activity-in-Release-clause-begun c = λ nodes h frames.
     subst
-        (λ (rs : StoredReleases). AreAllBegun nodes (let st : RunState = record c.args.state.now { releases = rs } in
-        st))
+    (λ (rs : StoredReleases). AreAllBegun nodes (let st : RunState = record c.args.state.now { releases = rs } in
+    st))
     (sym c.in_ok-put_activity-in-Release.ensures.put)
     (status_begun nodes c.args.state.now c.in-Release.place (Started c.args.activity) frames h)

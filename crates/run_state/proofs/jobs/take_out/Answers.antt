@@ -34,20 +34,20 @@ returns-in-Release-clause-left c = λ code. rw c.in-Release.is (left code c.take
   where
     left : (code : Code) (o : Option StoredActivity) → c.take_activity.result ≡ o →
         OnSome o
-            (state_of code (let st : RunState = record c.args.state.now { releases = c.take_activity.new.self } in st)
+        (state_of code (let st : RunState = record c.args.state.now { releases = c.take_activity.new.self } in st)
         ≡ with_activity (state_of code c.args.state.now) (ReleaseAt c.in-Release.place) no_activity)
     left code None e = tt
     left code (Some a) e =
         ap (λ (rs : StoredReleases). state_of code (let st : RunState = record c.args.state.now { releases = rs } in
-            st))
+        st))
         c.take_activity.ensures.left
         ∙ emptied code c.args.state.now c.in-Release.place a (sym c.take_activity.ensures.taken ∙ e)
 
 pub returns-in-Release-clause-begun : goal.returns-in-Release-clause-begun
 returns-in-Release-clause-begun c = λ nodes h.
     subst
-        (λ (rs : StoredReleases). AreAllBegun nodes (let st : RunState = record c.args.state.now { releases = rs } in
-        st))
+    (λ (rs : StoredReleases). AreAllBegun nodes (let st : RunState = record c.args.state.now { releases = rs } in
+    st))
     (sym c.take_activity.ensures.left) (emptied_begun nodes c.args.state.now c.in-Release.place h)
 
 pub returns-in-Release-clause-frames : goal.returns-in-Release-clause-frames

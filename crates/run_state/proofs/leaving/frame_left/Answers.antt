@@ -13,8 +13,8 @@ returns c = λ code f below e begun frames.
     c.args.told.now.items c.tell_priority.new.told.items c.settle.new.told.items
     (c.in_ok-left.ensures.opened f below e) (c.in_ok-left.ensures.saved f below e)
     (c.in_ok-step_down.ensures.after code f below e) (c.in_ok-tell_priority.ensures code)
-        (λ s. ap (λ (o : Option ℕ). closed (with_memory s c.args.state.now.memory) o)
-        (c.in_ok-left.ensures.opened f below e ∙ sym (c.in_ok-opened.ensures f below e))
+    (λ s. ap (λ (o : Option ℕ). closed (with_memory s c.args.state.now.memory) o)
+    (c.in_ok-left.ensures.opened f below e ∙ sym (c.in_ok-opened.ensures f below e))
     ∙ c.close_opened.ensures s)
     (λ rest count. c.in_ok-settle.ensures code rest count
     (memory_begun code.program.nodes c.args.state.now c.close_opened.new.memory begun)

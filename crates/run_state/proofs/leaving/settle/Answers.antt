@@ -14,7 +14,7 @@ returns-in_ok-job_ended c = λ code below count begun frames.
     let none : c.depth.result ≡ 0 = search rules in
     same_step code c.job_ended.new.state c.args.told.now.items c.job_ended.new.told.items _ _
     (settled_end (state_of code c.args.state.now) (job_seen c.args.job) (activity_seen code c.args.activity)
-        c.args.value below
+    c.args.value below
     (count ∙ (sym c.depth.ensures ∙ none)))
     (c.in_ok-job_ended.ensures code begun frames)
 
@@ -23,9 +23,9 @@ returns-in_ok-put_back c = λ code below count begun frames.
     let some : c.depth.result ≡ 0 → ⊥ = search rules in
     same_step code c.put_back.new.state c.args.told.now.items c.args.told.now.items
     (silently
-        (with_activity (state_of code c.args.state.now) (job_seen c.args.job) (activity_seen code c.args.activity))) _
+    (with_activity (state_of code c.args.state.now) (job_seen c.args.job) (activity_seen code c.args.activity))) _
     (settled_on (state_of code c.args.state.now) (job_seen c.args.job) (activity_seen code c.args.activity) c.args.value
-        below
+    below
     (λ e. some (c.depth.ensures ∙ (sym count ∙ e))))
     (record {
       state = c.in_ok-put_back.ensures.put code;

@@ -11,7 +11,7 @@ unfolding state_of
 returns-then-not-has_store_for-clause-opened c = λ code job activity place.
     let full : c.has_store_for.result ≡ false = search rules in
     store_full (state_of code c.args.state.now) job activity place c.args.area.scope c.args.area.parent
-        c.args.area.bytes
+    c.args.area.bytes
     (sym (c.has_store_for.ensures (state_of code c.args.state.now)) ∙ full)
 
 pub returns-clause-opened : goal.returns-clause-opened
@@ -19,7 +19,7 @@ unfolding state_of
 returns-clause-opened c = λ code job activity place.
     let room : c.has_store_for.result ≡ true = search rules in
     area_there (state_of code c.args.state.now) job activity place c.args.area.scope c.args.area.parent
-        c.args.area.bytes
+    c.args.area.bytes
     c.in_ok-opened.opened _ (sym (c.has_store_for.ensures (state_of code c.args.state.now)) ∙ room)
     c.in_ok-opened.ensures.number
     (ap (λ (m : Contents). state_of code (let st : RunState = record c.args.state.now { memory = m } in st))

@@ -11,10 +11,10 @@ returns-in_ok-put_back-in-Some c = λ code g before h begun frames.
     opened_step code (state_of code c.args.state.now) (job_seen c.args.acting.job) (activity_seen code before)
     (frames_of code before.frames) c.args.acting.place g c.args.area.scope c.args.area.parent c.args.area.bytes
     (state_of code c.open_area.new.state) c.put_back.new.state c.args.told.now.items c.args.told.now.items
-        c.in-Some.opened
+    c.in-Some.opened
     (rw c.in-Some.is at
-        (c.in_ok-opened.ensures.opened code (job_seen c.args.acting.job)
-        (activity_seen code before) c.args.acting.place))
+    (c.in_ok-opened.ensures.opened code (job_seen c.args.acting.job)
+    (activity_seen code before) c.args.acting.place))
     (record {
       state = c.in_ok-put_back-in-Some.ensures.put code ∙ ap (λ (a : Activity).
           with_activity (state_of code c.open_area.new.state) (job_seen c.args.acting.job) a)
@@ -30,6 +30,6 @@ returns-in_ok-refused-in-None c = λ code g before h begun frames.
     (frames_of code before.frames) c.args.acting.place g c.args.area.scope c.args.area.parent c.args.area.bytes
     (state_of code c.open_area.new.state) c.refused.new.state c.args.told.now.items c.refused.new.told.items
     (rw c.in-None.is at
-        (c.in_ok-opened.ensures.opened code (job_seen c.args.acting.job)
-        (activity_seen code before) c.args.acting.place))
+    (c.in_ok-opened.ensures.opened code (job_seen c.args.acting.job)
+    (activity_seen code before) c.args.acting.place))
     (c.in_ok-refused-in-None.ensures code g before h (c.open_area.ensures.begun code.program.nodes begun))

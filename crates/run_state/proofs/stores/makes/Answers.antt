@@ -11,5 +11,5 @@ returns c = λ code begun frames.
     (hidden_slots c.args.object.hidden.items ++ c.args.object.values.items) c.in_ok-found.found c.make_object.new.state
     c.made.new.state c.args.told.now.items c.made.new.told.items c.in_ok-area.ensures
     (c.in_ok-found.ensures.made code (job_seen c.args.acting.job) (activity_seen code c.args.activity)
-        c.args.acting.place)
+    c.args.acting.place)
     (λ f below e. c.in_ok-made.ensures code (c.make_object.ensures.begun code.program.nodes begun) frames f below e)

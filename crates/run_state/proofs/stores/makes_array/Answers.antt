@@ -10,5 +10,5 @@ returns c = λ code begun frames.
     (new_elements c.args.array.kind c.args.array.count) c.in_ok-found.found c.make_array.new.state
     c.made.new.state c.args.told.now.items c.made.new.told.items c.in_ok-area.ensures
     (c.in_ok-found.ensures.made code (job_seen c.args.acting.job) (activity_seen code c.args.activity)
-        c.args.acting.place)
+    c.args.acting.place)
     (λ f below e. c.in_ok-made.ensures code (c.make_array.ensures.begun code.program.nodes begun) frames f below e)

@@ -15,13 +15,15 @@ pub returns : goal.returns
 unfolding applied state_of
 returns c = λ code told begun frames.
     applied_on_memory code c.args.state.now c.args.acting c.args.activity
-        (λ f. SetsHidden f c.args.r (hidden_slots c.args.hidden.items))
+    (λ f. SetsHidden f c.args.r (hidden_slots c.args.hidden.items))
     c.set_hidden.new.self c.put_back.new.state told
     (record
-        (state_of code c.args.state.now) { objects = changed (with_first (hidden_slots c.args.hidden.items)) c.args.r
-        (state_of code c.args.state.now).objects }) (λ f below. refl)
+    (state_of code c.args.state.now) {
+      objects = changed (with_first (hidden_slots c.args.hidden.items)) c.args.r
+          (state_of code c.args.state.now).objects;
+    }) (λ f below. refl)
     (ap (λ (m : Contents). state_of code (let st : RunState = record c.args.state.now { memory = m } in st))
-        c.in_ok-set_hidden.ensures.ok)
+    c.in_ok-set_hidden.ensures.ok)
     (c.in_ok-put_back.ensures.put code)
     (c.in_ok-put_back.ensures.begun code.program.nodes
-        (memory_begun code.program.nodes c.args.state.now c.set_hidden.new.self begun) frames)
+    (memory_begun code.program.nodes c.args.state.now c.set_hidden.new.self begun) frames)

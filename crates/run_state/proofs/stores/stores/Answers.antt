@@ -14,11 +14,11 @@ pub returns : goal.returns
 unfolding applied state_of
 returns c = λ code told begun frames.
     applied_on_memory code c.args.state.now c.args.acting c.args.activity
-        (λ f. Stores f c.args.r c.args.slot c.args.value)
+    (λ f. Stores f c.args.r c.args.slot c.args.value)
     c.set_slot.new.self c.put_back.new.state told
     (with_slot (state_of code c.args.state.now) c.args.r c.args.slot c.args.value) (λ f below. refl)
     (ap (λ (m : Contents). state_of code (let st : RunState = record c.args.state.now { memory = m } in st))
-        c.in_ok-set_slot.ensures.ok)
+    c.in_ok-set_slot.ensures.ok)
     (c.in_ok-put_back.ensures.put code)
     (c.in_ok-put_back.ensures.begun code.program.nodes
-        (memory_begun code.program.nodes c.args.state.now c.set_slot.new.self begun) frames)
+    (memory_begun code.program.nodes c.args.state.now c.set_slot.new.self begun) frames)

@@ -15,13 +15,13 @@ pub returns : goal.returns
 unfolding applied state_of
 returns c = λ code told begun frames.
     applied_on_memory code c.args.state.now c.args.acting c.args.activity
-        (λ f. StoresStatic f c.args.place c.args.value)
+    (λ f. StoresStatic f c.args.place c.args.value)
     c.set_static.new.self c.put_back.new.state told
     (record
-        (state_of code c.args.state.now)
-        { statics = slice_set (state_of code c.args.state.now).statics c.args.place c.args.value }) (λ f below. refl)
+    (state_of code c.args.state.now)
+    { statics = slice_set (state_of code c.args.state.now).statics c.args.place c.args.value }) (λ f below. refl)
     (ap (λ (m : Contents). state_of code (let st : RunState = record c.args.state.now { memory = m } in st))
-        c.set_static.ensures)
+    c.set_static.ensures)
     (c.in_ok-put_back.ensures.put code)
     (c.in_ok-put_back.ensures.begun code.program.nodes
-        (memory_begun code.program.nodes c.args.state.now c.set_static.new.self begun) frames)
+    (memory_begun code.program.nodes c.args.state.now c.set_static.new.self begun) frames)

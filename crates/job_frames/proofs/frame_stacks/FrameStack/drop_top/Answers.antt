@@ -8,5 +8,5 @@ returns c =
     let count : c.saturating_sub.result ≡ length items - 1 =
     omega (arith, c.saturating_sub.ensures, c.len-count.ensures, c.self.inside.items.ok.0) in
     rw (← c.self.view_is) (
-      ap reverse (c.truncate.ensures.items ∙ ap (λ (n : ℕ). take n items) count) ∙ others_below items
+    ap reverse (c.truncate.ensures.items ∙ ap (λ (n : ℕ). take n items) count) ∙ others_below items
     )

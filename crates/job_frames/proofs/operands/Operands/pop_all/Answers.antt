@@ -13,7 +13,7 @@ returns-clause-some c =
     ∙ ap (λ (values : List Value). drop left values) c.as_slice.ensures.value in
     let kept : c.truncate.new.self.items ≡ take left items = c.truncate.ensures.items in
     rw (← c.self.view_is) (
-      front_apart items left
-      ∙ ap (λ (values : List Value). reverse values ++ reverse (take left items)) (sym taken)
-      ∙ ap (λ (values : List Value). reverse c.in_ok-taken.taken.items ++ reverse values) (sym kept)
+    front_apart items left
+    ∙ ap (λ (values : List Value). reverse values ++ reverse (take left items)) (sym taken)
+    ∙ ap (λ (values : List Value). reverse c.in_ok-taken.taken.items ++ reverse values) (sym kept)
     )

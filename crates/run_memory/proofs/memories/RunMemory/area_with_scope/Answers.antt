@@ -12,4 +12,4 @@ pub loop-area-preserved : goal.loop-area-preserved
 loop-area-preserved c = λ s.
     c.nearer-found.ensures
     ∙ nearest_more (with_memory s c.args.self.now) c.args.scope c.args.opened.now c.loop-area.area-index
-        c.area-item.result c.loop-area.found c.loop-area-test.true c.area-item.is (c.loop-area.invariant s)
+    c.area-item.result c.loop-area.found c.loop-area-test.true c.area-item.is (c.loop-area.invariant s)

@@ -9,7 +9,7 @@ use Rattle.run_memory.proofs.memories.RunMemory.set_hidden.Goals as goal
 pub invariant_of-self-2 : goal.invariant_of-self-2
 invariant_of-self-2 c =
     let within : (o : Object) → slice_get c.self.inside.objects.items c.number.result ≡ Some o →
-        length (hidden_slots c.args.hidden.items) ≤ length o.slots =
-        λ o e. rw (count_hidden c.args.hidden.items) (c.in_ok-set_hidden_at.ensures.size o e) in
+    length (hidden_slots c.args.hidden.items) ≤ length o.slots =
+    λ o e. rw (count_hidden c.args.hidden.items) (c.in_ok-set_hidden_at.ensures.size o e) in
     rw c.in_ok-set_hidden_at.ensures.ok
     (object_changed _ _ _ _ _ _ (λ o e a. same_with_first a _ o (within o e)) c.self.invariant)

@@ -16,6 +16,6 @@ pub returns-clause-seen : goal.returns-clause-seen
 returns-clause-seen c = λ code s.
     let was : StoredReleases = record { rows = c.self.inside.rows.items; earlier = c.self.inside.earlier } in
     let P : StoredReleases → Type 0 = λ rs.
-        state_with_status (with_releases code s rs) c.args.place EndedSeen ≡ with_releases code s
-            (status_set c.args.place Ended was) in
+    state_with_status (with_releases code s rs) c.args.place EndedSeen ≡ with_releases code s
+    (status_set c.args.place Ended was) in
     rw c.set_status.ensures (subst P c.self.view_is (status_seen_at code s was c.args.place Ended))

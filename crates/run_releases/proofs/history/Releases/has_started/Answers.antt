@@ -6,6 +6,11 @@ pub returns : goal.returns
 returns c =
     let is : StoredReleases = record { rows = c.self.inside.rows.items; earlier = c.self.inside.earlier } in
     λ code s.
-    rw (c.any_started.ensures, c.deref.ensures.value, c.deref-2.ensures.value, c.self.invariant.all_live,
-        ← c.self.view_is)
+    rw (
+      c.any_started.ensures,
+      c.deref.ensures.value,
+      c.deref-2.ensures.value,
+      c.self.invariant.all_live,
+      ← c.self.view_is,
+    )
     (has_started_seen code s is)
