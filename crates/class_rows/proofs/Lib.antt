@@ -4,6 +4,5 @@ pub mod FieldLemmas
 pub mod FindLemmas
 pub mod MemberLemmas
 pub mod RowLemmas
-pub mod SampleLemmas
 pub mod SoundLemmas
 pub mod WalkLemmas

@@ -1,4 +1,3 @@
 pub mod Fields
-pub mod Samples
 pub mod Tables
 pub mod Walks

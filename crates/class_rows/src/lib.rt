@@ -11,6 +11,3 @@ pub mod tables;
 pub use classes::Classes;
 pub use fields::FieldRef;
 pub use tables::ClassTable;
-
-#[cfg(test)]
-mod tests;

@@ -1,2 +1,1 @@
 pub mod ClassLemmas
-pub mod SampleLemmas

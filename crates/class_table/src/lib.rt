@@ -7,6 +7,3 @@ pub mod supers;
 
 pub use checks::{build, build_with_contexts, check_classes};
 pub use class_rows::{ClassTable, Classes};
-
-#[cfg(test)]
-mod tests;

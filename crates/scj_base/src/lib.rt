@@ -28,6 +28,3 @@ pub use shared_names::{NameTable, SharedName};
 pub use statuses::Status;
 pub use values::Value;
 pub use words::Name;
-
-#[cfg(test)]
-mod tests;

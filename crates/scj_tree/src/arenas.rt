@@ -1,6 +1,6 @@
 //! Nodes in one list, with their kinds beside them.
 
-ghost use Rattle.std.specs.Prelude.{◌≡◌, ◌<◌, [], length, take, OnOk, OnErr, IfOk, slice_get, Some, option_copied, option_map, map};
+ghost use Rattle.std.specs.Prelude.{◌≡◌, ◌<◌, [], length, take, OnOk, OnErr, IfOk, slice_get, Some, option_copied, option_map};
 ghost use Rattle.scj_tree.specs.Nodes.{put};
 ghost use Rattle.scj_tree.specs.Kinds.{kind_of};
 
@@ -29,17 +29,6 @@ impl Model for Arena {
     ghost invariant = { λ a. a.kinds.items ≡ map kind_of a.nodes.items };
 }
 
-/// The kinds of nodes.
-fn kinds_of(alloc: Global, nodes: &[Node]) -> Result<Vec<NodeKind>, Memory>
-    ensures { IfOk result (λ kinds. kinds.items ≡ map kind_of nodes.now) }
-{
-    let mut kinds = Vec::with_capacity(alloc, nodes.len())?;
-    for node in nodes {
-        kinds.push(node.kind())?;
-    }
-    Ok(kinds)
-}
-
 impl Arena {
     /// No nodes.
     pub fn new(alloc: Global) -> Arena
@@ -57,14 +46,6 @@ impl Arena {
     {
         let nodes = Vec::with_capacity(alloc, count)?;
         let kinds = Vec::with_capacity(alloc, count)?;
-        Ok(Arena { nodes, kinds })
-    }
-
-    /// These nodes.
-    pub fn from_nodes(alloc: Global, nodes: Vec<Node>) -> Result<Arena, Memory>
-        ensures { IfOk result (λ arena. arena ≡ nodes.items) }
-    {
-        let kinds = kinds_of(alloc, &nodes)?;
         Ok(Arena { nodes, kinds })
     }
 

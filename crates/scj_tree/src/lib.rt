@@ -14,6 +14,3 @@ pub use lists::{NodeList, TextBytes};
 pub use nodes::Node;
 pub use programs::Program;
 pub use readings::{FlagSet, PostKind};
-
-#[cfg(test)]
-mod tests;

@@ -7,6 +7,5 @@ pub mod NumberLemmas
 pub mod OwnerLemmas
 pub mod ParentLemmas
 pub mod PhaseLemmas
-pub mod SampleLemmas
 pub mod TreeLemmas
 pub mod UserLemmas

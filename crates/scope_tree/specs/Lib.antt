@@ -4,5 +4,4 @@ pub mod Findings
 pub mod Index
 pub mod Jumps
 pub mod Rules
-pub mod Samples
 pub mod Trees

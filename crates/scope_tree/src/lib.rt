@@ -17,6 +17,3 @@ pub mod trees;
 pub use builds::build;
 pub use scopes::Scopes;
 pub use trees::{ScopeNames, ScopeTree};
-
-#[cfg(test)]
-mod tests;

@@ -141,6 +141,3 @@ pub fn put_event<K: Sink>(
     fill(&mut line.bytes, checked.program(), files, event);
     out.put(&line.bytes)
 }
-
-#[cfg(test)]
-mod tests;
