@@ -1,2 +1,2 @@
-mod NewSlots
+pub mod NewSlots
 mod NumberLemmas

@@ -12,6 +12,6 @@ mod objects;
 mod parameters;
 mod params;
 mod services;
-mod slots;
+pub mod slots;
 
 pub use all_operations::{World, operate};

@@ -1,0 +1,10 @@
+pub mod Done
+pub mod FramesBegun
+pub mod Going
+pub mod Names
+pub mod Openings
+pub mod OwnOperations
+pub mod Places
+pub mod Registering
+pub mod Releasing
+pub mod Starting

@@ -1,0 +1,70 @@
+-- A handler is registered, by the cases of the definition.
+use Rattle.std.specs.Prelude.{true, false, Option, Some, None, is_some, nat_lt, option_map}
+use Rattle.std.proofs.Common.{◌≡◌, ◌∙◌, ℕ, ◌+◌, List, [], ◌∷◌, ◌++◌, length, refl, ap}
+use Rattle.scj_base.specs.declared.faults.RunFault.TheVariants.{NotInitializing, TooManyHandlers}
+use Rattle.scj_base.specs.declared.places.Pos.{Pos}
+use Rattle.scj_model.specs.declared.events.Event.{Event}
+use Rattle.scj_model.specs.declared.events.Event.TheVariants.{Register}
+use Rattle.scj_model.specs.declared.handlers.HandlerRow.{HandlerRow}
+use Rattle.scj_rules.specs.Contexts.{Declarations}
+use Rattle.scj_model.specs.Code.{Code}
+use Rattle.scj_model.specs.State.{Activity, Job, Object, State, is_init}
+use Rattle.scj_model.specs.Steps.{fault_in, silently}
+use Rattle.scj_model.specs.Registry.{handler_number, most_handlers, new_row}
+use Rattle.scj_model.specs.Apply.{class_name, registered}
+use Rattle.run_state.specs.declared.states.RunState.{RunState}
+use Rattle.run_state.specs.Seen.{AreAllBegun, state_of}
+use Rattle.run_state.specs.Steps.{IsStep}
+use Rattle.mission_steps.specs.Asked.{newly_registered}
+
+module _ (code : Code) (s : State) (job : Job) (activity : Activity) (place : Pos) (r : ℕ) (o : Object)
+    (after : State) where
+  pub registered_too_late : is_init s.phase ≡ false →
+      registered code s job activity place r o after ≡ fault_in s job activity place NotInitializing
+  unfolding registered
+  registered_too_late e = rw e refl
+
+  pub registered_already : is_init s.phase ≡ true → is_some (handler_number s.registry r) ≡ true →
+      registered code s job activity place r o after ≡ silently after
+  unfolding registered
+  registered_already e f = rw (e, f) refl
+
+  pub registered_too_many : is_init s.phase ≡ true → is_some (handler_number s.registry r) ≡ false →
+      nat_lt (length s.registry) most_handlers ≡ false →
+      registered code s job activity place r o after ≡ fault_in s job activity place TooManyHandlers
+  unfolding registered
+  registered_too_many e f g = rw (e, f, g) refl
+
+  pub registered_newly : is_init s.phase ≡ true → is_some (handler_number s.registry r) ≡ false →
+      nat_lt (length s.registry) most_handlers ≡ true →
+      registered code s job activity place r o after ≡ newly_registered code s (new_row code.program r o) after
+  unfolding registered newly_registered
+  registered_newly e f g = rw (e, f, g) refl
+
+-- the row stands behind the others in the state in which the job goes on
+pub entered : (code : Code) (was middle : RunState) (after : State) (row : HandlerRow) (rows : List HandlerRow)
+    (before told : List Event) → state_of code middle ≡ after → rows ≡ middle.registry.items ++ row ∷ [] →
+    told ≡ before ++ Register was.unit (length was.registry.items + 1) (class_name code row.class) row.priority ∷ [] →
+    AreAllBegun code.program.nodes middle → (st : RunState) →
+    state_of code st ≡ record (state_of code middle) { registry = rows } → AreAllBegun code.program.nodes st →
+    IsStep code (newly_registered code (state_of code was) row after) st before told
+unfolding newly_registered state_of
+entered code was middle after row rows before told put pushed register begun st seen there = record {
+  state =
+      seen
+      ∙ (ap (λ (rs : List HandlerRow). (let x : State = record (state_of code middle) { registry = rs } in x)) pushed
+      ∙ ap (λ (t : State). (let x : State = record t { registry = t.registry ++ row ∷ [] } in x)) put);
+  told = register;
+  begun = there;
+}
+
+-- the object of a row
+pub row_there : (p : Declarations) (r : ℕ) (found : Option Object) (row : HandlerRow) →
+    Some row ≡ option_map (new_row p r) found → (o : Object) × (found ≡ Some o) × (row ≡ new_row p r o)
+row_there p r None row e = absurd (cc)
+row_there p r (Some o) row e = (o, refl, cc)
+
+pub row_nowhere : (p : Declarations) (r : ℕ) (found : Option Object) → None ≡ option_map (new_row p r) found →
+    found ≡ None
+row_nowhere p r None e = refl
+row_nowhere p r (Some o) e = absurd (cc)

@@ -1,0 +1,14 @@
+use Rattle.std.proofs.Common.{◌∙◌, ℕ, List, [], ◌∷◌, ◌++◌, ap, refl}
+use Rattle.scj_model.specs.declared.events.Event.TheVariants.{Mission}
+use Rattle.scj_model.specs.Sequencer.{seq_applied}
+use Rattle.run_state.specs.Seen.{state_of}
+use Rattle.mission_steps.proofs.applied.begin_mission.Goals as goal
+
+pub returns : goal.returns
+unfolding seq_applied state_of
+returns c = λ begun. record {
+  state = refl;
+  told = c.in_ok-tell.ensures ∙ ap (λ (name : List ℕ). c.args.told.now.items ++ Mission c.args.state.now.unit name ∷ [])
+      c.class_name_at-class.ensures;
+  begun = begun;
+}

@@ -1,0 +1,21 @@
+use Rattle.std.proofs.Common.{◌∙◌, ℕ, List, Option, None, ap, sym}
+use Rattle.scj_model.specs.Memory.{closed}
+use Rattle.scj_model.specs.State.{State}
+use Rattle.scj_model.specs.declared.handlers.HandlerRow.{HandlerRow}
+use Rattle.run_memory.specs.Contents.{with_memory}
+use Rattle.run_state.specs.declared.states.RunState.{RunState}
+use Rattle.run_state.specs.Seen.{state_of}
+use Rattle.mission_steps.proofs.Done.{mission_left}
+use Rattle.mission_steps.proofs.applied.close_mission.Goals as goal
+
+pub returns-clause-closed : goal.returns-clause-closed
+unfolding state_of
+returns-clause-closed c = λ code.
+    ap (λ (rows : List HandlerRow). (let s : State = record (state_of code
+    (let st : RunState = record c.args.state.now { memory = c.close.new.memory; mission = None } in st)) {
+      activity = record (state_of code c.args.state.now).activity { areas = c.drop_innermost.new.self };
+      registry = rows;
+    } in s)) c.clear.ensures.items
+    ∙ mission_left code c.args.state.now c.close.new.memory c.drop_innermost.new.self
+    (λ s. ap (λ (area : Option ℕ). closed (with_memory s c.args.state.now.memory) area) (sym c.innermost-area.ensures)
+    ∙ c.close.ensures s) c.drop_innermost.ensures

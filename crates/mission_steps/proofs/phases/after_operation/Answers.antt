@@ -1,0 +1,32 @@
+use Rattle.std.proofs.Common.{◌∙◌, ap, option_map, Option}
+use Rattle.scj_model.specs.Code.{code_of}
+use Rattle.scj_model.specs.Sequencer.{transition_done}
+use Rattle.run_state.specs.Seen.{state_of}
+use Rattle.run_state.proofs.StepLemmas.{try_of}
+use Rattle.mission_steps.specs.declared.transitions.Transition.{Transition}
+use Rattle.mission_steps.specs.Transitions.{transition_seen}
+use Rattle.mission_steps.proofs.Done.{follows}
+use Rattle.mission_steps.proofs.Going.{no_step}
+use Rattle.mission_steps.proofs.phases.after_operation.Goals as goal
+
+pub returns-in_ok-transition_done-in-Some : goal.returns-in_ok-transition_done-in-Some
+unfolding state_of
+returns-in_ok-transition_done-in-Some c = λ begun.
+    try_of (code_of c.args.code.now) c.transition_done.new.state c.args.told.now.items c.transition_done.new.told.items
+    _ _
+    (follows (code_of c.args.code.now) (state_of (code_of c.args.code.now) c.args.state.now) c.args.value
+    c.skips_execution-skips.result c.what_follows.result c.skips_execution-skips.ensures c.what_follows.ensures
+    ∙ ap (λ (found : Option Transition). option_map
+    (transition_done (code_of c.args.code.now) (state_of (code_of c.args.code.now) c.args.state.now))
+    (option_map transition_seen found)) c.in-Some.is)
+    (c.in_ok-transition_done-in-Some.ensures begun)
+
+pub returns-in-None : goal.returns-in-None
+unfolding state_of
+returns-in-None c = λ begun.
+    no_step (code_of c.args.code.now) c.args.state.now c.args.told.now.items c.args.told.now.items _
+    (follows (code_of c.args.code.now) (state_of (code_of c.args.code.now) c.args.state.now) c.args.value
+    c.skips_execution-skips.result c.what_follows.result c.skips_execution-skips.ensures c.what_follows.ensures
+    ∙ ap (λ (found : Option Transition). option_map
+    (transition_done (code_of c.args.code.now) (state_of (code_of c.args.code.now) c.args.state.now))
+    (option_map transition_seen found)) c.in-None.is)

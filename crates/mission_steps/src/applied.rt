@@ -1,0 +1,218 @@
+//! What a transition does to the state that has gone on.
+
+ghost use Rattle.std.specs.Prelude.{◌≡◌, ◌+◌, List, IfOk};
+ghost use Rattle.scj_tree.specs.declared.nodes.Node.{Node as SyntaxNode};
+ghost use Rattle.scj_model.specs.Code.{Code as CodeOfRun, code_of};
+ghost use Rattle.scj_model.specs.State.{State};
+ghost use Rattle.scj_model.specs.Memory.{closed};
+ghost use Rattle.scj_model.specs.Apply.{class_name_at};
+ghost use Rattle.scj_model.specs.Sequencer.{BeginsExecution, BeginsMission, ClosesMission, LacksSequencer, TakesMission, place_of_object, seq_applied, transition_done};
+ghost use Rattle.run_memory.specs.Contents.{with_memory};
+ghost use Rattle.run_state.specs.Seen.{AreAllBegun, state_of};
+ghost use Rattle.run_state.specs.Steps.{IsStep};
+ghost use Rattle.mission_steps.specs.Transitions.{effect_seen, transition_seen};
+
+use crate::looks::{class_name, class_of, class_place};
+use crate::transitions::{SeqEffect, Transition};
+use job_frames::Code;
+use run_memory::RunMemory;
+use run_state::RunState;
+use run_state::ends::halted;
+use run_state::told::{tell, tell_two};
+use scj_base::{AreaId, Memory, Name, Pos, Ref, RunFault};
+use scj_model::Event;
+
+/// Where the class of an object is named; nowhere, if there is no such object.
+fn place_of_object(code: &Code<'_>, state: &RunState, r: Ref) -> Pos
+    ensures { result ≡ place_of_object (code_of code.now) (state_of (code_of code.now) state.now) r }
+{
+    match class_of(&state.memory, r) {
+        Some(class) => class_place(code, class),
+        None => Pos {
+            file: 0,
+            line: 0,
+            col: 0,
+        },
+    }
+}
+
+/// The safelet has no sequencer: that is a fault where its class is named.
+fn lack_sequencer(
+    code: &Code<'_>,
+    state: &mut RunState,
+    safelet: Ref,
+    told: &mut Vec<Event>,
+) -> Result<(), Memory>
+    ensures { AreAllBegun (code_of code.now).program.nodes state.old →
+        IfOk result
+        (λ _. IsStep (code_of code.now)
+        (seq_applied (code_of code.now) (state_of (code_of code.now) state.old) (LacksSequencer safelet)) state.new
+        told.old.items told.new.items) }
+{
+    let place = place_of_object(code, state, safelet);
+    halted(state, place, RunFault::NullPointer, told)?;
+    Ok(())
+}
+
+/// The name of an object's class; the empty one, if there is no such object.
+fn class_name_at(code: &Code<'_>, state: &RunState, r: Ref) -> Name
+    ensures { result ≡ class_name_at (code_of code.now) (state_of (code_of code.now) state.now) r }
+{
+    match class_of(&state.memory, r) {
+        Some(class) => class_name(code, class),
+        None => Name::new(b""),
+    }
+}
+
+/// A mission begins: its memory is open.
+fn begin_mission(
+    code: &Code<'_>,
+    state: &mut RunState,
+    mission: Ref,
+    told: &mut Vec<Event>,
+) -> Result<(), Memory>
+    ensures { AreAllBegun (code_of code.now).program.nodes state.old →
+        IfOk result
+        (λ _. IsStep (code_of code.now)
+        (seq_applied (code_of code.now) (state_of (code_of code.now) state.old) (BeginsMission mission)) state.new
+        told.old.items told.new.items) }
+{
+    let class = class_name_at(code, state, mission);
+    tell(
+        told,
+        Event::Mission {
+            unit: state.unit,
+            class,
+        },
+    )?;
+    Ok(())
+}
+
+/// Closes an area, if there is one.
+#[tactic(auto, unfolding(scj_model::specs::Memory::closed))]
+fn close(memory: &mut RunMemory, area: Option<AreaId>)
+    ensures { (s : State) → closed (with_memory s memory.old) area ≡ with_memory s memory.new }
+{
+    match area {
+        Some(area) => memory.close(area),
+        None => {}
+    }
+}
+
+/// The mission leaves neither memory nor handlers.
+fn close_mission(state: &mut RunState)
+    ensures closed { (code : CodeOfRun) →
+        state_of code state.new ≡ (seq_applied code (state_of code state.old) ClosesMission).state }
+    ensures begun { (nodes : List SyntaxNode) → AreAllBegun nodes state.old → AreAllBegun nodes state.new }
+{
+    let area = state.activity.areas.innermost();
+    close(&mut state.memory, area);
+    state.activity.areas.drop_innermost();
+    state.registry.clear();
+    state.mission = None;
+}
+
+/// An object is the mission from now on. It isn't asked to end, and all releases are of earlier missions.
+fn take_mission(state: &mut RunState, mission: Ref)
+    ensures taken { (code : CodeOfRun) →
+        state_of code state.new ≡ (seq_applied code (state_of code state.old) (TakesMission mission)).state }
+    ensures begun { (nodes : List SyntaxNode) → AreAllBegun nodes state.old → AreAllBegun nodes state.new }
+{
+    state.mission = Some(mission);
+    state.is_end_asked = false;
+    state.releases.begin_mission();
+}
+
+/// The unit behind another.
+fn next_unit(unit: u64) -> Result<u64, Memory>
+    ensures { IfOk result (λ next. next ≡ unit + 1) }
+{
+    match unit.checked_add(1) {
+        Some(next) => Ok(next),
+        None => Err(Memory),
+    }
+}
+
+/// Execution begins with the next unit.
+fn begin_execution(state: &mut RunState, told: &mut Vec<Event>) -> Result<(), Memory>
+    ensures { (code : CodeOfRun) → AreAllBegun code.program.nodes state.old →
+        IfOk result
+        (λ _. IsStep code (seq_applied code (state_of code state.old) BeginsExecution) state.new told.old.items
+        told.new.items) }
+{
+    let unit = state.unit;
+    state.origin = next_unit(unit)?;
+    state.last_choice = None;
+    tell(told, Event::Exec { unit })?;
+    Ok(())
+}
+
+/// What an effect does to the state that has gone on.
+fn seq_applied(
+    code: &Code<'_>,
+    state: &mut RunState,
+    effect: SeqEffect,
+    told: &mut Vec<Event>,
+) -> Result<(), Memory>
+    ensures { AreAllBegun (code_of code.now).program.nodes state.old →
+        IfOk result
+        (λ _. IsStep (code_of code.now)
+        (seq_applied (code_of code.now) (state_of (code_of code.now) state.old) (effect_seen effect)) state.new
+        told.old.items told.new.items) }
+{
+    let unit = state.unit;
+    match effect {
+        SeqEffect::Continues => Ok(()),
+        SeqEffect::TakesSafelet(r) => {
+            state.safelet = Some(r);
+            Ok(())
+        }
+        SeqEffect::TakesSequencer(r) => {
+            state.mission_sequencer = Some(r);
+            Ok(())
+        }
+        SeqEffect::TakesMission(r) => {
+            take_mission(state, r);
+            Ok(())
+        }
+        SeqEffect::LacksSequencer(safelet) => lack_sequencer(code, state, safelet, told),
+        SeqEffect::LacksMission => {
+            tell(told, Event::Done { unit })?;
+            Ok(())
+        }
+        SeqEffect::BeginsMission(r) => begin_mission(code, state, r, told),
+        SeqEffect::BeginsExecution => begin_execution(state, told),
+        SeqEffect::SkipsExecution => {
+            tell_two(told, Event::Exec { unit }, Event::Cleanup { unit })?;
+            Ok(())
+        }
+        SeqEffect::EndsExecution => {
+            tell(told, Event::Cleanup { unit })?;
+            Ok(())
+        }
+        SeqEffect::ClosesMission => {
+            close_mission(state);
+            Ok(())
+        }
+    }
+}
+
+/// A transition is done: the run goes on to its phase and operation.
+pub(crate) fn transition_done(
+    code: &Code<'_>,
+    state: &mut RunState,
+    transition: Transition,
+    told: &mut Vec<Event>,
+) -> Result<(), Memory>
+    ensures { AreAllBegun (code_of code.now).program.nodes state.old →
+        IfOk result
+        (λ _. IsStep (code_of code.now)
+        (transition_done (code_of code.now) (state_of (code_of code.now) state.old) (transition_seen transition))
+        state.new told.old.items told.new.items) }
+{
+    state.phase = transition.phase;
+    state.operation = transition.operation;
+    state.outcome = None;
+    seq_applied(code, state, transition.effect, told)?;
+    Ok(())
+}

@@ -1,0 +1,73 @@
+//! Bodies that the framework calls: their frames, and the slots of the safelet, which the framework makes.
+
+ghost use Rattle.std.specs.Prelude.{◌≡◌, ◌++◌, [], ◌∷◌, IfOk, Some, None};
+ghost use Rattle.scj_model.specs.Code.{code_of};
+ghost use Rattle.scj_model.specs.Effects.{new_frame};
+ghost use Rattle.scj_model.specs.Memory.{new_slots};
+ghost use Rattle.job_frames.specs.Frames.{AreBegun, frames_of};
+ghost use Rattle.run_memory.specs.Contents.{hidden_slots};
+
+use call_operations::slots::{hidden_start, values_of};
+use job_frames::{Code, Frame, FrameStack, NewFrame};
+use run_state::NewObject;
+use scj_base::{AreaId, ClassId, Memory, Ref};
+use scj_rules::Body;
+use std::alloc::Global;
+
+/// A body that the framework calls on an object, in an area that the call opened or not.
+#[derive(Clone, Copy, Debug)]
+pub struct OwnCall {
+    /// What is called.
+    pub body: Body,
+    /// The object on which it is called.
+    pub this: Ref,
+    /// The area in which it makes objects.
+    pub area: AreaId,
+    /// That area, if the call opened it.
+    pub opened: Option<AreaId>,
+}
+
+/// The frames of a job that begins with a call of the framework's.
+pub(crate) fn first_frames(
+    alloc: Global,
+    code: &Code<'_>,
+    call: OwnCall,
+) -> Result<FrameStack, Memory>
+    ensures seen { IfOk result
+        (λ frames. frames_of (code_of code.now) frames ≡ record
+        (new_frame (code_of code.now) call.body None (Some call.this) call.area []) { opened = call.opened } ∷ []) }
+    ensures begun { IfOk result (λ frames. AreBegun (code_of code.now).program.nodes frames) }
+{
+    let new = NewFrame {
+        body: call.body,
+        called_at: None,
+        this: Some(call.this),
+        area: call.area,
+    };
+    let mut frame = Frame::new(alloc, code, new, Vec::new(alloc))?;
+    frame.opened = call.opened;
+    let mut frames = FrameStack::new(alloc);
+    frames.push(frame)?;
+    Ok(frames)
+}
+
+/// A new object of a class.
+#[tactic(auto, using(call_operations::proofs::NewSlots::made_is))]
+pub(crate) fn new_object(
+    alloc: Global,
+    code: &Code<'_>,
+    class: ClassId,
+) -> Result<NewObject, Memory>
+    ensures class { IfOk result (λ object. object.class ≡ class) }
+    ensures slots { IfOk result (λ object. new_slots (code_of code.now).program class ≡ hidden_slots object.hidden.items
+        ++ object.values.items) }
+{
+    let layout = code.layout();
+    let hidden = hidden_start(alloc, layout.hidden(class))?;
+    let values = values_of(alloc, layout.kinds(class))?;
+    Ok(NewObject {
+        class,
+        hidden,
+        values,
+    })
+}

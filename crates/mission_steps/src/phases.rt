@@ -1,0 +1,108 @@
+//! What follows the operation of a unit.
+
+ghost use Rattle.std.specs.Prelude.{◌≡◌, ◌||◌, IfOk};
+ghost use Rattle.scj_rules.specs.Classes.{is_empty};
+ghost use Rattle.scj_model.specs.Code.{code_of};
+ghost use Rattle.scj_model.specs.Sequencer.{after_execution, after_operation, phase_after};
+ghost use Rattle.run_state.specs.Seen.{AreAllBegun, state_of};
+ghost use Rattle.run_state.specs.Steps.{IsTry};
+
+use crate::applied::transition_done;
+use crate::life::is_exec;
+use crate::transitions::{SeqEffect, Transition, what_follows};
+use job_frames::Code;
+use run_state::RunState;
+use scj_base::{Memory, Value};
+use scj_model::{Event, HandlerRow, Phase, SeqOp};
+
+/// Whether a mission has no handlers.
+#[tactic(auto, unfolding(scj_rules::specs::Classes::is_empty))]
+fn is_empty(registry: &[HandlerRow]) -> bool
+    ensures { result ≡ is_empty registry.now }
+{
+    match registry {
+        [] => true,
+        [_, ..] => false,
+    }
+}
+
+/// Whether there is nothing to execute, or an end was asked.
+fn skips_execution(state: &RunState) -> bool
+    ensures { result ≡ (is_empty state.now.registry.items || state.now.is_end_asked) }
+{
+    is_empty(state.registry.as_slice()) || state.is_end_asked
+}
+
+/// The operation of the sequencer is done, with this value.
+fn after_operation(
+    code: &Code<'_>,
+    state: &mut RunState,
+    value: Value,
+    told: &mut Vec<Event>,
+) -> Result<bool, Memory>
+    ensures { AreAllBegun (code_of code.now).program.nodes state.old →
+        IfOk result
+        (λ answer. IsTry (code_of code.now)
+        (after_operation (code_of code.now) (state_of (code_of code.now) state.old) value) answer state.new
+        told.old.items told.new.items) }
+{
+    let skips = skips_execution(state);
+    match what_follows(state.mission_sequencer, skips, state.operation, value) {
+        Some(next) => {
+            transition_done(code, state, next, told)?;
+            Ok(true)
+        }
+        None => Ok(false),
+    }
+}
+
+/// Execution is over once an end was asked and no release is started.
+fn after_execution(
+    code: &Code<'_>,
+    state: &mut RunState,
+    told: &mut Vec<Event>,
+) -> Result<bool, Memory>
+    ensures { AreAllBegun (code_of code.now).program.nodes state.old →
+        IfOk result
+        (λ answer. IsTry (code_of code.now) (after_execution (code_of code.now) (state_of (code_of code.now) state.old))
+        answer state.new told.old.items told.new.items) }
+{
+    if !state.is_end_asked {
+        return Ok(true);
+    }
+    if state.releases.has_started() {
+        return Ok(true);
+    }
+    let Some(mission) = state.mission else {
+        return Ok(false);
+    };
+    let over = Transition {
+        phase: Phase::Cleanup,
+        operation: SeqOp::CleanUp(mission),
+        effect: SeqEffect::EndsExecution,
+    };
+    transition_done(code, state, over, told)?;
+    Ok(true)
+}
+
+/// What follows the operation of a unit. Nothing does while a body is under way, and after the end of the run.
+pub fn phase_after(
+    code: &Code<'_>,
+    state: &mut RunState,
+    told: &mut Vec<Event>,
+) -> Result<bool, Memory>
+    requires begun { AreAllBegun code.now.nodes state.old }
+    ensures { IfOk result
+        (λ answer. IsTry (code_of code.now) (phase_after (code_of code.now) (state_of (code_of code.now) state.old))
+        answer state.new told.old.items told.new.items) }
+{
+    if is_exec(state.phase) {
+        let went = after_execution(code, state, told)?;
+        return Ok(went);
+    }
+    let Some(value) = state.outcome else {
+        return Ok(true);
+    };
+    let went = after_operation(code, state, value, told)?;
+    Ok(went)
+}

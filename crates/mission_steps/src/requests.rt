@@ -1,0 +1,197 @@
+//! What an operation asks of the mission, done to the state (JSR 302: ManagedEventHandler, Mission).
+
+ghost use Rattle.std.specs.Prelude.{◌≡◌, ℕ, ◌+◌, ◌++◌, ◌∷◌, [], IfOk, OnOk, length, option_map, slice_get};
+ghost use Rattle.scj_model.specs.declared.events.Event.TheVariants.{Register as registration};
+ghost use Rattle.scj_model.specs.Code.{code_of};
+ghost use Rattle.scj_model.specs.State.{Object as ObjectOfRun, with_activity};
+ghost use Rattle.scj_model.specs.Effects.{AsksRegistration, AsksRelease, AsksTermination};
+ghost use Rattle.scj_model.specs.Apply.{class_name, registered};
+ghost use Rattle.scj_model.specs.Registry.{new_row};
+ghost use Rattle.job_frames.specs.Frames.{AreBegun, activity_seen};
+ghost use Rattle.run_state.specs.Seen.{AreAllBegun, job_seen, state_of};
+ghost use Rattle.run_state.specs.Steps.{IsApplied, IsStep};
+ghost use Rattle.mission_steps.specs.Asked.{newly_registered};
+
+use crate::life::is_init;
+use crate::looks::class_name;
+use crate::registry::{handler_number, new_row};
+use crate::releases::{released, termination_asked};
+use job_frames::{Activity, Code};
+use run_state::ends::fault_in;
+use run_state::jobs::put_back;
+use run_state::told::tell;
+use run_state::{Acting, Job, RunState};
+use scj_base::{Memory, Ref, RunFault};
+use scj_model::{Event, HandlerRow};
+
+/// How many handlers a mission registers at most.
+const MOST_HANDLERS: usize = 64;
+
+/// The row of a handler object, if there is such an object.
+fn row_of(code: &Code<'_>, state: &RunState, r: Ref) -> Result<Option<HandlerRow>, Memory>
+    ensures { IfOk result
+        (λ row. row ≡ option_map (new_row (code_of code.now).program r) (slice_get state.now.memory.objects r)) }
+{
+    match state.memory.object(r) {
+        Some(object) => {
+            let row = new_row(code, r, object)?;
+            Ok(Some(row))
+        }
+        None => Ok(None),
+    }
+}
+
+/// The number that a handler gets behind so many others.
+fn next_number(count: usize) -> Result<u8, Memory>
+    ensures { IfOk result (λ number. number ≡ count + 1) }
+{
+    if count < 255 {
+        Ok(count as u8 + 1)
+    } else {
+        Err(Memory)
+    }
+}
+
+/// Tells that a handler is registered behind the others.
+fn tell_registered(
+    code: &Code<'_>,
+    state: &RunState,
+    row: &HandlerRow,
+    told: &mut Vec<Event>,
+) -> Result<(), Memory>
+    ensures { OnOk result
+        (told.new.items ≡ told.old.items ++ registration state.now.unit (length state.now.registry.items + 1)
+        (class_name (code_of code.now) row.now.class) row.now.priority ∷ []) }
+{
+    let handler = next_number(state.registry.len())?;
+    tell(
+        told,
+        Event::Register {
+            unit: state.unit,
+            handler,
+            class: class_name(code, row.class),
+            priority: row.priority,
+        },
+    )?;
+    Ok(())
+}
+
+/// A handler is registered behind the others, and its job goes on.
+fn enter(
+    code: &Code<'_>,
+    state: &mut RunState,
+    job: Job,
+    activity: Activity,
+    row: HandlerRow,
+    told: &mut Vec<Event>,
+) -> Result<(), Memory>
+    ensures { AreAllBegun (code_of code.now).program.nodes state.old →
+        AreBegun (code_of code.now).program.nodes activity.frames →
+        IfOk result
+        (λ _. IsStep (code_of code.now)
+        (newly_registered (code_of code.now) (state_of (code_of code.now) state.old) row
+        (with_activity (state_of (code_of code.now) state.old) (job_seen job)
+        (activity_seen (code_of code.now) activity))) state.new told.old.items told.new.items) }
+{
+    tell_registered(code, state, &row, told)?;
+    put_back(state, job, activity)?;
+    state.registry.push(row)?;
+    Ok(())
+}
+
+/// The handler of this row is registered during the mission's initialisation, and once.
+fn register(
+    code: &Code<'_>,
+    state: &mut RunState,
+    acting: Acting,
+    activity: Activity,
+    row: HandlerRow,
+    told: &mut Vec<Event>,
+) -> Result<(), Memory>
+    ensures { (r : ℕ) (o : ObjectOfRun) → row ≡ new_row (code_of code.now).program r o →
+        AreAllBegun (code_of code.now).program.nodes state.old →
+        AreBegun (code_of code.now).program.nodes activity.frames →
+        IfOk result
+        (λ _. IsStep (code_of code.now)
+        (registered (code_of code.now) (state_of (code_of code.now) state.old) (job_seen acting.job)
+        (activity_seen (code_of code.now) activity) acting.place r o
+        (with_activity (state_of (code_of code.now) state.old) (job_seen acting.job)
+        (activity_seen (code_of code.now) activity))) state.new told.old.items told.new.items) }
+{
+    if !is_init(state.phase) {
+        fault_in(state, acting, &activity, RunFault::NotInitializing, told)?;
+        return Ok(());
+    }
+    if handler_number(state.registry.as_slice(), row.at)?.is_some() {
+        put_back(state, acting.job, activity)?;
+        return Ok(());
+    }
+    if state.registry.len() >= MOST_HANDLERS {
+        fault_in(state, acting, &activity, RunFault::TooManyHandlers, told)?;
+        return Ok(());
+    }
+    enter(code, state, acting.job, activity, row, told)?;
+    Ok(())
+}
+
+/// A handler is registered during the mission's initialisation, and once.
+pub fn asks_registration(
+    code: &Code<'_>,
+    state: &mut RunState,
+    acting: Acting,
+    activity: Activity,
+    r: Ref,
+    told: &mut Vec<Event>,
+) -> Result<bool, Memory>
+    requires begun { AreAllBegun code.now.nodes state.old }
+    requires frames { AreBegun code.now.nodes activity.frames }
+    ensures { IfOk result
+        (λ answer. IsApplied (code_of code.now) state.old acting activity (λ f. AsksRegistration f r) answer state.new
+        told.old.items told.new.items) }
+{
+    let Some(row) = row_of(code, state, r)? else {
+        return Ok(false);
+    };
+    register(code, state, acting, activity, row, told)?;
+    Ok(true)
+}
+
+/// A handler is asked to be released.
+pub fn asks_release(
+    code: &Code<'_>,
+    state: &mut RunState,
+    acting: Acting,
+    activity: Activity,
+    r: Ref,
+    told: &mut Vec<Event>,
+) -> Result<bool, Memory>
+    requires begun { AreAllBegun code.now.nodes state.old }
+    requires frames { AreBegun code.now.nodes activity.frames }
+    ensures { IfOk result
+        (λ answer. IsApplied (code_of code.now) state.old acting activity (λ f. AsksRelease f r) answer state.new
+        told.old.items told.new.items) }
+{
+    put_back(state, acting.job, activity)?;
+    released(state, r, told)?;
+    Ok(true)
+}
+
+/// The mission is asked to end.
+pub fn asks_termination(
+    code: &Code<'_>,
+    state: &mut RunState,
+    acting: Acting,
+    activity: Activity,
+    r: Ref,
+    told: &mut Vec<Event>,
+) -> Result<bool, Memory>
+    requires begun { AreAllBegun code.now.nodes state.old }
+    requires frames { AreBegun code.now.nodes activity.frames }
+    ensures { IfOk result
+        (λ answer. IsApplied (code_of code.now) state.old acting activity (λ f. AsksTermination f r) answer state.new
+        told.old.items told.new.items) }
+{
+    put_back(state, acting.job, activity)?;
+    termination_asked(state, r, told)?;
+    Ok(true)
+}

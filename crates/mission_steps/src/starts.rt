@@ -1,0 +1,163 @@
+//! START: the first operation of a release (JSR 302: ManagedEventHandler, handleAsyncEvent).
+
+ghost use Rattle.std.specs.Prelude.{◌≡◌, ◌∷◌, [], IfOk, None, Some};
+ghost use Rattle.scj_model.specs.Code.{code_of};
+ghost use Rattle.scj_model.specs.State.{Release as ReleaseOfRun};
+ghost use Rattle.scj_model.specs.Effects.{new_frame};
+ghost use Rattle.scj_model.specs.Run.{start_op, started_with};
+ghost use Rattle.job_frames.specs.Frames.{AreBegun, activity_seen};
+ghost use Rattle.run_state.specs.Seen.{AreAllBegun, state_of};
+ghost use Rattle.run_state.specs.Steps.{IsStep, IsTry};
+
+use crate::bodies::{OwnCall, first_frames};
+use crate::looks::{body_named, class_place, private_scope};
+use crate::registry::handler_row;
+use job_frames::{Activity, Code, OpenAreas};
+use run_state::ends::fault_in;
+use run_state::jobs::put_back;
+use run_state::memory::open_area;
+use run_state::{Acting, Job, NewArea, RunState};
+use scj_base::{AreaId, Memory, Name, RunFault, ScopeId};
+use scj_model::{Event, HandlerRow};
+use scj_rules::Body;
+use std::alloc::Global;
+
+/// A release that is to be started: its place, its handler's row, and what is run in a memory of which scope.
+#[derive(Clone, Copy, Debug)]
+struct Start {
+    place: usize,
+    row: HandlerRow,
+    scope: ScopeId,
+    body: Body,
+}
+
+/// The same areas, in which another job begins.
+fn shared(alloc: Global, open: &OpenAreas) -> Result<OpenAreas, Memory>
+    ensures { IfOk result (λ areas. areas ≡ open.now) }
+{
+    let mut areas = OpenAreas::new(alloc);
+    let mut rest = open.in_order();
+    while let [area, others @ ..] = rest {
+        areas.push(*area)?;
+        rest = others;
+    }
+    Ok(areas)
+}
+
+/// What a release has whose private memory is open inside other areas.
+fn begun(
+    alloc: Global,
+    code: &Code<'_>,
+    mut areas: OpenAreas,
+    start: &Start,
+    area: AreaId,
+) -> Result<Activity, Memory>
+    ensures seen { IfOk result
+        (λ activity. activity_seen (code_of code.now) activity
+        ≡ record {
+          frames = record (new_frame (code_of code.now) start.now.body None (Some start.now.row.at) area [])
+              { opened = Some area } ∷ [];
+          areas = area ∷ areas;
+          priority = start.now.row.priority;
+        }) }
+    ensures begun { IfOk result (λ activity. AreBegun (code_of code.now).program.nodes activity.frames) }
+{
+    let frames = first_frames(
+        alloc,
+        code,
+        OwnCall {
+            body: start.body,
+            this: start.row.at,
+            area,
+            opened: Some(area),
+        },
+    )?;
+    areas.push(area)?;
+    Ok(Activity {
+        frames,
+        areas,
+        priority: start.row.priority,
+    })
+}
+
+/// A release starts: its private memory is opened inside the mission's, and its body called.
+fn started_with(
+    alloc: Global,
+    code: &Code<'_>,
+    state: &mut RunState,
+    start: &Start,
+    told: &mut Vec<Event>,
+) -> Result<(), Memory>
+    ensures { AreAllBegun (code_of code.now).program.nodes state.old →
+        IfOk result
+        (λ _. IsStep (code_of code.now)
+        (started_with (code_of code.now) (state_of (code_of code.now) state.old) start.now.place start.now.row
+        start.now.scope
+        start.now.body) state.new told.old.items told.new.items) }
+{
+    let parent = state.activity.areas.innermost();
+    let areas = shared(alloc, &state.activity.areas)?;
+    match open_area(
+        state,
+        NewArea {
+            scope: start.scope,
+            parent,
+            bytes: start.row.bytes,
+        },
+    )? {
+        Some(area) => {
+            let activity = begun(alloc, code, areas, start, area)?;
+            put_back(state, Job::Release(start.place), activity)?;
+            Ok(())
+        }
+        None => {
+            let acting = Acting {
+                job: Job::Release(start.place),
+                place: class_place(code, start.row.class),
+            };
+            fault_in(
+                state,
+                acting,
+                &Activity::empty(alloc),
+                RunFault::StoreFull,
+                told,
+            )?;
+            Ok(())
+        }
+    }
+}
+
+/// The first operation of a release that waits, by its handler.
+pub fn start_op(
+    alloc: Global,
+    code: &Code<'_>,
+    state: &mut RunState,
+    place: usize,
+    handler: u8,
+    told: &mut Vec<Event>,
+) -> Result<bool, Memory>
+    requires begun { AreAllBegun code.now.nodes state.old }
+    ensures { (r : ReleaseOfRun) → r.handler ≡ handler →
+        IfOk result
+        (λ answer. IsTry (code_of code.now)
+        (start_op (code_of code.now) (state_of (code_of code.now) state.old) place r) answer state.new told.old.items
+        told.new.items) }
+{
+    let Some(row) = handler_row(state.registry.as_slice(), handler) else {
+        return Ok(false);
+    };
+    let Some(scope) = private_scope(code, row.class) else {
+        return Ok(false);
+    };
+    let Some(body) = body_named(code, row.class, &Name::new(b"handleAsyncEvent")) else {
+        return Ok(false);
+    };
+    let start = Start {
+        place,
+        row,
+        scope,
+        body,
+    };
+    started_with(alloc, code, state, &start, told)?;
+    Ok(true)
+}
