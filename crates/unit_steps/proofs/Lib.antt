@@ -1,0 +1,17 @@
+pub mod Alike
+pub mod Arriving
+pub mod Composed
+pub mod FiresByPlaces
+pub mod Firing
+pub mod JobActivity
+pub mod Joins
+pub mod NextOperation
+pub mod OwnActivity
+pub mod ReleaseActivity
+pub mod RunsOn
+pub mod StatusSet
+pub mod Turning
+pub mod UnderWay
+pub mod UnitCounts
+pub mod UnitJoins
+pub mod UnitParts

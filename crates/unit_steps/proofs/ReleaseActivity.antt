@@ -1,0 +1,231 @@
+-- An effect doesn't see the activity of the release that acts in the state: it is given beside the state, and put back
+-- or given up at the end.
+use Rattle.std.specs.Prelude.{Option, Some, None, if◌then◌else◌, ◌==◌, is_some, nat_lt, not, unwrap_or, option_map, ◌++◌, ◌+◌, slice_set}
+use Rattle.std.proofs.Common.{◌≡◌, ℕ, Bool, List, [], ◌∷◌, length, refl, ◌∙◌, ap}
+use Rattle.scj_base.specs.declared.faults.RunFault.{RunFault}
+use Rattle.scj_base.specs.declared.faults.RunFault.TheVariants.{CeilingViolation, DepthFull, MemoryFull, NotInitializing, ScopedCycle, StoreFull, TooManyHandlers}
+use Rattle.scj_base.specs.declared.places.Pos.{Pos}
+use Rattle.scj_base.specs.declared.values.Value.{Value}
+use Rattle.scj_base.specs.declared.values.Value.TheVariants.{At}
+use Rattle.scj_model.specs.declared.events.Event.{Event}
+use Rattle.scj_model.specs.declared.events.Event.TheVariants.{End, Prio, Print, Fault, Register}
+use Rattle.scj_model.specs.Code.{Code}
+use Rattle.scj_model.specs.State.{Object, Frame, Activity, Ended, Job, Release, ReleaseAt, Started, State, with_activity, with_status, object_at, is_init, changed}
+use Rattle.scj_model.specs.Memory.{has_room, has_store_for, used, reserved, closed, with_object, with_area, with_slot, area_with_scope}
+use Rattle.scj_model.specs.Registry.{handler_number, most_handlers, new_row}
+use Rattle.scj_model.specs.Steps.{Step, silently, telling, allocating, opening, fault_in, closed_all, job_ended, of_release, then_do}
+use Rattle.scj_model.specs.Effects.{Effect, Goes, Prints, Makes, Stores, StoresStatic, SetsHidden, SetsCeiling, Calls, Opens, Leaves, AsksRegistration, AsksRelease, AsksTermination, Faults, Stuck}
+use Rattle.scj_model.specs.Apply.{applied, called, ceiling_entered, class_name, frame_left, is_full, opened_in, registered, released, returned, termination_asked, with_first, without, with_frame, tell_priority}
+use Rattle.unit_steps.proofs.StatusSet.{status_again, told_alike}
+use Rattle.unit_steps.proofs.OwnActivity.{scope_sees_areas}
+
+module _ (code : Code) (s : State) (n : ℕ) (x : Activity) where
+  abbrev t : State
+  t = with_status s n (Started x)
+
+  abbrev job : Job
+  job = ReleaseAt n
+
+  -- in a state with other areas or objects
+  put_back : (u : State) (activity : Activity) →
+      with_activity (with_status u n (Started x)) job activity ≡ with_activity u job activity
+  unfolding with_activity
+  put_back u activity = status_again u n (Started x) (Started activity)
+
+  told_there : (tell : Release → List Event) →
+      ((r : Release) → tell (record r { status = Started x }) ≡ tell r) →
+      of_release t job tell ≡ of_release s job tell
+  told_there tell h = told_alike n (Started x) s.releases tell h
+
+  closed_there : (u : State) (opened : Option ℕ) →
+      closed (with_status u n (Started x)) opened ≡ with_status (closed u opened) n (Started x)
+  unfolding closed
+  closed_there u None = refl
+  closed_there u (Some a) = refl
+
+  all_closed_there : (u : State) (fs : List Frame) →
+      closed_all (with_status u n (Started x)) fs ≡ with_status (closed_all u fs) n (Started x)
+  unfolding closed_all
+  all_closed_there u [] = refl
+  all_closed_there u (f ∷ fs) =
+      ap (λ v. closed_all v fs) (closed_there u f.opened) ∙ all_closed_there (closed u f.opened) fs
+
+  -- a fault ends the release
+  broken : (activity : Activity) (place : Pos) (fault : RunFault) →
+      fault_in t job activity place fault ≡ fault_in s job activity place fault
+  unfolding fault_in
+  broken activity place fault =
+      ap (λ v. telling (with_status v n Ended)
+      (Fault s.unit fault place ∷ of_release t job (λ r. End s.unit r.handler r.number ∷ [])))
+      (all_closed_there s activity.frames)
+      ∙ (ap (λ v. telling v (Fault s.unit fault place ∷ of_release t job (λ r. End s.unit r.handler r.number ∷ [])))
+      (status_again (closed_all s activity.frames) n (Started x) Ended)
+      ∙ ap (λ events. telling (with_status (closed_all s activity.frames) n Ended) (Fault s.unit fault place ∷ events))
+      (told_there (λ r. End s.unit r.handler r.number ∷ []) (λ r. refl)))
+
+  -- two ways, each the same
+  pub choose : (b d : Bool) → d ≡ b → {a c p q : Step} → p ≡ a → q ≡ c →
+      (if d then p else q) ≡ (if b then a else c)
+  choose b d e {a} {c} {p} {q} h k =
+      ap (λ d. if d then p else q) e ∙ (ap (λ p. if b then p else q) h ∙ ap (λ q. if b then a else q) k)
+
+  told_priority : (before after : ℕ) → tell_priority t job before after ≡ tell_priority s job before after
+  told_priority before after =
+      ap (λ (events : List Event). if before == after then [] else events)
+      (told_there (λ r. Prio s.unit r.handler after ∷ []) (λ r. refl))
+
+  goes_on : (u : State) (activity : Activity) →
+      silently (with_activity (with_status u n (Started x)) job activity) ≡ silently (with_activity u job activity)
+  goes_on u activity = ap (λ v. silently v) (put_back u activity)
+
+  called_there : (activity : Activity) (frames : List Frame) (place : Pos) (g : Frame) →
+      called code t job activity frames place g ≡ called code s job activity frames place g
+  unfolding called ceiling_entered
+  called_there activity frames place g =
+      choose (is_full frames) (is_full frames) refl (broken activity place DepthFull)
+      (entered (ceiling_entered code s g))
+    where
+      entered : (o : Option ℕ) →
+          (elim o as (λ z. Step) [
+            | None ↦ silently (with_activity t job (record activity { frames = g ∷ frames }))
+            | Some ceiling ↦
+                if nat_lt ceiling activity.priority then fault_in t job activity place CeilingViolation
+                else telling
+                (with_activity t job (record activity {
+                  frames = record g { saved = Some activity.priority } ∷ frames;
+                  priority = ceiling;
+                }))
+                (tell_priority t job activity.priority ceiling)
+          ])
+          ≡ (elim o as (λ z. Step) [
+            | None ↦ silently (with_activity s job (record activity { frames = g ∷ frames }))
+            | Some ceiling ↦
+                if nat_lt ceiling activity.priority then fault_in s job activity place CeilingViolation
+                else telling
+                (with_activity s job (record activity {
+                  frames = record g { saved = Some activity.priority } ∷ frames;
+                  priority = ceiling;
+                }))
+                (tell_priority s job activity.priority ceiling)
+          ])
+      entered None = goes_on s (record activity { frames = g ∷ frames })
+      entered (Some ceiling) =
+          choose (nat_lt ceiling activity.priority) (nat_lt ceiling activity.priority) refl
+          (broken activity place CeilingViolation)
+          (let raised : Activity = record activity {
+            frames = record g { saved = Some activity.priority } ∷ frames;
+            priority = ceiling;
+          } in
+          ap (λ v. telling v (tell_priority t job activity.priority ceiling)) (put_back s raised)
+          ∙ ap (λ events. telling (with_activity s job raised) events) (told_priority activity.priority ceiling))
+
+  opened_there : (activity : Activity) (frames : List Frame) (place : Pos) (g : Frame) (scope bytes : ℕ) →
+      opened_in t job activity frames place g scope bytes ≡ opened_in s job activity frames place g scope bytes
+  unfolding opened_in opening has_store_for reserved
+  opened_there activity frames place g scope bytes =
+      choose (is_some (area_with_scope s scope activity.areas)) (is_some (area_with_scope t scope activity.areas))
+      (ap (λ (o : Option ℕ). is_some o) (scope_sees_areas s t refl scope activity.areas))
+      (broken activity place ScopedCycle)
+      (choose (is_full frames) (is_full frames) refl (broken activity place DepthFull)
+      (choose (has_store_for s bytes) (has_store_for s bytes) refl
+      (goes_on (with_area s scope (Some g.area) bytes) (record activity {
+        frames = record g { area = length s.areas; opened = Some (length s.areas) } ∷ frames;
+        areas = length s.areas ∷ activity.areas;
+      }))
+      (broken activity place StoreFull)))
+
+  ended_there : (u : State) (activity : Activity) (value : Option Value) →
+      job_ended (with_status u n (Started x)) job activity value ≡ job_ended u job activity value
+  unfolding job_ended
+  ended_there u activity value =
+      ap (λ v. telling v (of_release (with_status u n (Started x)) job (λ r. End u.unit r.handler r.number ∷ [])))
+      (status_again u n (Started x) Ended)
+      ∙ ap (λ events. telling (with_status u n Ended) events)
+      (told_alike n (Started x) u.releases (λ r. End u.unit r.handler r.number ∷ []) (λ r. refl))
+
+  left_there : (activity : Activity) (f : Frame) (below : List Frame) (value : Option Value) →
+      frame_left t job activity f below value ≡ frame_left s job activity f below value
+  unfolding frame_left
+  left_there activity f below value =
+      let priority = unwrap_or f.saved activity.priority in
+      let after : Activity = record activity {
+        frames = returned value below;
+        areas = without f.opened activity.areas;
+        priority = priority;
+      } in
+      ap (λ v. then_do (telling v (tell_priority t job activity.priority priority)) (last after below))
+      (closed_there s f.opened)
+      ∙ (ap (λ events.
+      then_do (telling (with_status (closed s f.opened) n (Started x)) events) (last after below))
+      (told_priority activity.priority priority)
+      ∙ ap (λ (second : Step). telling second.state (tell_priority s job activity.priority priority ++ second.events))
+      (last_there after below))
+    where
+      last : Activity → List Frame → State → Step
+      last after below u =
+          elim below as (λ z. Step) [
+            | [] ↦ job_ended u job after value
+            | g ∷ gs ↦ silently (with_activity u job after)
+          ]
+
+      last_there : (after : Activity) (below : List Frame) →
+          last after below (with_status (closed s f.opened) n (Started x)) ≡ last after below (closed s f.opened)
+      last_there after [] = ended_there (closed s f.opened) after value
+      last_there after (g ∷ gs) = goes_on (closed s f.opened) after
+
+  registered_there : (activity : Activity) (f : Frame) (below : List Frame) (place : Pos) (r : ℕ) (o : Object) →
+      registered code t job activity place r o (with_frame t job activity f below)
+      ≡ registered code s job activity place r o (with_frame s job activity f below)
+  unfolding registered
+  registered_there activity f below place r o =
+      let back = put_back s (record activity { frames = f ∷ below }) in
+      choose (not (is_init s.phase)) (not (is_init s.phase)) refl (broken activity place NotInitializing)
+      (choose (is_some (handler_number s.registry r)) (is_some (handler_number s.registry r)) refl
+      (ap (λ v. silently v) back)
+      (choose (not (nat_lt (length s.registry) most_handlers)) (not (nat_lt (length s.registry) most_handlers)) refl
+      (broken activity place TooManyHandlers)
+      (ap (λ v. telling
+      (record v { registry = v.registry ++ new_row code.program r o ∷ [] })
+      (Register s.unit (length s.registry + 1) (class_name code o.class) (new_row code.program r o).priority ∷ []))
+      back)))
+
+  pub release_unseen : (activity : Activity) (below : List Frame) (place : Pos) (e : Effect) →
+      applied code t job activity below place e ≡ applied code s job activity below place e
+  unfolding applied allocating has_room used
+  release_unseen activity below place (Goes f) = ap (λ v. Some v) (goes_on s (record activity { frames = f ∷ below }))
+  release_unseen activity below place (Prints f label value) =
+      ap (λ v. Some (telling v (Print s.unit label value ∷ []))) (put_back s (record activity { frames = f ∷ below }))
+  release_unseen activity below place (Makes f class slots) =
+      ap (λ v. Some v)
+      (choose (has_room s f.area (length slots)) (has_room s f.area (length slots)) refl
+      (goes_on (with_object s class f.area slots) (record activity {
+        frames = record f { operands = At (length s.objects) ∷ f.operands } ∷ below;
+      }))
+      (broken activity place MemoryFull))
+  release_unseen activity below place (Stores f r slot value) =
+      ap (λ v. Some v) (goes_on (with_slot s r slot value) (record activity { frames = f ∷ below }))
+  release_unseen activity below place (StoresStatic f k value) =
+      ap (λ v. Some v)
+      (goes_on (record s { statics = slice_set s.statics k value }) (record activity { frames = f ∷ below }))
+  release_unseen activity below place (SetsHidden f r values) =
+      ap (λ v. Some v)
+      (goes_on (record s { objects = changed (with_first values) r s.objects }) (record activity { frames = f ∷ below }))
+  release_unseen activity below place (SetsCeiling f r ceiling) =
+      ap (λ v. Some v) (broken activity place NotInitializing)
+  release_unseen activity below place (Calls f g) = ap (λ v. Some v) (called_there activity (f ∷ below) place g)
+  release_unseen activity below place (Opens f g scope bytes) =
+      ap (λ v. Some v) (opened_there activity (f ∷ below) place g scope bytes)
+  release_unseen activity below place (Leaves f value) = ap (λ v. Some v) (left_there activity f below value)
+  release_unseen activity below place (AsksRegistration f r) = asked (object_at s r)
+    where
+      asked : (o : Option Object) →
+          option_map (λ (x : Object). registered code t job activity place r x (with_frame t job activity f below)) o
+          ≡ option_map (λ (x : Object). registered code s job activity place r x (with_frame s job activity f below)) o
+      asked None = refl
+      asked (Some o) = ap (λ v. Some v) (registered_there activity f below place r o)
+  release_unseen activity below place (AsksRelease f r) =
+      ap (λ v. Some (released v r)) (put_back s (record activity { frames = f ∷ below }))
+  release_unseen activity below place (AsksTermination f r) =
+      ap (λ v. Some (termination_asked v r)) (put_back s (record activity { frames = f ∷ below }))
+  release_unseen activity below place (Faults fault) = ap (λ v. Some v) (broken activity place fault)
+  release_unseen activity below place Stuck = refl

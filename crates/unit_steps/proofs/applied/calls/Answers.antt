@@ -1,0 +1,14 @@
+use Rattle.scj_model.specs.Code.{code_of}
+use Rattle.job_frames.specs.Frames.{frame_called}
+use Rattle.run_state.proofs.TopEffects.{calls_applied}
+use Rattle.unit_steps.proofs.applied.calls.Goals as goal
+
+pub called-requires-clause-frames : goal.called-requires-clause-frames
+called-requires-clause-frames c = c.in_ok-put_on_top.ensures.begun c.requires.frames
+
+pub returns : goal.returns
+returns c =
+    let code = code_of c.args.code.now in
+    let called = frame_called code c.args.call c.args.arguments.items in
+    calls_applied code c.args.state.now c.args.acting c.args.activity called c.called.new.state c.args.told.now.items
+    c.called.new.told.items (c.in_ok-called.ensures called c.args.activity c.in_ok-put_on_top.ensures.put)

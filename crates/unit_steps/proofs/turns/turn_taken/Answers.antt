@@ -1,0 +1,12 @@
+use Rattle.std.proofs.Common.{refl}
+use Rattle.scj_model.specs.Run.{turn_taken}
+use Rattle.run_state.specs.Seen.{state_of}
+use Rattle.unit_steps.proofs.turns.turn_taken.Goals as goal
+
+pub returns : goal.returns
+unfolding turn_taken state_of
+returns c = λ code begun. record {
+  state = refl;
+  told = c.in_ok-tell_other_turn.ensures code;
+  begun = record { sequencer = begun.sequencer; releases = begun.releases };
+}

@@ -1,0 +1,5 @@
+pub mod Alike
+pub mod Arriving
+pub mod Led
+pub mod Moves
+pub mod Next

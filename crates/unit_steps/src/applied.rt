@@ -1,0 +1,155 @@
+//! What an effect does to the state.
+
+ghost use Rattle.std.specs.Prelude.{◌≡◌, IfOk, [], true};
+ghost use Rattle.scj_model.specs.Code.{code_of};
+ghost use Rattle.scj_model.specs.Effects.{Calls, Opens};
+ghost use Rattle.job_frames.specs.EffectsSeen.{effect_seen};
+ghost use Rattle.job_frames.specs.Frames.{AreBegun, frame_called};
+ghost use Rattle.run_state.specs.Seen.{AreAllBegun};
+ghost use Rattle.run_state.specs.Steps.{IsApplied};
+
+use job_frames::{Activity, Code, Effect, NewFrame};
+use mission_steps::{asks_registration, asks_release, asks_termination};
+use run_state::calls::{called, put_on_top};
+use run_state::effects::{faults, goes, is_stuck, leaves, prints};
+use run_state::openings::opened_in;
+use run_state::stores::{makes, makes_array, sets_ceiling, sets_hidden, stores, stores_static};
+use run_state::{Acting, NewArray, NewObject, RunState};
+use scj_base::{Memory, ScopeId, Value};
+use scj_model::Event;
+use std::alloc::Global;
+
+/// It calls.
+fn calls(
+    alloc: Global,
+    code: &Code<'_>,
+    state: &mut RunState,
+    acting: Acting,
+    activity: Activity,
+    call: NewFrame,
+    arguments: Vec<Value>,
+    told: &mut Vec<Event>,
+) -> Result<(), Memory>
+    requires begun { AreAllBegun code.now.nodes state.old }
+    requires frames { AreBegun code.now.nodes activity.frames }
+    ensures { IfOk result
+        (λ _. IsApplied (code_of code.now) state.old acting activity
+        (λ f. Calls f (frame_called (code_of code.now) call arguments.items)) true state.new told.old.items
+        told.new.items) }
+{
+    let mut activity = activity;
+    put_on_top(alloc, code, &mut activity, call, arguments)?;
+    called(code, state, acting, activity, told)?;
+    Ok(())
+}
+
+/// It calls in a new area inside its own.
+fn opens(
+    alloc: Global,
+    code: &Code<'_>,
+    state: &mut RunState,
+    acting: Acting,
+    activity: Activity,
+    call: NewFrame,
+    scope: ScopeId,
+    bytes: u64,
+    told: &mut Vec<Event>,
+) -> Result<(), Memory>
+    requires begun { AreAllBegun code.now.nodes state.old }
+    requires frames { AreBegun code.now.nodes activity.frames }
+    ensures { IfOk result
+        (λ _. IsApplied (code_of code.now) state.old acting activity
+        (λ f. Opens f (frame_called (code_of code.now) call []) scope bytes) true state.new told.old.items
+        told.new.items) }
+{
+    let mut activity = activity;
+    let none = Vec::new(alloc);
+    put_on_top(alloc, code, &mut activity, call, none)?;
+    opened_in(state, acting, activity, scope, bytes, told)?;
+    Ok(())
+}
+
+/// Does an effect to the state, whose job has this activity with the highest frame as the operation left it, and tells
+/// whether it can be done.
+pub(crate) fn apply(
+    alloc: Global,
+    code: &Code<'_>,
+    state: &mut RunState,
+    acting: Acting,
+    activity: Activity,
+    effect: Effect,
+    told: &mut Vec<Event>,
+) -> Result<bool, Memory>
+    requires begun { AreAllBegun code.now.nodes state.old }
+    requires frames { AreBegun code.now.nodes activity.frames }
+    ensures { IfOk result
+        (λ answer. IsApplied (code_of code.now) state.old acting activity (effect_seen (code_of code.now) effect) answer
+        state.new told.old.items told.new.items) }
+{
+    match effect {
+        Effect::Goes => {
+            goes(state, acting, activity)?;
+            Ok(true)
+        }
+        Effect::Prints { label, value } => {
+            prints(state, acting, activity, label, value, told)?;
+            Ok(true)
+        }
+        Effect::Makes {
+            class,
+            hidden,
+            values,
+        } => {
+            let object = NewObject {
+                class,
+                hidden,
+                values,
+            };
+            makes(state, acting, activity, object, told)?;
+            Ok(true)
+        }
+        Effect::MakesArray { class, kind, count } => {
+            let array = NewArray { class, kind, count };
+            makes_array(alloc, state, acting, activity, array, told)?;
+            Ok(true)
+        }
+        Effect::Stores { r, slot, value } => {
+            stores(state, acting, activity, r, slot, value)?;
+            Ok(true)
+        }
+        Effect::StoresStatic { place, value } => {
+            stores_static(state, acting, activity, place, value)?;
+            Ok(true)
+        }
+        Effect::SetsHidden { r, hidden } => {
+            sets_hidden(state, acting, activity, r, hidden)?;
+            Ok(true)
+        }
+        Effect::SetsCeiling { r, ceiling } => {
+            sets_ceiling(state, acting, activity, r, ceiling, told)?;
+            Ok(true)
+        }
+        Effect::Calls { call, arguments } => {
+            calls(alloc, code, state, acting, activity, call, arguments, told)?;
+            Ok(true)
+        }
+        Effect::Opens { call, scope, bytes } => {
+            opens(
+                alloc, code, state, acting, activity, call, scope, bytes, told,
+            )?;
+            Ok(true)
+        }
+        Effect::Leaves { value } => {
+            leaves(state, acting, activity, value, told)?;
+            Ok(true)
+        }
+        Effect::Faults { fault } => {
+            faults(state, acting, activity, fault, told)?;
+            Ok(true)
+        }
+        Effect::AsksRegistration { r } => asks_registration(code, state, acting, activity, r, told),
+        Effect::AsksRelease { r } => asks_release(code, state, acting, activity, r, told),
+        Effect::AsksTermination { r } => asks_termination(code, state, acting, activity, r, told),
+        Effect::Stuck => Ok(is_stuck()),
+    }
+}

@@ -1,0 +1,166 @@
+//! The releases that are taken in at the beginning of a unit: periodic ones in the order of the handlers' numbers, then
+//! the plan's in the plan's order (JSR 302: PeriodicEventHandler, AperiodicEventHandler).
+
+ghost use Rattle.std.specs.Prelude.{◌≡◌, ◌+◌, IfOk, slice_get};
+ghost use Rattle.scj_rules.specs.Words.{holds};
+ghost use Rattle.scj_model.specs.Code.{Code as CodeOfRun, code_of};
+ghost use Rattle.scj_model.specs.Apply.{release_taken};
+ghost use Rattle.scj_model.specs.Arrivals.{arrivals, due_handlers, fired, fired_handler, is_due};
+ghost use Rattle.scj_model.specs.Steps.{for_each};
+ghost use Rattle.run_plan.specs.Index.{fires_before};
+ghost use Rattle.run_state.specs.Seen.{AreAllBegun, state_of};
+ghost use Rattle.run_state.specs.Steps.{IsStep};
+ghost use Rattle.unit_steps.specs.Arriving.{arrived_at};
+
+use crate::dues::is_due;
+use class_rows::Classes;
+use mission_steps::{aperiodic_of, release_taken, takes_releases};
+use run_plan::Plan;
+use run_state::RunState;
+use run_state::told::tell;
+use scj_base::{Memory, Name};
+use scj_model::{Event, Fire};
+
+/// The number of the handler at a place of the registry: the numbers begin with 1.
+fn number_of(place: usize) -> Result<u8, Memory>
+    ensures { IfOk result (λ number. number ≡ place + 1) }
+{
+    if place < 255 {
+        Ok(place as u8 + 1)
+    } else {
+        Err(Memory)
+    }
+}
+
+/// Whether there is a handler at a place of the registry, and it is due in this unit.
+fn is_due_at(state: &RunState, place: usize) -> bool
+    ensures { result ≡ holds (slice_get state.now.registry.items place) (is_due state.now.origin state.now.unit) }
+{
+    match state.registry.get(place) {
+        Some(row) => is_due(state.origin, state.unit, row),
+        None => false,
+    }
+}
+
+/// The handler at a place of the registry is released if it is due.
+fn arrive_if_due(state: &mut RunState, place: usize, told: &mut Vec<Event>) -> Result<(), Memory>
+    ensures { (code : CodeOfRun) → AreAllBegun code.program.nodes state.old →
+        IfOk result
+        (λ _. IsStep code (arrived_at (state_of code state.old) place) state.new told.old.items told.new.items) }
+{
+    if !is_due_at(state, place) {
+        return Ok(());
+    }
+    let number = number_of(place)?;
+    release_taken(state, number, told)?;
+    Ok(())
+}
+
+/// The handlers that are released periodically in this unit.
+fn periodic_arrivals(state: &mut RunState, told: &mut Vec<Event>) -> Result<(), Memory>
+    ensures { (code : CodeOfRun) → AreAllBegun code.program.nodes state.old →
+        IfOk result
+        (λ _. IsStep code
+        (for_each release_taken (due_handlers (state_of code state.old)) (state_of code state.old)) state.new
+        told.old.items told.new.items) }
+{
+    if !takes_releases(state) {
+        return Ok(());
+    }
+    for place in 0..state.registry.len() {
+        arrive_if_due(state, place, told)?;
+    }
+    Ok(())
+}
+
+/// The handler that a fire releases: the first aperiodic one of exactly its class, if releases are taken in.
+fn fired_handler(classes: &Classes<'_>, state: &RunState, name: &Name) -> Result<Option<u8>, Memory>
+    ensures { IfOk result
+        (λ handler. handler
+        ≡ fired_handler (code_of classes.now) (state_of (code_of classes.now) state.now) name.now) }
+{
+    if !takes_releases(state) {
+        return Ok(None);
+    }
+    let Some(class) = classes.class_of(name) else {
+        return Ok(None);
+    };
+    let handler = aperiodic_of(state.registry.as_slice(), class)?;
+    Ok(handler)
+}
+
+/// A fire of the plan.
+fn fired(
+    classes: &Classes<'_>,
+    state: &mut RunState,
+    fire: &Fire,
+    told: &mut Vec<Event>,
+) -> Result<(), Memory>
+    requires begun { AreAllBegun classes.now.nodes state.old }
+    ensures { IfOk result
+        (λ _. IsStep (code_of classes.now)
+        (fired (code_of classes.now) (state_of (code_of classes.now) state.old) fire.now) state.new told.old.items
+        told.new.items) }
+{
+    match fired_handler(classes, state, &fire.handler)? {
+        Some(handler) => {
+            release_taken(state, handler, told)?;
+            Ok(())
+        }
+        None => {
+            let unit = state.unit;
+            tell(
+                told,
+                Event::Miss {
+                    unit,
+                    name: fire.handler,
+                },
+            )?;
+            Ok(())
+        }
+    }
+}
+
+/// These fires, one after the other.
+fn fires_in_order(
+    classes: &Classes<'_>,
+    state: &mut RunState,
+    fires: &[Fire],
+    told: &mut Vec<Event>,
+) -> Result<(), Memory>
+    requires begun { AreAllBegun classes.now.nodes state.old }
+    ensures { IfOk result
+        (λ _. IsStep (code_of classes.now)
+        (for_each (fired (code_of classes.now)) fires.now (state_of (code_of classes.now) state.old)) state.new
+        told.old.items told.new.items) }
+{
+    let mut rest = fires;
+    while let [fire, others @ ..] = rest {
+        fired(classes, state, fire, told)?;
+        rest = others;
+    }
+    Ok(())
+}
+
+/// The releases that are taken in at the beginning of a unit. `past` is how many fires of the plan are past.
+pub(crate) fn arrivals(
+    classes: &Classes<'_>,
+    plan: &Plan,
+    past: &mut usize,
+    state: &mut RunState,
+    told: &mut Vec<Event>,
+) -> Result<(), Memory>
+    requires past { past.old ≡ fires_before plan.now state.old.unit }
+    requires begun { AreAllBegun classes.now.nodes state.old }
+    ensures arrived { IfOk result
+        (λ _. IsStep (code_of classes.now)
+        (arrivals (code_of classes.now) plan.now (state_of (code_of classes.now) state.old)) state.new told.old.items
+        told.new.items) }
+    ensures past { IfOk result (λ _. past.new ≡ fires_before plan.now (state.old.unit + 1)) }
+{
+    let fires = plan.fires_due(*past, state.unit);
+    periodic_arrivals(state, told)?;
+    fires_in_order(classes, state, fires, told)?;
+    *past += fires.len();
+    Ok(())
+}

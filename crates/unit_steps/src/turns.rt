@@ -1,0 +1,273 @@
+//! Who acts in a unit.
+
+ghost use Rattle.std.specs.Prelude.{◌≡◌, ◌∷◌, ◌++◌, [], IfOk, OnOk, Some, option_map};
+ghost use Rattle.scj_rules.specs.Words.{holds};
+ghost use Rattle.scj_model.specs.declared.events.Event.TheVariants.{Run as RunEvent};
+ghost use Rattle.scj_model.specs.Code.{Code as CodeOfRun, code_of};
+ghost use Rattle.scj_model.specs.Choice.{by_priority};
+ghost use Rattle.scj_model.specs.Run.{acts, is_same_turn, ref_op, sequencer_turn, tell_turn, turn_acts, turn_taken};
+ghost use Rattle.scj_model.specs.State.{ReleaseAt, is_exec};
+ghost use Rattle.scj_model.specs.Steps.{of_release};
+ghost use Rattle.run_state.specs.Seen.{AreAllBegun, state_of, turn_seen};
+ghost use Rattle.run_state.specs.Steps.{IsStep};
+ghost use Rattle.unit_steps.specs.Led.{IsLedTry};
+ghost use Rattle.unit_steps.specs.Moves.{move_at, move_by};
+
+use crate::frame_ops::frame_op;
+use job_frames::Code;
+use mission_steps::{sequencer_op, start_op};
+use run_plan::Plan;
+use run_releases::{Release, ReleaseStatus};
+use run_state::told::tell;
+use run_state::{Job, RunState, Turn};
+use scj_base::Memory;
+use scj_model::{Event, Phase};
+use std::alloc::Global;
+
+/// The sequencer's own operation, or the next one of the body that it called.
+fn sequencer_turn(
+    alloc: Global,
+    code: &Code<'_>,
+    plan: &Plan,
+    state: &mut RunState,
+    told: &mut Vec<Event>,
+) -> Result<bool, Memory>
+    requires begun { AreAllBegun code.now.nodes state.old }
+    ensures { IfOk result
+        (λ answer. IsLedTry (code_of code.now)
+        (sequencer_turn (code_of code.now) plan.now.readings (state_of (code_of code.now) state.old)) answer state.new
+        told.old.items told.new.items) }
+{
+    if state.activity.frames.depth() == 0 {
+        let went = sequencer_op(alloc, code, state, told)?;
+        return Ok(went);
+    }
+    let went = frame_op(alloc, code, plan, state, Job::Sequencer, told)?;
+    Ok(went)
+}
+
+/// How a release goes on.
+#[derive(Clone, Copy, Debug)]
+enum Move {
+    /// It starts.
+    Starts { handler: u8 },
+    /// It goes on.
+    GoesOn,
+    /// It is over, or there is none.
+    Nothing,
+}
+
+/// How a release goes on.
+fn move_by(release: &Release) -> Move
+    ensures { result ≡ move_by release.now.handler release.now.status }
+{
+    match &release.status {
+        ReleaseStatus::Waits => Move::Starts {
+            handler: release.handler,
+        },
+        ReleaseStatus::Started(_) => Move::GoesOn,
+        ReleaseStatus::Ended | ReleaseStatus::Dropped => Move::Nothing,
+    }
+}
+
+/// How the release at a place goes on.
+fn move_at(state: &RunState, place: usize) -> Move
+    ensures { result ≡ move_at state.now.releases.rows place }
+{
+    match state.releases.release(place) {
+        Some(release) => move_by(release),
+        None => Move::Nothing,
+    }
+}
+
+/// One operation of the release at a place.
+fn release_turn(
+    alloc: Global,
+    code: &Code<'_>,
+    plan: &Plan,
+    state: &mut RunState,
+    place: usize,
+    told: &mut Vec<Event>,
+) -> Result<bool, Memory>
+    requires begun { AreAllBegun code.now.nodes state.old }
+    ensures { IfOk result
+        (λ answer. IsLedTry (code_of code.now)
+        (ref_op (code_of code.now) plan.now.readings (state_of (code_of code.now) state.old) (ReleaseAt place)) answer
+        state.new told.old.items told.new.items) }
+{
+    match move_at(state, place) {
+        Move::Starts { handler } => {
+            let went = start_op(alloc, code, state, place, handler, told)?;
+            Ok(went)
+        }
+        Move::GoesOn => {
+            let went = frame_op(alloc, code, plan, state, Job::Release(place), told)?;
+            Ok(went)
+        }
+        Move::Nothing => Ok(false),
+    }
+}
+
+/// Whether it was this turn last.
+#[tactic(auto, unfolding(scj_model::specs::Run::is_same_turn))]
+fn is_same_turn(turn: Turn, last: Turn) -> bool
+    ensures { result ≡ is_same_turn (turn_seen turn) (turn_seen last) }
+{
+    match turn {
+        Turn::Idle => match last {
+            Turn::Idle => true,
+            Turn::Of(_) => false,
+        },
+        Turn::Of(place) => match last {
+            Turn::Idle => false,
+            Turn::Of(other) => place == other,
+        },
+    }
+}
+
+/// Whether it was this turn last in this execution.
+fn is_last(state: &RunState, turn: Turn) -> bool
+    ensures { result ≡ holds (option_map turn_seen state.now.last_choice) (is_same_turn (turn_seen turn)) }
+{
+    match state.last_choice {
+        Some(last) => is_same_turn(turn, last),
+        None => false,
+    }
+}
+
+/// Tells that the release at a place acts.
+fn tell_run(state: &RunState, place: usize, told: &mut Vec<Event>) -> Result<(), Memory>
+    ensures { (code : CodeOfRun) →
+        OnOk result
+        (told.new.items ≡ told.old.items ++ of_release (state_of code state.now) (ReleaseAt place)
+        (λ r. RunEvent state.now.unit r.handler r.number ∷ [])) }
+{
+    match state.releases.release(place) {
+        Some(release) => {
+            let unit = state.unit;
+            tell(
+                told,
+                Event::Run {
+                    unit,
+                    handler: release.handler,
+                    number: release.number,
+                },
+            )?;
+            Ok(())
+        }
+        None => Ok(()),
+    }
+}
+
+/// Tells whose turn it is.
+fn tell_turn(state: &RunState, turn: Turn, told: &mut Vec<Event>) -> Result<(), Memory>
+    ensures { (code : CodeOfRun) →
+        OnOk result
+        (told.new.items ≡ told.old.items ++ tell_turn (state_of code state.now) (turn_seen turn)) }
+{
+    match turn {
+        Turn::Idle => {
+            let unit = state.unit;
+            tell(told, Event::Idle { unit })?;
+            Ok(())
+        }
+        Turn::Of(place) => {
+            tell_run(state, place, told)?;
+            Ok(())
+        }
+    }
+}
+
+/// Tells whose turn it is where the last one was another.
+fn tell_other_turn(state: &RunState, turn: Turn, told: &mut Vec<Event>) -> Result<(), Memory>
+    ensures { (code : CodeOfRun) →
+        OnOk result
+        (told.new.items ≡ told.old.items ++ (turn_taken (state_of code state.now) (turn_seen turn)).events) }
+{
+    if is_last(state, turn) {
+        return Ok(());
+    }
+    tell_turn(state, turn, told)?;
+    Ok(())
+}
+
+/// A turn is told where the last one was another.
+fn turn_taken(state: &mut RunState, turn: Turn, told: &mut Vec<Event>) -> Result<(), Memory>
+    ensures { (code : CodeOfRun) → AreAllBegun code.program.nodes state.old →
+        IfOk result
+        (λ _. IsStep code (turn_taken (state_of code state.old) (turn_seen turn)) state.new told.old.items
+        told.new.items) }
+{
+    tell_other_turn(state, turn, told)?;
+    state.last_choice = Some(turn);
+    Ok(())
+}
+
+/// The chosen release acts, if one is chosen.
+fn turn_acts(
+    alloc: Global,
+    code: &Code<'_>,
+    plan: &Plan,
+    state: &mut RunState,
+    turn: Turn,
+    told: &mut Vec<Event>,
+) -> Result<bool, Memory>
+    requires begun { AreAllBegun code.now.nodes state.old }
+    ensures { IfOk result
+        (λ answer. IsLedTry (code_of code.now)
+        (turn_acts (code_of code.now) plan.now.readings (turn_seen turn) (state_of (code_of code.now) state.old))
+        answer state.new told.old.items told.new.items) }
+{
+    match turn {
+        Turn::Idle => Ok(true),
+        Turn::Of(place) => {
+            let went = release_turn(alloc, code, plan, state, place, told)?;
+            Ok(went)
+        }
+    }
+}
+
+/// Whose turn it is in a unit of execution.
+fn turn_of(state: &RunState) -> Turn
+    ensures { (code : CodeOfRun) → Some (turn_seen result) ≡ by_priority (state_of code state.now) }
+{
+    match state.releases.chosen(state.registry.as_slice()) {
+        Some(place) => Turn::Of(place),
+        None => Turn::Idle,
+    }
+}
+
+/// Whether the mission's handlers are released.
+#[tactic(auto, unfolding(scj_model::specs::State::is_exec))]
+fn is_exec(phase: Phase) -> bool
+    ensures { result ≡ is_exec phase }
+{
+    match phase {
+        Phase::Exec => true,
+        Phase::Boot | Phase::Next | Phase::Init | Phase::Cleanup | Phase::Over => false,
+    }
+}
+
+/// The choice and the operation: in execution a release acts or the unit is idle, else the sequencer acts.
+pub(crate) fn acts(
+    alloc: Global,
+    code: &Code<'_>,
+    plan: &Plan,
+    state: &mut RunState,
+    told: &mut Vec<Event>,
+) -> Result<bool, Memory>
+    requires begun { AreAllBegun code.now.nodes state.old }
+    ensures { IfOk result
+        (λ answer. IsLedTry (code_of code.now)
+        (acts (code_of code.now) plan.now.readings by_priority (state_of (code_of code.now) state.old)) answer
+        state.new told.old.items told.new.items) }
+{
+    if !is_exec(state.phase) {
+        let went = sequencer_turn(alloc, code, plan, state, told)?;
+        return Ok(went);
+    }
+    let turn = turn_of(state);
+    turn_taken(state, turn, told)?;
+    let went = turn_acts(alloc, code, plan, state, turn, told)?;
+    Ok(went)
+}
