@@ -1,0 +1,9 @@
+pub mod BehindLaws
+pub mod EndLaws
+pub mod LastLaws
+pub mod PartLaws
+pub mod PrintLaws
+pub mod StaticLaws
+pub mod StepLaws
+pub mod TextLaws
+pub mod UnderLaws

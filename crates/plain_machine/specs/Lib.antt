@@ -1,0 +1,7 @@
+pub mod Ends
+pub mod Machines
+pub mod Printing
+pub mod Runs
+pub mod Statics
+pub mod Told
+pub mod UnderWay
