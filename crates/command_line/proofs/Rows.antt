@@ -1,9 +1,12 @@
 -- Command lines, word by word, with the job that each is: a check of the definitions by hand.
-use Rattle.std.proofs.Common.{◌≡◌, List, [], ◌∷◌, Some, None, map, refl, replicate, codes}
+use Rattle.std.proofs.Common.{◌≡◌, ℕ, List, [], ◌∷◌, Some, None, map, refl, replicate, codes, decimal}
+use Rattle.std.specs.Fmt.{digits}
+use Rattle.std.specs.List.{range_with_len}
 use Rattle.clap.specs.Words.{Text}
 use Rattle.clap.proofs.OnLiterals.{clap_on_literals}
 use Rattle.command_line.specs.Command.{bare_command, command, mode_rule, plan_rule, size_rule, source_rule}
-use Rattle.command_line.specs.Job.{Job, Check, Show, are_sources, check_job, given_in, is_file_name, job_by_mode, job_in, job_of, show_job, sources_alone}
+use Rattle.command_line.specs.Job.{Job, Check, Run, Show, Gen, are_sources, check_job, gen_job, given_in, is_file_name, job_by_mode, job_in, job_of, plan_in, run_job, show_job, size_alone, sources_alone, sources_in}
+use Rattle.command_line.specs.Sizes.{digit_of, first_digit, number_of, size_of, with_digit}
 
 abbrev letters : List Text
 letters = map (λ c. c ∷ []) (codes "ABCDEFGHIJKLMNOP")
@@ -21,6 +24,23 @@ jobs =
     ∷ (codes "check" ∷ (195 ∷ 164 ∷ []) ∷ [], Check ((195 ∷ 164 ∷ []) ∷ []))
     ∷ (codes "show" ∷ codes "A" ∷ [], Show (codes "A" ∷ []))
     ∷ (codes "show" ∷ letters, Show letters)
+    ∷ (
+      codes "run" ∷ codes "--plan" ∷ codes "p" ∷ codes "A" ∷ codes "B" ∷ [],
+      Run (codes "p") (codes "A" ∷ codes "B" ∷ []),
+    )
+    ∷ (
+      codes "run" ∷ codes "A" ∷ codes "--plan" ∷ codes "p" ∷ codes "B" ∷ [],
+      Run (codes "p") (codes "A" ∷ codes "B" ∷ []),
+    )
+    ∷ (codes "--plan" ∷ codes "p" ∷ codes "run" ∷ codes "A" ∷ [], Run (codes "p") (codes "A" ∷ []))
+    ∷ (codes "run" ∷ codes "--plan=p" ∷ codes "A" ∷ [], Run (codes "p") (codes "A" ∷ []))
+    ∷ (codes "run" ∷ codes "--plan=-x" ∷ codes "A" ∷ [], Run (codes "-x") (codes "A" ∷ []))
+    ∷ (codes "run" ∷ codes "--plan" ∷ codes "-" ∷ codes "A" ∷ [], Run (codes "-") (codes "A" ∷ []))
+    ∷ (codes "run" ∷ codes "--plan" ∷ codes "A" ∷ codes "A" ∷ [], Run (codes "A") (codes "A" ∷ []))
+    ∷ (codes "run" ∷ codes "--plan" ∷ codes "p" ∷ letters, Run (codes "p") letters)
+    ∷ (codes "gen" ∷ codes "--size" ∷ codes "1" ∷ [], Gen 1)
+    ∷ (codes "--size" ∷ codes "40" ∷ codes "gen" ∷ [], Gen 40)
+    ∷ (codes "gen" ∷ codes "--size=250" ∷ [], Gen 250)
     ∷ []
 
 abbrev refused : List (List Text)
@@ -49,16 +69,51 @@ refused =
     ∷ (codes "check" ∷ (65 ∷ 0 ∷ []) ∷ [])
     ∷ (codes "check" ∷ (31 ∷ 65 ∷ []) ∷ [])
     ∷ (codes "check" ∷ codes "A" ∷ (65 ∷ 127 ∷ 65 ∷ []) ∷ [])
-    ∷ (codes "run" ∷ codes "--plan" ∷ codes "p" ∷ codes "A" ∷ [])
-    ∷ (codes "gen" ∷ codes "--size" ∷ codes "5" ∷ [])
+    ∷ (codes "run" ∷ codes "A" ∷ [])
+    ∷ (codes "run" ∷ codes "--plan" ∷ codes "p" ∷ [])
+    ∷ (codes "run" ∷ codes "--plan" ∷ [])
+    ∷ (codes "run" ∷ codes "--plan=" ∷ codes "A" ∷ [])
+    ∷ (codes "run" ∷ codes "--plan" ∷ codes "-x" ∷ codes "A" ∷ [])
+    ∷ (codes "run" ∷ codes "--plan" ∷ codes "--" ∷ codes "A" ∷ [])
+    ∷ (codes "run" ∷ codes "--plan" ∷ codes "p" ∷ codes "--plan" ∷ codes "p" ∷ codes "A" ∷ [])
+    ∷ (codes "run" ∷ codes "--plan" ∷ codes "p" ∷ codes "A" ∷ codes "--size" ∷ codes "5" ∷ [])
+    ∷ (codes "Run" ∷ codes "--plan" ∷ codes "p" ∷ codes "A" ∷ [])
+    ∷ (codes "gen" ∷ [])
+    ∷ (codes "gen" ∷ codes "--size" ∷ [])
+    ∷ (codes "gen" ∷ codes "--size=" ∷ [])
+    ∷ (codes "gen" ∷ codes "--size" ∷ codes "0" ∷ [])
+    ∷ (codes "gen" ∷ codes "--size" ∷ codes "05" ∷ [])
+    ∷ (codes "gen" ∷ codes "--size" ∷ codes "251" ∷ [])
+    ∷ (codes "gen" ∷ codes "--size" ∷ codes "1000" ∷ [])
+    ∷ (codes "gen" ∷ codes "--size" ∷ codes "+5" ∷ [])
+    ∷ (codes "gen" ∷ codes "--size=-5" ∷ [])
+    ∷ (codes "gen" ∷ codes "--size" ∷ codes "5x" ∷ [])
+    ∷ (codes "gen" ∷ codes "--size" ∷ codes "5" ∷ codes "A" ∷ [])
+    ∷ (codes "gen" ∷ codes "--size" ∷ codes "5" ∷ codes "--plan" ∷ codes "p" ∷ [])
+    ∷ (codes "gen" ∷ codes "--size" ∷ codes "5" ∷ codes "--size" ∷ codes "5" ∷ [])
+    ∷ (codes "run" ∷ codes "--plan" ∷ (65 ∷ 31 ∷ []) ∷ codes "A" ∷ [])
+    ∷ (codes "run" ∷ codes "--plan" ∷ codes "p" ∷ (65 ∷ 127 ∷ []) ∷ [])
+    ∷ (codes "run" ∷ codes "--plan" ∷ codes "p" ∷ codes "Q" ∷ letters)
+    ∷ (codes "gen" ∷ codes "--size" ∷ (32 ∷ 53 ∷ []) ∷ [])
+    ∷ (codes "gen" ∷ codes "--size" ∷ (58 ∷ []) ∷ [])
     ∷ []
 
 job_rows : map (λ line. job_of line.0) jobs ≡ map (λ line. Some line.1) jobs
 unfolding clap_on_literals command bare_command mode_rule plan_rule size_rule source_rule job_of job_in given_in
-    job_by_mode check_job show_job sources_alone are_sources is_file_name
+    job_by_mode check_job run_job show_job gen_job sources_in plan_in sources_alone size_alone are_sources is_file_name
+    size_of number_of with_digit first_digit digit_of
 job_rows = refl
 
-refused_rows : map job_of refused ≡ replicate 26 None
+refused_rows : map job_of refused ≡ replicate 51 None
 unfolding clap_on_literals command bare_command mode_rule plan_rule size_rule source_rule job_of job_in given_in
-    job_by_mode check_job show_job sources_alone are_sources is_file_name
+    job_by_mode check_job run_job show_job gen_job sources_in plan_in sources_alone size_alone are_sources is_file_name
+    size_of number_of with_digit first_digit digit_of
 refused_rows = refl
+
+-- each size is the number whose decimal digits are given
+abbrev sizes : List ℕ
+sizes = range_with_len 1 250
+
+size_rows : map (λ n. size_of (decimal n)) sizes ≡ map (λ n. Some n) sizes
+unfolding size_of number_of with_digit first_digit digit_of digits
+size_rows = refl

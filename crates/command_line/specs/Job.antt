@@ -6,11 +6,15 @@ use Rattle.std.specs.Str.{bytes_eq}
 use Rattle.clap.specs.Walk.{is_empty}
 use Rattle.clap.specs.Words.{Row, Text, all_of, fault_of, first_of, matches_of}
 use Rattle.command_line.specs.Command.{command}
+use Rattle.command_line.specs.Sizes.{size_of}
 
--- check the files of these names, or show them
+-- check the files of these names; run their program by the plan in the file of the first name; show them; or generate a
+-- program of this size and run it
 pub data Job : Type 0 where
   Check : List Text → Job
+  Run : Text → List Text → Job
   Show : List Text → Job
+  Gen : ℕ → Job
 
 -- what the command finds in the words: MODE, FILE of `--plan`, N of `--size` and each SOURCE
 pub record Given : Type 0 where
@@ -34,21 +38,41 @@ unfoldable pub are_sources : List Text → Bool
 are_sources names =
     not (is_empty names) && (nat_le (length names) 16 && list_all is_file_name names)
 
+-- the sources, where they are the names of 1 to 16 files
+unfoldable pub sources_in : Given → Option (List Text)
+sources_in g = option_and_then (λ names. if are_sources names then Some names else None) g.sources
+
+-- the plan, where it is the name of a file
+unfoldable pub plan_in : Given → Option Text
+plan_in g = option_and_then (λ name. if is_file_name name then Some name else None) g.plan
+
 -- the sources, where there is no option
 unfoldable pub sources_alone : Given → Option (List Text)
-sources_alone g = if is_some g.plan || is_some g.size then None
-    else option_and_then (λ names. if are_sources names then Some names else None) g.sources
+sources_alone g = if is_some g.plan || is_some g.size then None else sources_in g
+
+-- the size, where there is neither a plan nor a source
+unfoldable pub size_alone : Given → Option ℕ
+size_alone g = if is_some g.plan || is_some g.sources then None else option_and_then size_of g.size
 
 unfoldable pub check_job : Given → Option Job
 check_job g = option_map Check (sources_alone g)
 
+unfoldable pub run_job : Given → Option Job
+run_job g = if is_some g.size then None
+    else option_and_then (λ plan. option_map (Run plan) (sources_in g)) (plan_in g)
+
 unfoldable pub show_job : Given → Option Job
 show_job g = option_map Show (sources_alone g)
+
+unfoldable pub gen_job : Given → Option Job
+gen_job g = option_map Gen (size_alone g)
 
 -- the job of each mode; there are no other modes
 unfoldable pub job_by_mode : Given → Option Job
 job_by_mode g = if bytes_eq g.mode (codes "check") then check_job g
-    else (if bytes_eq g.mode (codes "show") then show_job g else None)
+    else (if bytes_eq g.mode (codes "run") then run_job g
+    else (if bytes_eq g.mode (codes "show") then show_job g
+    else (if bytes_eq g.mode (codes "gen") then gen_job g else None)))
 
 -- ---- the job of the words
 

@@ -9,8 +9,12 @@ use std::alloc::AllocError;
 pub enum Job {
     /// Check the files of these names, 1 to 16, as one program.
     Check { sources: Vec<String> },
+    /// Run the program of the files of these names, 1 to 16, by the plan in the file of its name.
+    Run { plan: String, sources: Vec<String> },
     /// Print the files of these names, 1 to 16, in canonical form.
     Show { sources: Vec<String> },
+    /// Generate a program of this size, 1 to 250, and run it.
+    Gen { size: u32 },
 }
 
 /// Why words give no job.

@@ -7,6 +7,7 @@
 mod arguments;
 pub mod jobs;
 mod modes;
+mod sizes;
 pub mod words;
 
 pub use jobs::{Job, WordsAnswer};

@@ -2,7 +2,7 @@
 
 ghost use Rattle.std.specs.Prelude.{◌≡◌, IfOk, map, string_bytes};
 ghost use Rattle.clap.specs.Words.{found_of, rows_of};
-ghost use Rattle.command_line.specs.Answers.{AnswersJob, HasFewSources};
+ghost use Rattle.command_line.specs.Answers.{AnswersJob, KeepsLimits};
 ghost use Rattle.command_line.specs.Job.{job_in, job_of};
 
 use crate::arguments::matches_in;
@@ -20,7 +20,7 @@ use std::alloc::Global;
 #[tactic(auto, unfolding(crate::specs::Job::job_of))]
 pub fn read_words(alloc: Global, words: &[String]) -> Result<Job, WordsAnswer>
     ensures job { AnswersJob (job_of (map string_bytes words.now)) result }
-    ensures few { IfOk result HasFewSources }
+    ensures limits { IfOk result KeepsLimits }
 {
     let matches = matches_in(alloc, words)?;
     job_in(alloc, &matches)
@@ -30,7 +30,7 @@ pub fn read_words(alloc: Global, words: &[String]) -> Result<Job, WordsAnswer>
 #[tactic(auto, unfolding(crate::specs::Job::job_in))]
 fn job_in(alloc: Global, matches: &ArgMatches<'_>) -> Result<Job, WordsAnswer>
     ensures job { AnswersJob (job_in (rows_of (found_of matches.now))) result }
-    ensures few { IfOk result HasFewSources }
+    ensures limits { IfOk result KeepsLimits }
 {
     match given_by(matches) {
         Some(given) => job_by_mode(alloc, &given),

@@ -8,12 +8,18 @@ mod checking;
 #[cfg(test)]
 mod generating;
 #[cfg(test)]
+mod growing;
+#[cfg(test)]
 mod lexing;
+#[cfg(test)]
+mod lines;
 #[cfg(test)]
 mod outside;
 #[cfg(test)]
 mod plans;
 #[cfg(test)]
 mod showing;
+#[cfg(test)]
+mod tables;
 #[cfg(test)]
 mod words;

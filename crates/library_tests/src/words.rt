@@ -4,7 +4,7 @@ use command_line::{Job, WordsAnswer, read_words};
 use std::alloc::{AllocError, Global};
 use std::test::Fail;
 
-static REFUSED: [&str; 14] = [
+static REFUSED: [&str; 20] = [
     "",
     "check",
     "walk A",
@@ -18,7 +18,13 @@ static REFUSED: [&str; 14] = [
     "check A --size 5",
     "check A ",
     "check A\u{7f}",
-    "run --plan p A",
+    "run A",
+    "run --plan p",
+    "run --plan p --size 5 A",
+    "gen",
+    "gen --size 05",
+    "gen --size 251",
+    "gen --size 5 A",
 ];
 
 /// The words of a line, parted by single spaces.
@@ -43,6 +49,22 @@ fn shows(rt: HostRuntime) -> Result<(), Fail> {
     let words = words_of(rt.alloc(), "show A B")?;
     let sources = words_of(rt.alloc(), "A B")?;
     assert!(rt; read_words(rt.alloc(), words.as_slice()) == Ok(Job::Show { sources }));
+    Ok(())
+}
+
+#[test]
+fn runs(rt: HostRuntime) -> Result<(), Fail> {
+    let words = words_of(rt.alloc(), "run A --plan p B")?;
+    let sources = words_of(rt.alloc(), "A B")?;
+    let plan = String::from_str(rt.alloc(), "p")?;
+    assert!(rt; read_words(rt.alloc(), words.as_slice()) == Ok(Job::Run { plan, sources }));
+    Ok(())
+}
+
+#[test]
+fn generates(rt: HostRuntime) -> Result<(), Fail> {
+    let words = words_of(rt.alloc(), "gen --size 250")?;
+    assert!(rt; read_words(rt.alloc(), words.as_slice()) == Ok(Job::Gen { size: 250 }));
     Ok(())
 }
 

@@ -1,14 +1,17 @@
 -- A job has one answer at most on the contents of its files.
-use Rattle.std.proofs.Common.{◌≡◌, ◌<◌, ℕ, List, [], ◌∷◌, length, Option, refl, ap, arith}
+use Rattle.std.proofs.Common.{◌≡◌, ◌<◌, ℕ, List, [], ◌∷◌, length, Option, refl, sym, ◌∙◌, ap, arith}
 use Rattle.scj_base.specs.declared.statuses.Status.{Status}
 use Rattle.scj_base.specs.declared.findings.Found.{Found}
 use Rattle.scj_tree.specs.Forest.{Forest, forest_of}
 use Rattle.scj_rules.specs.Syntax.{Reads, BreaksSyntax}
 use Rattle.scj_check.proofs.SyntaxLaws.{one_program, one_break_told, program_or_break}
 use Rattle.scj_check.proofs.VerdictLaws.{one_report_of_texts}
+use Rattle.scj_model.specs.Plan.{Plan}
+use Rattle.run_plan.specs.PlanOf.{Meaning, Refusal, plan, refused as no_plan}
 use Rattle.command_line.specs.Job.{Job}
 use Rattle.scj_cli.specs.Answers.{Answer, IsSameAnswer, shown_text}
-use Rattle.scj_cli.specs.Answers.Answer.{no_job, refused, accepted, show_unreadable, shown}
+use Rattle.scj_cli.specs.Answers.Answer.{no_job, refused, accepted, ran, show_unreadable, shown, generated}
+use Rattle.scj_cli.specs.Outcomes.{Outcome, Reported, Unplanned, ComesTo, breaks_rules, has_no_plan, runs, run_status, run_out, run_err, gen_out}
 use Rattle.scj_cli.specs.Reports.{report_text}
 
 one_forest : (contents : List (List ℕ)) (forest other : Forest) → Reads contents forest → Reads contents other →
@@ -28,6 +31,35 @@ not_both contents forest found reads breaks =
 some_found : {A : Type 0} (found : List Found) → 0 < length found → found ≡ [] → A
 some_found found some e = absurd (omega (arith, some, ap length e))
 
+same_refusal : (meaning : Meaning) (a b : Refusal) → meaning ≡ no_plan a → meaning ≡ no_plan b → a ≡ b
+same_refusal meaning a b is is_again = let both : no_plan a ≡ no_plan b = sym is ∙ is_again in cc
+
+same_plan : (meaning : Meaning) (a b : Plan) → meaning ≡ plan a → meaning ≡ plan b → a ≡ b
+same_plan meaning a b is is_again = let both : plan a ≡ plan b = sym is ∙ is_again in cc
+
+plan_or_refusal : {A : Type 0} (meaning : Meaning) (refusal : Refusal) (p : Plan) → meaning ≡ no_plan refusal →
+    meaning ≡ plan p → A
+plan_or_refusal meaning refusal p is is_again = let both : no_plan refusal ≡ plan p = sym is ∙ is_again in absurd (cc)
+
+-- a run comes to one outcome at most
+one_outcome : {texts : List (List ℕ)} {plan_text : List ℕ} {a b : Outcome} → ComesTo texts plan_text a →
+    ComesTo texts plan_text b → a ≡ b
+one_outcome (breaks_rules some report) (breaks_rules some_again report_again) =
+    ap Reported (one_report_of_texts report report_again)
+one_outcome (breaks_rules some report) (has_no_plan none is) = some_found _ some (one_report_of_texts report none)
+one_outcome (breaks_rules some report) (runs none reads is) = some_found _ some (one_report_of_texts report none)
+one_outcome (has_no_plan none is) (breaks_rules some report) = some_found _ some (one_report_of_texts report none)
+one_outcome (has_no_plan none is) (has_no_plan none_again is_again) = ap Unplanned (same_refusal _ _ _ is is_again)
+one_outcome (has_no_plan none is) (runs none_again reads is_again) = plan_or_refusal _ _ _ is is_again
+one_outcome (runs none reads is) (breaks_rules some report) = some_found _ some (one_report_of_texts report none)
+one_outcome (runs none reads is) (has_no_plan none_again is_again) = plan_or_refusal _ _ _ is_again is
+one_outcome (runs none reads is) (runs none_again reads_again is_again) =
+    rw (one_forest _ _ _ reads reads_again, same_plan _ _ _ is is_again) refl
+
+same_outcome : {a b : Outcome} → a ≡ b → (out : Outcome → List ℕ) →
+    IsSameAnswer (run_status a) (out a) (run_err a) (run_status b) (out b) (run_err b)
+same_outcome e out = record { same_status = ap run_status e; same_out = ap out e; same_err = ap run_err e }
+
 same_text : {status : Status} {out again err : List ℕ} → out ≡ again → IsSameAnswer status out err status again err
 same_text e = record { same_status = refl; same_out = e; same_err = refl }
 
@@ -40,8 +72,12 @@ one_answer_of (refused {names = names} some report) (refused some_again report_a
 one_answer_of (refused some report) (accepted none) = some_found _ some (one_report_of_texts report none)
 one_answer_of (accepted none) (refused some report) = some_found _ some (one_report_of_texts report none)
 one_answer_of (accepted none) (accepted none_again) = same_text refl
+one_answer_of (ran {names = names} comes) (ran comes_again) =
+    same_outcome (one_outcome comes comes_again) (run_out names)
 one_answer_of (show_unreadable {names = names} breaks) (show_unreadable breaks_again) =
     same_text (ap (λ (found : Found). report_text names (found ∷ [])) (one_found _ _ _ breaks breaks_again))
 one_answer_of (show_unreadable breaks) (shown reads) = not_both _ _ _ reads breaks
 one_answer_of (shown reads) (show_unreadable breaks) = not_both _ _ _ reads breaks
 one_answer_of (shown reads) (shown reads_again) = same_text (ap shown_text (one_forest _ _ _ reads reads_again))
+one_answer_of (generated {size = size} comes) (generated comes_again) =
+    same_outcome (one_outcome comes comes_again) (gen_out size)

@@ -1,5 +1,5 @@
 -- From what each layer leaves to the causes of the call's status.
-use Rattle.std.proofs.Common.{◌≡◌, ℕ, List, [], ◌∷◌, Option, Some, None, true}
+use Rattle.std.proofs.Common.{ℕ, List, [], Option, Some, None}
 use Rattle.scj_base.specs.declared.statuses.Status.{Status}
 use Rattle.scj_base.specs.declared.statuses.Status.TheVariants.{WriteFault}
 use Rattle.scj_io.specs.Loads.{ShelfRun}
@@ -7,18 +7,17 @@ use Rattle.scj_io.specs.Puts.{SinkRun, sink_run, PutWhole}
 use Rattle.scj_io.proofs.PutLaws.{PutWhole-nothing}
 use Rattle.command_line.specs.Job.{Job}
 use Rattle.scj_cli.specs.Jobs.{files_of}
-use Rattle.scj_cli.specs.Answers.{Answer}
 use Rattle.scj_cli.specs.Answers.Answer.{no_job}
 use Rattle.scj_cli.specs.Endings.{call_of, MayStand, Comes, Ends}
 use Rattle.scj_cli.specs.Endings.MayStand.{none}
 use Rattle.scj_cli.specs.Endings.Comes.{answered, unread, overlong, out_of_memory}
-use Rattle.scj_cli.specs.Endings.Ends.{whole, fault_of_out, fault_of_err}
+use Rattle.scj_cli.specs.Endings.Ends.{whole, fault_of_out, fault_of_err, cut_short as end_cut_short, cut_short_untold}
 use Rattle.scj_cli.specs.Refusals.{status_of, line_of, RefusesLoads}
 use Rattle.scj_cli.specs.Modes.{IsAnswered, Stops, RefusesForm, Tells}
-use Rattle.scj_cli.specs.Modes.Stops.{told, broken}
+use Rattle.scj_cli.specs.Modes.Stops.{told, broken, cut_short}
 use Rattle.scj_cli.specs.Modes.Tells.{whole as put_whole, fault as put_fault}
 use Rattle.scj_cli.specs.declared.refusals.Refusal.{Refusal}
-use Rattle.scj_cli.specs.declared.refusals.Refusal.TheVariants.{Usage, Unread, Overlong, OutOfMemory}
+use Rattle.scj_cli.specs.declared.refusals.Refusal.TheVariants.{Usage, Unread, Overlong, Unplanned, OutOfMemory}
 use Rattle.scj_cli.specs.declared.refusals.Stop.TheVariants.{Told, Broken}
 
 -- what the loads of a job's files were refused for is the cause of a status
@@ -27,6 +26,7 @@ pub Comes-loads : (job : Job) (shelf : ShelfRun) (refusal : Refusal) →
 Comes-loads job shelf Usage refuses = absurd refuses
 Comes-loads job shelf (Unread line) refuses = rw refuses.2.1 (unread refuses.1 refuses.2.0)
 Comes-loads job shelf (Overlong line) refuses = rw refuses.2.2 (overlong refuses.1 refuses.2.0 refuses.2.1)
+Comes-loads job shelf (Unplanned line) refuses = absurd refuses
 Comes-loads job shelf OutOfMemory refuses = out_of_memory
 
 -- what a judgement was refused for is the cause of a status
@@ -36,6 +36,7 @@ pub Comes-form : (job : Job) (shelf : ShelfRun) (contents : List (List ℕ)) (re
 Comes-form job shelf contents Usage stands refuses = absurd refuses
 Comes-form job shelf contents (Unread line) stands refuses = absurd refuses
 Comes-form job shelf contents (Overlong line) stands refuses = absurd refuses
+Comes-form job shelf contents (Unplanned line) stands refuses = answered stands refuses
 Comes-form job shelf contents OutOfMemory stands refuses = out_of_memory
 
 -- words that ask for nothing stop the call
@@ -52,6 +53,8 @@ pub Ends-told : {job : Option Job} {shelf : ShelfRun} {out err : SinkRun} {refus
     Stops job shelf out (Told refusal) → Tells err refusal status → Ends (call_of job shelf out err) status
 Ends-told (told comes untouched) (put_whole put) = whole comes untouched put
 Ends-told (told comes untouched) (put_fault put) = fault_of_err comes untouched put
+Ends-told (cut_short stands cut) (put_whole put) = end_cut_short stands cut put
+Ends-told (cut_short stands cut) (put_fault put) = cut_short_untold stands cut put
 
 pub Ends-broken : {job : Option Job} {shelf : ShelfRun} {out err : SinkRun} → Stops job shelf out Broken →
     PutWhole err [] → Ends (call_of job shelf out err) WriteFault

@@ -10,8 +10,8 @@ use Rattle.scj_cli.specs.Endings.IsReached.{first as reached_first, behind}
 use Rattle.scj_cli.specs.Endings.MayStand.{none as no_file, next as next_file}
 use Rattle.scj_cli.specs.Endings.AreTold.{none as none_told, next as next_told}
 use Rattle.scj_cli.specs.Endings.Comes.{answered, unread, overlong, out_of_memory}
-use Rattle.scj_cli.specs.Endings.Ends.{whole, fault_of_out, fault_of_err}
-use Rattle.scj_cli.specs.Endings.EndsBy.{by_answer, by_memory}
+use Rattle.scj_cli.specs.Endings.Ends.{whole, fault_of_out, fault_of_err, cut_short, cut_short_untold}
+use Rattle.scj_cli.specs.Endings.EndsBy.{by_answer, by_memory, by_memory_in_run}
 
 -- what is reached is one of the names
 among_of : {held : List ℕ → Held} {name : List ℕ} {names : List (List ℕ)} → IsReached held name names →
@@ -62,6 +62,9 @@ exact call status (whole (overlong reached exceeds beyond) out err) contents tol
 exact call status (whole out_of_memory out err) contents told calm = by_memory out err
 exact call status (fault_of_out comes out err) contents told calm = absurd (calm.out out.rose)
 exact call status (fault_of_err comes out err) contents told calm = absurd (calm.err err.rose)
+exact call status (cut_short stands cut err) contents told calm =
+    by_memory_in_run (rw (← stand_told stands told) cut) err
+exact call status (cut_short_untold stands cut err) contents told calm = absurd (calm.err err.rose)
 
 pub long_exactly : (call : Call) (status : Status) → Ends call status → IsLongExactly call status
 long_exactly call status (whole (answered stands answer) out err) name content among is long calm = let stood =
@@ -72,6 +75,9 @@ long_exactly call status (whole (overlong other exceeds beyond) out err) name co
 long_exactly call status (whole out_of_memory out err) name content among is long calm = inr refl
 long_exactly call status (fault_of_out comes out err) name content among is long calm = absurd (calm.out out.rose)
 long_exactly call status (fault_of_err comes out err) name content among is long calm = absurd (calm.err err.rose)
+long_exactly call status (cut_short stands cut err) name content among is long calm = inr refl
+long_exactly call status (cut_short_untold stands cut err) name content among is long calm =
+    absurd (calm.err err.rose)
 
 pub never_absent : (call : Call) (status : Status) → Ends call status → IsNeverAbsent call status
 never_absent call status (whole (answered stands answer) out err) name among is = let stood = stands_of among stands in
@@ -81,3 +87,5 @@ never_absent call status (whole (overlong other exceeds beyond) out err) name am
 never_absent call status (whole out_of_memory out err) name among is = tt
 never_absent call status (fault_of_out comes out err) name among is = tt
 never_absent call status (fault_of_err comes out err) name among is = tt
+never_absent call status (cut_short stands cut err) name among is = tt
+never_absent call status (cut_short_untold stands cut err) name among is = tt

@@ -1,6 +1,9 @@
 pub mod AnswerLaws
 pub mod CauseLaws
 pub mod EndLaws
+pub mod GenLaws
 pub mod LoadLaws
 pub mod ReadLaws
+pub mod Rows
+pub mod RunLaws
 pub mod ShowLaws

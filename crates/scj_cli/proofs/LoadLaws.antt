@@ -1,7 +1,7 @@
 -- Loads one after another.
-use Rattle.std.proofs.Common.{◌≡◌, ℕ, zero, suc, ◌+◌, ◌<◌, ◌≤◌, List, [], ◌∷◌, ◌++◌, length, map, take, get_or, refl, ap, ◌∙◌, subst, arith}
-use Rattle.std.proofs.lemmas.List.{map-append, map_more, length_push}
-use Rattle.scj_io.specs.Loads.{Held, ShelfRun, shelf_run, ShelfGoes, MayHold, MayExceed}
+use Rattle.std.proofs.Common.{◌≡◌, ℕ, zero, suc, ◌+◌, ◌<◌, ◌≤◌, List, [], ◌∷◌, ◌++◌, length, map, take, get_or, refl, sym, ap, ◌∙◌, subst, arith}
+use Rattle.std.proofs.lemmas.List.{length-map, map-append, map_more, length_push}
+use Rattle.scj_io.specs.Loads.{Held, ShelfRun, shelf_run, ShelfGoes, MayHold, MayExceed, LoadHolds}
 use Rattle.scj_io.proofs.CounterLaws.{Rose-earlier}
 use Rattle.scj_check.specs.Texts.{texts_of}
 use Rattle.scj_cli.specs.Jobs.{file_limit}
@@ -10,7 +10,7 @@ use Rattle.scj_cli.specs.Endings.IsReached.{first as reached_first, behind}
 use Rattle.scj_cli.specs.Endings.MayStand.{none, next}
 use Rattle.scj_cli.specs.Refusals.{RefusesLoad, RefusesLoads}
 use Rattle.scj_cli.specs.declared.refusals.Refusal.{Refusal}
-use Rattle.scj_cli.specs.declared.refusals.Refusal.TheVariants.{Usage, Unread, Overlong, OutOfMemory}
+use Rattle.scj_cli.specs.declared.refusals.Refusal.TheVariants.{Usage, Unread, Overlong, Unplanned, OutOfMemory}
 
 pub MayStand-more : {shelf : ShelfRun} {names contents : List (List ℕ)} → MayStand shelf names contents →
     (name content : List ℕ) → MayHold (shelf.held name) content → length content ≤ file_limit →
@@ -52,6 +52,8 @@ refused_later held held_then faults faults_then faults_after most most_then most
 refused_later held held_then faults faults_then faults_after most most_then most_after names name
     (Overlong line) goes reached refuses =
     (name, reached, (subst (λ (h : Held). MayExceed h file_limit) (goes.held name) refuses.0, refuses.1, refuses.2))
+refused_later held held_then faults faults_then faults_after most most_then most_after names name
+    (Unplanned line) goes reached refuses = absurd refuses
 refused_later held held_then faults faults_then faults_after most most_then most_after names name OutOfMemory goes
     reached refuses = tt
 
@@ -75,3 +77,66 @@ pub held_first : (held held_then : List ℕ → Held) (faults faults_then most m
     MayHold (held_then name) content → MayHold (held name) content
 held_first held held_then faults faults_then most most_then name content goes holds =
     subst (λ (h : Held). MayHold h content) (goes.held name) holds
+
+-- ---- the files of a run: its sources, and then the plan's
+
+pub stand_count : {shelf : ShelfRun} {names contents : List (List ℕ)} → MayStand shelf names contents →
+    length contents ≡ length names
+stand_count none = refl
+stand_count (next holds short rest) = ap suc (stand_count rest)
+
+-- as many sources as names
+pub source_count : {X : Type 0} {shelf : ShelfRun} (f : X → List ℕ) (names : List X)
+    (sources : List (List ℕ × List ℕ)) → MayStand shelf (map f names) (texts_of sources) →
+    length sources ≡ length names
+source_count f names sources stands =
+    sym (length-map sources (λ s. s.1)) ∙ (stand_count stands ∙ length-map names f)
+
+-- what stood there at first stands there, whatever was counted since
+stand_later : {held : List ℕ → Held} {faults now later most most_later : List ℕ → ℕ} {names contents : List (List ℕ)} →
+    MayStand (shelf_run held faults now most) names contents →
+    MayStand (shelf_run held faults later most_later) names contents
+stand_later none = none
+stand_later (next holds short rest) = next holds short (stand_later rest)
+
+pub stand_with_plan : {held held_then : List ℕ → Held}
+    {faults faults_then faults_after most most_then most_after : List ℕ → ℕ} {names contents : List (List ℕ)}
+    {plan bytes : List ℕ} → ShelfGoes held held_then faults faults_then most most_then →
+    MayStand (shelf_run held faults faults_then most_then) names contents →
+    LoadHolds (shelf_run held_then faults_then faults_after most_after) plan file_limit bytes →
+    MayStand (shelf_run held faults faults_after most_after) (names ++ plan ∷ []) (contents ++ bytes ∷ [])
+stand_with_plan {plan = plan} {bytes = bytes} goes stands loaded =
+    MayStand-more (stand_later stands) plan bytes (held_first _ _ _ _ _ _ plan bytes goes loaded.content) loaded.within
+
+reached_behind : {shelf : ShelfRun} {names contents : List (List ℕ)} → MayStand shelf names contents →
+    (name : List ℕ) → IsReached shelf.held name (names ++ name ∷ [])
+reached_behind none name = reached_first
+reached_behind (next holds short rest) name = behind _ holds short (reached_behind rest name)
+
+-- the load of the plan was refused, behind those of the sources
+pub refused_behind : {held held_then : List ℕ → Held}
+    {faults faults_then most most_then : List ℕ → ℕ} {names contents : List (List ℕ)}
+    (faults_after most_after : List ℕ → ℕ) (plan : List ℕ) (refusal : Refusal) →
+    ShelfGoes held held_then faults faults_then most most_then →
+    MayStand (shelf_run held faults faults_then most_then) names contents →
+    RefusesLoad (shelf_run held_then faults_then faults_after most_after) plan refusal →
+    RefusesLoads (shelf_run held faults faults_after most_after) (names ++ plan ∷ []) refusal
+refused_behind faults_after most_after plan refusal goes stands refuses =
+    refused_later _ _ _ _ faults_after _ _ most_after _ plan refusal goes (reached_behind stands plan) refuses
+
+reached_among_more : {held : List ℕ → Held} {name : List ℕ} {names : List (List ℕ)} → IsReached held name names →
+    (more : List (List ℕ)) → IsReached held name (names ++ more)
+reached_among_more reached_first more = reached_first
+reached_among_more (behind content holds within rest) more =
+    behind content holds within (reached_among_more rest more)
+
+-- the load of a source was refused
+pub refused_before : (shelf : ShelfRun) (names more : List (List ℕ)) (refusal : Refusal) →
+    RefusesLoads shelf names refusal → RefusesLoads shelf (names ++ more) refusal
+refused_before shelf names more Usage refuses = absurd refuses
+refused_before shelf names more (Unread line) refuses =
+    (refuses.0, reached_among_more refuses.1 more, refuses.2)
+refused_before shelf names more (Overlong line) refuses =
+    (refuses.0, reached_among_more refuses.1 more, refuses.2)
+refused_before shelf names more (Unplanned line) refuses = absurd refuses
+refused_before shelf names more OutOfMemory refuses = tt

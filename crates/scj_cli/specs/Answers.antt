@@ -7,7 +7,10 @@ use Rattle.scj_tree.specs.Forest.{Forest}
 use Rattle.scj_rules.specs.Syntax.{Reads, BreaksSyntax}
 use Rattle.scj_rules.specs.Verdicts.{IsReportOf}
 use Rattle.scj_show.specs.Symbols.{text_of_file}
-use Rattle.command_line.specs.Job.{Job, Check, Show}
+use Rattle.source_gen.specs.Generated.{source_of, plan_of}
+use Rattle.command_line.specs.Job.{Job, Check, Run, Show, Gen}
+use Rattle.scj_cli.specs.Jobs.{sources_among, plan_among}
+use Rattle.scj_cli.specs.Outcomes.{Outcome, ComesTo, run_status, run_out, run_err, gen_out}
 use Rattle.scj_cli.specs.Reports.{report_text}
 
 abbrev pub usage_line : List ℕ
@@ -35,12 +38,18 @@ pub data Answer : Option Job → List (List ℕ) → Status → List ℕ → Lis
   accepted : {names contents : List (List ℕ)} →
       IsReportOf contents [] →
       Answer (Some (Check names)) contents Done accepted_line []
+  ran : {plan : List ℕ} {names contents : List (List ℕ)} {outcome : Outcome} →
+      ComesTo (sources_among names contents) (plan_among names contents) outcome →
+      Answer (Some (Run plan names)) contents (run_status outcome) (run_out names outcome) (run_err outcome)
   show_unreadable : {names contents : List (List ℕ)} {found : Found} →
       BreaksSyntax contents found →
       Answer (Some (Show names)) contents Refused (report_text names (found ∷ [])) []
   shown : {names contents : List (List ℕ)} {forest : Forest} →
       Reads contents forest →
       Answer (Some (Show names)) contents Done (shown_text forest) []
+  generated : {contents : List (List ℕ)} {size : ℕ} {outcome : Outcome} →
+      ComesTo (source_of size ∷ []) (plan_of size) outcome →
+      Answer (Some (Gen size)) contents (run_status outcome) (gen_out size outcome) (run_err outcome)
 
 -- two answers are the same
 pub record IsSameAnswer (status : Status) (out err : List ℕ) (status_again : Status)

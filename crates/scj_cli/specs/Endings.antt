@@ -1,13 +1,17 @@
 -- How a call may end: which status it tells, and what stands on the two sinks.
-use Rattle.std.specs.Prelude.{◌≡◌, ◌⊎◌, ℕ, ◌<◌, ◌≤◌, List, [], ◌∷◌, ◌++◌, length, codes, Option}
+use Rattle.std.specs.Prelude.{◌≡◌, ◌⊎◌, ℕ, ◌<◌, ◌≤◌, List, [], ◌∷◌, ◌++◌, length, codes, Option, Some}
 use Rattle.scj_base.specs.declared.statuses.Status.{Status}
 use Rattle.scj_base.specs.declared.statuses.Status.TheVariants.{Done, Refused, Usage, Halted, PlanRefused, ReadFault, WriteFault, NoMemory, TooLong, NotBuilt}
 use Rattle.scj_io.specs.Counters.{Rose}
 use Rattle.scj_io.specs.Loads.{Held, ShelfRun, MayHold, MayExceed}
 use Rattle.scj_io.specs.Loads.Held.{Told, Absent}
 use Rattle.scj_io.specs.Puts.{SinkRun, PutWhole, PutFront}
-use Rattle.command_line.specs.Job.{Job}
-use Rattle.scj_cli.specs.Jobs.{files_of, file_limit}
+use Rattle.scj_tree.specs.Forest.{Forest}
+use Rattle.scj_model.specs.Plan.{Plan}
+use Rattle.plain_machine.specs.Runs.{PutPart, trace_text}
+use Rattle.command_line.specs.Job.{Job, Run}
+use Rattle.scj_cli.specs.Jobs.{files_of, sources_among, plan_among, file_limit}
+use Rattle.scj_cli.specs.Outcomes.{ComesTo, Ran}
 use Rattle.scj_cli.specs.Answers.{Answer}
 
 -- a call: its job, and what became of its shelf and its two sinks from its begin to its end
@@ -67,8 +71,16 @@ pub data Comes (job : Option Job) (shelf : ShelfRun) : Status → List ℕ → L
   out_of_memory :
       Comes job shelf NoMemory [] memory_line
 
+-- the job runs an accepted program, and memory ran out when a front of its trace stood on `out`
+pub data IsCutShort (out : SinkRun) : Option Job → List (List ℕ) → Type 0 where
+  in_run : {plan_name : List ℕ} {names contents : List (List ℕ)} {forest : Forest} {plan : Plan} →
+      ComesTo (sources_among names contents) (plan_among names contents) (Ran forest plan) →
+      PutPart out (trace_text forest plan names) →
+      IsCutShort out (Some (Run plan_name names)) contents
+
 -- a call ends with a status that comes, and has put its texts whole; or a sink took no more than a front
--- of the text that was put on it, and nothing was put after that
+-- of the text that was put on it, and nothing was put after that; or a run was cut short, and what is told of that was
+-- put whole or up to a fault
 pub data Ends (call : Call) : Status → Type 0 where
   whole : {status : Status} {out err : List ℕ} →
       Comes call.job call.shelf status out err → PutWhole call.out out → PutWhole call.err err →
@@ -78,6 +90,14 @@ pub data Ends (call : Call) : Status → Type 0 where
       Ends call WriteFault
   fault_of_err : {status : Status} {out err : List ℕ} →
       Comes call.job call.shelf status out err → PutWhole call.out out → PutFront call.err err →
+      Ends call WriteFault
+  cut_short : {contents : List (List ℕ)} →
+      MayStand call.shelf (files_of call.job) contents → IsCutShort call.out call.job contents →
+      PutWhole call.err memory_line →
+      Ends call NoMemory
+  cut_short_untold : {contents : List (List ℕ)} →
+      MayStand call.shelf (files_of call.job) contents → IsCutShort call.out call.job contents →
+      PutFront call.err memory_line →
       Ends call WriteFault
 
 -- no load of a file of the job failed, and no put
@@ -93,12 +113,14 @@ pub data AreTold (held : List ℕ → Held) : List (List ℕ) → List (List ℕ
       held name ≡ Told content → length content ≤ file_limit →
       AreTold held names contents → AreTold held (name ∷ names) (content ∷ contents)
 
--- the call ends with the answer on these contents
+-- the call ends with the answer on these contents, or for want of memory, in a run also in its midst
 pub data EndsBy (call : Call) (contents : List (List ℕ)) : Status → Type 0 where
   by_answer : {status : Status} {out err : List ℕ} →
       Answer call.job contents status out err → PutWhole call.out out → PutWhole call.err err →
       EndsBy call contents status
   by_memory : PutWhole call.out [] → PutWhole call.err memory_line → EndsBy call contents NoMemory
+  by_memory_in_run : IsCutShort call.out call.job contents → PutWhole call.err memory_line →
+      EndsBy call contents NoMemory
 
 -- where the files are told and within the limit and nothing fails, the call ends with the answer
 abbrev pub IsExact : Call → Status → Type 0

@@ -1,6 +1,9 @@
 pub mod Answers
 pub mod Endings
 pub mod Jobs
+pub mod Judgements
 pub mod Modes
+pub mod Outcomes
 pub mod Refusals
 pub mod Reports
+pub mod Summaries

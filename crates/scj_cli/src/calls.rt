@@ -8,7 +8,9 @@ ghost use Rattle.scj_cli.specs.Modes.{IsAnswered, Stops, Tells};
 ghost use Rattle.scj_cli.specs.Endings.{Ends, call_of, IsExact, IsLongExactly, IsNeverAbsent};
 
 use crate::checks::check;
+use crate::gens::run_generated;
 use crate::refusals::{Refusal, Stop};
+use crate::runs::run;
 use crate::shows::show;
 use command_line::{Job, WordsAnswer, read_words};
 use scj_base::Status;
@@ -17,8 +19,8 @@ use std::alloc::Global;
 
 /// Does what the words behind the program's name ask for.
 ///
-/// The answer is put on `out`, and what is refused is told on `err` by one line. Nothing is put after a
-/// put has failed.
+/// The answer is put on `out`, that of a run line by line, and what is refused is told on `err` by one line. Nothing is
+/// put after a put has failed.
 pub fn scj<H: Shelf, K: Sink, E: Sink>(
     alloc: Global,
     words: &[String],
@@ -88,7 +90,12 @@ fn answer<H: Shelf, K: Sink>(
 {
     match read_words(alloc, words) {
         Ok(Job::Check { sources }) => check(alloc, &sources, shelf, out),
+        Ok(Job::Run { plan, sources }) => run(alloc, &plan, &sources, shelf, out),
         Ok(Job::Show { sources }) => show(alloc, &sources, shelf, out),
+        Ok(Job::Gen { size }) => {
+            let status = run_generated(alloc, size, out)?;
+            Ok(status)
+        }
         Err(WordsAnswer::Usage) => Err(Stop::Told(Refusal::Usage)),
         Err(WordsAnswer::Memory) => Err(Stop::Told(Refusal::OutOfMemory)),
     }

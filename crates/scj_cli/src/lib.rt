@@ -3,10 +3,16 @@
 
 mod calls;
 mod checks;
+mod gens;
+mod kept_traces;
 pub mod laws;
 mod loads;
+mod plan_refusals;
 mod refusals;
 mod reports;
+mod runnables;
+mod runs;
 mod shows;
+mod summaries;
 
 pub use calls::scj;

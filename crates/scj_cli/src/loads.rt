@@ -1,6 +1,6 @@
 //! The loads of the files that the words name.
 
-ghost use Rattle.std.specs.Prelude.{◌≡◌, ◌≤◌, ℕ, length, map, string_bytes, IfOk, IfErr};
+ghost use Rattle.std.specs.Prelude.{◌≡◌, ◌≤◌, ℕ, [], ◌∷◌, ◌++◌, length, map, string_bytes, IfOk, IfErr};
 ghost use Rattle.scj_io.specs.Loads.{ShelfGoes, LoadHolds, shelf_run};
 ghost use Rattle.scj_check.specs.Texts.{texts_of};
 ghost use Rattle.scj_cli.specs.Jobs.{file_limit};
@@ -39,6 +39,39 @@ pub fn load_all<H: Shelf>(
         sources.add(name, bytes)?;
     }
     Ok(sources)
+}
+
+/// The files of a run.
+#[derive(Drop)]
+pub struct RunFiles {
+    /// The sources.
+    pub sources: Sources,
+    /// The text of the plan.
+    pub plan: Vec<u8>,
+}
+
+/// The sources of these names, and behind them the plan's file.
+pub fn load_run<H: Shelf>(
+    alloc: Global,
+    plan: &str,
+    names: &[String],
+    shelf: &mut H,
+) -> Result<RunFiles, Refusal>
+    requires { length names.now ≤ 16 }
+    ensures goes { ShelfGoes (H.held shelf.old) (H.held shelf.new) (H.faults shelf.old) (H.faults shelf.new)
+        (H.most shelf.old) (H.most shelf.new) }
+    ensures ok { IfOk result
+        (λ files. MayStand (shelf_run (H.held shelf.old) (H.faults shelf.old) (H.faults shelf.new) (H.most shelf.new))
+        (map string_bytes names.now ++ plan.now ∷ []) (texts_of files.sources ++ files.plan.items ∷ [])) }
+    ensures count { IfOk result (λ files. length files.sources ≡ length names.now) }
+    ensures refusal { IfErr result
+        (λ refusal. RefusesLoads
+        (shelf_run (H.held shelf.old) (H.faults shelf.old) (H.faults shelf.new) (H.most shelf.new))
+        (map string_bytes names.now ++ plan.now ∷ []) refusal) }
+{
+    let sources = load_all(alloc, names, shelf)?;
+    let plan = load(alloc, plan, shelf)?;
+    Ok(RunFiles { sources, plan })
 }
 
 /// The bytes of a file.

@@ -8,7 +8,7 @@ ghost use Rattle.scj_cli.specs.declared.refusals.Stop.TheVariants.{Told, Broken}
 use scj_base::{Failed, Memory, Status};
 use std::alloc::AllocError;
 
-/// What is told on `err`, where nothing is put on `out`.
+/// What is told on `err`, where no answer stands on `out`.
 #[derive(Drop)]
 pub enum Refusal {
     /// The words ask for nothing.
@@ -17,6 +17,8 @@ pub enum Refusal {
     Unread(String),
     /// A file has more bytes than are read, with the line that says so.
     Overlong(String),
+    /// The text of a plan is none, with the line that says so.
+    Unplanned(String),
     /// There was no memory.
     OutOfMemory,
 }
@@ -30,6 +32,7 @@ impl Refusal {
             Refusal::Usage => Status::Usage,
             Refusal::Unread(_) => Status::ReadFault,
             Refusal::Overlong(_) => Status::TooLong,
+            Refusal::Unplanned(_) => Status::PlanRefused,
             Refusal::OutOfMemory => Status::NoMemory,
         }
     }
@@ -42,6 +45,7 @@ impl Refusal {
             Refusal::Usage => "scj: usage\n",
             Refusal::Unread(line) => line.as_str(),
             Refusal::Overlong(line) => line.as_str(),
+            Refusal::Unplanned(line) => line.as_str(),
             Refusal::OutOfMemory => "scj: memory\n",
         }
     }
@@ -66,7 +70,7 @@ impl From<Memory> for Refusal {
 /// Why a mode stops before its answer stands on `out`.
 #[derive(Drop)]
 pub enum Stop {
-    /// Nothing was put on `out`, and this is to be told on `err`.
+    /// Nothing was put on `out`, or the trace of a run up to where memory ran out, and this is to be told on `err`.
     Told(Refusal),
     /// A put failed, and nothing may be put any more.
     Broken,

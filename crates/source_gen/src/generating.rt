@@ -1,6 +1,6 @@
 //! The generated program, part by part.
 
-ghost use Rattle.std.specs.Prelude.{◌≡◌, ◌+◌, ◌*◌, ◌≤◌, ◌<◌, ◌↔◌, ◌++◌, IfOk, IfErr, OnOk, Err};
+ghost use Rattle.std.specs.Prelude.{◌≡◌, ◌+◌, ◌*◌, ◌≤◌, ◌<◌, ◌↔◌, ◌++◌, IfOk, IfErr, OnOk, Err, length};
 ghost use Rattle.source_gen.specs.Generated.{safelet_lines, mission_lines, handler_head, handler_lines, print_line, class_line, up_to, source_of, plan_of, IsOutside, TellsOwnSize};
 
 use crate::sizes::GenAnswer;
@@ -142,6 +142,7 @@ fn plan(alloc: Global, n: u32) -> Result<Vec<u8>, Memory>
 /// `Size` exactly where `n` isn't within 1 to 250, and `Memory` where there was none for the texts.
 pub fn generate(alloc: Global, n: u32) -> Result<(Vec<u8>, Vec<u8>), GenAnswer>
     ensures source { IfOk result (λ texts. texts.0.items ≡ source_of n) }
+    ensures short { IfOk result (λ texts. length texts.0.items ≤ 1048576) }
     ensures plan { IfOk result (λ texts. texts.1.items ≡ plan_of n) }
     ensures size { (result ≡ Err (GenAnswer.Size n)) ↔ IsOutside n }
     ensures own_size { IfErr result (TellsOwnSize n) }

@@ -1,4 +1,3 @@
-use Rattle.std.proofs.Common.{[]}
 use Rattle.scj_rules.specs.Phases.{nowhere}
 use Rattle.scj_rules.specs.Verdicts.{in_program}
 use Rattle.scj_cli.specs.Answers.Answer.{refused, accepted}
