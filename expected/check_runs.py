@@ -4,9 +4,10 @@
     check_runs.py              says which run differs, and then ends with status 1
     check_runs.py FOLDER..     the same of other folders of such runs
 
-Each folder in runs/ is a run: plan.toml, the trace, and the sources. These are the files *.java of the folder in the
-order of their names, or, where there is a file `sources`, those that it names, from the top of the repository on. The
-traces were worked out by hand. A file is called by its name alone in a trace.
+Each folder in runs/ is a run: plan.toml, the trace (`trace` or `trace.txt`), and the sources. These are the files
+*.java of the folder in the order of their names, or, where there is a file `sources`, those that it names, from the
+top of the repository on. A folder without a plan is passed over. The traces in runs/ were worked out by hand. A file
+is called by its name alone in a trace.
 """
 import pathlib
 import sys
@@ -33,7 +34,7 @@ def difference(folder):
         lines = slow_machine.trace([path.name for path in paths], [path.read_text() for path in paths], plan)
     except slow_machine.Refused:
         return "its files aren't accepted"
-    wanted = (folder / "trace").read_text().splitlines()
+    wanted = next(folder.glob("trace*")).read_text().splitlines()
     for number, (line, other) in enumerate(zip(lines, wanted), 1):
         if line != other:
             return f"line {number} is `{line}` in place of `{other}`"
@@ -43,7 +44,7 @@ def difference(folder):
 def main():
     differs = False
     for folders in [pathlib.Path(word) for word in sys.argv[1:]] or [HERE / "runs"]:
-        for folder in sorted(folders.iterdir()):
+        for folder in sorted(plan.parent for plan in folders.glob("*/plan.toml")):
             wrong = difference(folder)
             if wrong is not None:
                 print(f"{folder.name}: {wrong}")

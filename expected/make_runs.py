@@ -1,29 +1,37 @@
 #!/usr/bin/env python3
 """Makes many small accepted programs with plans, and their traces by the slow machine beside this file.
 
-    make_runs.py STDIN STDOUT       writes the two tables
+    make_runs.py                    writes the two tables, stdin and stdout of crates/scj_runs
+    make_runs.py STDIN STDOUT       writes them elsewhere
     make_runs.py --sample FOLDER    writes the first 60 cases as folders that check_runs.py reads
     make_runs.py --statistics       counts what all the runs have together: operations, faults, kinds of lines, phases
     make_runs.py --count N ..       does one of these with the first N cases alone
 
-STDIN is a table of cases. A case begins with a line `== NAME`; then, for each file, come a line `-- FILE` and the
-lines of the file, each of which ends with a line feed. The sources come first, in the order in which they are given to
-the machine, and the plan, as `-- plan.toml`, last. No line of a file begins with `== ` or `-- `. STDOUT has for each
-case the line `== NAME`, the lines of the trace, and `status 0`, or `status 3` where the run halts.
+STDIN is a table of cases. It begins with the short forms of phrases.py, a line `$X TEXT` each. A case begins with a
+line `== NAME`; then, for each file, come a line `-- FILE` and the lines of the file, each of which ends with a line
+feed. The sources come first, in the order in which they are given to the machine, and the plan, as `-- plan.toml`,
+last. No line of a file begins with `== ` or `-- `. STDOUT has for each case the line `== NAME`, the lines of the
+trace, and `status 0`, or `status 3` where the run halts.
 
-The programs are made from a seed, so each call makes the same ones. A program is put together from parts that keep
-the rules on scopes by the way they are made; slow_rules.py is asked of each one, and what it refuses is left out. A
-trace has at most 150 lines: the plan's units are cut where it would have more.
+The programs of small_runs.py stand first. The others are made from a seed, so each call makes the same ones. Such a
+program is put together from parts that keep the rules on scopes by the way they are made, here and in edge_runs.py;
+slow_rules.py is asked of each one, and what it refuses is left out. A trace has at most 150 lines: the plan's units
+are cut where it would have more.
 """
 import collections
+import itertools
+import multiprocessing
 import pathlib
 import random
 import re
 import sys
 
+import edge_runs
+import phrases
 import slow_machine
+import small_runs
 
-CASES = 2200
+CASES = 3000
 SAMPLE = 60
 LINES = 150
 SEED = 20260801
@@ -48,6 +56,9 @@ add(:static int add(int a, int b) { return a + b; }
 deep(:static int deep(int a) { if (a == 0) return 0; return deep(a - 1) + 1; }
 nest(:static int nest(int a) { if (a == 0) { Cell s = new Sub(1, 2); return s.get(); } return nest(a - 1); }
 hold(:static int hold(Lock l, int a) { if (a == 0) return l.add(1); return hold(l, a - 1); }
+say(:static int say(int a) { Trace.print("say", a); return a; }
+tick(:static int tick() { G.n = G.n + 1; return G.n; }
+eight(:static int eight(int a, int b, int c, int d, int e, int f, int g, int h) { return a-b*3+c*5-d*7+e*9-f*8+g*4-h; }
 odd(:static boolean odd(int a) { Trace.print("odd", a); return (a & 1) == 1; }
 make(:static Cell make(int a) { return new Cell(a); }
 shout(:static void shout(int a) { if (a > 9) return; Trace.print("shout", a); }"""],
@@ -80,6 +91,15 @@ chain(:synchronized void chain(Lock o) { n = o.add(n); }
 twice():int twice() { return add(1) + add(2); }"""],
     "Quiet": ["class Quiet extends Lock {", """
 class:int add(int a) { n = n - a; return n; }"""],
+    "Base": ["class Base {", """
+class:int a;
+class:Base() { a = seed(); }
+class:int seed() { return 1; }"""],
+    "Late": ["class Late extends Base {", """
+class:int w = 9;
+class:int b;
+class:Late() { b = w; }
+class:int seed() { return w + 5; }"""],
     "Nest": ["class Nest {", """
 class:Nest in;
 class:Nest(int a) { if (a > 0) in = new Nest(a - 1); }"""],
@@ -162,7 +182,7 @@ class Body:
             left = "(%s - 45)" % self.operand(less) if self.maybe(0.5) else self.operand(less)
             return "%s %s %s" % (left, self.pick(["/", "%"]), divisor)
         if kind == 8:
-            return "%s%s" % (self.pick(["-", "~"]), self.operand(0).replace("-", "~", 1))
+            return "%s%s" % (self.pick(["-", "~"]), self.operand(0).replace("-2147483648", "9").replace("-", "~", 1))
         if kind == 9:
             return "G.add(%s, %s)" % (self.number(less), self.number(less))
         if kind == 10:
@@ -347,6 +367,11 @@ class Body:
         ]).replace("z", z)
 
 
+def pieces(text):
+    """The characters of a text; what stands for a phrase is one."""
+    return re.findall(r"\$.|[^$]", text, re.S)
+
+
 class Maker:
     """One program with its plan."""
 
@@ -357,6 +382,7 @@ class Maker:
         self.rough, self.sizes, self.is_long = self.maybe(0.12), {}, False
         self.is_deep = self.maybe(0.06)
         self.parts = [part for part in ("Sub", "Lock") if self.maybe(0.25)]
+        self.uses, self.downs, self.areas = set(), {}, None
 
     def pick(self, things):
         return things[self.chance.randrange(len(things))]
@@ -721,47 +747,59 @@ class A%d implements Runnable { X%d x; int k;
         self.handlers = [name for name in self.handlers if name in named]
         return [text for name, text in self.classes.items() if name in named or self.maybe(0.03)]
 
-    def with_line_feeds(self, text):
+    def with_line_feeds(self, text, share):
         """The text with some line feeds between lexemes, so that a fault's line tells the lexeme at which it stands."""
-        out = ""
-        for at, byte in enumerate(text):
-            is_outside = text[text.rfind("\n", 0, at) + 1:at].count('"') % 2 == 0
-            may = is_outside and not text.startswith(("==", "--"), at + (byte == " "))
-            if may and byte == " " and self.maybe(0.04):
-                out += "\n"
-            elif may and byte in ".[=/%" and text[at - 1] in " abcdefghijklmnopqrstuvwxyz0123456789)]" and (
-                    text[at + 1:at + 2] != "=" and self.maybe(0.4 if byte in "/%" else 0.05)):
-                out += "\n" + byte
-            else:
-                out += byte
-        return out
+        out, quotes = "", 0
+        for piece in pieces(phrases.shortened(text) if share < 0.1 else text):
+            if quotes % 2 == 0 and piece == " " and self.maybe(share):
+                piece = "\n"
+            elif quotes % 2 == 0 and piece in ".[()," and self.maybe(share / 2):
+                piece = "\n" + piece
+            quotes += phrases.whole(piece).count('"')
+            out += piece
+        return re.sub(r"\n(==|--) ", r" \1 ", phrases.whole(out))
 
     def sources(self):
         texts = with_common(self.named_classes())
-        if self.maybe(0.6):
-            texts = [self.with_line_feeds(text) for text in texts]
+        share = self.few(0, 0, 0, 0.05, 0.05, 0.05, 0.05, 0.3)
+        if share:
+            texts = [self.with_line_feeds(text, share) for text in texts]
         self.chance.shuffle(texts)
         count = min(self.chance.choice([1, 1, 2, 3]), len(texts))
         cuts = sorted(self.chance.sample(range(1, len(texts)), count - 1)) if count > 1 else []
         parts = [texts[a:b] for a, b in zip([0] + cuts, cuts + [len(texts)])]
         return [("ABC"[i] + ".java", "\n".join(part) + "\n") for i, part in enumerate(parts)]
 
+    def unit(self, units):
+        """A unit for a fire."""
+        kind = self.chance.randrange(20)
+        if kind == 0:
+            return self.chance.randrange(0, 45)
+        if kind == 1:
+            return self.pick([units - 1, units, max(units - 2, 0)])
+        return self.chance.randrange(40, max(units, 41)) if kind < 9 else self.chance.randrange(60, 220)
+
     def plan(self):
         units = 3000 if self.is_long else self.few(200, 300, 400, 600, 900, 1500)
-        areas = self.immortal + (self.sizes[1] + 7) // 8 * 8
+        if self.maybe(0.03):
+            units = self.chance.randrange(0, 120)
+        areas = self.areas or self.immortal + (self.sizes[1] + 7) // 8 * 8
         store = self.few(100000, 100000, 100000, areas + self.few(0, 48, 100, 200, 400, 450, 500, 600, 700, 900))
+        if self.areas and self.maybe(0.5):
+            store = areas
         if self.maybe(0.02):
             store = self.chance.randrange(0, areas)
+        store = min(store, 67108864)
         fires, readings = [], []
         names = [h for h in self.handlers if h not in self.periodic]
         for _ in range(self.few(0, 1, 2, 3, 4, 6) if names else self.few(0, 0, 1, 2)):
-            name = self.pick(names * 6 + self.handlers + ["Nobody"])
-            at = self.chance.randrange(40, units) if self.maybe(0.4) else self.chance.randrange(60, 220)
-            fires += [(at, name)] * self.few(*[1] * 30, 2, 3)
+            name = self.pick(names * 6 + self.handlers + ["Nobody", "Cell"])
+            fires += [(self.unit(units), name)] * self.few(*[1] * 30, 2, 3)
         if names and self.maybe(0.02):
             fires += [(self.chance.randrange(150, 260), self.pick(names))] * self.few(64, 65, 66, 68)
-        for _ in range(self.few(0, 0, 0, 1, 2, 3)):
-            readings.append((self.pick([0, 1, 1, 2, 255]), self.few(0, self.chance.randrange(0, 400), 120),
+        ports = [0, 1, 1, 1, 2, 255]
+        for _ in range(self.few(0, 0, 0, 1, 2, 3, 6, 9)):
+            readings.append((self.pick(ports), self.few(0, self.chance.randrange(0, 400), 120, 121, 30),
                              self.pick([0, 1, 50, 95, -7, 2147483647, -2147483648])))
         lines = ["version = 1", "units = %d" % units, "store = %d" % store]
         if self.maybe(0.2):
@@ -775,10 +813,13 @@ class A%d implements Runnable { X%d x; int k;
         return "\n".join(lines) + "\n"
 
 
-def made(number, counts):
-    """The case of the number: its sources, its plan and its trace; None where the rules refuse the sources."""
+def made(number):
+    """The case of the number: its sources, its plan, its trace and counts; None where the rules refuse the sources."""
     maker = Maker(number)
-    maker.program()
+    if number % 5 < 2:
+        edge_runs.Edges(maker).program()
+    else:
+        maker.program()
     files, plan = maker.sources(), maker.plan()
     try:
         machine = run(files, plan)
@@ -791,8 +832,7 @@ def made(number, counts):
         units = int(machine.lines[LINES - 1].split(" ")[0])
         plan = re.sub(r"units = \d+", "units = %d" % units, plan)
         machine = run(files, plan)
-    counts.update(machine.counts)
-    return files, plan, machine.lines
+    return files, plan, machine.lines, machine.counts
 
 
 def fitted(maker, machine, files, plan):
@@ -804,7 +844,7 @@ def fitted(maker, machine, files, plan):
     used = max([area.used for area in machine.areas if area.scope == scope] + [1]) - less
     if scope == "IMMORTAL":
         pattern = r"(immortalMemorySize\(\)\s*\{\s*return\s+)\d+"
-    elif scope[0] == "S":
+    elif scope[0] in "SM":
         pattern = r"(name\s*=\s*\"%s\"[^@]*missionMemorySize\(\)\s*\{\s*return\s+)\d+" % scope
     else:
         pattern = r"(name\s*=\s*\"%s\"[^@]*StorageParameters\()\d+" % scope
@@ -818,22 +858,52 @@ def run(files, plan):
     return machine
 
 
+def small_cases(counts):
+    """The cases of small_runs.py."""
+    for name, files, plan in small_runs.runs():
+        machine = run(files, plan)
+        counts.update(machine.counts)
+        assert len(machine.lines) <= LINES, name
+        yield name, (files, plan, machine.lines)
+
+
+def generated_cases(counts):
+    """The cases that are made from the seed, without an end."""
+    made_so_far = 0
+    with multiprocessing.Pool() as pool:
+        for case in pool.imap(made, range(2 * CASES), chunksize=8):
+            if case is None:
+                counts["refused programs, left out"] += 1
+                continue
+            counts.update(case[3])
+            made_so_far += 1
+            yield "run%04d" % made_so_far, case[:3]
+
+
 def cases(count, counts):
-    number = found = 0
-    while found < count:
-        case = made(number, counts)
-        number += 1
-        if case is not None:
-            found += 1
-            yield "run%04d" % found, case
-    counts["refused programs, left out"] = number - found
+    """So many cases."""
+    return itertools.islice(itertools.chain(small_cases(counts), generated_cases(counts)), count)
+
+
+def write(given, expected, count, counts):
+    """The two tables."""
+    for code, phrase in zip(phrases.CODES, phrases.PHRASES):
+        given.write("$%s %s\n" % (code, phrase.replace("\n", "\\x0a")))
+    for name, (files, plan, lines) in cases(count, counts):
+        given.write("== %s\n" % name)
+        for file, text in files + [("plan.toml", plan)]:
+            given.write("-- %s\n%s" % (file, phrases.shortened(text)))
+        status = 3 if lines[-1].endswith(" halted") else 0
+        expected.write("== %s\n%s\nstatus %d\n" % (name, "\n".join(lines), status))
 
 
 def main():
     words = sys.argv[1:]
     count = CASES
-    if words[0] == "--count":
+    if words[:1] == ["--count"]:
         count, words = int(words[1]), words[2:]
+    home = pathlib.Path(__file__).resolve().parent.parent / "crates" / "scj_runs"
+    words = words or [home / "stdin", home / "stdout"]
     counts = collections.Counter()
     if words[0] == "--statistics":
         size = 0
@@ -850,11 +920,7 @@ def main():
                 (folder / file).write_text(text)
     else:
         with open(words[0], "w") as given, open(words[1], "w") as expected:
-            for name, (files, plan, lines) in cases(count, counts):
-                given.write("== %s\n" % name)
-                given.write("".join("-- %s\n%s" % pair for pair in files + [("plan.toml", plan)]))
-                status = 3 if lines[-1].endswith(" halted") else 0
-                expected.write("== %s\n%s\nstatus %d\n" % (name, "\n".join(lines), status))
+            write(given, expected, count, counts)
 
 
 if __name__ == "__main__":

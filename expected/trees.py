@@ -424,6 +424,8 @@ class Parser:
         k = self.k()
         if k[0] == "num":
             self.i += 1
+            if int(k[1]) > 2147483647:
+                raise SyntaxError("a number too large at %s" % (p,))
             return Node("num", p, value=int(k[1]), neg=False)
         if k[0] == "word" and k[1] in ("true", "false"):
             self.i += 1

@@ -51,6 +51,16 @@ impl Case {
         Ok(())
     }
 
+    /// Takes a line so many times: `COUNT LINE`.
+    pub fn add_copies(&mut self, words: &str) -> Result<(), Stop> {
+        let (count, line) = words.split_once(' ').ok_or(Stop::BadLine)?;
+        let count = number(count)?;
+        for _ in 0..count {
+            self.add_line(line)?;
+        }
+        Ok(())
+    }
+
     /// Puts the file that is being written on the shelf.
     pub fn end_file(&mut self) -> Result<(), Stop> {
         if self.is_open {

@@ -1,12 +1,13 @@
-//! Runs cases of the checker from its input, and prints of each call all that it put, its status, and what it told.
+//! Runs cases of whole calls from its input, and prints of each call all that it put, its status, and what it told.
 //!
-//! A case begins with a line `== NAME`. Below it, `-- FILE` begins a file of the case, whose lines follow up to the
-//! next line of these kinds; `-< FILE` takes the file of that name from where the program runs; `-* COUNT FILE` is a
-//! file of so many blanks. `! load N`, `! out N` and `! err N` make that load or put fail, counted from 1, and
-//! `! room N` leaves room for so many bytes on the output. `$ WORDS` calls the checker, with words parted by single
-//! blanks. `~ FROM TO TEXT` checks the last written file alone, with the text in the place of the bytes from FROM up to
-//! TO. Lines outside a file and outside these kinds are comments. In files and texts `\xNN` is one byte, by two digits
-//! from 0 to 9 and a to f, and a line that ends in `\` has no line feed behind it.
+//! A case begins with a line `== NAME`. Below it, `-- FILE` begins a file of the case, a source or a plan, whose lines
+//! follow up to the next line of these kinds; among them `-+ COUNT LINE` is that line so many times. `-< FILE` takes
+//! the file of that name from where the program runs; `-* COUNT FILE` is a file of so many blanks. `! load N`, `! out
+//! N` and `! err N` make that load or put fail, counted from 1, and `! room N` leaves room for so many bytes on the
+//! output. `$ WORDS` is a call, with words parted by single blanks. `~ FROM TO TEXT` checks the last written file
+//! alone, with the text in the place of the bytes from FROM up to TO. Lines outside a file and outside these kinds are
+//! comments. In files and texts `\xNN` is one byte, by two digits from 0 to 9 and a to f, and a line that ends in `\`
+//! has no line feed behind it.
 #![tactic(auto)]
 
 mod calls;

@@ -36,6 +36,7 @@ impl<S: Shelf + Drop, W: Write + Drop> Run<S, W> {
             Some(("--", name)) => self.case.begin_file(name),
             Some(("-<", name)) => self.take_file(name),
             Some(("-*", words)) => self.case.add_blanks(words),
+            Some(("-+", words)) => self.case.add_copies(words),
             Some(("!", words)) => self.case.add_fault(words),
             Some(("$", words)) => self.call(words),
             Some(("~", words)) => self.change(words),
