@@ -1,5 +1,5 @@
 -- The columns of the table are those of the rows.
-use Rattle.std.proofs.Common.{◌≡◌, ℕ, List, [], ◌∷◌, ◌++◌, map, replicate, refl, sym, ap, ◌∙◌, Option, Some, None}
+use Rattle.std.proofs.Common.{◌≡◌, ℕ, ◌<◌, arith, length, List, [], ◌∷◌, ◌++◌, map, replicate, refl, sym, ap, ◌∙◌, Option, Some, None}
 use Rattle.std.specs.List.{filter_map, cons_option, position}
 use Rattle.std.proofs.lemmas.List.{map-append}
 use Rattle.indexmap.specs.IndexMap.{get}
@@ -12,8 +12,14 @@ use Rattle.scj_base.specs.Bytes.{is_same}
 use Rattle.scj_rules.specs.Views.{WrittenClass, class_at}
 use Rattle.scj_rules.specs.Classes.{ClassRow, class_number, class_names, class_nodes, user_classes, superclass_written, user_row, framework_row, framework_rows_from, written_rows}
 use Rattle.scj_rules.specs.Contexts.{declarations_of}
+use Rattle.class_headers.specs.declared.headers.Header.{Header}
 use Rattle.class_headers.specs.declared.headers.Headers.{Headers}
-use Rattle.class_headers.specs.Columns.{header_of, header_by, superclass_by, interfaces_by, framework_header, framework_headers, IsHeadersOf}
+use Rattle.class_headers.specs.Rows.{header_of, header_by, superclass_by, interfaces_by, framework_header, framework_headers}
+use Rattle.class_headers.specs.Columns.{IsHeadersOf}
+use Rattle.class_headers.specs.Marks.{AreLinked, AreColumns, AreMarksOf}
+use Rattle.class_headers.proofs.SoundLemmas.{framework_there}
+use Rattle.scj_rules.proofs.WithinLemmas.{written-stays}
+use Rattle.std.proofs.lemmas.Option.{slice_get_within}
 
 module _ (nodes : List Node) (names : List (List ℕ)) (find : List ℕ → Option ℕ)
     (finds : (name : List ℕ) → find name ≡ class_number names name) where
@@ -72,31 +78,49 @@ all_lists nodes users find finds =
     ∙ sym (map-append (λ (row : ClassRow). row.interfaces) (framework_rows_from 0 framework_classes)
     (map (user_row nodes (class_names users)) users))
 
-pub headers_are : (forest : Forest) (headers : Headers) (ids : List ℕ) (all : List (List ℕ)) → ids ≡ class_nodes forest
-    → all ≡ map (λ (c : FrameworkClass). c.name) framework_classes
-    ++ map (λ (c : WrittenClass). c.name) (filter_map (class_at forest.nodes) ids)
-    → ((name : List ℕ) → get is_same headers.names name ≡ position (is_same name) all)
-    → headers.rows.items ≡ framework_headers ++ map (header_by forest.nodes (get is_same headers.names))
-    (filter_map (class_at forest.nodes) ids)
-    → map (λ v. v.items) headers.interfaces.items ≡ replicate framework_class_count []
-    ++ map (λ (c : WrittenClass). interfaces_by (get is_same headers.names) c.implements)
-    (filter_map (class_at forest.nodes) ids)
-    → IsHeadersOf forest headers
-unfolding declarations_of class_number class_names user_classes
-headers_are forest headers ids all same names finds rows lists =
-    let users : List WrittenClass = user_classes forest in
-    let as_users : filter_map (class_at forest.nodes) ids ≡ users = ap (filter_map (class_at forest.nodes)) same in
-    let all_names : all ≡ class_names users = names ∙ ap (λ (us : List WrittenClass). class_names us) as_users in
-    let find : List ℕ → Option ℕ = get is_same headers.names in
-    let found : (name : List ℕ) → find name ≡ class_number (class_names users) name = λ name. finds name
-    ∙ ap (λ (ns : List (List ℕ)). position (is_same name) ns) all_names in
-    record {
-      names = found;
-      rows = rows ∙ ap (λ (us : List WrittenClass). framework_headers ++ map (header_by forest.nodes find) us) as_users
-          ∙ all_headers forest.nodes users find found;
-      interfaces =
-          lists
-          ∙ ap (λ (us : List WrittenClass). replicate framework_class_count []
-          ++ map (λ (c : WrittenClass). interfaces_by find c.implements) us) as_users
-          ∙ all_lists forest.nodes users find found;
-    }
+-- the classes of a program lead to one another, and the kinds are among them
+linked : (forest : Forest) → AreLinked (declarations_of forest).written
+linked forest =
+    let last = framework_there forest 6 (omega arith) in
+    let within : 6 < length (declarations_of forest).written =
+    slice_get_within (declarations_of forest).written 6 last.0 last.1 in
+    record { stays = written-stays forest; kinds = omega (arith, within) }
+
+module _ (forest : Forest) (ids : List ℕ) (all : List (List ℕ)) (find : List ℕ → Option ℕ)
+    (same : ids ≡ class_nodes forest)
+    (names : all ≡ map (λ (c : FrameworkClass). c.name) framework_classes
+    ++ map (λ (c : WrittenClass). c.name) (filter_map (class_at forest.nodes) ids))
+    (finds : (name : List ℕ) → find name ≡ position (is_same name) all) where
+  as_users : filter_map (class_at forest.nodes) ids ≡ user_classes forest
+  unfolding user_classes
+  as_users = ap (filter_map (class_at forest.nodes)) same
+
+  pub found : (name : List ℕ) → find name ≡ class_number (class_names (user_classes forest)) name
+  unfolding class_number class_names
+  found name = finds name ∙ ap (λ (ns : List (List ℕ)). position (is_same name) ns)
+      (names ∙ ap (λ (us : List WrittenClass). map (λ (c : FrameworkClass). c.name) framework_classes
+      ++ map (λ (c : WrittenClass). c.name) us) as_users)
+
+  pub columns_are : (rows : List Header) (lists : List (List ℕ))
+      → rows ≡ framework_headers ++ map (header_by forest.nodes find) (filter_map (class_at forest.nodes) ids)
+      → lists ≡ replicate framework_class_count []
+      ++ map (λ (c : WrittenClass). interfaces_by find c.implements) (filter_map (class_at forest.nodes) ids)
+      → AreColumns (declarations_of forest).written rows lists
+  unfolding declarations_of
+  columns_are rows lists r l =
+      record {
+        linked = linked forest;
+        rows_are = r ∙ ap (λ (us : List WrittenClass). framework_headers ++ map (header_by forest.nodes find) us)
+            as_users ∙ all_headers forest.nodes (user_classes forest) find found;
+        lists_are = l ∙ ap (λ (us : List WrittenClass). replicate framework_class_count []
+            ++ map (λ (c : WrittenClass). interfaces_by find c.implements) us) as_users
+            ∙ all_lists forest.nodes (user_classes forest) find found;
+      }
+
+pub headers_are : (forest : Forest) (headers : Headers)
+    → ((name : List ℕ) → get is_same headers.names name ≡ class_number (class_names (user_classes forest)) name)
+    → AreColumns (declarations_of forest).written headers.rows.items (map (λ v. v.items) headers.interfaces.items)
+    → AreMarksOf (declarations_of forest).written headers.marks → IsHeadersOf forest headers
+unfolding declarations_of
+headers_are forest headers found c marks =
+    record { names = found; rows = c.rows_are; interfaces = c.lists_are; marks = marks }

@@ -6,12 +6,12 @@ use Rattle.std.proofs.lemmas.Option.{slice_get_within, get_or_from_slice_get}
 use Rattle.scj_builtins.specs.declared.kinds.ClassKind.{ClassKind}
 use Rattle.scj_builtins.specs.declared.kinds.ClassKind.TheVariants.{Abstract as abstract_class, Concrete as concrete_class}
 use Rattle.scj_tree.specs.declared.nodes.Node.{Node}
-use Rattle.scj_tree.specs.declared.nodes.Node.TheVariants.{Class}
 use Rattle.scj_tree.specs.Forest.{joined}
 use Rattle.scj_rules.specs.declared.views.Modifiers.{Modifiers}
-use Rattle.scj_rules.specs.Views.{WrittenClass, class_at, class_of, constructor_at}
+use Rattle.scj_rules.specs.Views.{WrittenClass, class_at, constructor_at}
 use Rattle.class_headers.specs.declared.headers.Header.{Header}
-use Rattle.class_headers.specs.Columns.{superclass_by, header_by, first_node}
+use Rattle.class_headers.proofs.SoundLemmas.{node_of_class}
+use Rattle.class_headers.specs.Rows.{superclass_by, header_by, first_node}
 
 -- one file's classes more
 pub file_joined : (files : List (List ℕ)) (i : ℕ) (classes xs : List ℕ) → slice_get files i ≡ Some classes →
@@ -28,15 +28,6 @@ pub all_joined : (files : List (List ℕ)) (i : ℕ) (xs ids : List ℕ) → len
 unfolding joined
 all_joined files i xs ids h k = let e : drop i files ≡ [] = drop_all i files h in sym (append-nil xs)
     ∙ ap (λ t. xs ++ joined t) (sym e) ∙ k
-
--- a class that is read at a node is that node's
-node_of_class : (nodes : List Node) (id : ℕ) (o : Option Node) (c : WrittenClass) →
-    option_and_then (class_of nodes id) o ≡ Some c → c.node ≡ id
-unfolding class_of
-node_of_class nodes id None c h = cc
-node_of_class nodes id (Some (Class place name flags header members)) c h =
-    ap (λ (w : Option WrittenClass). elim w [ None ↦ id | Some d ↦ d.node ]) (sym h)
-node_of_class nodes id (Some _) c h = cc
 
 abbrev pub kind_by : Bool → ClassKind
 kind_by is_abstract = if is_abstract then abstract_class else concrete_class

@@ -1,4 +1,11 @@
+pub mod AlikeLemmas
 pub mod AssemblyLemmas
+pub mod ColumnLemmas
 pub mod HeaderLemmas
 pub mod IndexLemmas
+pub mod JumpLemmas
 pub mod MapLemmas
+pub mod MarkLemmas
+pub mod SoundLemmas
+pub mod SuperLemmas
+pub mod WayLemmas

@@ -5,7 +5,7 @@ use Rattle.scj_tree.specs.declared.nodes.Node.{Node}
 use Rattle.scj_tree.specs.declared.nodes.Node.TheVariants.{Constructor}
 use Rattle.scj_rules.specs.declared.scopes.Written.{Written}
 use Rattle.scj_rules.specs.Views.{WrittenClass, DeclaredConstructor, constructor_at, constructor_of}
-use Rattle.class_headers.specs.Columns.{first_node, interfaces_by}
+use Rattle.class_headers.specs.Rows.{first_node, interfaces_by}
 use Rattle.std.specs.List.{slice_get}
 use Rattle.std.specs.Option.{is_none}
 

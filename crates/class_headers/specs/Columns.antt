@@ -1,57 +1,13 @@
--- The headers of classes, column by column.
-use Rattle.std.specs.Prelude.{◌≡◌, ℕ, List, [], ◌∷◌, map, filter_map, Option, Some, None, option_map, if◌then◌else◌}
+-- The table of the headers of classes.
+use Rattle.std.specs.Prelude.{◌≡◌, ℕ, List, map}
 use Rattle.indexmap.specs.IndexMap.{get}
-use Rattle.scj_builtins.specs.declared.kinds.ClassKind.TheVariants.{Abstract as abstract_class, Concrete as concrete_class}
-use Rattle.scj_builtins.specs.declared.classes.FrameworkClass.{FrameworkClass}
-use Rattle.scj_builtins.specs.Framework.{object, framework_classes}
-use Rattle.scj_tree.specs.declared.nodes.Node.{Node}
 use Rattle.scj_tree.specs.Forest.{Forest}
-use Rattle.scj_rules.specs.declared.scopes.Written.{Written}
 use Rattle.scj_base.specs.Bytes.{is_same}
-use Rattle.scj_rules.specs.Views.{DeclaredConstructor, WrittenClass, constructor_at}
-use Rattle.scj_rules.specs.Classes.{ClassRow, class_number, framework_row, framework_rows_from}
+use Rattle.scj_rules.specs.Classes.{ClassRow, class_number}
 use Rattle.scj_rules.specs.Contexts.{declarations_of}
-use Rattle.class_headers.specs.declared.headers.Header.{Header}
 use Rattle.class_headers.specs.declared.headers.Headers.{Headers}
-
-abbrev pub first_node : List DeclaredConstructor → Option ℕ
-first_node [] = None
-first_node (c ∷ cs) = Some c.node
-
--- the header in a row
-unfoldable pub header_of : ClassRow → Header
-header_of row =
-    record {
-      node = option_map (λ (c : WrittenClass). c.node) row.written;
-      kind = row.kind;
-      superclass = row.superclass;
-      constructor = first_node row.constructors;
-    }
-
--- the same by what `find` tells of names
-unfoldable pub superclass_by : (List ℕ → Option ℕ) → Option Written → Option ℕ
-superclass_by find None = Some object
-superclass_by find (Some extends) = find extends.name
-
-abbrev pub interfaces_by : (List ℕ → Option ℕ) → List Written → List ℕ
-interfaces_by find ws = filter_map (λ (w : Written). find w.name) ws
-
-unfoldable pub header_by : List Node → (List ℕ → Option ℕ) → WrittenClass → Header
-header_by nodes find c =
-    record {
-      node = Some c.node;
-      kind = if c.modifiers.is_abstract then abstract_class else concrete_class;
-      superclass = superclass_by find c.extends;
-      constructor = first_node (filter_map (constructor_at nodes) c.members);
-    }
-
--- the header of a framework class
-abbrev pub framework_header : FrameworkClass → Header
-framework_header c = header_of (framework_row c.number c)
-
--- the headers of the framework's classes
-unfoldable pub framework_headers : List Header
-framework_headers = map header_of (framework_rows_from 0 framework_classes)
+use Rattle.class_headers.specs.Rows.{header_of}
+use Rattle.class_headers.specs.Marks.{AreMarksOf}
 
 -- the table is that of the program
 pub record IsHeadersOf (forest : Forest) (headers : Headers) : Type 0 where
@@ -59,3 +15,4 @@ pub record IsHeadersOf (forest : Forest) (headers : Headers) : Type 0 where
   pub rows : headers.rows.items ≡ map header_of (declarations_of forest).written
   pub interfaces : map (λ v. v.items) headers.interfaces.items ≡ map (λ (row : ClassRow). row.interfaces)
       (declarations_of forest).written
+  pub marks : AreMarksOf (declarations_of forest).written headers.marks

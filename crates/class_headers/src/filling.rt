@@ -6,11 +6,13 @@ ghost use Rattle.std.specs.List.{cons_option};
 ghost use Rattle.indexmap.specs.IndexMap.{get};
 ghost use Rattle.scj_base.specs.Bytes.{is_same};
 ghost use Rattle.scj_rules.specs.Views.{WrittenClass, class_at};
-ghost use Rattle.class_headers.specs.Columns.{framework_header, framework_headers, header_by, interfaces_by, IsHeadersOf};
+ghost use Rattle.class_headers.specs.Rows.{framework_header, framework_headers, header_by, interfaces_by};
+ghost use Rattle.class_headers.specs.Columns.{IsHeadersOf};
 
 use crate::headers::{Header, Headers};
 use crate::ids::class_ids;
 use crate::keys::NameKey;
+use crate::marks::marks_in;
 use crate::names::{index_of, names_of};
 use crate::parts::{user_header, user_interfaces};
 use indexmap::IndexMap;
@@ -32,7 +34,7 @@ fn framework_superclass(class: &FrameworkClass) -> Option<ClassId>
 }
 
 /// Puts the headers of these framework classes last.
-#[tactic(auto, unfolding(crate::specs::Columns::header_of, scj_rules::specs::Classes::framework_row))]
+#[tactic(auto, unfolding(crate::specs::Rows::header_of, scj_rules::specs::Classes::framework_row))]
 fn add_framework_headers(
     classes: &[FrameworkClass],
     headers: &mut Vec<Header>,
@@ -174,9 +176,11 @@ pub fn headers_in(alloc: Global, program: &Program) -> Result<Headers, Memory>
     let names = index_of(alloc, &all)?;
     let rows = headers_of(alloc, program, &names, &ids)?;
     let interfaces = interfaces_of(alloc, program, &names, &ids)?;
+    let marks = marks_in(alloc, &rows, &interfaces)?;
     Ok(Headers {
         names,
         rows,
         interfaces,
+        marks,
     })
 }

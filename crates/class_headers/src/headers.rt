@@ -1,6 +1,7 @@
 //! The table of the headers of the classes of a program.
 
 use crate::keys::NameKey;
+use crate::marks::Marks;
 use indexmap::IndexMap;
 use scj_base::{ClassId, NodeId};
 use scj_builtins::ClassKind;
@@ -27,4 +28,6 @@ pub struct Headers {
     pub rows: Vec<Header>,
     /// The interfaces of each class.
     pub interfaces: Vec<Vec<ClassId>>,
+    /// What is found along the chains.
+    pub marks: Marks,
 }

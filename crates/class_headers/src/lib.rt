@@ -1,13 +1,20 @@
-//! The headers of the classes of a program, as they are written.
+//! The headers of the classes of a program, as they are written, and what is asked of them before they count: cycles,
+//! kinds, and names that are forbidden.
 #![tactic(auto)]
 
+pub mod classes;
 pub mod filling;
 pub mod headers;
 pub mod ids;
+pub mod jumps;
 pub mod keys;
+pub mod kinds;
+pub mod marks;
 pub mod names;
 pub mod parts;
+pub mod supers;
 
+pub use classes::WrittenClasses;
 pub use filling::headers_in;
 pub use headers::{Header, Headers};
 pub use keys::{MemberKey, NameKey};

@@ -4,7 +4,7 @@ ghost use Rattle.std.specs.Prelude.{◌≡◌, [], filter_map, IfOk, option_map,
 ghost use Rattle.indexmap.specs.IndexMap.{get};
 ghost use Rattle.scj_base.specs.Bytes.{is_same};
 ghost use Rattle.scj_rules.specs.Views.{WrittenClass, class_at, constructor_at, named_super};
-ghost use Rattle.class_headers.specs.Columns.{superclass_by, interfaces_by, header_by, first_node};
+ghost use Rattle.class_headers.specs.Rows.{superclass_by, interfaces_by, header_by, first_node};
 ghost use Rattle.scj_builtins.specs.declared.kinds.ClassKind.TheVariants.{Abstract as abstract_class, Concrete as concrete_class};
 ghost use Rattle.scj_rules.specs.declared.scopes.Written.{Written};
 ghost use Rattle.scj_rules.specs.Definitions.{read};
@@ -23,7 +23,7 @@ use scj_tree::Program;
 use std::alloc::Global;
 
 /// The superclass that a class names, and `Object` where it names none.
-#[tactic(auto, unfolding(crate::specs::Columns::superclass_by))]
+#[tactic(auto, unfolding(crate::specs::Rows::superclass_by))]
 fn superclass(names: &IndexMap<NameKey, ClassId>, extends: Option<Written>) -> Option<ClassId>
     ensures { result ≡ superclass_by (get is_same names.now) extends }
 {

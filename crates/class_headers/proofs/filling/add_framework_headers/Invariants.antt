@@ -1,5 +1,5 @@
 use Rattle.std.proofs.Common.{◌≡◌, ◌++◌, map, length}
-use Rattle.class_headers.specs.Columns.{framework_header}
+use Rattle.class_headers.specs.Rows.{framework_header}
 use Rattle.class_headers.proofs.filling.add_framework_headers.Given as goal
 
 -- those that are left are still to come

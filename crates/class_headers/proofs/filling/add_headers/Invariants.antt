@@ -3,7 +3,7 @@ use Rattle.std.specs.List.{filter_map}
 use Rattle.indexmap.specs.IndexMap.{get}
 use Rattle.scj_base.specs.Bytes.{is_same}
 use Rattle.scj_rules.specs.Views.{class_at}
-use Rattle.class_headers.specs.Columns.{header_by}
+use Rattle.class_headers.specs.Rows.{header_by}
 use Rattle.class_headers.proofs.filling.add_headers.Given as goal
 
 -- those that are left are still to come

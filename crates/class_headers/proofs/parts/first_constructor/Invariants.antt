@@ -1,7 +1,7 @@
 use Rattle.std.proofs.Common.{◌≡◌, length}
 use Rattle.std.specs.List.{filter_map}
 use Rattle.scj_rules.specs.Views.{constructor_at}
-use Rattle.class_headers.specs.Columns.{first_node}
+use Rattle.class_headers.specs.Rows.{first_node}
 use Rattle.class_headers.proofs.parts.first_constructor.Given as goal
 
 -- it is the first of those that are left

@@ -4,7 +4,7 @@ use Rattle.indexmap.specs.IndexMap.{get}
 use Rattle.scj_base.specs.Bytes.{is_same}
 use Rattle.scj_rules.specs.Definitions.{read}
 use Rattle.scj_rules.specs.Views.{named_super}
-use Rattle.class_headers.specs.Columns.{interfaces_by}
+use Rattle.class_headers.specs.Rows.{interfaces_by}
 use Rattle.class_headers.proofs.parts.user_interfaces.Given as goal
 
 -- those that are left are still to come

@@ -1,0 +1,210 @@
+-- Lists with the same numbers answer tests alike, so what a name brings rests on which kinds there are, and not on
+-- their order, or on how often they stand there.
+use Rattle.std.proofs.Common.{◌≡◌, ℕ, ◌<◌, Bool, true, false, true≢false, not, ◌&&◌, ◌||◌, ◌==◌, nat_lt, if◌then◌else◌, List, [], ◌∷◌, ◌++◌, filter, flat_map, get_or, slice_get, Option, Some, None, refl, sym, ap, ◌∙◌, ⊎_elim}
+use Rattle.std.specs.List.{list_any}
+use Rattle.std.proofs.lemmas.Bool.{cases_Bool, ltb-true, and_parts, not-true}
+use Rattle.std.proofs.lemmas.List.Folds.{Any-from_list_any, list_any-append, list_any_at}
+use Rattle.std.proofs.lemmas.Map.Views.{any-filter_same}
+use Rattle.scj_builtins.specs.Framework.{mission, mission_sequencer, periodic_handler, aperiodic_handler, runnable, safelet}
+use Rattle.scj_rules.specs.declared.scopes.Written.{Written}
+use Rattle.scj_rules.specs.Words.{is_among, holds}
+use Rattle.scj_rules.specs.Classes.{ClassRow, class_number, superclasses, all_interfaces, is_kind, kinds_of, with_kinds, more_than_one, brings_too_many, is_implemented, is_forbidden_interface, forbidden_interfaces}
+use Rattle.scj_rules.proofs.ChainLemmas.{same_number, is_same_number, or_left, or_right}
+use Rattle.class_headers.specs.Kinds.{AreAlike, are_below_count}
+use Rattle.class_headers.specs.Marks.{kind_count}
+
+pub bools : (s t : Bool) → (s ≡ true → t ≡ true) → (t ≡ true → s ≡ true) → s ≡ t
+bools true t f g = sym (f refl)
+bools false true f g = g refl
+bools false false f g = refl
+
+-- a number of a list for which a test holds
+some_has : (p : ℕ → Bool) (xs : List ℕ) → list_any p xs ≡ true → (x : ℕ) × (is_among x xs ≡ true) × (p x ≡ true)
+some_has p xs h =
+    let a = Any-from_list_any p xs h in
+    (a.1, list_any_at (λ m. a.1 == m) xs a.0 a.1 a.2 (is_same_number a.1 (get_or xs a.0 a.1) (sym a.3)), a.4)
+
+has_some : (p : ℕ → Bool) (xs : List ℕ) (x : ℕ) → is_among x xs ≡ true → p x ≡ true → list_any p xs ≡ true
+has_some p xs x h k =
+    let a = Any-from_list_any (λ m. x == m) xs h in
+    list_any_at p xs a.0 a.1 a.2 (ap p (a.3 ∙ sym (same_number x a.1 a.4)) ∙ k)
+
+any_within : (p : ℕ → Bool) (xs ys : List ℕ) → ((x : ℕ) → is_among x xs ≡ true → is_among x ys ≡ true) →
+    list_any p xs ≡ true → list_any p ys ≡ true
+any_within p xs ys h k = let a = some_has p xs k in has_some p ys a.0 (h a.0 a.1) a.2
+
+pub any_alike : (p : ℕ → Bool) (xs ys : List ℕ) → ((x : ℕ) → is_among x xs ≡ is_among x ys) →
+    list_any p xs ≡ list_any p ys
+any_alike p xs ys h =
+    bools (list_any p xs) (list_any p ys) (any_within p xs ys (λ x k. sym (h x) ∙ k))
+    (any_within p ys xs (λ x k. h x ∙ k))
+
+pub any_same : (p q : ℕ → Bool) (xs : List ℕ) → ((x : ℕ) → p x ≡ q x) → list_any p xs ≡ list_any q xs
+any_same p q [] h = refl
+any_same p q (x ∷ xs) h = ap (λ (t : Bool). t || list_any p xs) (h x)
+    ∙ ap (λ (t : Bool). q x || t) (any_same p q xs h)
+
+pub any_flat : (p : ℕ → Bool) (f : ℕ → List ℕ) (xs : List ℕ) →
+    list_any (λ x. list_any p (f x)) xs ≡ list_any p (flat_map f xs)
+any_flat p f [] = refl
+any_flat p f (x ∷ xs) = ap (λ (t : Bool). list_any p (f x) || t) (any_flat p f xs)
+    ∙ sym (list_any-append p (f x) (flat_map f xs))
+
+pub any_both : (class : ℕ) (xs ys : List ℕ) →
+    list_any (λ other. not (other == class)) (xs ++ ys) ≡ (list_any (λ other. not (other == class)) xs
+    || list_any (λ other. not (other == class)) ys)
+any_both class xs ys = list_any-append (λ other. not (other == class)) xs ys
+
+pub among_both : (k : ℕ) (xs ys : List ℕ) → is_among k (xs ++ ys) ≡ (is_among k xs || is_among k ys)
+among_both k xs ys = list_any-append (λ m. k == m) xs ys
+
+or-false : (a : Bool) → (a || false) ≡ a
+or-false true = refl
+or-false false = refl
+
+or-assoc : (a b c : Bool) → ((a || b) || c) ≡ (a || (b || c))
+or-assoc true b c = refl
+or-assoc false b c = refl
+
+and-comm : (a b : Bool) → (a && b) ≡ (b && a)
+and-comm true true = refl
+and-comm true false = refl
+and-comm false true = refl
+and-comm false false = refl
+
+-- ---- kinds that are added
+
+among_new : (k x : ℕ) (before : List ℕ) (t : Bool) → is_among x before ≡ t →
+    is_among k (if t then before else before ++ x ∷ []) ≡ (is_among k before || (k == x))
+among_new k x before false e = among_both k before (x ∷ [])
+    ∙ ap (λ (b : Bool). is_among k before || b) (or-false (k == x))
+among_new k x before true e =
+    ⊎_elim
+    (λ (s : (k == x) ≡ true). let same : k ≡ x = same_number k x s in
+    let there : is_among k before ≡ true = ap (λ m. is_among m before) same ∙ e in rw there refl)
+    (λ (s : (k == x) ≡ false). rw s (sym (or-false (is_among k before))))
+    (cases_Bool (k == x))
+
+pub among_with : (k : ℕ) (before xs : List ℕ) → is_among k (with_kinds before xs) ≡ (is_among k before || is_among k xs)
+unfolding with_kinds
+among_with k before [] = sym (or-false (is_among k before))
+among_with k before (x ∷ xs) =
+    among_with k (if is_among x before then before else before ++ x ∷ []) xs
+    ∙ ap (λ (b : Bool). b || is_among k xs) (among_new k x before (is_among x before) refl)
+    ∙ or-assoc (is_among k before) (k == x) (is_among k xs)
+
+pub with_alike : (before there xs ys : List ℕ) → AreAlike before there → AreAlike xs ys →
+    AreAlike (with_kinds before xs) (with_kinds there ys)
+with_alike before there xs ys h e = record {
+  same = λ k. among_with k before xs ∙ ap (λ (b : Bool). b || is_among k xs) (h.same k)
+      ∙ ap (λ (b : Bool). is_among k there || b) (e.same k) ∙ sym (among_with k there ys);
+}
+
+pub alike : (xs : List ℕ) → AreAlike xs xs
+alike xs = record { same = λ k. refl }
+
+pub with_there : (there xs ys : List ℕ) → AreAlike xs ys → AreAlike (with_kinds there xs) (with_kinds there ys)
+with_there there xs ys h = with_alike there there xs ys (alike there) h
+
+-- ---- more than one kind
+
+-- the first of two that differ, or the other one, differs from any third
+more_is : (xs : List ℕ) → more_than_one xs ≡ list_any (λ k. list_any (λ m. not (m == k)) xs) xs
+unfolding more_than_one
+more_is [] = refl
+more_is (x ∷ xs) =
+    bools (list_any (λ m. not (m == x)) xs) (list_any (λ k. list_any (λ m. not (m == k)) (x ∷ xs)) (x ∷ xs))
+    (λ h. or_left (list_any (λ m. not (m == x)) (x ∷ xs)) _
+    (or_right (not (x == x)) (list_any (λ m. not (m == x)) xs) h))
+    (λ h. let k = some_has (λ k. list_any (λ m. not (m == k)) (x ∷ xs)) (x ∷ xs) h in
+    let m = some_has (λ m. not (m == k.0)) (x ∷ xs) k.2 in
+    ⊎_elim
+    (λ (s : (m.0 == x) ≡ true). ⊎_elim
+    (λ (t : (k.0 == x) ≡ true).
+    let same : m.0 ≡ k.0 = same_number m.0 x s ∙ sym (same_number k.0 x t) in
+    absurd (true≢false (sym (is_same_number m.0 k.0 same) ∙ not-true (m.0 == k.0) m.2)))
+    (λ (t : (k.0 == x) ≡ false). behind k.0 k.1 t)
+    (cases_Bool (k.0 == x)))
+    (λ (s : (m.0 == x) ≡ false). behind m.0 m.1 s)
+    (cases_Bool (m.0 == x)))
+  where
+    behind : (j : ℕ) → is_among j (x ∷ xs) ≡ true → (j == x) ≡ false → list_any (λ m. not (m == x)) xs ≡ true
+    behind j h e = has_some (λ m. not (m == x)) xs j (ap (λ (b : Bool). b || is_among j xs) (sym e) ∙ h) (ap not e)
+
+more_alike : (xs ys : List ℕ) → AreAlike xs ys → more_than_one xs ≡ more_than_one ys
+more_alike xs ys h =
+    more_is xs
+    ∙ any_same (λ k. list_any (λ m. not (m == k)) xs) (λ k. list_any (λ m. not (m == k)) ys) xs
+    (λ k. any_alike (λ m. not (m == k)) xs ys h.same)
+    ∙ any_alike (λ k. list_any (λ m. not (m == k)) ys) xs ys h.same ∙ sym (more_is ys)
+
+brings_alike : (before there xs ys : List ℕ) → AreAlike before there → AreAlike xs ys →
+    brings_too_many before xs ≡ brings_too_many there ys
+brings_alike before there xs ys h e =
+    let both : AreAlike (before ++ xs) (there ++ ys) = record {
+      same = λ k. among_both k before xs ∙ ap (λ (b : Bool). b || is_among k xs) (h.same k)
+          ∙ ap (λ (b : Bool). is_among k there || b) (e.same k) ∙ sym (among_both k there ys);
+    } in
+    ap (λ (b : Bool). b && more_than_one (before ++ xs))
+    (any_same (λ k. not (is_among k before)) (λ k. not (is_among k there)) xs (λ k. ap not (h.same k))
+    ∙ any_alike (λ k. not (is_among k there)) xs ys e.same)
+    ∙ ap (λ (b : Bool). list_any (λ k. not (is_among k there)) ys && b)
+    (more_alike (before ++ xs) (there ++ ys) both)
+
+pub brings_there : (there xs ys : List ℕ) → AreAlike xs ys → brings_too_many there xs ≡ brings_too_many there ys
+brings_there there xs ys h = brings_alike there there xs ys (alike there) h
+
+-- what is forbidden doesn't rest on the order of the kinds before
+pub forbidden_alike : (names : List (List ℕ)) (rows : List ClassRow) (ws : List Written) (before there : List ℕ) →
+    AreAlike before there → forbidden_interfaces names rows before ws ≡ forbidden_interfaces names rows there ws
+unfolding forbidden_interfaces
+forbidden_alike names rows [] before there h = refl
+forbidden_alike names rows (w ∷ ws) before there h =
+    go (λ xs ys e. forbidden_alike names rows ws xs ys e) (class_number names w.name)
+  where
+    go : ((xs ys : List ℕ) → AreAlike xs ys →
+        forbidden_interfaces names rows xs ws ≡ forbidden_interfaces names rows ys ws) → (o : Option ℕ)
+        → elim o as (λ _. List Written) [
+          | None ↦ forbidden_interfaces names rows before ws
+          | Some class ↦ (if is_forbidden_interface rows before class then w ∷ [] else [])
+              ++ forbidden_interfaces names rows (with_kinds before (kinds_of rows class)) ws
+        ]
+        ≡ elim o as (λ _. List Written) [
+          | None ↦ forbidden_interfaces names rows there ws
+          | Some class ↦ (if is_forbidden_interface rows there class then w ∷ [] else [])
+              ++ forbidden_interfaces names rows (with_kinds there (kinds_of rows class)) ws
+        ]
+    go later None = later before there h
+    go later (Some class) =
+        let kinds = kinds_of rows class in
+        ap (λ (t : Bool). (if (not (holds (slice_get rows class) (λ (row : ClassRow). is_implemented row.kind)) || t)
+        then w ∷ [] else []) ++ forbidden_interfaces names rows (with_kinds before kinds) ws)
+        (brings_alike before there kinds kinds h (alike kinds))
+        ∙ ap (λ (vs : List Written). (if is_forbidden_interface rows there class then w ∷ [] else []) ++ vs)
+        (later (with_kinds before kinds) (with_kinds there kinds) (with_alike before there kinds kinds h (alike kinds)))
+
+-- ---- the kinds of a class
+
+pub first_below : (kind : ℕ) (kinds : List ℕ) → are_below_count (kind ∷ kinds) ≡ true → kind < kind_count
+first_below kind kinds h = ltb-true kind kind_count (and_parts (nat_lt kind kind_count) (are_below_count kinds) h).0
+
+pub rest_below : (kind : ℕ) (kinds : List ℕ) → are_below_count (kind ∷ kinds) ≡ true → are_below_count kinds ≡ true
+rest_below kind kinds h = (and_parts (nat_lt kind kind_count) (are_below_count kinds) h).1
+
+pub kinds_alike : (rows : List ClassRow) (class : ℕ) (found : List ℕ) →
+    found ≡ filter (λ k. is_among k (superclasses rows class ++ all_interfaces rows class))
+    (mission ∷ mission_sequencer ∷ periodic_handler ∷ aperiodic_handler ∷ runnable ∷ safelet ∷ [])
+    → AreAlike found (kinds_of rows class)
+unfolding kinds_of
+kinds_alike rows class found e =
+    let all : List ℕ = superclasses rows class ++ all_interfaces rows class in
+    let kinds : List ℕ =
+    mission ∷ mission_sequencer ∷ periodic_handler ∷ aperiodic_handler ∷ runnable ∷ safelet ∷ [] in
+    record {
+      same = λ k.
+          ap (is_among k) e
+          ∙ any-filter_same (λ m. k == m) (λ j. is_among j all) (is_among k all)
+          (λ j t. ap (λ m. is_among m all) (sym (same_number k j t))) kinds
+          ∙ and-comm (is_among k all) (is_kind k)
+          ∙ sym (any-filter_same (λ m. k == m) is_kind (is_kind k) (λ j t. ap is_kind (sym (same_number k j t))) all);
+    }

@@ -1,0 +1,18 @@
+use Rattle.std.proofs.Common.{arith}
+use Rattle.std.proofs.lemmas.Grind.{common_steps}
+use Rattle.scj_rules.specs.Contexts.{declarations_of}
+use Rattle.class_headers.proofs.SuperLemmas.{one_forbidden, none_forbidden}
+use Rattle.class_headers.proofs.classes.WrittenClasses.note_interfaces.Goals as goal
+
+pub loop-others-preserved-in_ok-note_name : goal.loop-others-preserved-in_ok-note_name
+loop-others-preserved-in_ok-note_name c =
+    grind (
+      arith,
+      common_steps,
+      one_forbidden (declarations_of c.args.self.now),
+      c.in_ok-note_name.ensures.found,
+      c.in_ok-note_name.ensures.there,
+    )
+
+pub returns : goal.returns
+returns c = grind (arith, common_steps, none_forbidden (declarations_of c.args.self.now))

@@ -1,0 +1,14 @@
+use Rattle.std.proofs.Common.{map}
+use Rattle.class_headers.specs.Marks.{names_kind}
+use Rattle.class_headers.proofs.MarkLemmas.{show_none, show_more}
+use Rattle.class_headers.proofs.marks.all_implemented.Goals as goal
+
+pub loop-kind-init : goal.loop-kind-init
+loop-kind-init c =
+    rw c.new-columns.ensures.items (show_none c.args.steps.now (names_kind (map (λ v. v.items) c.args.interfaces.now)))
+
+pub loop-kind-preserved : goal.loop-kind-preserved
+loop-kind-preserved c =
+    rw c.in_ok-push.ensures.items
+    (show_more c.args.steps.now (names_kind (map (λ v. v.items) c.args.interfaces.now)) (λ v. v.items) c.loop-kind.kind
+    c.loop-kind.columns.items c.in_ok-marks.marks c.loop-kind.invariant (rw c.at.ensures at c.in_ok-marks.ensures))

@@ -1,0 +1,190 @@
+//! The classes of a program as they are written.
+
+ghost use Rattle.std.specs.Prelude.{◌≡◌, ◌<◌, length, slice_get, option_copied, option_map, option_and_then};
+ghost use Rattle.scj_rules.specs.Words.{is_among};
+ghost use Rattle.scj_rules.specs.Views.{DeclaredConstructor, WrittenClass, class_at};
+ghost use Rattle.scj_rules.specs.Classes.{ClassRow, class_number, superclass_in, interfaces_in, superclasses, all_interfaces, is_cyclic};
+ghost use Rattle.scj_rules.specs.Types.{constructor_in};
+ghost use Rattle.scj_rules.specs.Contexts.{declarations_of};
+ghost use Rattle.class_headers.specs.Rows.{header_of};
+ghost use Rattle.class_headers.specs.Marks.{kind_count};
+
+use crate::headers::{Header, Headers};
+use crate::keys::NameKey;
+use crate::marks::{is_marked, is_marked_in};
+use node_views::class_members;
+use scj_base::{ClassId, Name, NodeId};
+use scj_builtins::ClassKind;
+use scj_tree::Program;
+use std::marker::Model;
+
+/// The classes of a program as they are written: the program beside its table. A contract sees the program.
+#[derive(Drop)]
+pub struct WrittenClasses<'a> {
+    program: &'a Program,
+    headers: &'a Headers,
+}
+
+impl<'a> Model for WrittenClasses<'a> {
+    ghost use Rattle.scj_tree.specs.Forest.{Forest};
+
+    ghost Value = { Forest };
+
+    ghost use Rattle.class_headers.specs.Columns.{IsHeadersOf};
+
+    ghost view = { λ a. a.program.now };
+
+    ghost invariant = { λ a. IsHeadersOf a.program.now a.headers.now };
+}
+
+impl<'a> WrittenClasses<'a> {
+    ghost use Rattle.class_headers.specs.Columns.{IsHeadersOf};
+    ghost use Rattle.class_headers.specs.Members.{class_written, members_in};
+
+    /// The classes of a program, from the table of their headers.
+    pub fn new(program: &'a Program, headers: &'a Headers) -> WrittenClasses<'a>
+        requires { IsHeadersOf program.now headers.now }
+        ensures { result ≡ program.now }
+    {
+        WrittenClasses { program, headers }
+    }
+
+    /// The same classes once more.
+    pub fn again(&self) -> WrittenClasses<'a>
+        ensures { result ≡ self.now }
+    {
+        WrittenClasses {
+            program: self.program,
+            headers: self.headers,
+        }
+    }
+
+    /// The program.
+    pub fn program(&self) -> &'a Program
+        ensures { result.now ≡ self.now }
+    {
+        self.program
+    }
+
+    /// How many classes there are, the framework's among them.
+    #[tactic(auto, using(crate::proofs::ColumnLemmas::count_is))]
+    pub fn count(&self) -> usize
+        ensures { result ≡ length (declarations_of self.now).written }
+    {
+        self.headers.rows.len()
+    }
+
+    /// The class of a name: the first one that has it.
+    pub fn class_of(&self, name: &Name) -> Option<ClassId>
+        ensures { result ≡ class_number (declarations_of self.now).names name.now }
+    {
+        let key = NameKey::of(*name);
+        self.headers.names.get(&key).copied()
+    }
+
+    /// The header of a class.
+    #[tactic(auto, using(crate::proofs::ColumnLemmas::header_is))]
+    pub fn header(&self, class: ClassId) -> Option<&'a Header>
+        ensures { option_copied result ≡ option_map header_of (slice_get (declarations_of self.now).written class) }
+    {
+        self.headers.rows.get(class.number() as usize)
+    }
+
+    /// What a class may be used for.
+    #[tactic(auto, using(crate::proofs::ColumnLemmas::kind_of))]
+    pub fn kind(&self, class: ClassId) -> Option<ClassKind>
+        ensures { result ≡ option_map (λ (row : ClassRow). row.kind)
+            (slice_get (declarations_of self.now).written class) }
+    {
+        let header = self.header(class)?;
+        Some(header.kind)
+    }
+
+    /// The superclass.
+    #[tactic(auto, using(crate::proofs::ColumnLemmas::superclass_is))]
+    pub fn superclass(&self, class: ClassId) -> Option<ClassId>
+        ensures { result ≡ superclass_in (declarations_of self.now).written class }
+    {
+        let header = self.header(class)?;
+        header.superclass
+    }
+
+    /// The interfaces.
+    pub fn interfaces(&self, class: ClassId) -> &'a [ClassId]
+        ensures { result.now ≡ interfaces_in (declarations_of self.now).written class }
+    {
+        let at = class.number() as usize;
+        if at >= self.headers.interfaces.len() {
+            return &[];
+        }
+        let interfaces = &self.headers.interfaces[at];
+        interfaces.as_slice()
+    }
+
+    /// The node that the table has of a class.
+    #[tactic(auto, using(crate::proofs::ColumnLemmas::node_is))]
+    fn node(&self, class: ClassId) -> Option<NodeId>
+        ensures { result ≡ option_map (λ (c : WrittenClass). c.node) (class_written (declarations_of self.now) class) }
+    {
+        let header = self.header(class)?;
+        header.node
+    }
+
+    /// The node of a user class.
+    #[tactic(auto, using(crate::proofs::SoundLemmas::class_at_node))]
+    pub fn class_node(&self, class: ClassId) -> Option<NodeId>
+        ensures node { result ≡ option_map (λ (c : WrittenClass). c.node)
+            (class_written (declarations_of self.now) class) }
+        ensures class { option_and_then (class_at self.now.nodes) result ≡ class_written
+            (declarations_of self.now) class }
+    {
+        self.node(class)
+    }
+
+    /// The members of a user class, in the order of the source.
+    #[tactic(auto, unfolding(crate::specs::Members::members_in))]
+    pub fn members(&self, class: ClassId) -> &'a [NodeId]
+        ensures { result.now ≡ members_in (declarations_of self.now) class }
+    {
+        match self.class_node(class) {
+            Some(node) => class_members(self.program, node),
+            None => &[],
+        }
+    }
+
+    /// The first constructor of a class.
+    #[tactic(auto, using(crate::proofs::ColumnLemmas::constructor_is))]
+    pub fn constructor(&self, class: ClassId) -> Option<NodeId>
+        ensures { result ≡ option_map (λ (c : DeclaredConstructor). c.node)
+            (constructor_in (declarations_of self.now).written class) }
+    {
+        let header = self.header(class)?;
+        header.constructor
+    }
+
+    /// Whether the superclasses come back to the class.
+    #[tactic(auto, using(crate::proofs::ColumnLemmas::cyclic_is))]
+    pub fn is_cyclic(&self, class: ClassId) -> bool
+        ensures { result ≡ is_cyclic (declarations_of self.now).written class }
+    {
+        is_marked(&self.headers.marks.cyclic, class)
+    }
+
+    /// Whether a class is the kind or stands under it by superclasses.
+    #[tactic(auto, using(crate::proofs::ColumnLemmas::above_is))]
+    pub fn is_under(&self, class: ClassId, kind: ClassId) -> bool
+        requires { kind < kind_count }
+        ensures { result ≡ is_among kind (superclasses (declarations_of self.now).written class) }
+    {
+        is_marked_in(&self.headers.marks.above, kind, class)
+    }
+
+    /// Whether a class of the chain implements the kind.
+    #[tactic(auto, using(crate::proofs::ColumnLemmas::implemented_is))]
+    pub fn implements(&self, class: ClassId, kind: ClassId) -> bool
+        requires { kind < kind_count }
+        ensures { result ≡ is_among kind (all_interfaces (declarations_of self.now).written class) }
+    {
+        is_marked_in(&self.headers.marks.implemented, kind, class)
+    }
+}

@@ -1,5 +1,0 @@
-pub mod ColumnLemmas
-pub mod KindLemmas
-pub mod SoundLemmas
-pub mod SuperLemmas
-pub mod WalkLemmas
