@@ -47,49 +47,13 @@ impl<'a> Chain<'a> {
     }
 }
 
-/// A walk along the interfaces of the classes of a chain. A contract sees the interfaces that are left.
-#[derive(Drop)]
-pub struct Interfaces<'a> {
-    classes: Classes<'a>,
-    chain: Chain<'a>,
-    current: &'a [ClassId],
-}
-
-impl<'a> Model for Interfaces<'a> {
-    ghost use Rattle.std.specs.Prelude.{List, ℕ};
-
-    ghost Value = { List ℕ };
-
-    ghost use Rattle.class_rows.specs.Walks.{interfaces_from};
-
-    ghost view = { λ a. interfaces_from a.classes a.current.now a.chain };
-}
-
-impl<'a> Interfaces<'a> {
-    /// The next interface, which is left no more.
-    #[tactic(auto, unfolding(crate::specs::Walks::interfaces_from))]
-    pub fn next(&mut self) -> Option<ClassId>
-        ensures more { IfSome result (λ class. self.old ≡ class ∷ self.new) }
-        ensures end { IfNone result (self.old ≡ [] × self.new ≡ []) }
-    {
-        loop {
-            if let [first, rest @ ..] = self.current {
-                self.current = rest;
-                return Some(*first);
-            }
-            match self.chain.next() {
-                Some(class) => self.current = self.classes.interfaces(class),
-                None => return None,
-            }
-        }
-    }
-}
-
-/// A walk along classes and then along interfaces. A contract sees those that are left.
+/// A walk along classes, and then along the interfaces of the classes of a chain. A contract sees those that are left.
 #[derive(Drop)]
 pub struct Ancestors<'a> {
     chain: Chain<'a>,
-    interfaces: Interfaces<'a>,
+    classes: Classes<'a>,
+    below: Chain<'a>,
+    current: &'a [ClassId],
 }
 
 impl<'a> Model for Ancestors<'a> {
@@ -97,18 +61,30 @@ impl<'a> Model for Ancestors<'a> {
 
     ghost Value = { List ℕ };
 
-    ghost view = { λ a. a.chain ++ a.interfaces };
+    ghost use Rattle.class_rows.specs.Walks.{interfaces_from};
+
+    ghost view = { λ a. a.chain ++ interfaces_from a.classes a.current.now a.below };
 }
 
 impl<'a> Ancestors<'a> {
     /// The next class or interface, which is left no more.
+    #[tactic(auto, unfolding(crate::specs::Walks::interfaces_from))]
     pub fn next(&mut self) -> Option<ClassId>
         ensures more { IfSome result (λ class. self.old ≡ class ∷ self.new) }
         ensures end { IfNone result (self.old ≡ [] × self.new ≡ []) }
     {
-        match self.chain.next() {
-            Some(class) => Some(class),
-            None => self.interfaces.next(),
+        if let Some(class) = self.chain.next() {
+            return Some(class);
+        }
+        loop {
+            if let [first, rest @ ..] = self.current {
+                self.current = rest;
+                return Some(*first);
+            }
+            match self.below.next() {
+                Some(class) => self.current = self.classes.interfaces(class),
+                None => return None,
+            }
         }
     }
 }
@@ -148,16 +124,30 @@ impl<'a> Classes<'a> {
         }
     }
 
-    /// The interfaces of the class and of those above it.
+    /// These classes, and then the interfaces of a class and of those above it.
     #[tactic(auto, unfolding(crate::specs::Walks::interfaces_from, scj_rules::specs::Classes::all_interfaces))]
-    pub fn all_interfaces(&self, class: ClassId) -> Interfaces<'a>
-        ensures { result ≡ all_interfaces (declarations_of self.now).classes class }
+    fn then_interfaces(&self, chain: Chain<'a>, class: ClassId) -> Ancestors<'a>
+        ensures { result ≡ chain.entry ++ all_interfaces (declarations_of self.now).classes class }
     {
-        Interfaces {
+        Ancestors {
+            chain,
             classes: self.again(),
-            chain: self.superclasses(class),
+            below: self.superclasses(class),
             current: &[],
         }
+    }
+
+    /// The interfaces of the class and of those above it.
+    #[tactic(auto, unfolding(crate::specs::Walks::chain_from))]
+    pub fn all_interfaces(&self, class: ClassId) -> Ancestors<'a>
+        ensures { result ≡ all_interfaces (declarations_of self.now).classes class }
+    {
+        let none = Chain {
+            classes: self.again(),
+            at: None,
+            left: 0,
+        };
+        self.then_interfaces(none, class)
     }
 
     /// The class, those above it, and their interfaces.
@@ -165,10 +155,7 @@ impl<'a> Classes<'a> {
         ensures { result ≡ superclasses (declarations_of self.now).classes class
             ++ all_interfaces (declarations_of self.now).classes class }
     {
-        Ancestors {
-            chain: self.superclasses(class),
-            interfaces: self.all_interfaces(class),
-        }
+        self.then_interfaces(self.superclasses(class), class)
     }
 
     /// The classes above a class, and the interfaces of it and of those.
@@ -176,9 +163,6 @@ impl<'a> Classes<'a> {
         ensures { result ≡ classes_above (declarations_of self.now).classes class
             ++ all_interfaces (declarations_of self.now).classes class }
     {
-        Ancestors {
-            chain: self.classes_above(class),
-            interfaces: self.all_interfaces(class),
-        }
+        self.then_interfaces(self.classes_above(class), class)
     }
 }

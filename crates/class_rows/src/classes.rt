@@ -1,16 +1,18 @@
 //! The classes of a program with their look-ups.
 
-ghost use Rattle.std.specs.Prelude.{◌≡◌, ◌<◌, length, slice_get, option_copied, option_map, option_and_then};
+ghost use Rattle.std.specs.Prelude.{◌≡◌, ◌<◌, length, slice_get, option_map, option_and_then};
 ghost use Rattle.scj_rules.specs.Views.{DeclaredConstructor, WrittenClass, class_at, constructor_at};
 ghost use Rattle.scj_rules.specs.Classes.{ClassRow, class_number, superclass_in, superclasses, interfaces_in, all_interfaces, is_cyclic};
 ghost use Rattle.scj_rules.specs.Words.{is_among};
 ghost use Rattle.scj_builtins.specs.Framework.{mission, safelet};
 ghost use Rattle.scj_rules.specs.Contexts.{declarations_of};
 ghost use Rattle.scj_rules.specs.Types.{constructor_in};
+ghost use Rattle.scj_tree.specs.Recursion.{lookup};
+ghost use Rattle.class_rows.specs.Tables.{no_marks};
 
 use crate::tables::{ClassTable, Marks};
-use class_marks::WrittenClasses;
-use scj_base::ids::OBJECT;
+use class_headers::WrittenClasses;
+use scj_base::ids::{OBJECT, SAFELET};
 use scj_base::{ClassId, Name, NodeId};
 use scj_builtins::ClassKind;
 use scj_tree::Program;
@@ -35,8 +37,21 @@ impl<'a> Model for Classes<'a> {
     ghost invariant = { λ a. IsTableOf a.program.now a.table.now };
 }
 
+/// What is found of a class among what is found of each.
+fn marks_at(all: &[Marks], class: ClassId) -> Marks
+    ensures { result ≡ lookup no_marks all.now class }
+{
+    match all.get(class.number() as usize) {
+        Some(marks) => *marks,
+        None => Marks {
+            is_mission: false,
+            is_well_headed: true,
+        },
+    }
+}
+
 impl<'a> Classes<'a> {
-    ghost use Rattle.class_rows.specs.Tables.{IsTableOf, class_written, members_in, marks_of};
+    ghost use Rattle.class_rows.specs.Tables.{IsTableOf, class_written, is_good_header, members_in};
 
     /// The classes of a program, from its table.
     pub fn new(program: &'a Program, table: &'a ClassTable) -> Classes<'a>
@@ -75,12 +90,13 @@ impl<'a> Classes<'a> {
         self.written().class_of(name)
     }
 
-    /// What is found of a class.
-    fn marks(&self, class: ClassId) -> Option<&'a Marks>
-        ensures { option_copied result ≡ option_map (marks_of (declarations_of self.now) class)
-            (slice_get (declarations_of self.now).written class) }
+    /// Whether nothing in the header of a class is forbidden.
+    #[tactic(auto, using(crate::proofs::BuildingLemmas::well_headed_is))]
+    fn is_well_headed(&self, class: ClassId) -> bool
+        ensures { result ≡ is_good_header (declarations_of self.now) class
+            (class_written (declarations_of self.now) class) }
     {
-        self.table.marks.get(class.number() as usize)
+        marks_at(&self.table.marks, class).is_well_headed
     }
 
     /// What a class may be used for.
@@ -120,16 +136,10 @@ impl<'a> Classes<'a> {
     pub fn superclass(&self, class: ClassId) -> Option<ClassId>
         ensures { result ≡ superclass_in (declarations_of self.now).classes class }
     {
-        match self.marks(class) {
-            Some(marks) => {
-                if marks.is_well_headed {
-                    self.superclass_written(class)
-                } else {
-                    Some(OBJECT)
-                }
-            }
-            None => None,
+        if self.is_well_headed(class) {
+            return self.superclass_written(class);
         }
+        Some(OBJECT)
     }
 
     /// The interfaces as they are written.
@@ -143,16 +153,10 @@ impl<'a> Classes<'a> {
     pub fn interfaces(&self, class: ClassId) -> &'a [ClassId]
         ensures { result.now ≡ interfaces_in (declarations_of self.now).classes class }
     {
-        match self.marks(class) {
-            Some(marks) => {
-                if marks.is_well_headed {
-                    self.interfaces_written(class)
-                } else {
-                    &[]
-                }
-            }
-            None => &[],
+        if self.is_well_headed(class) {
+            return self.interfaces_written(class);
         }
+        &[]
     }
 
     /// Whether the superclasses as they are written come back to the class.
@@ -160,21 +164,16 @@ impl<'a> Classes<'a> {
         requires { class < length (declarations_of self.now).classes }
         ensures { result ≡ is_cyclic (declarations_of self.now).written class }
     {
-        match self.marks(class) {
-            Some(marks) => marks.is_cyclic,
-            None => false,
-        }
+        self.written().is_cyclic(class)
     }
 
     /// Whether `Mission` stands among the superclasses as they are written.
+    #[tactic(auto, using(crate::proofs::BuildingLemmas::mission_is))]
     pub fn is_mission_written(&self, class: ClassId) -> bool
         requires { class < length (declarations_of self.now).classes }
         ensures { result ≡ is_among mission (superclasses (declarations_of self.now).written class) }
     {
-        match self.marks(class) {
-            Some(marks) => marks.is_mission,
-            None => false,
-        }
+        marks_at(&self.table.marks, class).is_mission
     }
 
     /// Whether a class of the chain, as it is written, implements `Safelet`.
@@ -182,29 +181,17 @@ impl<'a> Classes<'a> {
         requires { class < length (declarations_of self.now).classes }
         ensures { result ≡ is_among safelet (all_interfaces (declarations_of self.now).written class) }
     {
-        match self.marks(class) {
-            Some(marks) => marks.is_safelet,
-            None => false,
-        }
-    }
-
-    /// The node that the table has of the first constructor of a class.
-    #[tactic(auto, using(crate::proofs::RowLemmas::constructor_is))]
-    fn first_constructor(&self, class: ClassId) -> Option<NodeId>
-        ensures { result ≡ option_map (λ (c : DeclaredConstructor). c.node)
-            (constructor_in (declarations_of self.now).classes class) }
-    {
-        self.written().constructor(class)
+        self.written().implements(class, SAFELET)
     }
 
     /// The node of the first constructor of a class.
-    #[tactic(auto, using(crate::proofs::ConstructorLemmas::constructor_whole))]
+    #[tactic(auto, using(crate::proofs::OwnLemmas::constructor_is, crate::proofs::OwnLemmas::constructor_whole))]
     pub fn constructor_in(&self, class: ClassId) -> Option<NodeId>
         ensures node { result ≡ option_map (λ (c : DeclaredConstructor). c.node)
             (constructor_in (declarations_of self.now).classes class) }
         ensures whole { option_and_then (constructor_at self.now.nodes) result ≡ constructor_in
             (declarations_of self.now).classes class }
     {
-        self.first_constructor(class)
+        self.written().constructor(class)
     }
 }

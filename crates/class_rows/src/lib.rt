@@ -6,6 +6,7 @@ pub mod chains;
 pub mod classes;
 pub mod fields;
 pub mod lookups;
+pub mod members;
 pub mod tables;
 
 pub use classes::Classes;

@@ -1,15 +1,18 @@
 //! Whether a class stands under another, and look-ups of members by name.
 
 ghost use Rattle.std.specs.Prelude.{◌≡◌, ◌<◌, ◌≤◌, option_map};
-ghost use Rattle.scj_rules.specs.Words.{is_among};
-ghost use Rattle.scj_rules.specs.Classes.{superclasses, all_interfaces, is_sub, own_field, field_named, own_method, method_named, method_above, framework_row_named, field_number, method_number, first_user_class};
+ghost use Rattle.scj_rules.specs.Words.{along, is_among};
+ghost use Rattle.scj_rules.specs.Classes.{superclasses, all_interfaces, is_sub, own_field, field_named, own_method, method_named, method_above, framework_row_named, field_nodes, field_number, method_nodes, method_number, first_user_class};
 ghost use Rattle.scj_rules.specs.Contexts.{declarations_of};
 ghost use Rattle.method_rows.specs.Methods.{found_method};
 ghost use Rattle.class_rows.specs.Fields.{found_field};
-ghost use Rattle.class_rows.specs.Tables.{field_among, method_among, members_in};
+ghost use Rattle.class_rows.specs.Members.{first_named};
+ghost use Rattle.class_rows.specs.Tables.{members_in};
 
+use crate::chains::Ancestors;
 use crate::classes::Classes;
 use crate::fields::FieldRef;
+use crate::members::MemberKind;
 use class_headers::{MemberKey, NameKey};
 use method_rows::{MethodRef, MethodSource, framework_method};
 use scj_base::{ClassId, FieldId, MethodId, Name, NodeId};
@@ -50,15 +53,18 @@ impl<'a> Classes<'a> {
         self.is_under(class, above) || self.implements(class, above)
     }
 
-    /// The node of the first field of a name that a class declares itself.
-    fn field_node(&self, class: ClassId, name: &Name) -> Option<NodeId>
-        ensures { result ≡ field_among self.now.nodes name.now (members_in (declarations_of self.now) class) }
+    /// The node of the first member of a kind and a name that a user class declares itself.
+    fn member(&self, kind: MemberKind, class: ClassId, name: &Name) -> Option<NodeId>
+        ensures { result ≡ first_named kind self.now.nodes name.now (members_in (declarations_of self.now) class) }
     {
         let key = MemberKey {
             class: class.number(),
             name: NameKey::of(*name),
         };
-        self.table.fields.get(&key).copied()
+        match kind {
+            MemberKind::Field => self.table.fields.named.get(&key).copied(),
+            MemberKind::Method => self.table.methods.named.get(&key).copied(),
+        }
     }
 
     /// The first field of a name that a class declares itself.
@@ -66,21 +72,10 @@ impl<'a> Classes<'a> {
         ensures { option_map (found_field self.now.nodes) result ≡ own_field (declarations_of self.now).classes name.now
             class }
     {
-        match self.field_node(class, name) {
+        match self.member(MemberKind::Field, class, name) {
             Some(node) => Some(FieldRef { on: class, node }),
             None => None,
         }
-    }
-
-    /// The node of the first method of a name that a user class declares itself.
-    fn method_node(&self, class: ClassId, name: &Name) -> Option<NodeId>
-        ensures { result ≡ method_among self.now.nodes name.now (members_in (declarations_of self.now) class) }
-    {
-        let key = MemberKey {
-            class: class.number(),
-            name: NameKey::of(*name),
-        };
-        self.table.methods.get(&key).copied()
     }
 
     /// The first method of a name that a class declares itself.
@@ -116,7 +111,7 @@ impl<'a> Classes<'a> {
         ensures { option_map (found_method self.now.nodes) result ≡ own_method (declarations_of self.now).classes
             name.now class }
     {
-        match self.method_node(class, name) {
+        match self.member(MemberKind::Method, class, name) {
             Some(node) => Some(MethodRef {
                 on: class,
                 source: MethodSource::Declared(node),
@@ -140,14 +135,14 @@ impl<'a> Classes<'a> {
         None
     }
 
-    /// The method of a name that a class has: the nearest declaration above, or else an interface's.
-    #[tactic(auto, using(crate::proofs::WalkLemmas::along_found, crate::proofs::WalkLemmas::along_next, crate::proofs::WalkLemmas::along_end), unfolding(scj_rules::specs::Classes::method_named))]
-    pub fn method_named(&self, class: ClassId, name: &Name) -> Option<MethodRef>
-        ensures { option_map (found_method self.now.nodes) result ≡ method_named (declarations_of self.now).classes
-            class name.now }
+    /// The first method of a name that one of these declares itself.
+    #[tactic(auto, using(crate::proofs::WalkLemmas::along_found, crate::proofs::WalkLemmas::along_next, crate::proofs::WalkLemmas::along_end))]
+    fn first_method(&self, ancestors: Ancestors<'_>, name: &Name) -> Option<MethodRef>
+        ensures { option_map (found_method self.now.nodes) result ≡ along
+            (own_method (declarations_of self.now).classes name.now) ancestors.entry }
     {
-        let mut ancestors = self.ancestors(class);
-        while let Some(at) = ancestors.next() {
+        let mut others = ancestors;
+        while let Some(at) = others.next() {
             if let Some(method) = self.own_method(at, name) {
                 return Some(method);
             }
@@ -155,19 +150,22 @@ impl<'a> Classes<'a> {
         None
     }
 
+    /// The method of a name that a class has: the nearest declaration above, or else an interface's.
+    #[tactic(auto, unfolding(scj_rules::specs::Classes::method_named))]
+    pub fn method_named(&self, class: ClassId, name: &Name) -> Option<MethodRef>
+        ensures { option_map (found_method self.now.nodes) result ≡ method_named (declarations_of self.now).classes
+            class name.now }
+    {
+        self.first_method(self.ancestors(class), name)
+    }
+
     /// What a declaration of the name in the class overrides.
-    #[tactic(auto, using(crate::proofs::WalkLemmas::along_found, crate::proofs::WalkLemmas::along_next, crate::proofs::WalkLemmas::along_end), unfolding(scj_rules::specs::Classes::method_above))]
+    #[tactic(auto, unfolding(scj_rules::specs::Classes::method_above))]
     pub fn method_above(&self, class: ClassId, name: &Name) -> Option<MethodRef>
         ensures { option_map (found_method self.now.nodes) result ≡ method_above (declarations_of self.now).classes
             class name.now }
     {
-        let mut ancestors = self.ancestors_above(class);
-        while let Some(at) = ancestors.next() {
-            if let Some(method) = self.own_method(at, name) {
-                return Some(method);
-            }
-        }
-        None
+        self.first_method(self.ancestors_above(class), name)
     }
 
     /// The framework's own method of the name, where the class stands under the framework class or implements it.
@@ -187,21 +185,39 @@ impl<'a> Classes<'a> {
         None
     }
 
+    /// The nodes of the fields in the order of their numbers.
+    #[tactic(auto, unfolding(crate::specs::Members::member_nodes))]
+    pub fn field_nodes(&self) -> &'a [NodeId]
+        ensures { result.now ≡ field_nodes (declarations_of self.now).classes }
+    {
+        self.table.fields.nodes.as_slice()
+    }
+
+    /// The nodes of the declared methods and constructors in the order of their numbers.
+    #[tactic(auto, unfolding(crate::specs::Members::member_nodes))]
+    pub fn method_nodes(&self) -> &'a [NodeId]
+        ensures { result.now ≡ method_nodes self.now.nodes (declarations_of self.now).users }
+    {
+        self.table.methods.nodes.as_slice()
+    }
+
     /// The number of the field that a node declares.
+    #[tactic(auto, unfolding(crate::specs::Members::number_at))]
     pub fn field_number(&self, node: NodeId) -> Option<FieldId>
         ensures { result ≡ field_number (declarations_of self.now).classes node }
     {
         let place = node.place();
-        let number = self.table.field_numbers.get(&place).copied()?;
+        let number = self.table.fields.numbers.get(&place).copied()?;
         Some(FieldId::at(number))
     }
 
     /// The number of the method or constructor that a node declares.
+    #[tactic(auto, unfolding(crate::specs::Members::number_at))]
     pub fn method_number(&self, node: NodeId) -> Option<MethodId>
         ensures { result ≡ method_number self.now.nodes (declarations_of self.now).users node }
     {
         let place = node.place();
-        let number = self.table.method_numbers.get(&place).copied()?;
+        let number = self.table.methods.numbers.get(&place).copied()?;
         Some(MethodId::at(number))
     }
 }

@@ -7,7 +7,7 @@ use Rattle.scj_tree.specs.Forest.{Forest}
 use Rattle.scj_tree.specs.Recursion.{lookup}
 use Rattle.scj_base.specs.Bytes.{is_same}
 use Rattle.scj_rules.specs.Words.{holds, or_else, chain}
-use Rattle.scj_rules.specs.Views.{variable_at, modifiers_at}
+use Rattle.scj_rules.specs.Views.{variable_at}
 use Rattle.scj_rules.specs.declared.views.Declared.{Declared}
 use Rattle.scj_rules.specs.declared.contexts.Context.{Context}
 use Rattle.scj_rules.specs.Contexts.{outermost, number_of_class, is_member, is_super_call, those_before, parameters_before, parent_in, contexts_in, Declarations, context}
@@ -45,10 +45,6 @@ told_from forest first id =
 -- the node declares a variable of the name
 abbrev pub declares : List Node → List ℕ → ℕ → Bool
 declares nodes name id = holds (variable_at nodes id) (λ (d : Declared). is_same name d.name)
-
--- these annotations and modifiers have `static`
-abbrev pub static_flags : List Node → Option ℕ → Bool
-static_flags nodes flags = (modifiers_at nodes flags).is_static
 
 -- the variables from one on, the last first: at most so many
 abbrev pub on_from : Declarations → ℕ → Option ℕ → List ℕ

@@ -1,7 +1,7 @@
 //! The contexts of the nodes of a program: where each stands, and what is known there.
 #![tactic(auto)]
 
-mod class_numbers;
+pub mod class_numbers;
 pub mod contexts;
 mod kinds;
 mod rows;

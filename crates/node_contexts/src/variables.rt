@@ -4,9 +4,10 @@ ghost use Rattle.std.specs.Prelude.{◌≡◌, ◌≤◌, List, ℕ, Option, len
 ghost use Rattle.scj_tree.specs.Forest.{Forest};
 ghost use Rattle.scj_rules.specs.Definitions.{read};
 ghost use Rattle.scj_rules.specs.Contexts.{declarations_of, contexts_in, variable_named, has_object, is_static_member, member_flags};
-ghost use Rattle.node_contexts.specs.Steps.{declares, static_flags};
+ghost use Rattle.node_contexts.specs.Steps.{declares};
 
 use crate::contexts::Contexts;
+use node_views::is_static_at;
 use scj_base::{Name, NodeId};
 use scj_tree::{Node, Program};
 
@@ -59,26 +60,12 @@ fn member_flags(program: &Program, member: NodeId) -> Option<Option<NodeId>>
     }
 }
 
-/// Whether these annotations and modifiers have `static`.
-#[tactic(auto, unfolding(scj_rules::specs::Views::modifiers_of))]
-fn has_static(program: &Program, flags: Option<NodeId>) -> bool
-    ensures { result ≡ static_flags program.now.nodes flags }
-{
-    let Some(flags) = flags else {
-        return false;
-    };
-    match program.get(flags) {
-        Some(Node::Flags { is_static, .. }) => *is_static,
-        _ => false,
-    }
-}
-
 /// Whether a member is static.
 pub fn is_static_member(program: &Program, member: NodeId) -> bool
     ensures { result ≡ is_static_member program.now.nodes member }
 {
     match member_flags(program, member) {
-        Some(flags) => has_static(program, flags),
+        Some(flags) => is_static_at(program, flags),
         None => false,
     }
 }

@@ -12,10 +12,9 @@ use Rattle.scj_rules.specs.Contexts.{Declarations, declarations_of}
 use Rattle.scj_rules.specs.Layout.{kind_of_type, literal_written, declared_fields}
 use Rattle.scj_rules.specs.declared.views.Declared.{Declared}
 use Rattle.scj_rules.specs.declared.views.WrittenType.{WrittenType}
-use Rattle.class_members.proofs.ListLemmas.{field_there}
-use Rattle.class_rows.specs.Tables.{members_in, class_written}
-use Rattle.class_rows.proofs.RowLemmas.{class_get, counted, counted_is, kept}
-use Rattle.class_rows.proofs.SoundLemmas.{row_sound, members_of}
+use Rattle.class_rows.proofs.FieldLemmas.{field_there}
+use Rattle.class_rows.proofs.OwnLemmas.{fields_in, fields_at}
+use Rattle.class_rows.specs.Tables.{members_in}
 use Rattle.object_layout.specs.Fields.{kind_of_field, kind_at, static_row, static_at, is_static_at, is_instance_at}
 
 -- ---- single fields
@@ -111,27 +110,6 @@ pub read_again : (nodes : List Node) (fs : List Declared) → AreRead nodes fs �
 unfolding AreRead
 read_again nodes [] r = refl
 read_again nodes (f ∷ fs) r = rw r.0 (ap (λ gs. f ∷ gs) (read_again nodes fs r.1))
-
--- ---- the fields of a class
-
-abbrev pub fields_in : Option ClassRow → List Declared
-fields_in o = elim o [ None ↦ [] | Some row ↦ row.fields ]
-
-counted_fields : (p : Declarations) (class : ℕ) (row : ClassRow) → (counted p class row).fields ≡ row.fields
-counted_fields p class row = ap (λ (r : ClassRow). r.fields) (counted_is p class row)
-    ∙ kept (λ (r : ClassRow). r.fields) row _ refl
-
-pub fields_at : (forest : Forest) (class : ℕ) → fields_in (slice_get (declarations_of forest).classes class)
-    ≡ filter_map (field_at forest.nodes) (members_in (declarations_of forest) class)
-unfolding members_in class_written
-fields_at forest class =
-    ap fields_in (class_get forest class) ∙ go (slice_get (declarations_of forest).written class) refl
-  where
-    go : (o : Option ClassRow) → slice_get (declarations_of forest).written class ≡ o
-        → fields_in (option_map (counted (declarations_of forest) class) o) ≡ filter_map (field_at forest.nodes)
-        (members_of (option_and_then (λ (row : ClassRow). row.written) o))
-    go None e = refl
-    go (Some row) e = counted_fields (declarations_of forest) class row ∙ (row_sound forest class row e).fields
 
 -- ---- all fields
 

@@ -187,14 +187,13 @@ static_place_by_table forest table field h =
     ∙ flat (λ (f : Declared). place_among (static_fields p) f) (slice_get (declared_fields p) field)
 
 -- the table, from the list of the nodes of the fields
-pub table_is : (forest : Forest) (table : FieldTable) → table.nodes.items ≡ field_nodes
-    (declarations_of forest).classes → table.kinds.items ≡ filter_map (kind_at forest.nodes) table.nodes.items
+pub table_is : (forest : Forest) (table : FieldTable) (nodes : List ℕ) → nodes ≡ field_nodes
+    (declarations_of forest).classes → table.kinds.items ≡ filter_map (kind_at forest.nodes) nodes
     → table.static_places.items ≡ map (λ (id : ℕ). position (λ other. id == other)
-    (filter (is_static_at forest.nodes) table.nodes.items)) table.nodes.items
-    → table.statics.items ≡ filter_map (static_at forest.nodes) table.nodes.items → IsFieldTableOf forest table
-table_is forest table n k s t =
+    (filter (is_static_at forest.nodes) nodes)) nodes
+    → table.statics.items ≡ filter_map (static_at forest.nodes) nodes → IsFieldTableOf forest table
+table_is forest table nodes n k s t =
     record {
-      nodes = n;
       kinds = k ∙ ap (filter_map (kind_at forest.nodes)) n ∙ kinds_are forest;
       static_places = s
           ∙ ap (λ (ids : List ℕ). map (λ (id : ℕ). position (λ other. id == other)

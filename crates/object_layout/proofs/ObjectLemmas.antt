@@ -22,7 +22,8 @@ use Rattle.object_layout.specs.Fields.{kind_of_field, kind_at, is_instance_at}
 use Rattle.object_layout.specs.ObjectTables.{nodes_of_fields, own_nodes, instance_nodes, instance_kinds, literal_nodes, all_own_nodes, IsObjectRowOf, AreObjectRows}
 use Rattle.object_layout.specs.declared.objects.ObjectRow.{ObjectRow}
 use Rattle.object_layout.proofs.BodyLemmas.{nodes_are}
-use Rattle.object_layout.proofs.FieldLemmas.{AreRead, read_at, read_both, read_again, fields_in, fields_at, node_is}
+use Rattle.class_rows.proofs.OwnLemmas.{fields_in, fields_at}
+use Rattle.object_layout.proofs.FieldLemmas.{AreRead, read_at, read_both, read_again, node_is}
 use Rattle.object_layout.proofs.FieldTableLemmas.{kinds_read}
 
 abbrev is_instance : Declared → Bool

@@ -1,7 +1,6 @@
 -- What the table of the fields holds.
 use Rattle.std.specs.Prelude.{◌≡◌, ℕ, List, Option, map}
 use Rattle.scj_tree.specs.Forest.{Forest}
-use Rattle.scj_rules.specs.Classes.{field_nodes}
 use Rattle.scj_rules.specs.Contexts.{Declarations, declarations_of}
 use Rattle.scj_rules.specs.Layout.{declared_fields, static_fields, place_among}
 use Rattle.scj_rules.specs.declared.views.Declared.{Declared}
@@ -14,7 +13,6 @@ places_among_statics p = map (λ (f : Declared). place_among (static_fields p) f
 
 -- the columns have at the number of each field what is said of it
 pub record IsFieldTableOf (forest : Forest) (table : FieldTable) : Type 0 where
-  pub nodes : table.nodes.items ≡ field_nodes (declarations_of forest).classes
   pub kinds : table.kinds.items ≡ map kind_of_field (declared_fields (declarations_of forest))
   pub static_places : table.static_places.items ≡ places_among_statics (declarations_of forest)
   pub statics : table.statics.items ≡ map (static_row forest.nodes) (static_fields (declarations_of forest))

@@ -1,7 +1,6 @@
 -- What the tables of a layout hold.
 use Rattle.std.specs.Prelude.{◌≡◌}
 use Rattle.scj_tree.specs.Forest.{Forest}
-use Rattle.scj_rules.specs.Classes.{method_nodes}
 use Rattle.scj_rules.specs.Contexts.{declarations_of}
 use Rattle.scj_rules.specs.Bodies.{safelet_class}
 use Rattle.scope_tree.specs.Trees.{IsTreeOf}
@@ -13,7 +12,6 @@ use Rattle.object_layout.specs.declared.tables.Tables.{Tables}
 -- the tables are those of the program
 pub record AreTablesOf (forest : Forest) (tables : Tables) : Type 0 where
   pub scopes : IsTreeOf forest tables.scopes
-  pub methods : tables.methods.items ≡ method_nodes forest.nodes (declarations_of forest).users
   pub bodies : IsBodyTableOf forest tables.bodies
   pub fields : IsFieldTableOf forest tables.fields
   pub objects : IsObjectTableOf forest tables.objects

@@ -1,7 +1,6 @@
 //! The bodies that calls run.
 
 ghost use Rattle.std.specs.Prelude.{◌≡◌, slice_get};
-ghost use Rattle.scj_rules.specs.Classes.{method_nodes};
 ghost use Rattle.scj_rules.specs.Contexts.{declarations_of};
 ghost use Rattle.scj_rules.specs.Bodies.{body_of_method, body_named, body_of, method_node, method_name};
 ghost use Rattle.method_rows.specs.Methods.{found_method};
@@ -49,26 +48,24 @@ fn node_at(nodes: &[NodeId], place: u32) -> Option<NodeId>
     nodes.get(place as usize).copied()
 }
 
-/// The node of a declared method or constructor, from the list of these nodes.
+/// The node of a declared method or constructor.
 #[tactic(auto, using(crate::proofs::BodyLemmas::no_framework_node, crate::proofs::BodyLemmas::declared_node))]
-fn method_node(classes: &Classes, methods: &[NodeId], method: MethodId) -> Option<NodeId>
-    requires { methods.now ≡ method_nodes classes.now.nodes (declarations_of classes.now).users }
+fn method_node(classes: &Classes, method: MethodId) -> Option<NodeId>
     ensures { result ≡ method_node (declarations_of classes.now) method }
 {
     let number = method.number();
     if number < FRAMEWORK_METHOD_COUNT {
         return None;
     }
-    node_at(methods, number - FRAMEWORK_METHOD_COUNT)
+    node_at(classes.method_nodes(), number - FRAMEWORK_METHOD_COUNT)
 }
 
 /// The name of a method or constructor.
 #[tactic(auto, using(crate::proofs::BodyLemmas::nodes_are), unfolding(scj_rules::specs::Bodies::method_name))]
-fn method_name(classes: &Classes, methods: &[NodeId], method: MethodId) -> Option<Name>
-    requires { methods.now ≡ method_nodes classes.now.nodes (declarations_of classes.now).users }
+fn method_name(classes: &Classes, method: MethodId) -> Option<Name>
     ensures { result ≡ method_name (declarations_of classes.now) method }
 {
-    match method_node(classes, methods, method) {
+    match method_node(classes, method) {
         Some(node) => Some(callable_name(classes.program(), node)?.name),
         None => Some(framework_method(method)?.name),
     }
@@ -76,15 +73,9 @@ fn method_name(classes: &Classes, methods: &[NodeId], method: MethodId) -> Optio
 
 /// The body that a call of a method runs on an object of a class.
 #[tactic(auto, unfolding(scj_rules::specs::Bodies::body_of, scj_rules::specs::Bodies::invoked_method, scj_rules::specs::Bodies::body_named))]
-pub fn body_of(
-    classes: &Classes,
-    methods: &[NodeId],
-    class: ClassId,
-    method: MethodId,
-) -> Option<Body>
-    requires { methods.now ≡ method_nodes classes.now.nodes (declarations_of classes.now).users }
+pub fn body_of(classes: &Classes, class: ClassId, method: MethodId) -> Option<Body>
     ensures { result ≡ body_of (declarations_of classes.now) class method }
 {
-    let name = method_name(classes, methods, method)?;
+    let name = method_name(classes, method)?;
     body_named(classes, class, &name)
 }

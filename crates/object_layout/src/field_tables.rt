@@ -7,8 +7,8 @@ ghost use Rattle.scj_rules.specs.Layout.{field_kind, static_place};
 ghost use Rattle.object_layout.specs.FieldTables.{IsFieldTableOf};
 
 use crate::fields::{StaticField, kinds_at, static_nodes, statics_at};
-use class_members::{field_nodes, places_of};
 use class_rows::Classes;
+use class_rows::members::places_of;
 use indexmap::IndexMap;
 use scj_base::{FieldId, Memory, NodeId};
 use scj_rules::SlotKind;
@@ -18,8 +18,6 @@ use std::alloc::Global;
 /// What is asked of the fields of a program, each at its number.
 #[derive(Drop)]
 pub struct FieldTable {
-    /// Their nodes.
-    pub(crate) nodes: Vec<NodeId>,
     /// What they hold.
     pub(crate) kinds: Vec<SlotKind>,
     /// Their places among all statics.
@@ -63,13 +61,12 @@ pub fn field_table(alloc: Global, classes: &Classes) -> Result<FieldTable, Memor
     ensures { IfOk result (λ table. IsFieldTableOf classes.now table) }
 {
     let program = classes.program();
-    let nodes = field_nodes(alloc, &classes.written())?;
-    let kinds = kinds_at(alloc, program, &nodes)?;
-    let listed = static_nodes(alloc, program, &nodes)?;
-    let static_places = places_in(alloc, &nodes, &listed)?;
-    let statics = statics_at(alloc, program, &nodes)?;
+    let nodes = classes.field_nodes();
+    let kinds = kinds_at(alloc, program, nodes)?;
+    let listed = static_nodes(alloc, program, nodes)?;
+    let static_places = places_in(alloc, nodes, &listed)?;
+    let statics = statics_at(alloc, program, nodes)?;
     Ok(FieldTable {
-        nodes,
         kinds,
         static_places,
         statics,

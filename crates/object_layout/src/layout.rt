@@ -118,7 +118,7 @@ impl<'a> Layout<'a> {
     pub fn body_of(&self, class: ClassId, method: MethodId) -> Option<Body>
         ensures { result ≡ body_of (declarations_of self.now) class method }
     {
-        bodies::body_of(&self.classes, &self.tables.methods, class, method)
+        bodies::body_of(&self.classes, class, method)
     }
 
     /// The body that a call of this name runs on an object of a class.
@@ -209,7 +209,7 @@ impl<'a> Layout<'a> {
     {
         slot_in(
             self.program(),
-            &self.tables.fields.nodes,
+            self.classes.field_nodes(),
             &self.tables.objects,
             class,
             field,

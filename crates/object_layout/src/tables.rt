@@ -9,9 +9,8 @@ use crate::body_tables::{BodyTable, body_table};
 use crate::field_tables::{FieldTable, field_table};
 use crate::object_tables::{ObjectTable, object_table};
 use crate::safelets::safelet_class;
-use class_members::method_nodes;
 use class_rows::{ClassTable, Classes};
-use scj_base::{ClassId, Memory, NodeId};
+use scj_base::{ClassId, Memory};
 use scj_tree::Program;
 use scope_tree::{ScopeTree, build};
 use std::alloc::Global;
@@ -21,8 +20,6 @@ use std::alloc::Global;
 pub struct Tables {
     /// The scopes.
     pub(crate) scopes: ScopeTree,
-    /// The nodes of the declared methods and constructors, in the order of their numbers.
-    pub(crate) methods: Vec<NodeId>,
     /// What is asked of bodies.
     pub(crate) bodies: BodyTable,
     /// What is asked of fields.
@@ -49,14 +46,12 @@ pub fn tables_of(alloc: Global, program: &Program, table: &ClassTable) -> Result
 {
     let classes = Classes::new(program, table);
     let scopes = scopes_of(alloc, program, table)?;
-    let methods = method_nodes(alloc, &classes.written())?;
     let bodies = body_table(alloc, &classes)?;
     let fields = field_table(alloc, &classes)?;
     let objects = object_table(alloc, &classes)?;
     let safelet = safelet_class(&classes)?;
     Ok(Tables {
         scopes,
-        methods,
         bodies,
         fields,
         objects,

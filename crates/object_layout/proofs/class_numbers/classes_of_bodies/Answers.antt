@@ -14,9 +14,9 @@ same_length false table n c = refl
 pub loop-place-init : goal.loop-place-init
 loop-place-init c =
     record {
-      whole = c.in_ok-table.ensures.whole;
-      exact = λ body. c.in_ok-table.ensures.exact body
-          ∙ sym (known_first c.args.classes.now c.node_count-place-end.ensures.whole body);
+      whole = rw c.program.ensures at c.in_ok-table.ensures.whole;
+      exact = λ body. (rw c.program.ensures at (c.in_ok-table.ensures.exact body))
+          ∙ known_first c.args.classes.now c.node_count-place-end.ensures.whole body;
     }
 
 pub overflow_cast-place : goal.overflow_cast-place

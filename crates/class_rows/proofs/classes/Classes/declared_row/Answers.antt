@@ -1,5 +1,5 @@
 use Rattle.std.proofs.Common.{Some, None}
-use Rattle.class_rows.proofs.MemberLemmas.{declared_row_is}
+use Rattle.class_rows.proofs.OwnLemmas.{declared_row_is}
 use Rattle.class_rows.proofs.classes.Classes.declared_row.Goals as goal
 
 pub returns-in-Some : goal.returns-in-Some

@@ -1,5 +1,5 @@
 use Rattle.std.proofs.Common.{Some, None}
-use Rattle.class_rows.proofs.MemberLemmas.{framework_row_is}
+use Rattle.class_rows.proofs.OwnLemmas.{framework_row_is}
 use Rattle.class_rows.proofs.classes.Classes.framework_row.Goals as goal
 
 pub returns-in-Some : goal.returns-in-Some

@@ -1,5 +1,5 @@
 use Rattle.std.proofs.Common.{Some, None}
-use Rattle.class_rows.proofs.FieldLemmas.{own_field_row}
+use Rattle.class_rows.proofs.OwnLemmas.{own_field_row}
 use Rattle.class_rows.proofs.classes.Classes.own_field.Goals as goal
 
 pub returns-in-Some : goal.returns-in-Some

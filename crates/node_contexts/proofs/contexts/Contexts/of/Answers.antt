@@ -6,7 +6,8 @@ use Rattle.scj_tree.specs.Shape.{children}
 use Rattle.scj_rules.specs.Contexts.{outermost}
 use Rattle.scj_rules.specs.declared.contexts.Context.{Context}
 use Rattle.node_contexts.specs.Steps.{told_from}
-use Rattle.node_contexts.proofs.StepLemmas.{init, step, done, children_within, children_apart}
+use Rattle.scj_rules.proofs.ParentLemmas.{children_apart, children_within}
+use Rattle.node_contexts.proofs.StepLemmas.{init, step, done}
 use Rattle.node_contexts.proofs.contexts.Contexts.of.Goals as goal
 
 pub loop-place-init : goal.loop-place-init

@@ -1,0 +1,232 @@
+-- The own members of a class: what is read at the nodes of its members.
+use Rattle.std.proofs.Common.{◌≡◌, ℕ, ◌<◌, ◌≤◌, Bool, true, false, cond, List, [], ◌∷◌, refl, sym, ap, ◌∙◌, Option, Some, None, slice_get, option_map, option_and_then, unwrap_or}
+use Rattle.std.specs.List.{find, filter_map, cons_option}
+use Rattle.scj_base.specs.Bytes.{is_same}
+use Rattle.scj_tree.specs.declared.nodes.Node.{Node}
+use Rattle.scj_tree.specs.declared.nodes.Node.TheVariants.{Constructor}
+use Rattle.scj_tree.specs.Forest.{Forest}
+use Rattle.scj_rules.specs.declared.typing.FoundField.{FoundField}
+use Rattle.scj_rules.specs.declared.views.Declared.{Declared}
+use Rattle.scj_rules.specs.Words.{holds}
+use Rattle.scj_rules.specs.Views.{DeclaredConstructor, DeclaredMethod, constructor_at, constructor_of, field_at, method_at}
+use Rattle.scj_rules.specs.Classes.{ClassRow, FoundMethod, own_field, own_method, first_user_class, framework_methods_on}
+use Rattle.scj_rules.specs.Contexts.{declarations_of}
+use Rattle.scj_rules.specs.Types.{constructor_in}
+use Rattle.method_rows.specs.declared.refs.MethodRef.{MethodRef}
+use Rattle.method_rows.specs.declared.refs.MethodSource.TheVariants.{Framework as framework_source, Declared as declared_source}
+use Rattle.method_rows.specs.Methods.{found_method, method_from, no_method, framework_numbered, framework_method_on}
+use Rattle.class_rows.specs.declared.fields.FieldRef.{FieldRef}
+use Rattle.class_rows.specs.declared.members.MemberKind.TheVariants.{Field, Method}
+use Rattle.class_rows.specs.Fields.{found_field, no_field}
+use Rattle.class_rows.specs.Members.{first_named, name_at}
+use Rattle.class_rows.specs.Tables.{class_written, members_in}
+use Rattle.class_rows.proofs.RowLemmas.{as_written, under_object}
+use Rattle.class_rows.proofs.SoundLemmas.{row_sound, members_of, first_methods, other_methods, framework_there}
+
+-- a list in a row, which is what is read at the nodes of the members, whether or not the row counts as it is written
+abbrev pub list_in : {A : Type 0} → (ClassRow → List A) → Option ClassRow → List A
+list_in list o = elim o [ None ↦ [] | Some row ↦ list row ]
+
+pub list_read : {A : Type 0} (list : ClassRow → List A) (read : ℕ → Option A) →
+    ((row : ClassRow) → list (under_object row) ≡ list row) → (forest : Forest) (class : ℕ)
+    → ((row : ClassRow) → slice_get (declarations_of forest).written class ≡ Some row → list row ≡ filter_map read
+    (members_of row.written))
+    → list_in list (slice_get (declarations_of forest).classes class) ≡ filter_map read
+    (members_in (declarations_of forest) class)
+unfolding members_in class_written
+list_read list read same forest class sound =
+    as_written (list_in list) same forest class ∙ go (slice_get (declarations_of forest).written class) refl
+  where
+    go : (o : Option ClassRow) → slice_get (declarations_of forest).written class ≡ o
+        → list_in list o ≡ filter_map read (members_of (option_and_then (λ (row : ClassRow). row.written) o))
+    go None e = refl
+    go (Some row) e = sound row e
+
+abbrev pub fields_in : Option ClassRow → List Declared
+fields_in = list_in (λ (row : ClassRow). row.fields)
+
+pub fields_at : (forest : Forest) (class : ℕ) → fields_in (slice_get (declarations_of forest).classes class)
+    ≡ filter_map (field_at forest.nodes) (members_in (declarations_of forest) class)
+fields_at forest class = list_read (λ (row : ClassRow). row.fields) (field_at forest.nodes) (λ row. refl) forest class
+    (λ row e. (row_sound forest class row e).fields)
+
+-- the first of a name among nodes is the first of the name among what is read there
+read_first : {A : Type 0} (read : ℕ → Option A) (name_of : A → List ℕ) (none : ℕ → A) (name ids : List ℕ)
+    → option_map (λ id. unwrap_or (read id) (none id))
+    (find (λ id. holds (option_map name_of (read id)) (is_same name)) ids)
+    ≡ find (λ a. is_same name (name_of a)) (filter_map read ids)
+read_first read name_of none name [] = refl
+read_first {A} read name_of none name (id ∷ more) = go (read id) refl (read_first read name_of none name more)
+  where
+    here : ℕ → A
+    here i = unwrap_or (read i) (none i)
+
+    found : Option ℕ
+    found = find (λ i. holds (option_map name_of (read i)) (is_same name)) more
+
+    among : List A → Option A
+    among = find (λ a. is_same name (name_of a))
+
+    pick : (a : A) (t : Bool) → read id ≡ Some a → option_map here found ≡ among (filter_map read more)
+        → option_map here (cond t (Some id) found) ≡ cond t (Some a) (among (filter_map read more))
+    pick a true e later = ap (λ o. Some (unwrap_or o (none id))) e
+    pick a false e later = later
+
+    go : (o : Option A) → read id ≡ o → option_map here found ≡ among (filter_map read more)
+        → option_map here (cond (holds (option_map name_of o) (is_same name)) (Some id) found)
+        ≡ among (cons_option o (filter_map read more))
+    go None e later = later
+    go (Some a) e later = pick a (is_same name (name_of a)) e later
+
+in_row : {A B : Type 0} (f : List A → Option B) → f [] ≡ None → (list : ClassRow → List A) (o : Option ClassRow) →
+    f (list_in list o) ≡ option_and_then (λ (row : ClassRow). f (list row)) o
+in_row f none list None = none
+in_row f none list (Some row) = refl
+
+mapped : {A B C D : Type 0} (f : B → D) (g : A → B) (h : C → D) (k : A → C) → ((x : A) → f (g x) ≡ h (k x)) →
+    (o : Option A) → option_map f (option_map g o) ≡ option_map h (option_map k o)
+mapped f g h k same None = refl
+mapped f g h k same (Some x) = ap (λ y. Some y) (same x)
+
+-- ---- fields
+
+abbrev on_class : ℕ → Declared → FoundField
+on_class class field = record { on = class; field = field }
+
+abbrev field_row : ℕ → ℕ → FieldRef
+field_row class node = record { on = class; node = node }
+
+abbrev field_in : List ℕ → List Declared → Option Declared
+field_in name = find (λ (f : Declared). is_same name f.name)
+
+pub own_field_row : (forest : Forest) (class : ℕ) (name : List ℕ) (o : Option ℕ) →
+    o ≡ first_named Field forest.nodes name (members_in (declarations_of forest) class)
+    → option_map (found_field forest.nodes) (option_map (field_row class) o) ≡ own_field
+    (declarations_of forest).classes name class
+unfolding own_field found_field name_at
+own_field_row forest class name o e =
+    mapped (found_field forest.nodes) (field_row class) (on_class class) here (λ id. refl) o
+    ∙ ap (option_map (on_class class))
+    (ap (option_map here) e
+    ∙ read_first (field_at forest.nodes) (λ (f : Declared). f.name) no_field name
+    (members_in (declarations_of forest) class)
+    ∙ ap (field_in name) (sym (fields_at forest class))
+    ∙ in_row (field_in name) refl (λ (row : ClassRow). row.fields) (slice_get (declarations_of forest).classes class))
+  where
+    here : ℕ → Declared
+    here id = unwrap_or (field_at forest.nodes id) (no_field id)
+
+-- ---- methods
+
+abbrev on_method : ℕ → DeclaredMethod → FoundMethod
+on_method class method = record { on = class; method = method }
+
+abbrev method_in : List ℕ → List DeclaredMethod → Option DeclaredMethod
+method_in name = find (λ (m : DeclaredMethod). is_same name m.declared.name)
+
+abbrev methods_in : Option ClassRow → List DeclaredMethod
+methods_in = list_in (λ (row : ClassRow). row.methods)
+
+own_method_in : (rows : List ClassRow) (class : ℕ) (name : List ℕ) →
+    option_map (on_method class) (method_in name (methods_in (slice_get rows class))) ≡ own_method rows name class
+unfolding own_method
+own_method_in rows class name = ap (option_map (on_method class))
+    (in_row (method_in name) refl (λ (row : ClassRow). row.methods) (slice_get rows class))
+
+abbrev declared_row : ℕ → ℕ → MethodRef
+declared_row class node = record { on = class; source = declared_source node }
+
+pub declared_row_is : (forest : Forest) (class : ℕ) (name : List ℕ) (o : Option ℕ) → first_user_class ≤ class →
+    o ≡ first_named Method forest.nodes name (members_in (declarations_of forest) class)
+    → option_map (found_method forest.nodes) (option_map (declared_row class) o) ≡ own_method
+    (declarations_of forest).classes name class
+unfolding found_method method_from name_at
+declared_row_is forest class name o h e =
+    mapped (found_method forest.nodes) (declared_row class) (on_method class) here (λ id. refl) o
+    ∙ ap (option_map (on_method class))
+    (ap (option_map here) e
+    ∙ read_first (method_at forest.nodes) (λ (m : DeclaredMethod). m.declared.name) (λ id. no_method) name
+    (members_in (declarations_of forest) class) ∙ ap (method_in name) (sym methods))
+    ∙ own_method_in (declarations_of forest).classes class name
+  where
+    here : ℕ → DeclaredMethod
+    here id = unwrap_or (method_at forest.nodes id) no_method
+
+    methods : methods_in (slice_get (declarations_of forest).classes class) ≡ filter_map (method_at forest.nodes)
+        (members_in (declarations_of forest) class)
+    methods = list_read (λ (row : ClassRow). row.methods) (method_at forest.nodes) (λ row. refl) forest class
+        (λ row e. (row_sound forest class row e).methods ∙ sym (other_methods forest.nodes class row.written h))
+
+abbrev framework_row : ℕ → ℕ → MethodRef
+framework_row class number = record { on = class; source = framework_source number }
+
+pub framework_row_is : (forest : Forest) (class : ℕ) (name : List ℕ) (o : Option ℕ) → class < first_user_class →
+    option_map (λ number. unwrap_or (framework_numbered number) no_method) o ≡ framework_method_on class name
+    → option_map (found_method forest.nodes) (option_map (framework_row class) o) ≡ own_method
+    (declarations_of forest).classes name class
+unfolding found_method method_from framework_method_on
+framework_row_is forest class name o h e =
+    mapped (found_method forest.nodes) (framework_row class) (on_method class)
+    (λ number. unwrap_or (framework_numbered number) no_method) (λ number. refl) o
+    ∙ ap (option_map (on_method class)) (e ∙ ap (method_in name) (sym methods))
+    ∙ own_method_in (declarations_of forest).classes class name
+  where
+    methods : methods_in (slice_get (declarations_of forest).classes class) ≡ framework_methods_on class
+    methods =
+        let there = framework_there forest class h in
+        as_written methods_in (λ row. refl) forest class ∙ ap methods_in there.1
+        ∙ (row_sound forest class there.0 there.1).methods
+        ∙ sym (first_methods forest.nodes class there.0.written h)
+
+-- ---- constructors
+
+abbrev first_of : List DeclaredConstructor → Option DeclaredConstructor
+first_of cs = elim cs as (λ _. Option DeclaredConstructor) [ [] ↦ None | c ∷ more ↦ Some c ]
+
+abbrev node_of : Option DeclaredConstructor → Option ℕ
+node_of = option_map (λ (c : DeclaredConstructor). c.node)
+
+pub constructor_is : (forest : Forest) (class : ℕ) →
+    constructor_in (declarations_of forest).written class ≡ constructor_in (declarations_of forest).classes class
+unfolding constructor_in
+constructor_is forest class =
+    sym (as_written (option_and_then (λ (row : ClassRow). first_of row.constructors)) (λ row. refl) forest class)
+
+at_node : (nodes : List Node) (id : ℕ) (o : Option Node) (c : DeclaredConstructor) →
+    option_and_then (constructor_of nodes id) o ≡ Some c → c.node ≡ id
+unfolding constructor_of
+at_node nodes id None c h = cc
+at_node nodes id (Some (Constructor place name flags parameters super_call body)) c h =
+    ap (λ (w : Option DeclaredConstructor). elim w [ None ↦ id | Some d ↦ d.node ]) (sym h)
+at_node nodes id (Some _) c h = cc
+
+first_again : (nodes : List Node) (ids : List ℕ) →
+    option_and_then (constructor_at nodes) (node_of (first_of (filter_map (constructor_at nodes) ids))) ≡ first_of
+    (filter_map (constructor_at nodes) ids)
+first_again nodes [] = refl
+first_again nodes (id ∷ ids) = go (constructor_at nodes id) refl (first_again nodes ids)
+  where
+    rest : List DeclaredConstructor
+    rest = filter_map (constructor_at nodes) ids
+
+    go : (o : Option DeclaredConstructor) → constructor_at nodes id ≡ o →
+        option_and_then (constructor_at nodes) (node_of (first_of rest)) ≡ first_of rest
+        → option_and_then (constructor_at nodes) (node_of (first_of (cons_option o rest))) ≡ first_of
+        (cons_option o rest)
+    go None e later = later
+    go (Some c) e later = ap (constructor_at nodes) (at_node nodes id (slice_get nodes id) c e) ∙ e
+
+pub constructor_whole : (forest : Forest) (class : ℕ)
+    → option_and_then (constructor_at forest.nodes)
+    (option_map (λ (c : DeclaredConstructor). c.node) (constructor_in (declarations_of forest).written class))
+    ≡ constructor_in (declarations_of forest).classes class
+unfolding constructor_in
+constructor_whole forest class =
+    let constructors : ClassRow → List DeclaredConstructor = λ (row : ClassRow). row.constructors in
+    let found : first_of (filter_map (constructor_at forest.nodes) (members_in (declarations_of forest) class))
+    ≡ constructor_in (declarations_of forest).classes class =
+    sym (ap first_of (list_read constructors (constructor_at forest.nodes) (λ row. refl) forest class
+    (λ row e. (row_sound forest class row e).constructors)))
+    ∙ in_row first_of refl constructors (slice_get (declarations_of forest).classes class) in
+    ap (λ o. option_and_then (constructor_at forest.nodes) (node_of o)) (constructor_is forest class ∙ sym found)
+    ∙ first_again forest.nodes (members_in (declarations_of forest) class) ∙ found
