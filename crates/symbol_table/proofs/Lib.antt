@@ -1,0 +1,9 @@
+pub mod ChainLemmas
+pub mod InstanceLemmas
+pub mod LookLemmas
+pub mod OpenLemmas
+pub mod OpeningLemmas
+pub mod PathLemmas
+pub mod ScopeLemmas
+pub mod StackLemmas
+pub mod TurnLemmas

@@ -1,0 +1,4 @@
+pub mod Instances
+pub mod Scopes
+pub mod Stacks
+pub mod Symbols

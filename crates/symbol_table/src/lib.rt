@@ -1,0 +1,15 @@
+//! The members in scope at one class after another: what stands above a declaration, without a walk for each.
+#![tactic(auto)]
+
+pub mod entering;
+pub mod instances;
+pub mod looks;
+pub mod moves;
+pub mod order;
+pub mod scopes;
+pub mod stacks;
+pub mod table;
+pub mod ways;
+
+pub use order::tour;
+pub use table::SymbolTable;
