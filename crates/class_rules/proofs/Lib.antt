@@ -1,9 +1,9 @@
-pub mod FieldLemmas
 pub mod HeaderLemmas
+pub mod InterfaceLemmas
+pub mod JoinLemmas
 pub mod MemberLemmas
 pub mod NameLemmas
 pub mod OpeningLemmas
 pub mod OverrideLemmas
-pub mod RowFacts
 pub mod SafeletLemmas
 pub mod TwiceLemmas

@@ -1,62 +1,35 @@
--- One member more.
-use Rattle.std.proofs.Common.{◌≡◌, ◌≤◌, ◌-◌, arith, length, take, drop, get_or, ℕ, Bool, true, false, List, [], ◌∷◌, ◌++◌, flat_map, filter_map, Option, Some, None, refl, sym, ap, ◌∙◌, append_assoc, is_some, unwrap_or}
+-- Members that are declared, and those above that have their names.
+use Rattle.std.proofs.Common.{◌≡◌, ℕ, true, false, List, [], ◌++◌, Option, Some, None, refl, sym, ap, ◌∙◌, append-nil, is_some, option_map, option_and_then, unwrap_or}
 use Rattle.std.proofs.lemmas.Bool.{true≢false}
-use Rattle.std.proofs.lemmas.List.{take_all}
 use Rattle.scj_base.specs.declared.findings.Found.{Found}
 use Rattle.scj_tree.specs.declared.nodes.Node.{Node}
-use Rattle.scj_rules.specs.declared.views.Declared.{Declared}
-use Rattle.scj_rules.specs.Views.{DeclaredMethod, field_at, method_at}
+use Rattle.scj_rules.specs.Words.{holds, found_at}
+use Rattle.scj_rules.specs.Views.{DeclaredMethod, method_at}
 use Rattle.method_rows.specs.declared.refs.MethodSource.TheVariants.{Declared as declared_source}
 use Rattle.method_rows.specs.Methods.{found_method, method_from, no_method}
 
-picked : {A : Type 0} (g : A → List Found) (read : ℕ → Option A) (id : ℕ) (rest : List ℕ) (found : List Found) (a : A) →
-    read id ≡ Some a
-    → (found ++ g a) ++ flat_map g (filter_map read rest) ≡ found ++ flat_map g (filter_map read (id ∷ rest))
-picked g read id rest found a e = rw e (append_assoc found (g a) (flat_map g (filter_map read rest)))
-
-some_there : {A : Type 0} (o : Option A) (a : A) → is_some o ≡ true → o ≡ Some (unwrap_or o a)
-some_there None a h = absurd (true≢false (sym h))
-some_there (Some x) a h = refl
-
--- a method that is noted
-pub one_method : (g : DeclaredMethod → List Found) (nodes : List Node) (id class : ℕ) (rest : List ℕ)
-    (found : List Found) → true ≡ is_some (method_at nodes id)
-    → (found ++ g (found_method nodes (record { on = class; source = declared_source id })).method)
-    ++ flat_map g (filter_map (method_at nodes) rest) ≡ found
-    ++ flat_map g (filter_map (method_at nodes) (id ∷ rest))
+pub a_method : (g : DeclaredMethod → List Found) (nodes : List Node) (id class : ℕ) →
+    is_some (method_at nodes id) ≡ true
+    → g (found_method nodes (record { on = class; source = declared_source id })).method ≡ found_at (method_at nodes id)
+    g
 unfolding found_method method_from
-one_method g nodes id class rest found h =
-    picked g (method_at nodes) id rest found (unwrap_or (method_at nodes id) no_method)
-    (some_there (method_at nodes id) no_method (sym h))
-
-pub no_method_here : (g : DeclaredMethod → List Found) (nodes : List Node) (id : ℕ) (rest : List ℕ)
-    (found : List Found) → false ≡ is_some (method_at nodes id)
-    → found ++ flat_map g (filter_map (method_at nodes) rest) ≡ found
-    ++ flat_map g (filter_map (method_at nodes) (id ∷ rest))
-no_method_here g nodes id rest found h = go (method_at nodes id) refl h
+a_method g nodes id class h = go (method_at nodes id) h
   where
-    go : (o : Option DeclaredMethod) → method_at nodes id ≡ o → false ≡ is_some o → found
-        ++ flat_map g (filter_map (method_at nodes) rest) ≡ found
-        ++ flat_map g (filter_map (method_at nodes) (id ∷ rest))
-    go None e h = rw e refl
-    go (Some m) e h = absurd (true≢false (sym h))
+    go : (o : Option DeclaredMethod) → is_some o ≡ true → g (unwrap_or o no_method) ≡ found_at o g
+    go None h = absurd (true≢false (sym h))
+    go (Some m) h = refl
 
--- a field that is noted
-pub one_field : (g : Declared → List Found) (nodes : List Node) (id : ℕ) (rest : List ℕ) (found : List Found)
-    (f : Declared) → Some f ≡ field_at nodes id
-    → (found ++ g f) ++ flat_map g (filter_map (field_at nodes) rest) ≡ found
-    ++ flat_map g (filter_map (field_at nodes) (id ∷ rest))
-one_field g nodes id rest found f e = picked g (field_at nodes) id rest found f (sym e)
+pub no_method_here : (g : DeclaredMethod → List Found) (nodes : List Node) (id : ℕ) (found : List Found) →
+    is_some (method_at nodes id) ≡ false → found ≡ found ++ found_at (method_at nodes id) g
+no_method_here g nodes id found h = sym (ap (λ xs. found ++ xs) (go (method_at nodes id) h) ∙ append-nil found)
+  where
+    go : (o : Option DeclaredMethod) → is_some o ≡ false → found_at o g ≡ []
+    go None h = refl
+    go (Some m) h = absurd (true≢false h)
 
--- the same, where the member is the first of those that are left
-pub step_method : (g : DeclaredMethod → List Found) (nodes : List Node) (class id : ℕ) (ids : List ℕ)
-    (found after whole : List Found) → 1 ≤ length ids → id ≡ get_or ids 0 id → is_some (method_at nodes id) ≡ true
-    → after ≡ found ++ g (found_method nodes (record { on = class; source = declared_source id })).method → found
-    ++ flat_map g (filter_map (method_at nodes) ids) ≡ whole
-    → after ++ flat_map g (filter_map (method_at nodes) (take (length ids - 1) (drop 1 ids))) ≡ whole
-step_method g nodes class id [] found after whole l e h a w = absurd (omega (arith, l))
-step_method g nodes class id (i ∷ ids) found after whole l e h a w =
-    let n : length (i ∷ ids) - 1 ≡ length ids = omega arith in
-    let t : take (length (i ∷ ids) - 1) ids ≡ ids = ap (λ k. take k ids) n ∙ take_all (length ids) ids (omega arith) in
-    rw (t, a) (one_method g nodes id class ids found (sym h)
-    ∙ ap (λ j. found ++ flat_map g (filter_map (method_at nodes) (j ∷ ids))) e ∙ w)
+pub there_above : {A B C : Type 0} (view : A → B) (find : C → Option B) (above : Option C) (found : Option A) →
+    option_map view found ≡ option_and_then find above → is_some found ≡ holds above (λ c. is_some (find c))
+there_above view find None None h = refl
+there_above view find None (Some x) h = cc
+there_above view find (Some c) None h = ap is_some h
+there_above view find (Some c) (Some x) h = ap is_some h

@@ -1,16 +1,15 @@
 -- Parameters of the same types, one after the other.
-use Rattle.std.proofs.Common.{◌≡◌, ℕ, zero, suc, ◌+◌, ◌≤◌, ◌&&◌, Bool, true, false, List, [], ◌∷◌, length, drop, map, filter_map, slice_get, Option, Some, None, refl, sym, ap, ◌∙◌, subst, arith, is_none, is_some, not, option_map, option_and_then, unwrap_or}
+use Rattle.std.proofs.Common.{◌≡◌, ℕ, zero, suc, ◌+◌, ◌&&◌, Bool, true, false, List, [], ◌∷◌, length, drop, map, filter_map, slice_get, Option, Some, None, refl, sym, ap, ◌∙◌, arith, is_none, is_some, not, option_map, option_and_then, unwrap_or}
 use Rattle.std.specs.Cmp.Lexicographic.{pointwise}
 use Rattle.std.proofs.lemmas.Bool.{true≢false}
 use Rattle.scj_tree.specs.declared.nodes.Node.{Node}
 use Rattle.scj_rules.specs.declared.views.Declared.{Declared}
-use Rattle.scj_rules.specs.declared.views.WrittenType.{WrittenType}
 use Rattle.scj_rules.specs.Views.{DeclaredMethod, method_at, variable_at, parameters_at}
 use Rattle.scj_rules.specs.ClassRules.{is_same_type, have_same_types, narrower_kind}
 use Rattle.scj_rules.specs.Classes.{framework_row_named}
 use Rattle.scj_rules.specs.Contexts.{Declarations}
 use Rattle.method_rows.specs.Methods.{no_method}
-use Rattle.class_rules.specs.Overrides.{types_among, type_declared, kind_of_row}
+use Rattle.class_rules.specs.Types.{types_among, kind_of_row}
 
 drop_none : (i : ℕ) → drop {A = Declared} i [] ≡ []
 drop_none zero = refl
@@ -54,7 +53,8 @@ ended_here (v ∷ xs) [] (suc i) h = let e = ended_here xs [] i (omega (arith, h
     ∙ ap (have_same_types (drop i xs)) (drop_none i)
 ended_here (v ∷ xs) (w ∷ ys) (suc i) h = ended_here xs ys i (omega (arith, h))
 
-pub same_mapped : (xs ys : List Declared) → pointwise is_same_type (map type_declared xs) (map type_declared ys)
+pub same_mapped : (xs ys : List Declared) → pointwise is_same_type (map (λ (d : Declared). d.declared_type) xs)
+    (map (λ (d : Declared). d.declared_type) ys)
     ≡ have_same_types xs ys
 same_mapped [] [] = refl
 same_mapped [] (y ∷ ys) = refl

@@ -1,5 +1,5 @@
 -- One safelet more.
-use Rattle.std.proofs.Common.{◌≡◌, ◌≤◌, ◌<◌, is_some, ℕ, zero, suc, ◌+◌, Bool, true, false, not, ◌&&◌, List, [], ◌∷◌, ◌++◌, length, map, drop, slice_get, Option, Some, None, refl, sym, ap, ◌∙◌, subst, arith, append_assoc, append-nil, option_map, option_and_then, if◌then◌else◌}
+use Rattle.std.proofs.Common.{◌≡◌, ◌≤◌, ◌<◌, is_some, ℕ, zero, suc, ◌+◌, Bool, true, false, not, ◌&&◌, List, [], ◌∷◌, ◌++◌, length, map, drop, slice_get, Option, Some, None, refl, sym, ap, ◌∙◌, arith, append_assoc, append-nil, option_map, option_and_then, if◌then◌else◌}
 use Rattle.std.specs.List.{cons_option}
 use Rattle.std.proofs.lemmas.Bool.{true≢false}
 use Rattle.std.proofs.lemmas.List.{drop_all}
@@ -7,7 +7,6 @@ use Rattle.scj_base.specs.declared.findings.Found.{Found}
 use Rattle.scj_base.specs.declared.findings.Rule.TheVariants.{C8}
 use Rattle.scj_base.specs.declared.places.Pos.{Pos}
 use Rattle.scj_builtins.specs.Framework.{safelet}
-use Rattle.scj_tree.specs.declared.nodes.Node.{Node}
 use Rattle.scj_tree.specs.Forest.{Forest}
 use Rattle.scj_rules.specs.Words.{is_among, holds, broken}
 use Rattle.scj_rules.specs.Views.{WrittenClass, class_at}
@@ -15,7 +14,7 @@ use Rattle.scj_rules.specs.Classes.{ClassRow, all_interfaces}
 use Rattle.scj_rules.specs.ClassRules.{safelets_from, c8_of, c8, first_place}
 use Rattle.scj_rules.specs.Contexts.{Declarations, declarations_of}
 use Rattle.class_rows.specs.Tables.{class_written}
-use Rattle.class_rules.proofs.RowFacts.{class_length}
+use Rattle.class_rows.proofs.RowLemmas.{class_length}
 use Rattle.class_rules.specs.Safelets.{place_of_class, safelet_at, safelets_left, too_many, left_over}
 
 -- a class that is a safelet

@@ -1,7 +1,6 @@
-pub mod Fields
-pub mod Headers
+pub mod Members
 pub mod Openings
-pub mod Overrides
 pub mod Parts
 pub mod Safelets
 pub mod Twice
+pub mod Types

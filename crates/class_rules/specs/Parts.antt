@@ -1,5 +1,5 @@
 -- A class as its parts write it.
-use Rattle.std.specs.Prelude.{ℕ, List, filter_map}
+use Rattle.std.specs.Prelude.{List, filter_map}
 use Rattle.scj_tree.specs.declared.nodes.Node.{Node}
 use Rattle.scj_tree.specs.Forest.{Forest}
 use Rattle.scj_rules.specs.Definitions.{read}

@@ -1,26 +1,28 @@
-//! What is wrong with the name of a class and with what it extends and implements.
+//! What is wrong with the header of a class.
 
-ghost use Rattle.std.specs.Prelude.{◌≡◌, ◌++◌, ◌<◌, Some, length, not, is_some, filter, filter_map, OnOk};
+ghost use Rattle.std.specs.Prelude.{◌≡◌, ◌++◌, ◌<◌, Some, length, filter, filter_map, OnOk};
 ghost use Rattle.scj_rules.specs.declared.scopes.Written.{Written as Named};
 ghost use Rattle.scj_rules.specs.Definitions.{read};
 ghost use Rattle.scj_rules.specs.Words.{broken};
-ghost use Rattle.scj_rules.specs.Views.{named_super};
-ghost use Rattle.scj_rules.specs.Classes.{class_number};
-ghost use Rattle.scj_rules.specs.ClassRules.{broken_at, c1, c2, c3};
+ghost use Rattle.scj_rules.specs.Views.{class_at, named_super};
+ghost use Rattle.scj_rules.specs.ClassRules.{broken_at, c1, c2, c3, c10, names_no_class};
+ghost use Rattle.scj_rules.specs.LimitRules.{k1};
 ghost use Rattle.scj_rules.specs.Contexts.{declarations_of};
+ghost use Rattle.class_rules.specs.Members.{header_breaks};
 ghost use Rattle.class_rules.specs.Parts.{written_class};
-ghost use Rattle.class_rules.specs.Headers.{is_unknown};
 ghost use Rattle.scj_base.specs.declared.findings.Rule.TheVariants.{C2};
 
 use crate::parts::ClassParts;
 use class_rows::Classes;
 use node_views::named_super;
 use scj_base::{ClassId, Found, Memory, NodeId, Rule};
+use scj_builtins::FRAMEWORK_CLASS_COUNT;
 use scj_rules::{Written, report_if};
+use std::alloc::Global;
 
 /// Notes a class that has the name of an earlier one.
 #[tactic(auto, unfolding(scj_rules::specs::ClassRules::c1))]
-pub fn note_c1(
+fn note_c1(
     found: &mut Vec<Found>,
     classes: &Classes<'_>,
     class: ClassId,
@@ -43,7 +45,7 @@ fn note_unknown(
     written: &Written,
 ) -> Result<(), Memory>
     ensures { OnOk result (found.new.items ≡ found.old.items
-        ++ broken (is_unknown (declarations_of classes.now).names written.now) C2 written.now.place) }
+        ++ broken (names_no_class (declarations_of classes.now) written.now.name) C2 written.now.place) }
 {
     report_if(
         found,
@@ -62,7 +64,7 @@ fn note_unknown_interfaces(
 ) -> Result<(), Memory>
     ensures { OnOk result (found.new.items ≡ found.old.items
         ++ broken_at C2
-        (filter (is_unknown (declarations_of classes.now).names)
+        (filter (λ (w : Named). names_no_class (declarations_of classes.now) w.name)
         (filter_map (read classes.now.nodes named_super) interfaces.now))) }
 {
     let mut others = interfaces;
@@ -77,11 +79,7 @@ fn note_unknown_interfaces(
 
 /// Notes the names after `extends` and `implements` that no class has.
 #[tactic(auto, unfolding(scj_rules::specs::ClassRules::c2), using(crate::proofs::HeaderLemmas::one_unknown))]
-pub fn note_c2(
-    found: &mut Vec<Found>,
-    classes: &Classes<'_>,
-    c: &ClassParts<'_>,
-) -> Result<(), Memory>
+fn note_c2(found: &mut Vec<Found>, classes: &Classes<'_>, c: &ClassParts<'_>) -> Result<(), Memory>
     ensures { OnOk result (found.new.items ≡ found.old.items
         ++ c2 (declarations_of classes.now) (written_class classes.now.nodes c.now)) }
 {
@@ -94,7 +92,7 @@ pub fn note_c2(
 
 /// Notes a class whose superclasses come back to it.
 #[tactic(auto, unfolding(scj_rules::specs::ClassRules::c3))]
-pub fn note_c3(
+fn note_c3(
     found: &mut Vec<Found>,
     classes: &Classes<'_>,
     class: ClassId,
@@ -105,4 +103,78 @@ pub fn note_c3(
         ++ c3 (declarations_of classes.now) class (written_class classes.now.nodes c.now)) }
 {
     report_if(found, classes.is_cyclic(class), Rule::C3, c.place)
+}
+
+/// Notes the names in the header of a class that are forbidden there.
+#[tactic(auto, unfolding(scj_rules::specs::ClassRules::c10, class_headers::specs::Supers::forbidden_in))]
+fn note_c10(
+    alloc: Global,
+    found: &mut Vec<Found>,
+    classes: &Classes<'_>,
+    c: &ClassParts<'_>,
+) -> Result<(), Memory>
+    requires { class_at classes.now.nodes c.now.node ≡ Some (written_class classes.now.nodes c.now) }
+    ensures { OnOk result (found.new.items ≡ found.old.items
+        ++ c10 (declarations_of classes.now) (written_class classes.now.nodes c.now)) }
+{
+    let written = classes.written();
+    let forbidden = written.forbidden_supers(alloc, c.node)?;
+    note_names(found, &forbidden, Rule::C10)?;
+    Ok(())
+}
+
+/// Notes that a rule is broken at each of these names.
+fn note_names(found: &mut Vec<Found>, names: &[Written], rule: Rule) -> Result<(), Memory>
+    ensures { OnOk result (found.new.items ≡ found.old.items ++ broken_at rule names.now) }
+{
+    let mut others = names;
+    while let [name, rest @ ..] = others {
+        found.push(Found {
+            pos: name.place,
+            rule,
+        })?;
+        others = rest;
+    }
+    Ok(())
+}
+
+/// Notes the 257th class and each later one.
+#[tactic(auto, unfolding(scj_rules::specs::LimitRules::k1))]
+fn note_k1(
+    found: &mut Vec<Found>,
+    classes: &Classes<'_>,
+    class: ClassId,
+    c: &ClassParts<'_>,
+) -> Result<(), Memory>
+    ensures { OnOk result (found.new.items ≡ found.old.items ++ k1 class (written_class classes.now.nodes c.now)) }
+{
+    let _ = classes;
+    report_if(
+        found,
+        class.number() >= FRAMEWORK_CLASS_COUNT + 256,
+        Rule::K1,
+        c.place,
+    )
+}
+
+/// Notes what is wrong with the header of a class.
+#[tactic(auto, unfolding(crate::specs::Members::header_breaks))]
+pub fn note_header(
+    alloc: Global,
+    found: &mut Vec<Found>,
+    classes: &Classes<'_>,
+    class: ClassId,
+    c: &ClassParts<'_>,
+) -> Result<(), Memory>
+    requires within { class < length (declarations_of classes.now).classes }
+    requires there { class_at classes.now.nodes c.now.node ≡ Some (written_class classes.now.nodes c.now) }
+    ensures { OnOk result (found.new.items ≡ found.old.items
+        ++ header_breaks (declarations_of classes.now) class (written_class classes.now.nodes c.now)) }
+{
+    note_c1(found, classes, class, c)?;
+    note_c2(found, classes, c)?;
+    note_c3(found, classes, class, c)?;
+    note_c10(alloc, found, classes, c)?;
+    note_k1(found, classes, class, c)?;
+    Ok(())
 }

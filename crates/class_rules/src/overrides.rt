@@ -1,11 +1,10 @@
 //! Methods that stand in the place of others.
 
-ghost use Rattle.std.specs.Prelude.{◌≡◌, ◌++◌, not, ◌&&◌, ◌||◌, Some, is_some, OnOk};
-ghost use Rattle.scj_rules.specs.Words.{holds};
-ghost use Rattle.scj_rules.specs.ClassRules.{narrower_kind, is_result_of, has_types_of, both_static};
+ghost use Rattle.std.specs.Prelude.{◌≡◌};
+ghost use Rattle.scj_rules.specs.ClassRules.{narrower_kind, is_narrower, is_result_of, has_types_of, is_wrong_override, stays_open};
 ghost use Rattle.scj_rules.specs.Contexts.{declarations_of};
 ghost use Rattle.method_rows.specs.Methods.{found_method};
-ghost use Rattle.class_rules.specs.Overrides.{kind_of_row, is_narrower, is_wrong_override, stays_open};
+ghost use Rattle.class_rules.specs.Types.{kind_of_row};
 
 use crate::types::{class_written, have_same_types, is_same_type};
 use class_rows::Classes;
@@ -14,9 +13,10 @@ use scj_base::ids::{MISSION, MISSION_SEQUENCER};
 use scj_base::{ClassId, Name};
 use scj_builtins::FRAMEWORK_CLASS_COUNT;
 use scj_rules::WrittenType;
+use symbol_table::SymbolTable;
 
 /// The kind that the result of a framework's method names, where that is one whose result may be narrower.
-#[tactic(auto, unfolding(crate::specs::Overrides::kind_of_row))]
+#[tactic(auto, unfolding(crate::specs::Types::kind_of_row))]
 fn kind_of_row(classes: &Classes<'_>, row: &MethodRef) -> Option<ClassId>
     ensures { result ≡ kind_of_row (declarations_of classes.now) (found_method classes.now.nodes row.now) }
 {
@@ -33,82 +33,75 @@ fn kind_of_row(classes: &Classes<'_>, row: &MethodRef) -> Option<ClassId>
 
 /// The kind under which the framework lets the result of this name be narrower in the class.
 #[tactic(auto, using(crate::proofs::OverrideLemmas::kind_is))]
-fn narrower_kind(classes: &Classes<'_>, class: ClassId, name: &Name) -> Option<ClassId>
-    ensures { result ≡ narrower_kind (declarations_of classes.now) class name.now }
+fn narrower_kind(table: &SymbolTable<'_>, name: &Name) -> Option<ClassId>
+    ensures { result ≡ narrower_kind (declarations_of table.now.forest) table.now.class name.now }
 {
-    match &classes.framework_row_named(class, name) {
-        Some(row) => kind_of_row(classes, row),
+    match &table.framework_row_named(name) {
+        Some(row) => kind_of_row(table.classes(), row),
         None => None,
     }
 }
 
-/// Whether a class is a user class under a kind and under the class of a result.
-fn is_narrower(classes: &Classes<'_>, class: ClassId, kind: ClassId, above: ClassId) -> bool
-    ensures { result ≡ is_narrower (declarations_of classes.now) class kind above }
+/// Whether a result is of a user class under a kind and under the class of another result.
+fn is_narrower(
+    classes: &Classes<'_>,
+    kind: ClassId,
+    written: &WrittenType,
+    above: &WrittenType,
+) -> bool
+    ensures { result ≡ is_narrower (declarations_of classes.now) kind written.now above.now }
 {
-    class.number() >= FRAMEWORK_CLASS_COUNT
-        && classes.is_sub(class, kind)
-        && classes.is_sub(class, above)
+    let Some(own) = class_written(classes, written) else {
+        return false;
+    };
+    let Some(other) = class_written(classes, above) else {
+        return false;
+    };
+    own.number() >= FRAMEWORK_CLASS_COUNT && classes.is_sub(own, kind) && classes.is_sub(own, other)
 }
 
 /// Whether a result is that of the method above, or a narrower one that the framework allows.
 #[tactic(auto, unfolding(scj_rules::specs::ClassRules::is_result_of))]
 fn is_result_of(
-    classes: &Classes<'_>,
-    class: ClassId,
+    table: &SymbolTable<'_>,
     name: &Name,
     written: &WrittenType,
     above: &WrittenType,
 ) -> bool
-    ensures { result ≡ is_result_of (declarations_of classes.now) class name.now written.now above.now }
+    ensures { result ≡ is_result_of (declarations_of table.now.forest) table.now.class name.now written.now above.now }
 {
     if is_same_type(written, above) {
         return true;
     }
-    let Some(kind) = narrower_kind(classes, class, name) else {
-        return false;
-    };
-    let Some(own) = class_written(classes, written) else {
-        return false;
-    };
-    match class_written(classes, above) {
-        Some(above) => is_narrower(classes, own, kind, above),
+    match narrower_kind(table, name) {
+        Some(kind) => is_narrower(table.classes(), kind, written, above),
         None => false,
     }
 }
 
 /// Whether a method has the types of the one above.
 #[tactic(auto, unfolding(scj_rules::specs::ClassRules::has_types_of))]
-pub fn has_types_of(classes: &Classes<'_>, class: ClassId, m: &MethodRef, above: &MethodRef) -> bool
-    ensures { result ≡ has_types_of (declarations_of classes.now) class (found_method classes.now.nodes m.now).method
-        (found_method classes.now.nodes above.now).method }
+fn has_types_of(table: &SymbolTable<'_>, m: &MethodRef, above: &MethodRef) -> bool
+    ensures { result ≡ has_types_of (declarations_of table.now.forest) table.now.class
+        (found_method table.now.forest.nodes m.now).method
+        (found_method table.now.forest.nodes above.now).method }
 {
-    let program = classes.program();
+    let program = table.classes().program();
     if !have_same_types(program, m, above) {
         return false;
     }
     let own = declared(program, m);
     let other = declared(program, above);
-    is_result_of(
-        classes,
-        class,
-        &own.name,
-        &own.declared_type,
-        &other.declared_type,
-    )
+    is_result_of(table, &own.name, &own.declared_type, &other.declared_type)
 }
 
 /// Whether a method of a class may not stand in the place of the one above.
-pub fn is_wrong_override(
-    classes: &Classes<'_>,
-    class: ClassId,
-    m: &MethodRef,
-    above: &MethodRef,
-) -> bool
-    ensures { result ≡ is_wrong_override (declarations_of classes.now) class
-        (found_method classes.now.nodes m.now).method (found_method classes.now.nodes above.now).method }
+pub fn is_wrong_override(table: &SymbolTable<'_>, m: &MethodRef, above: &MethodRef) -> bool
+    ensures { result ≡ is_wrong_override (declarations_of table.now.forest) table.now.class
+        (found_method table.now.forest.nodes m.now).method
+        (found_method table.now.forest.nodes above.now).method }
 {
-    let program = classes.program();
+    let program = table.classes().program();
     if !is_overridable(program, above) {
         return true;
     }
@@ -117,15 +110,16 @@ pub fn is_wrong_override(
     if own.modifiers.is_static != other.modifiers.is_static {
         return true;
     }
-    !has_types_of(classes, class, m, above)
+    !has_types_of(table, m, above)
 }
 
 /// Whether a method leaves an abstract one open, in whose place it stands in a class.
-pub fn stays_open(classes: &Classes<'_>, class: ClassId, m: &MethodRef, instead: &MethodRef) -> bool
-    ensures { result ≡ stays_open (declarations_of classes.now) class (found_method classes.now.nodes m.now).method
-        (found_method classes.now.nodes instead.now).method }
+pub fn stays_open(table: &SymbolTable<'_>, m: &MethodRef, instead: &MethodRef) -> bool
+    ensures { result ≡ stays_open (declarations_of table.now.forest) table.now.class
+        (found_method table.now.forest.nodes m.now).method
+        (found_method table.now.forest.nodes instead.now).method }
 {
-    let program = classes.program();
+    let program = table.classes().program();
     let own = declared(program, instead);
     if own.modifiers.is_abstract {
         return true;
@@ -133,5 +127,5 @@ pub fn stays_open(classes: &Classes<'_>, class: ClassId, m: &MethodRef, instead:
     if builtin(program, m).is_none() {
         return false;
     }
-    own.modifiers.is_static || !has_types_of(classes, class, instead, m)
+    own.modifiers.is_static || !has_types_of(table, instead, m)
 }

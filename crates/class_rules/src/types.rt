@@ -6,7 +6,7 @@ ghost use Rattle.scj_rules.specs.Views.{variable_at};
 ghost use Rattle.scj_rules.specs.ClassRules.{is_same_type, have_same_types, class_written};
 ghost use Rattle.scj_rules.specs.Contexts.{declarations_of};
 ghost use Rattle.method_rows.specs.Methods.{found_method};
-ghost use Rattle.class_rules.specs.Overrides.{types_among};
+ghost use Rattle.class_rules.specs.Types.{types_among};
 
 use class_rows::Classes;
 use method_rows::{MethodRef, MethodSource, parameter, parameter_count};
@@ -51,7 +51,7 @@ pub fn class_written(classes: &Classes<'_>, written: &WrittenType) -> Option<Cla
 }
 
 /// The type of the first parameter among nodes, and the nodes behind it.
-#[tactic(auto, unfolding(crate::specs::Overrides::types_among))]
+#[tactic(auto, unfolding(crate::specs::Types::types_among))]
 fn next_type<'a>(program: &Program, list: &'a [NodeId]) -> Option<(WrittenType, &'a [NodeId])>
     ensures none { IfNone result (types_among program.now.nodes list.now ≡ []) }
     ensures some { IfSome result (λ r. types_among program.now.nodes list.now ≡ r.0
@@ -68,7 +68,7 @@ fn next_type<'a>(program: &Program, list: &'a [NodeId]) -> Option<(WrittenType, 
 }
 
 /// Whether the parameters among nodes have the types of those among others.
-#[tactic(auto, unfolding(crate::specs::Overrides::types_among))]
+#[tactic(auto, unfolding(crate::specs::Types::types_among))]
 pub fn have_same_declared(program: &Program, list: &[NodeId], other: &[NodeId]) -> bool
     ensures { result ≡ pointwise is_same_type (types_among program.now.nodes list.now)
         (types_among program.now.nodes other.now) }
@@ -113,7 +113,7 @@ fn have_same_listed(program: &Program, m: &MethodRef, other: &MethodRef) -> bool
 }
 
 /// Whether two methods have parameters of the same types.
-#[tactic(auto, unfolding(crate::specs::Overrides::types_among, method_rows::specs::Methods::found_method, method_rows::specs::Methods::method_from))]
+#[tactic(auto, unfolding(crate::specs::Types::types_among, method_rows::specs::Methods::found_method, method_rows::specs::Methods::method_from))]
 pub fn have_same_types(program: &Program, m: &MethodRef, other: &MethodRef) -> bool
     ensures { result ≡ have_same_types (found_method program.now.nodes m.now).method.parameters
         (found_method program.now.nodes other.now).method.parameters }

@@ -7,7 +7,6 @@ ghost use Rattle.scj_rules.specs.Report.{IsReport};
 ghost use Rattle.class_rows.specs.Tables.{IsTableOf};
 
 use crate::classes::note_classes;
-use class_marks::WrittenClasses;
 use class_rows::{ClassTable, Classes};
 use class_rules::safelets::note_c8;
 use node_contexts::Contexts;
@@ -21,16 +20,14 @@ use std::alloc::Global;
 pub fn check_classes(
     alloc: Global,
     classes: &Classes<'_>,
-    written: &WrittenClasses<'_>,
     contexts: &Contexts,
 ) -> Result<Vec<Found>, Memory>
-    requires same { written.now ≡ classes.now }
-    requires contexts { contexts.now ≡ contexts_in classes.now }
+    requires { contexts.now ≡ contexts_in classes.now }
     ensures { IfOk result (λ found. IsReport (BreaksClassRules classes.now) found.items) }
 {
     let mut found = Vec::new(alloc);
     note_c8(&mut found, classes)?;
-    note_classes(alloc, &mut found, classes, written)?;
+    note_classes(alloc, &mut found, classes)?;
     note_nodes(alloc, &mut found, classes, contexts)?;
     put_in_order(&mut found);
     Ok(found)
@@ -48,7 +45,7 @@ fn report(
     ensures { IfOk result (λ found. IsReport (BreaksClassRules program.now) found.items) }
 {
     let classes = Classes::new(program, table);
-    check_classes(alloc, &classes, &classes.written(), contexts)
+    check_classes(alloc, &classes, contexts)
 }
 
 /// The table of the classes of a program, and the breaks of the rules on classes and members and of the limits, in the

@@ -3,7 +3,7 @@
 
 pub mod checks;
 pub mod classes;
-pub mod supers;
+pub mod order;
 
 pub use checks::{build, build_with_contexts, check_classes};
 pub use class_rows::{ClassTable, Classes};

@@ -4,10 +4,11 @@ use Rattle.scj_tree.specs.declared.nodes.Node.{Node}
 use Rattle.scj_tree.specs.declared.nodes.Node.TheVariants.{Class, Field, Method, Constructor, Parameter, Local, LocalWithValue, TypeArgument, New, Cast, NewArray}
 use Rattle.scj_tree.specs.declared.kinds.NodeKind.{NodeKind}
 use Rattle.scj_tree.specs.Kinds.{kind_of}
+use Rattle.scj_rules.specs.Words.{found_at}
 use Rattle.scj_rules.specs.ClassRules.{c9, c11}
 use Rattle.scj_rules.specs.Contexts.{Declarations}
 use Rattle.node_rules.specs.Limits.{parameter_limit}
-use Rattle.node_rules.specs.Nodes.{node_found, found_at, is_asked_kind}
+use Rattle.node_rules.specs.Nodes.{node_found, is_asked_kind}
 
 unasked : (p : Declarations) (id : ℕ) (node : Node) → is_asked_kind (Some (kind_of node)) ≡ false →
     node_found p id node ≡ []
@@ -26,7 +27,6 @@ unasked p id (NewArray place element length) h = absurd (true≢false h)
 unasked p id _ h = refl
 
 pub unasked_at : (p : Declarations) (id : ℕ) (found : Option Node) (kind : Option NodeKind) →
-    kind ≡ option_map kind_of found → is_asked_kind kind ≡ false → found_at p found id ≡ []
-unfolding found_at
+    kind ≡ option_map kind_of found → is_asked_kind kind ≡ false → found_at found (node_found p id) ≡ []
 unasked_at p id None kind e h = refl
 unasked_at p id (Some node) kind e h = unasked p id node (ap (λ k. is_asked_kind k) (sym e) ∙ h)

@@ -1,14 +1,12 @@
--- Where a finding of a list that is joined from others comes from.
-use Rattle.std.proofs.Common.{◌≡◌, ℕ, zero, suc, ◌<◌, ◌≤◌, Bool, true, false, List, [], ◌∷◌, map, filter_map, Option, Some, None, refl, sym, ap, ◌∙◌, subst, arith, ⊎_elim}
+-- Lists of findings that are joined from others.
+use Rattle.std.proofs.Common.{◌≡◌, ◌≢◌, ℕ, zero, suc, ◌+◌, ◌<◌, ◌≤◌, List, [], ◌++◌, refl, sym, ap, ◌∙◌, subst, arith, ⊎_elim, append_assoc}
 use Rattle.std.specs.List.{Contains}
 use Rattle.std.proofs.lemmas.List.Elements.{Contains-append_left, Contains-append_right, Contains-append_cases}
-use Rattle.std.proofs.lemmas.Bool.{cases_lt}
+use Rattle.std.proofs.lemmas.Bool.{cases_lt, cases_eq}
 use Rattle.scj_base.specs.declared.findings.Found.{Found}
-use Rattle.scj_base.specs.declared.findings.Rule.{Rule}
-use Rattle.scj_base.specs.declared.places.Pos.{Pos}
 use Rattle.scj_tree.specs.Recursion.{joined_below}
-use Rattle.scj_rules.specs.Words.{broken}
-use Rattle.scj_rules.proofs.ReportLemmas.{Contains-head, Contains-tail, Contains-cases, none_contained}
+use Rattle.scj_rules.proofs.ReportLemmas.{none_contained}
+use Rattle.node_rules.specs.Findings.{FindSame}
 
 -- an element of joined lists stands in one of them
 pub from_joined : {X : Type 0} (f : ℕ → List X) (n : ℕ) (x : X) → Contains (joined_below f n) x → (k : ℕ) × (k < n) ×
@@ -31,62 +29,91 @@ to_joined f (suc n) k x l h =
     Contains-append_right (joined_below f n) (f n) x (subst (λ m. Contains (f m) x) same h))
     (cases_lt k n)
 
--- an element that a test lets stand
-pub from_broken : (test : Bool) (rule : Rule) (place : Pos) (f : Found) → Contains (broken test rule place) f →
-    (test ≡ true) × (f ≡ record { pos = place; rule = rule })
-from_broken false rule place f h = absurd (none_contained f h)
-from_broken true rule place f h = (
-  refl,
-  ⊎_elim (λ (e : record { pos = place; rule = rule } ≡ f). sym e)
-      (λ (k : Contains [] f). absurd (none_contained f k))
-      (Contains-cases (record { pos = place; rule = rule }) [] f h),
-)
+pub same_lists : {xs ys : List Found} → xs ≡ ys → FindSame xs ys
+same_lists e =
+    record { exact = λ f. ((λ h. subst (λ l. Contains l f) e h), (λ h. subst (λ l. Contains l f) (sym e) h)) }
 
-pub to_broken : (test : Bool) (rule : Rule) (place : Pos) → test ≡ true →
-    Contains (broken test rule place) (record { pos = place; rule = rule })
-to_broken test rule place h = rw h (Contains-head _ [])
+pub same_then : {xs ys zs : List Found} → FindSame xs ys → FindSame ys zs → FindSame xs zs
+same_then a b =
+    record { exact = λ f. ((λ h. (b.exact f).0 ((a.exact f).0 h)), (λ h. (a.exact f).1 ((b.exact f).1 h))) }
 
--- an element of what is picked comes from one that is picked from
-pub from_picked : {A X : Type 0} (f : A → Option X) (es : List A) (x : X) → Contains (filter_map f es) x →
-    (a : A) × Contains es a × (f a ≡ Some x)
-from_picked f [] x h = absurd (none_contained x h)
-from_picked {A} {X} f (a ∷ es) x h = go (f a) refl h (from_picked f es x)
+pub same_back : {xs ys : List Found} → FindSame xs ys → FindSame ys xs
+same_back a = record { exact = λ f. ((a.exact f).1, (a.exact f).0) }
+
+pub swapped : (xs ys : List Found) → FindSame (xs ++ ys) (ys ++ xs)
+swapped xs ys = record { exact = λ f. (turn xs ys f, turn ys xs f) }
   where
-    go : (o : Option X) → f a ≡ o → Contains (filter_map f (a ∷ es)) x →
-        (Contains (filter_map f es) x → (b : A) × Contains es b × (f b ≡ Some x))
-        → (b : A) × Contains (a ∷ es) b × (f b ≡ Some x)
-    go None e h more = let k : Contains (filter_map f es) x = rw e at h in let r =
-        more k in (r.0, Contains-tail a es r.0 r.1, r.2)
-    go (Some y) e h more =
-        let k : Contains (y ∷ filter_map f es) x = rw e at h in
-        ⊎_elim (λ (same : y ≡ x). (a, Contains-head a es, e ∙ ap Some same))
-        (λ (later : Contains (filter_map f es) x). let r = more later in (r.0, Contains-tail a es r.0 r.1, r.2))
-        (Contains-cases y (filter_map f es) x k)
+    turn : (xs ys : List Found) (f : Found) → Contains (xs ++ ys) f → Contains (ys ++ xs) f
+    turn xs ys f h = ⊎_elim (λ (k : Contains xs f). Contains-append_right ys xs f k)
+        (λ (k : Contains ys f). Contains-append_left ys xs f k) (Contains-append_cases xs ys f h)
 
-pub to_picked : {A X : Type 0} (f : A → Option X) (es : List A) (a : A) (x : X) → Contains es a → f a ≡ Some x →
-    Contains (filter_map f es) x
-to_picked f [] a x h e = absurd (none_contained a h)
-to_picked {A} {X} f (b ∷ es) a x h e =
-    ⊎_elim (λ (same : b ≡ a). let k : f b ≡ Some x = ap f same ∙ e in rw k (Contains-head x (filter_map f es)))
-    (λ (later : Contains es a). let k = to_picked f es a x later e in go (f b) refl k)
-    (Contains-cases b es a h)
+pub both_same : {us vs xs ys : List Found} → FindSame us vs → FindSame xs ys → FindSame (us ++ xs) (vs ++ ys)
+both_same {us} {vs} {xs} {ys} a b =
+    record {
+      exact = λ f. (
+        put us vs xs ys f (a.exact f).0 (b.exact f).0,
+        put vs us ys xs f (a.exact f).1 (b.exact f).1,
+      );
+    }
   where
-    go : (o : Option X) → f b ≡ o → Contains (filter_map f es) x → Contains (filter_map f (b ∷ es)) x
-    go None e k = rw e k
-    go (Some y) e k = rw e (Contains-tail y (filter_map f es) x k)
+    put : (us vs xs ys : List Found) (f : Found) → (Contains us f → Contains vs f) → (Contains xs f → Contains ys f)
+        → Contains (us ++ xs) f → Contains (vs ++ ys) f
+    put us vs xs ys f a b h = ⊎_elim (λ (k : Contains us f). Contains-append_left vs ys f (a k))
+        (λ (k : Contains xs f). Contains-append_right vs ys f (b k)) (Contains-append_cases us xs f h)
 
--- an element of what a function makes of a list
-pub from_map : {A X : Type 0} (f : A → X) (es : List A) (x : X) → Contains (map f es) x → (a : A) × Contains es a ×
-    (f a ≡ x)
-from_map f [] x h = absurd (none_contained x h)
-from_map f (a ∷ es) x h =
-    ⊎_elim (λ (same : f a ≡ x). (a, Contains-head a es, same))
-    (λ (later : Contains (map f es) x). let r = from_map f es x later in (r.0, Contains-tail a es r.0 r.1, r.2))
-    (Contains-cases (f a) (map f es) x h)
+-- lists of which each is joined from two others
+pub joined_parts : (all first second : ℕ → List Found) (n : ℕ) →
+    ((k : ℕ) → FindSame (all k) (first k ++ second k))
+    → FindSame (joined_below all n) (joined_below first n ++ joined_below second n)
+joined_parts all first second n parts = record { exact = λ f. (there f, back f) }
+  where
+    there : (f : Found) → Contains (joined_below all n) f →
+        Contains (joined_below first n ++ joined_below second n) f
+    there f h =
+        let a = from_joined all n f h in
+        ⊎_elim
+        (λ (k : Contains (first a.0) f). Contains-append_left (joined_below first n) (joined_below second n) f
+        (to_joined first n a.0 f a.1 k))
+        (λ (k : Contains (second a.0) f). Contains-append_right (joined_below first n) (joined_below second n) f
+        (to_joined second n a.0 f a.1 k))
+        (Contains-append_cases (first a.0) (second a.0) f (((parts a.0).exact f).0 a.2))
 
-pub to_map : {A X : Type 0} (f : A → X) (es : List A) (a : A) → Contains es a → Contains (map f es) (f a)
-to_map f [] a h = absurd (none_contained a h)
-to_map f (b ∷ es) a h =
-    ⊎_elim (λ (same : b ≡ a). subst (λ c. Contains (f b ∷ map f es) (f c)) same (Contains-head (f b) (map f es)))
-    (λ (later : Contains es a). Contains-tail (f b) (map f es) (f a) (to_map f es a later))
-    (Contains-cases b es a h)
+    back : (f : Found) → Contains (joined_below first n ++ joined_below second n) f →
+        Contains (joined_below all n) f
+    back f h =
+        ⊎_elim
+        (λ (k : Contains (joined_below first n) f). let a = from_joined first n f k in
+        to_joined all n a.0 f a.1 (((parts a.0).exact f).1 (Contains-append_left (first a.0) (second a.0) f a.2)))
+        (λ (k : Contains (joined_below second n) f). let a = from_joined second n f k in
+        to_joined all n a.0 f a.1 (((parts a.0).exact f).1 (Contains-append_right (first a.0) (second a.0) f a.2)))
+        (Contains-append_cases (joined_below first n) (joined_below second n) f h)
+
+pub joined_none : (f : ℕ → List Found) (n : ℕ) → ((k : ℕ) → f k ≡ []) → joined_below f n ≡ []
+unfolding joined_below
+joined_none f zero h = refl
+joined_none f (suc n) h = ap (λ xs. xs ++ f n) (joined_none f n h) ∙ h n
+
+-- lists of which one alone holds anything
+pub joined_once : (f : ℕ → List Found) (n at : ℕ) → ((k : ℕ) → k ≢ at → f k ≡ []) → (n ≤ at → f at ≡ []) →
+    FindSame (joined_below f n) (f at)
+joined_once f n at others late = record { exact = λ x. (there x, back x) }
+  where
+    there : (x : Found) → Contains (joined_below f n) x → Contains (f at) x
+    there x h =
+        let a = from_joined f n x h in
+        ⊎_elim (λ (e : a.0 ≡ at). subst (λ k. Contains (f k) x) e a.2)
+        (λ (e : a.0 ≢ at). absurd (none_contained x (subst (λ l. Contains l x) (others a.0 e) a.2)))
+        (cases_eq a.0 at)
+
+    back : (x : Found) → Contains (f at) x → Contains (joined_below f n) x
+    back x h = ⊎_elim (λ (l : at < n). to_joined f n at x l h)
+        (λ (l : n ≤ at). absurd (none_contained x (subst (λ l. Contains l x) (late l) h))) (cases_lt at n)
+
+-- one list more
+pub joined_next : {A : Type 0} (f : ℕ → List A) (n at : ℕ) (found after first : List A) → at ≡ n → found ≡ first
+    ++ joined_below f n → after ≡ found ++ f at → after ≡ first ++ joined_below f (n + 1)
+unfolding joined_below
+joined_next f n at found after first e w a =
+    let count : n + 1 ≡ suc n = omega arith in
+    a ∙ ap (λ k. found ++ f k) e ∙ ap (λ xs. xs ++ f n) w ∙ append_assoc first (joined_below f n) (f n)
+    ∙ ap (λ m. first ++ joined_below f m) (sym count)

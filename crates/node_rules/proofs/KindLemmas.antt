@@ -1,5 +1,5 @@
 -- Classes that a type may name, by their kinds.
-use Rattle.std.proofs.Common.{◌≡◌, ℕ, Bool, false, ◌||◌, Option, Some, None, refl, sym, ap, ◌∙◌, slice_get, option_map}
+use Rattle.std.proofs.Common.{◌≡◌, ℕ, false, ◌||◌, Option, Some, None, refl, ap, slice_get, option_map}
 use Rattle.scj_builtins.specs.declared.kinds.ClassKind.{ClassKind}
 use Rattle.scj_rules.specs.Words.{holds}
 use Rattle.scj_rules.specs.Classes.{ClassRow, is_extended, is_implemented}

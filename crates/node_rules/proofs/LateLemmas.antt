@@ -1,8 +1,9 @@
--- The variables that come late, told member by member and told in one pass.
-use Rattle.std.proofs.Common.{append_assoc, ◌++◌, append-nil, replicate, ◌≡◌, ◌≢◌, ◌⊎◌, ⊎_elim, inl, inr, nat_lt, min, set, option_map, if◌then◌else◌, ℕ, zero, suc, ◌+◌, ◌<◌, ◌≤◌, nat_le, Bool, true, false, ◌&&◌, ◌==◌, List, [], ◌∷◌, length, drop, filter, filter_map, slice_get, Option, Some, None, refl, sym, ap, ◌∙◌, subst, arith, is_some}
-use Rattle.std.specs.List.{Contains}
-use Rattle.std.proofs.lemmas.Bool.{true≢false, cases_lt}
-use Rattle.std.proofs.lemmas.List.{get_or-set_same, get_or-set_other, length-set, length-replicate}
+-- The variables that come late, told in one pass.
+use Rattle.std.proofs.Common.{append_assoc, ◌++◌, append-nil, replicate, ◌≡◌, ◌≢◌, ⊎_elim, nat_lt, min, set, option_map, if◌then◌else◌, ℕ, zero, suc, ◌+◌, ◌<◌, ◌≤◌, nat_le, Bool, true, false, ◌&&◌, ◌==◌, List, [], ◌∷◌, length, drop, filter, filter_map, Option, Some, None, refl, sym, ap, ◌∙◌, subst, arith, is_some, length-append}
+use Rattle.std.proofs.lemmas.Bool.{true≢false, cases_lt, ne_eqb, eq-eqb}
+use Rattle.std.proofs.lemmas.List.{get_or-set_same, get_or-set_other, length-set, length-replicate, map-append}
+use Rattle.std.proofs.lemmas.List.Elements.{filter_map-append}
+use Rattle.std.proofs.lemmas.Option.{slice_get_past}
 use Rattle.std.proofs.lemmas.Bool.Decides.{nat_tests}
 use Rattle.scj_base.specs.declared.findings.Found.{Found}
 use Rattle.scj_base.specs.declared.findings.Rule.TheVariants.{K2}
@@ -13,216 +14,183 @@ use Rattle.scj_tree.specs.Forest.{Forest}
 use Rattle.node_views.specs.Parts.{naming}
 use Rattle.scj_rules.specs.Words.{broken, holds}
 use Rattle.scj_rules.specs.Views.{variable_at}
+use Rattle.scj_rules.specs.Classes.{is_callable}
 use Rattle.scj_rules.specs.Contexts.{Declarations, context, declarations_of}
 use Rattle.scj_rules.specs.ClassRules.{numbers_from}
-use Rattle.scj_rules.specs.LimitRules.{most_locals, variables_of, k2}
-use Rattle.scj_rules.proofs.ChainLemmas.{same_number, is_same_number}
-use Rattle.scj_rules.proofs.ReportLemmas.{none_contained}
-use Rattle.node_rules.specs.Counting.{AreCounts, is_variable_of, passing, is_callable, late_variable, late_variables, raised}
-use Rattle.node_rules.proofs.CountingLemmas.{late_from, late_there}
-use Rattle.node_rules.proofs.FindingLemmas.{from_joined, to_joined, from_broken, to_broken, from_picked, to_picked, from_map, to_map}
+use Rattle.scj_rules.specs.LimitRules.{most_locals, variables_of, is_variable_of, broken_at_declared, k2}
+use Rattle.node_rules.specs.Findings.{FindSame}
+use Rattle.node_rules.specs.Counting.{AreCounted, variables_below, late_below, all_late, raised}
+use Rattle.node_rules.proofs.FindingLemmas.{same_lists, same_then, both_same, same_back, joined_none, joined_parts, joined_once}
 
-abbrev late_finding : Declared → Found
-late_finding d = record { pos = d.place; rule = K2 }
+-- ---- the variables of a member, one node after the other
 
-both_true : (a b : Bool) → (a && b) ≡ true → (a ≡ true) × (b ≡ true)
-both_true true b h = (refl, h)
-both_true false b h = absurd (true≢false (sym h))
+abbrev one : (ℕ → Bool) → ℕ → List ℕ
+one test id = if test id then id ∷ [] else []
 
--- the parts of a late variable
-pub record IsLate (p : Declarations) (id : ℕ) (f : Found) : Type 0 where
-  pub declared : Declared
-  pub member : ℕ
-  pub is_declared : variable_at p.nodes id ≡ Some declared
-  pub is_member : (context p id).member ≡ Some member
-  pub callable : holds (slice_get p.nodes member) is_callable ≡ true
-  pub late : nat_le most_locals (passing (is_variable_of p member) 0 id) ≡ true
-  pub is_found : f ≡ record { pos = declared.place; rule = K2 }
-
-abbrev step : Declarations → ℕ → Declared → Option ℕ → List Found
-step p id d o =
-    elim o [
-      | None ↦ []
-      | Some m ↦ broken (holds (slice_get p.nodes m) is_callable
-          && nat_le most_locals (passing (is_variable_of p m) 0 id)) K2 d.place
-    ]
-
-abbrev late_of : Declarations → ℕ → Option Declared → List Found
-late_of p id o = elim o [ None ↦ [] | Some d ↦ step p id d (context p id).member ]
-
-late_parts : (p : Declarations) (id : ℕ) (f : Found) → Contains (late_variable p id) f → IsLate p id f
-unfolding late_variable
-late_parts p id f h = go (variable_at p.nodes id) refl h
+filtered_from : {A : Type 0} (test : ℕ → Bool) (first : ℕ) (xs : List A)
+    → joined_below (one test) first ++ filter test (numbers_from first xs) ≡ joined_below (one test) (first + length xs)
+unfolding joined_below numbers_from
+filtered_from test first [] = append-nil (joined_below (one test) first)
+    ∙ (let e : first ≡ first + 0 = omega arith in ap (joined_below (one test)) e)
+filtered_from test first (x ∷ xs) =
+    let e : (first + 1) + length xs ≡ first + suc (length xs) = omega arith in
+    let next : first + 1 ≡ suc first = omega arith in
+    ap (λ ys. joined_below (one test) first ++ ys) (front (test first))
+    ∙ sym (append_assoc (joined_below (one test) first) (one test first) (filter test (numbers_from (first + 1) xs)))
+    ∙ ap (λ n. joined_below (one test) n ++ filter test (numbers_from (first + 1) xs)) (sym next)
+    ∙ filtered_from test (first + 1) xs ∙ ap (joined_below (one test)) e
   where
-    inner : (d : Declared) (o : Option ℕ) → variable_at p.nodes id ≡ Some d → (context p id).member ≡ o →
-        Contains (step p id d o) f → IsLate p id f
-    inner d None e i h = absurd (none_contained f h)
-    inner d (Some m) e i h =
-        let b =
-        from_broken (holds (slice_get p.nodes m) is_callable
-        && nat_le most_locals (passing (is_variable_of p m) 0 id)) K2 d.place f h in
-        let t =
-        both_true (holds (slice_get p.nodes m) is_callable) (nat_le most_locals (passing (is_variable_of p m) 0 id))
-        b.0 in
-        record { declared = d; member = m; is_declared = e; is_member = i; callable = t.0; late = t.1; is_found = b.1 }
+    front : (b : Bool) →
+        (if b then first ∷ filter test (numbers_from (first + 1) xs) else filter test (numbers_from (first + 1) xs))
+        ≡ (if b then first ∷ [] else []) ++ filter test (numbers_from (first + 1) xs)
+    front true = refl
+    front false = refl
 
-    go : (o : Option Declared) → variable_at p.nodes id ≡ o →
-        Contains (elim o [ None ↦ [] | Some d ↦ step p id d (context p id).member ]) f → IsLate p id f
-    go None e h = absurd (none_contained f h)
-    go (Some d) e h = inner d (context p id).member e refl h
+-- K2 at a member, by all nodes
+pub late_is : (p : Declarations) (member : ℕ) →
+    (if is_callable p.nodes member then k2 p member else []) ≡ late_below p (length p.nodes) member
+unfolding k2 variables_of late_below variables_below joined_below
+late_is p member =
+    ap (λ vs. if is_callable p.nodes member
+    then broken_at_declared K2 (filter_map (variable_at p.nodes) (drop most_locals vs)) else [])
+    (filtered_from (is_variable_of p member) 0 p.nodes
+    ∙ (let e : 0 + length p.nodes ≡ length p.nodes = omega arith in
+    ap (joined_below (one (is_variable_of p member))) e))
 
-late_whole : (p : Declarations) (id : ℕ) (f : Found) → IsLate p id f → Contains (late_variable p id) f
-unfolding late_variable
-late_whole p id f l =
-    let test : (holds (slice_get p.nodes l.member) is_callable
-    && nat_le most_locals (passing (is_variable_of p l.member) 0 id)) ≡ true = rw (l.callable, l.late) refl in
-    let found =
-    to_broken (holds (slice_get p.nodes l.member) is_callable
-    && nat_le most_locals (passing (is_variable_of p l.member) 0 id)) K2 l.declared.place test in
-    let P : Option Declared → Type 0 =
-    λ o. Contains (elim o [ None ↦ [] | Some d ↦ step p id d (context p id).member ]) f in
-    let Q : Option ℕ → Type 0 = λ o. Contains (step p id l.declared o) f in
-    let R : Found → Type 0 = λ g. Contains (step p id l.declared (Some l.member)) g in
-    subst P (sym l.is_declared) (subst Q (sym l.is_member) (subst R (sym l.is_found) found))
-
--- a number is that of a variable of the member
-of_member : (p : Declarations) (m id : ℕ) → is_variable_of p m id ≡ true → (context p id).member ≡ Some m
-of_member p m id h =
-    go (context p id).member
-    (both_true (is_some (variable_at p.nodes id)) (holds (context p id).member (λ k. k == m)) h).1
+drop_push : {A : Type 0} (k : ℕ) (xs : List A) (y : A) →
+    drop k (xs ++ y ∷ []) ≡ drop k xs ++ (if nat_le k (length xs) then y ∷ [] else [])
+drop_push {A} zero xs y = let t : nat_le 0 (length xs) ≡ true = grind (arith, nat_tests) in rw t refl
+drop_push {A} (suc k) [] y = let t : nat_le (suc k) 0 ≡ false = grind (arith, nat_tests) in rw t (nothing k)
   where
-    go : (o : Option ℕ) → holds o (λ k. k == m) ≡ true → o ≡ Some m
-    go None e = absurd (true≢false (sym e))
-    go (Some k) e = ap Some (same_number k m e)
+    nothing : (k : ℕ) → drop {A = A} k [] ≡ []
+    nothing zero = refl
+    nothing (suc k) = refl
+drop_push {A} (suc k) (x ∷ xs) y = drop_push k xs y
+    ∙ ap (λ b. drop k xs ++ (if b then y ∷ [] else [])) (shift k (length xs))
+  where
+    shift : (k n : ℕ) → nat_le k n ≡ nat_le (suc k) (suc n)
+    shift k n = grind (arith, nat_tests)
 
-member_of : (p : Declarations) (m id : ℕ) (d : Declared) → variable_at p.nodes id ≡ Some d →
-    (context p id).member ≡ Some m → is_variable_of p m id ≡ true
-member_of p m id d e i = rw (e, i) (is_same_number m m refl)
+variables_next : (p : Declarations) (n member : ℕ) →
+    variables_below p (n + 1) member ≡ variables_below p n member ++ one (is_variable_of p member) n
+unfolding variables_below joined_below
+variables_next p n member = let e : n + 1 ≡ suc n = omega arith in ap (joined_below (one (is_variable_of p member))) e
 
--- K2 at a member
-pub from_member : (p : Declarations) (m : ℕ) (f : Found) → holds (slice_get p.nodes m) is_callable ≡ true →
-    Contains (k2 p m) f → Contains (late_variables p) f
-unfolding k2 variables_of late_variables
-from_member p m f callable h =
-    let a =
-    from_map late_finding
-    (filter_map (variable_at p.nodes) (drop most_locals (filter (is_variable_of p m) (numbers_from 0 p.nodes)))) f h
-    in
-    let b = from_picked (variable_at p.nodes) (drop most_locals (filter (is_variable_of p m) (numbers_from 0 p.nodes)))
-    a.0 a.1 in
-    let c = late_from (is_variable_of p m) 0 p.nodes most_locals b.0 b.1 in
-    let same : c.steps ≡ b.0 = let i : b.0 ≡ 0 + c.steps = c.is_n in omega (arith, i) in
-    let many : most_locals ≤ passing (is_variable_of p m) 0 b.0 =
-    subst (λ k. most_locals ≤ passing (is_variable_of p m) 0 k) same c.many in
-    let l : IsLate p b.0 f = record {
-      declared = a.0;
-      member = m;
-      is_declared = b.2;
-      is_member = of_member p m b.0 c.passes;
-      callable = callable;
-      late = grind (arith, nat_tests, many);
-      is_found = sym a.2;
-    } in
-    to_joined (late_variable p) (length p.nodes) b.0 f (let w : c.steps < length p.nodes = c.within in
-    omega (arith, w, same)) (late_whole p b.0 f l)
+abbrev late_among : Declarations → List ℕ → List Found
+late_among p ids = broken_at_declared K2 (filter_map (variable_at p.nodes) ids)
 
-pub record AtMember (p : Declarations) (f : Found) : Type 0 where
-  pub member : ℕ
-  pub callable : holds (slice_get p.nodes member) is_callable ≡ true
-  pub found : Contains (k2 p member) f
+-- the variable at a node is behind the 32nd of a member
+abbrev late_here : Declarations → ℕ → ℕ → List Found
+late_here p n member =
+    if is_callable p.nodes member
+    then (if is_variable_of p member n then (if nat_le most_locals (length (variables_below p n member))
+    then late_among p (n ∷ []) else []) else []) else []
 
-pub to_member : (p : Declarations) (f : Found) → Contains (late_variables p) f → AtMember p f
-unfolding k2 variables_of late_variables
-to_member p f h =
-    let a = from_joined (late_variable p) (length p.nodes) f h in
-    let l = late_parts p a.0 f a.2 in
-    let many : most_locals ≤ passing (is_variable_of p l.member) 0 a.0 = grind (arith, nat_tests, l.late) in
-    let there = late_there (is_variable_of p l.member) 0 p.nodes most_locals a.0 a.0 (omega arith) a.1
-    (member_of p l.member a.0 l.declared l.is_declared l.is_member) many in
-    let picked =
-    to_picked (variable_at p.nodes) (drop most_locals (filter (is_variable_of p l.member) (numbers_from 0 p.nodes)))
-    a.0 l.declared there l.is_declared in
-    let made =
-    to_map late_finding
-    (filter_map (variable_at p.nodes)
-    (drop most_locals (filter (is_variable_of p l.member) (numbers_from 0 p.nodes)))) l.declared picked in
-    record {
-      member = l.member;
-      callable = l.callable;
-      found = (let R : Found → Type 0 = λ g. Contains (k2 p l.member) g
-          in subst R (sym l.is_found) made);
-    }
+late_next : (p : Declarations) (n member : ℕ) →
+    late_below p (n + 1) member ≡ late_below p n member ++ late_here p n member
+unfolding late_below
+late_next p n member =
+    ap (λ vs. if is_callable p.nodes member
+    then broken_at_declared K2 (filter_map (variable_at p.nodes) (drop most_locals vs)) else [])
+    (variables_next p n member)
+    ∙ go (is_callable p.nodes member) (is_variable_of p member n)
+  where
+    split : (xs ys : List ℕ) → late_among p (xs ++ ys) ≡ late_among p xs ++ late_among p ys
+    split xs ys = ap (broken_at_declared K2) (filter_map-append (variable_at p.nodes) xs ys)
+        ∙ map-append (λ (d : Declared). record { pos = d.place; rule = K2 }) (filter_map (variable_at p.nodes) xs)
+        (filter_map (variable_at p.nodes) ys)
 
--- one number more
-passing_next : (test : ℕ → Bool) (first n : ℕ) → passing test first (n + 1) ≡ passing test first n +
-    (if test (first + n) then 1 else 0)
-unfolding passing
-passing_next test first zero = let at : first + 0 ≡ first = omega arith in rw at (omega arith)
-passing_next test first (suc n) =
-    let h = passing_next test (first + 1) n in
-    let at : (first + 1) + n ≡ first + suc n = omega arith in
-    let h2 : passing test (first + 1) (n + 1) ≡ passing test (first + 1) n + (if test (first + suc n) then 1 else 0) =
-    rw at at h in
-    let F : ℕ = (if test first then 1 else 0) in
-    let count : suc n + 1 ≡ suc (n + 1) = omega arith in
-    rw count (omega (arith, h2))
+    last : (b : Bool) → late_among p (if b then n ∷ [] else []) ≡ (if b then late_among p (n ∷ []) else [])
+    last true = refl
+    last false = refl
 
--- where no variable of a member is declared, the counts stay
-stays : (p : Declarations) (id : ℕ) (counts : List ℕ) → ((member : ℕ) → is_variable_of p member id ≡ false) →
-    AreCounts p id counts → AreCounts p (id + 1) counts
-stays p id counts none a =
+    go : (c v : Bool)
+        → (if c then late_among p (drop most_locals ((variables_below p n member) ++ (if v then n ∷ [] else [])))
+        else []) ≡ (if c then late_among p (drop most_locals (variables_below p n member)) else [])
+        ++ (if c
+        then (if v then (if nat_le most_locals (length (variables_below p n member)) then late_among p
+        (n ∷ []) else []) else []) else [])
+    go false v = refl
+    go true false = ap (λ xs. late_among p (drop most_locals xs)) (append-nil (variables_below p n member))
+        ∙ sym (append-nil (late_among p (drop most_locals (variables_below p n member))))
+    go true true = ap (late_among p) (drop_push most_locals (variables_below p n member) n)
+        ∙ split (drop most_locals (variables_below p n member))
+        (if nat_le most_locals (length (variables_below p n member)) then n ∷ [] else [])
+        ∙ ap (λ xs. late_among p (drop most_locals (variables_below p n member)) ++ xs)
+        (last (nat_le most_locals (length (variables_below p n member))))
+
+-- what is noted at a node more
+noted_next : (p : Declarations) (n : ℕ) (before found after : List Found) → FindSame found (before ++ all_late p n)
+    → FindSame after (found ++ joined_below (late_here p n) (length p.nodes))
+    → FindSame after (before ++ all_late p (n + 1))
+unfolding all_late
+noted_next p n before found after h k =
+    same_then k (same_then (both_same h (same_lists refl))
+    (same_then
+    (same_lists
+    (append_assoc before (joined_below (late_below p n) (length p.nodes))
+    (joined_below (late_here p n) (length p.nodes))))
+    (both_same (same_lists refl) (same_back (joined_parts (late_below p (n + 1)) (late_below p n) (late_here p n)
+    (length p.nodes) (λ m. same_lists (late_next p n m)))))))
+
+counted_next : (p : Declarations) (n m : ℕ) (b : Bool) → is_variable_of p m n ≡ b →
+    length (variables_below p (n + 1) m) ≡ length (variables_below p n m) + (if b then 1 else 0)
+counted_next p n m b e = ap length (variables_next p n m)
+    ∙ length-append (variables_below p n m) (one (is_variable_of p m) n)
+    ∙ ap (λ k. length (variables_below p n m) + k) (go (is_variable_of p m n) ∙ ap (λ b. if b then 1 else 0) e)
+  where
+    go : (b : Bool) → length (if b then n ∷ [] else []) ≡ (if b then 1 else 0)
+    go true = refl
+    go false = refl
+
+-- where no variable of a member is declared, all stays
+none_late : (p : Declarations) (n : ℕ) (counts : List ℕ) (before found : List Found) →
+    ((member : ℕ) → is_variable_of p member n ≡ false) → AreCounted p n counts before found →
+    AreCounted p (n + 1) counts before found
+none_late p n counts before found none a =
     record {
       whole = a.whole;
-      exact = λ member l. a.exact member l
-          ∙ ap (min most_locals) (sym (passing_next (is_variable_of p member) 0 id ∙ same member));
+      exact = λ m l. a.exact m l ∙ ap (min most_locals)
+          (let e : length (variables_below p n m) + 0 ≡ length (variables_below p n m) = omega arith in
+          sym (counted_next p n m false (none m) ∙ e));
+      noted = noted_next p n before found found a.noted
+          (same_lists
+          (sym
+          (ap (λ xs. found ++ xs) (joined_none (late_here p n) (length p.nodes) nothing) ∙ append-nil found)));
     }
   where
-    same : (member : ℕ) → passing (is_variable_of p member) 0 id + (if is_variable_of p member (0 + id) then 1 else 0)
-        ≡ passing (is_variable_of p member) 0 id
-    same member = let at : 0 + id ≡ id = omega arith in rw (at, none member) (omega arith)
+    nothing : (m : ℕ) → late_here p n m ≡ []
+    nothing m = let e = none m in rw e (go (is_callable p.nodes m))
+      where
+        go : (b : Bool) → ◌≡◌ {A = List Found} (if b then [] else []) []
+        go true = refl
+        go false = refl
 
-no_name : (o : Option Declared) → None ≡ option_map naming o → o ≡ None
-no_name None h = refl
-no_name (Some d) h = cc
+pub undeclared : (p : Declarations) (n : ℕ) (counts : List ℕ) (before found : List Found) →
+    is_some (variable_at p.nodes n) ≡ false → AreCounted p n counts before found →
+    AreCounted p (n + 1) counts before found
+undeclared p n counts before found h =
+    none_late p n counts before found (λ m. ap (λ b. b && holds (context p n).member (λ k. k == m)) h)
 
-some_name : (o : Option Declared) (w : Written) → Some w ≡ option_map naming o → (d : Declared) × (o ≡ Some d) ×
-    (d.place ≡ w.place)
-some_name None w h = cc
-some_name (Some d) w h = (d, refl, (let e : naming d ≡ w = cc in ap (λ (v : Written). v.place) e))
-
-pub none_late : (p : Declarations) (id : ℕ) (counts : List ℕ) → None ≡ option_map naming (variable_at p.nodes id) →
-    AreCounts p id counts → (late_variable p id ≡ []) × AreCounts p (id + 1) counts
-unfolding late_variable
-none_late p id counts h a =
-    let none : variable_at p.nodes id ≡ None = no_name (variable_at p.nodes id) h in (
-      ap (late_of p id) none,
-      stays p id counts
-          (λ member. ap (λ (o : Option Declared). is_some o && holds (context p id).member (λ m. m == member)) none) a,
-    )
-
--- a node that declares no variable
-pub undeclared_late : (p : Declarations) (id : ℕ) (counts : List ℕ) → is_some (variable_at p.nodes id) ≡ false →
-    AreCounts p id counts → (late_variable p id ≡ []) × AreCounts p (id + 1) counts
-undeclared_late p id counts h a =
-    none_late p id counts (ap (option_map naming) (sym (unnamed (variable_at p.nodes id) h))) a
+pub unnamed : (p : Declarations) (n : ℕ) (counts : List ℕ) (before found : List Found) →
+    None ≡ option_map naming (variable_at p.nodes n) → AreCounted p n counts before found →
+    AreCounted p (n + 1) counts before found
+unnamed p n counts before found h = undeclared p n counts before found (go (variable_at p.nodes n) h)
   where
-    unnamed : (o : Option Declared) → is_some o ≡ false → o ≡ None
-    unnamed None h = refl
-    unnamed (Some d) h = absurd (true≢false h)
+    go : (o : Option Declared) → None ≡ option_map naming o → is_some o ≡ false
+    go None h = refl
+    go (Some d) h = cc
 
-pub memberless : (p : Declarations) (id : ℕ) (counts : List ℕ) → (context p id).member ≡ None → AreCounts p id counts →
-    (late_variable p id ≡ []) × AreCounts p (id + 1) counts
-unfolding late_variable
-memberless p id counts h a =
-    (nothing (variable_at p.nodes id), stays p id counts (λ member. never (is_some (variable_at p.nodes id)) member) a)
+pub memberless : (p : Declarations) (n : ℕ) (counts : List ℕ) (before found : List Found) →
+    (context p n).member ≡ None → AreCounted p n counts before found → AreCounted p (n + 1) counts before found
+memberless p n counts before found h =
+    none_late p n counts before found (λ m. rw h (go (is_some (variable_at p.nodes n))))
   where
-    nothing : (o : Option Declared) → late_of p id o ≡ []
-    nothing None = refl
-    nothing (Some d) = ap (step p id d) h
+    go : (b : Bool) → (b && false) ≡ false
+    go true = refl
+    go false = refl
 
-    never : (b : Bool) (member : ℕ) → (b && holds (context p id).member (λ m. m == member)) ≡ false
-    never true member = ap (λ (o : Option ℕ). holds o (λ m. m == member)) h
-    never false member = refl
+-- ---- a variable of a member
 
 raised_same : (counts : List ℕ) (m : ℕ) → m < length counts →
     lookup 0 (raised counts m) m ≡ min most_locals (lookup 0 counts m + 1)
@@ -251,76 +219,75 @@ raised_length counts m = go (nat_lt m (length counts))
 capped : (x y z : ℕ) → x ≡ min 32 y → z ≡ y + 1 → min 32 (x + 1) ≡ min 32 z
 capped x y z e f = omega (arith, e, f)
 
-le_or_lt : (y : ℕ) → (32 ≤ y) ⊎ (y < 32)
-le_or_lt y = ⊎_elim (λ (l : y < 32). inr l) (λ (l : 32 ≤ y). inl l) (cases_lt y 32)
-
 late_capped : (x y : ℕ) → x ≡ min 32 y → nat_le 32 x ≡ nat_le 32 y
-late_capped x y e = ⊎_elim (λ (l : 32 ≤ y). (let m : 32 ≤ x = omega (arith, e, l) in grind (arith, nat_tests)))
-    (λ (l : y < 32). (let m : x < 32 = omega (arith, e, l) in grind (arith, nat_tests))) (le_or_lt y)
+late_capped x y e = ⊎_elim (λ (l : y < 32). (let m : x < 32 = omega (arith, e, l) in grind (arith, nat_tests)))
+    (λ (l : 32 ≤ y). (let m : 32 ≤ x = omega (arith, e, l) in grind (arith, nat_tests))) (cases_lt y 32)
 
-none_there : {A : Type 0} (xs : List A) (i : ℕ) → length xs ≤ i → slice_get xs i ≡ None
-none_there [] i l = refl
-none_there (x ∷ xs) zero l = absurd (omega (arith, l))
-none_there (x ∷ xs) (suc i) l = none_there xs i (omega (arith, l))
-
-pub counted_here : (p : Declarations) (id member : ℕ) (counts : List ℕ) (w : Written) →
-    Some w ≡ option_map naming (variable_at p.nodes id) → (context p id).member ≡ Some member → AreCounts p id counts
-    → (late_variable p id ≡ broken (holds (slice_get p.nodes member) is_callable && nat_le 32 (lookup 0 counts member))
-    K2 w.place) × AreCounts p (id + 1) (raised counts member)
-unfolding late_variable
-counted_here p id member counts w h c a =
-    let d = some_name (variable_at p.nodes id) w h in
-    let found : late_variable p id ≡ broken (holds (slice_get p.nodes member) is_callable
-    && nat_le most_locals (passing (is_variable_of p member) 0 id)) K2 w.place =
-    ap (late_of p id) d.1 ∙ ap (step p id d.0) c
-    ∙ ap (λ place. broken (holds (slice_get p.nodes member) is_callable
-    && nat_le most_locals (passing (is_variable_of p member) 0 id)) K2 place) d.2 in
-    (found ∙ ap (λ b. broken b K2 w.place) (is_late (cases_lt member (length p.nodes))), more d.0 d.1)
+pub variable_late : (p : Declarations) (n member : ℕ) (counts : List ℕ) (before found : List Found) (w : Written) →
+    Some w ≡ option_map naming (variable_at p.nodes n) → (context p n).member ≡ Some member →
+    AreCounted p n counts before found
+    → AreCounted p (n + 1) (raised counts member) before
+    (found ++ broken (is_callable p.nodes member && nat_le 32 (lookup 0 counts member)) K2 w.place)
+variable_late p n member counts before found w h c a = go (variable_at p.nodes n) refl h
   where
-    is_late : (member < length p.nodes) ⊎ (length p.nodes ≤ member)
-        → (holds (slice_get p.nodes member) is_callable && nat_le most_locals (passing (is_variable_of p member) 0 id))
-        ≡ (holds (slice_get p.nodes member) is_callable && nat_le 32 (lookup 0 counts member))
-    is_late (inl l) =
-        ap (λ b. holds (slice_get p.nodes member) is_callable && b)
-        (sym (late_capped (lookup 0 counts member) (passing (is_variable_of p member) 0 id) (a.exact member l)))
-    is_late (inr l) = let none = none_there p.nodes member l in rw none refl
-
-    tested : (d : Declared) → variable_at p.nodes id ≡ Some d → (m : ℕ) → is_variable_of p m id ≡ (member == m)
-    tested d e m = ap (λ (o : Option Declared). is_some o && holds (context p id).member (λ k. k == m)) e
-        ∙ ap (λ (o : Option ℕ). holds o (λ k. k == m)) c
-
-    more : (d : Declared) → variable_at p.nodes id ≡ Some d → AreCounts p (id + 1) (raised counts member)
-    more d e =
+    go : (o : Option Declared) → variable_at p.nodes n ≡ o → Some w ≡ option_map naming o →
+        AreCounted p (n + 1) (raised counts member) before
+        (found ++ broken (is_callable p.nodes member && nat_le 32 (lookup 0 counts member)) K2 w.place)
+    go None e s = cc
+    go (Some d) e s =
         record {
           whole = raised_length counts member ∙ a.whole;
           exact = λ m l. counted m l (member == m) refl;
+          noted = noted_next p n before found _ a.noted
+              (both_same (same_lists refl)
+              (same_then (same_lists (sym (here (is_callable p.nodes member) refl)))
+              (same_back
+              (joined_once (late_here p n) (length p.nodes) member
+              (λ m apart. rw (tested m, ne_eqb member m (λ same. apart (sym same))) (nothing (is_callable p.nodes m)))
+              (λ l. rw (slice_get_past p.nodes member l) refl)))));
         }
       where
-        next : (m : ℕ) → passing (is_variable_of p m) 0 (id + 1) ≡ passing (is_variable_of p m) 0 id +
-            (if member == m then 1 else 0)
-        next m = passing_next (is_variable_of p m) 0 id
-            ∙ (let at : 0 + id ≡ id = omega arith in
-            ap (λ k. passing (is_variable_of p m) 0 id + (if is_variable_of p m k then 1 else 0)) at)
-            ∙ ap (λ b. passing (is_variable_of p m) 0 id + (if b then 1 else 0)) (tested d e m)
+        tested : (m : ℕ) → is_variable_of p m n ≡ (member == m)
+        tested m = ap (λ (o : Option Declared). is_some o && holds (context p n).member (λ k. k == m)) e
+            ∙ ap (λ (o : Option ℕ). holds o (λ k. k == m)) c
+
+        nothing : (b : Bool) → ◌≡◌ {A = List Found} (if b then [] else []) []
+        nothing true = refl
+        nothing false = refl
+
+        place : d.place ≡ w.place
+        place = let same : w ≡ naming d = cc in ap (λ (v : Written). v.place) (sym same)
+
+        within : is_callable p.nodes member ≡ true → member < length p.nodes
+        within t = ⊎_elim (λ (l : member < length p.nodes). l)
+            (λ (l : length p.nodes ≤ member). absurd (true≢false (sym t ∙ rw (slice_get_past p.nodes member l) refl)))
+            (cases_lt member (length p.nodes))
+
+        here : (b : Bool) → is_callable p.nodes member ≡ b → late_here p n member
+            ≡ broken (is_callable p.nodes member && nat_le 32 (lookup 0 counts member)) K2 w.place
+        here false b = rw b refl
+        here true b =
+            let late = late_capped (lookup 0 counts member) (length (variables_below p n member))
+            (a.exact member (within b)) in
+            let own : is_variable_of p member n ≡ true = tested member ∙ eq-eqb member member refl in
+            rw (b, own, e, late, place) refl
 
         counted : (m : ℕ) → m < length p.nodes → (b : Bool) → (member == m) ≡ b →
-            lookup 0 (raised counts member) m ≡ min most_locals (passing (is_variable_of p m) 0 (id + 1))
+            lookup 0 (raised counts member) m ≡ min most_locals (length (variables_below p (n + 1) m))
         counted m l true same =
-            let e2 : member ≡ m = same_number member m same in
-            let l2 : m < length counts = omega (arith, l, a.whole) in
-            ap (λ k. lookup 0 (raised counts k) m) e2 ∙ raised_same counts m l2
-            ∙ capped (lookup 0 counts m) (passing (is_variable_of p m) 0 id) (passing (is_variable_of p m) 0 (id + 1))
-            (a.exact m l) (next m ∙ ap (λ b. passing (is_variable_of p m) 0 id + (if b then 1 else 0)) same)
+            let equal : member ≡ m = grind (arith, nat_tests) in
+            let there : m < length counts = omega (arith, l, a.whole) in
+            ap (λ k. lookup 0 (raised counts k) m) equal ∙ raised_same counts m there
+            ∙ capped (lookup 0 counts m) (length (variables_below p n m)) (length (variables_below p (n + 1) m))
+            (a.exact m l) (counted_next p n m true (tested m ∙ same))
         counted m l false other =
-            raised_other counts member m (λ e3. absurd (true≢false (sym (is_same_number member m (sym e3)) ∙ other)))
-            ∙ a.exact m l
+            let apart : m ≢ member = λ same. true≢false (sym (eq-eqb member m (sym same)) ∙ other) in
+            raised_other counts member m apart ∙ a.exact m l
             ∙ ap (min most_locals)
-            (sym (next m ∙ ap (λ b. passing (is_variable_of p m) 0 id + (if b then 1 else 0)) other
-            ∙ (let z : passing (is_variable_of p m) 0 id + 0 ≡ passing (is_variable_of p m) 0 id = omega arith in
-            z)))
+            (let z : length (variables_below p n m) + 0 ≡ length (variables_below p n m) = omega arith in
+            sym (counted_next p n m false (tested m ∙ other) ∙ z))
 
-pub nothing_added : {A : Type 0} (found xs : List A) → xs ≡ [] → found ≡ found ++ xs
-nothing_added found xs e = sym (ap (λ ys. found ++ ys) e ∙ append-nil found)
+-- ---- the counts at the start
 
 zero_told : (n m : ℕ) → ◌≡◌ {A = ℕ} (lookup 0 (replicate n 0) m) 0
 zero_told zero zero = refl
@@ -328,16 +295,24 @@ zero_told zero (suc m) = refl
 zero_told (suc n) zero = refl
 zero_told (suc n) (suc m) = zero_told n m
 
-pub first_counts : (forest : Forest) (n : ℕ) (counts : List ℕ) → counts ≡ replicate n 0 → n ≡ length forest.nodes →
-    AreCounts (declarations_of forest) 0 counts
-unfolding passing declarations_of
-first_counts forest n counts e l =
-    record { whole = ap length e ∙ length-replicate n 0 ∙ l; exact = λ m w. ap (λ cs. lookup 0 cs m) e ∙ zero_told n m }
+pub first_counts : (forest : Forest) (n : ℕ) (counts : List ℕ) (before : List Found) → counts ≡ replicate n 0 →
+    n ≡ length forest.nodes → AreCounted (declarations_of forest) 0 counts before before
+unfolding variables_below all_late late_below joined_below declarations_of
+first_counts forest n counts before e l =
+    record {
+      whole = ap length e ∙ length-replicate n 0 ∙ l;
+      exact = λ m w. ap (λ cs. lookup 0 cs m) e ∙ zero_told n m;
+      noted = same_lists
+          (sym (ap (λ xs. before ++ xs) (joined_none (late_below (declarations_of forest) 0) (length forest.nodes)
+          (λ m. nothing (is_callable forest.nodes m))) ∙ append-nil before));
+    }
+  where
+    nothing : (b : Bool) → ◌≡◌ {A = List Found} (if b then [] else []) []
+    nothing true = refl
+    nothing false = refl
 
-pub joined_next : {A : Type 0} (f : ℕ → List A) (n at : ℕ) (found after first : List A) → at ≡ n → found ≡ first
-    ++ joined_below f n → after ≡ found ++ f at → after ≡ first ++ joined_below f (n + 1)
-unfolding joined_below
-joined_next f n at found after first e w a =
-    let count : n + 1 ≡ suc n = omega arith in
-    a ∙ ap (λ k. found ++ f k) e ∙ ap (λ xs. xs ++ f n) w ∙ append_assoc first (joined_below f n) (f n)
-    ∙ ap (λ m. first ++ joined_below f m) (sym count)
+pub all_counted : (forest : Forest) (n : ℕ) (counts : List ℕ) (before found : List Found) → n ≡ length forest.nodes
+    → AreCounted (declarations_of forest) n counts before found
+    → FindSame found (before ++ all_late (declarations_of forest) (length forest.nodes))
+all_counted forest n counts before found e a =
+    subst (λ k. FindSame found (before ++ all_late (declarations_of forest) k)) e a.noted

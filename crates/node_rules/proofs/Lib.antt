@@ -1,5 +1,4 @@
 pub mod AskedLemmas
-pub mod CountingLemmas
 pub mod FindingLemmas
 pub mod InheritingLemmas
 pub mod KindLemmas

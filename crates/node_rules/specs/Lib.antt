@@ -1,5 +1,5 @@
 pub mod Counting
+pub mod Findings
 pub mod Inheriting
 pub mod Limits
-pub mod Misplaced
 pub mod Nodes

@@ -1,5 +1,5 @@
 -- What is found at the nodes, in the order in which it is noted.
-use Rattle.std.specs.Prelude.{ℕ, Bool, true, false, List, [], ◌++◌, Option, Some, None}
+use Rattle.std.specs.Prelude.{ℕ, Bool, true, false, List, ◌++◌, Option, Some}
 use Rattle.scj_base.specs.declared.findings.Found.{Found}
 use Rattle.scj_tree.specs.declared.nodes.Node.{Node}
 use Rattle.scj_tree.specs.declared.kinds.NodeKind.{NodeKind}
@@ -8,24 +8,15 @@ use Rattle.scj_rules.specs.ClassRules.{c9, c11, node_breaks}
 use Rattle.scj_rules.specs.LimitRules.{node_limits}
 use Rattle.scj_rules.specs.Contexts.{Declarations}
 use Rattle.scj_rules.specs.Phases.{over_nodes}
-use Rattle.node_rules.specs.Counting.{late_variables}
 use Rattle.node_rules.specs.Limits.{parameter_limit}
 
 -- at one node, but for the limit on variables
 unfoldable pub node_found : Declarations → ℕ → Node → List Found
 node_found p id node = c9 p node ++ (c11 p id node ++ parameter_limit p node)
 
--- at all nodes, and behind them the variables that are too many
-unfoldable pub nodes_found : Declarations → List Found
-nodes_found p = over_nodes p (node_found p) ++ late_variables p
-
 -- what the rules find at all nodes
 abbrev pub nodes_broken : Declarations → List Found
 nodes_broken p = over_nodes p (λ id node. node_breaks p id node ++ node_limits p id node)
-
-unfoldable pub found_at : Declarations → Option Node → ℕ → List Found
-found_at p None id = []
-found_at p (Some node) id = node_found p id node
 
 -- the rules on single nodes ask nodes of the kind
 unfoldable pub is_asked_kind : Option NodeKind → Bool

@@ -1,29 +1,21 @@
 //! The limit on the variables of a member.
 
-ghost use Rattle.std.specs.Prelude.{◌≡◌, ◌++◌, ◌+◌, ◌<◌, ◌&&◌, nat_le, length, slice_get, OnOk};
+ghost use Rattle.std.specs.Prelude.{◌≡◌, ◌++◌, ◌+◌, ◌&&◌, List, nat_le, length, OnOk};
+ghost use Rattle.scj_base.specs.declared.findings.Found.{Found as Finding};
 ghost use Rattle.scj_base.specs.declared.findings.Rule.TheVariants.{K2 as too_many_locals};
 ghost use Rattle.scj_tree.specs.Recursion.{lookup};
-ghost use Rattle.scj_rules.specs.Words.{broken, holds};
+ghost use Rattle.scj_rules.specs.Words.{broken};
+ghost use Rattle.scj_rules.specs.Classes.{is_callable};
 ghost use Rattle.scj_rules.specs.Contexts.{contexts_in, declarations_of};
-ghost use Rattle.node_rules.specs.Counting.{AreCounts, is_callable, late_variable, late_variables, raised};
+ghost use Rattle.node_rules.specs.Findings.{FindSame};
+ghost use Rattle.node_rules.specs.Counting.{AreCounted, all_late, raised};
 
 use node_contexts::Contexts;
-use node_views::{is_variable, variable_written};
+use node_views::{is_constructor, is_method, is_variable, variable_written};
 use scj_base::{Found, Memory, NodeId, Pos, Rule};
 use scj_rules::report_if;
-use scj_tree::{Node, Program};
+use scj_tree::Program;
 use std::alloc::Global;
-
-/// Whether a node is a method or a constructor.
-#[tactic(auto, unfolding(crate::specs::Counting::is_callable))]
-fn is_callable(program: &Program, id: NodeId) -> bool
-    ensures { result ≡ holds (slice_get program.now.nodes id) is_callable }
-{
-    matches!(
-        program.get(id),
-        Some(Node::Method { .. } | Node::Constructor { .. })
-    )
-}
 
 /// Counts a variable of a member, and notes it where there are 32 already.
 #[tactic(auto, unfolding(crate::specs::Counting::raised))]
@@ -36,8 +28,8 @@ fn count_variable(
 ) -> Result<(), Memory>
     requires { length counts.old.items ≡ length program.now.nodes }
     ensures found { OnOk result (found.new.items ≡ found.old.items
-        ++ broken (holds (slice_get program.now.nodes member) is_callable
-        && nat_le 32 (lookup 0 counts.old.items member)) too_many_locals place) }
+        ++ broken (is_callable program.now.nodes member && nat_le 32 (lookup 0 counts.old.items member))
+        too_many_locals place) }
     ensures counts { OnOk result (counts.new.items ≡ raised counts.old.items member) }
 {
     let at = member.place();
@@ -45,33 +37,9 @@ fn count_variable(
         return Ok(());
     }
     let count = counts[at];
-    let is_late = is_callable(program, member) && count >= 32;
+    let is_callable = is_method(program, member) || is_constructor(program, member);
     counts[at] = if count < 32 { count + 1 } else { 32 };
-    report_if(found, is_late, Rule::K2, place)
-}
-
-/// Counts the variable that a node declares, and notes it where its member has 32 already.
-fn count_declared(
-    found: &mut Vec<Found>,
-    program: &Program,
-    contexts: &Contexts,
-    counts: &mut Vec<u8>,
-    id: NodeId,
-) -> Result<(), Memory>
-    requires contexts { contexts.now ≡ contexts_in program.now }
-    requires counts { AreCounts (declarations_of program.now) id counts.old.items }
-    ensures found { OnOk result (found.new.items ≡ found.old.items ++ late_variable (declarations_of program.now) id) }
-    ensures counts { OnOk result (AreCounts (declarations_of program.now) (id + 1) counts.new.items) }
-{
-    let Some(variable) = variable_written(program, id) else {
-        return Ok(());
-    };
-    let context = contexts.get(id);
-    let Some(member) = context.member else {
-        return Ok(());
-    };
-    count_variable(found, program, counts, member, variable.place)?;
-    Ok(())
+    report_if(found, is_callable && count >= 32, Rule::K2, place)
 }
 
 /// Counts the variable at a node, if there is one, and notes it where its member has 32 already.
@@ -83,19 +51,26 @@ fn count_node(
     id: NodeId,
 ) -> Result<(), Memory>
     requires contexts { contexts.now ≡ contexts_in program.now }
-    requires counts { AreCounts (declarations_of program.now) id counts.old.items }
-    ensures found { OnOk result (found.new.items ≡ found.old.items ++ late_variable (declarations_of program.now) id) }
-    ensures counts { OnOk result (AreCounts (declarations_of program.now) (id + 1) counts.new.items) }
+    requires counts { length counts.old.items ≡ length program.now.nodes }
+    ensures { OnOk result ((before : List Finding) →
+        AreCounted (declarations_of program.now) id counts.old.items before found.old.items →
+        AreCounted (declarations_of program.now) (id + 1) counts.new.items before found.new.items) }
 {
     if !is_variable(program, id) {
         return Ok(());
     }
-    count_declared(found, program, contexts, counts, id)?;
+    let Some(variable) = variable_written(program, id) else {
+        return Ok(());
+    };
+    let context = contexts.get(id);
+    let Some(member) = context.member else {
+        return Ok(());
+    };
+    count_variable(found, program, counts, member, variable.place)?;
     Ok(())
 }
 
 /// Notes the 33rd and each later variable of a method or a constructor.
-#[tactic(auto, unfolding(crate::specs::Counting::late_variables))]
 pub fn note_late(
     alloc: Global,
     found: &mut Vec<Found>,
@@ -103,7 +78,8 @@ pub fn note_late(
     contexts: &Contexts,
 ) -> Result<(), Memory>
     requires { contexts.now ≡ contexts_in program.now }
-    ensures { OnOk result (found.new.items ≡ found.old.items ++ late_variables (declarations_of program.now)) }
+    ensures { OnOk result (FindSame found.new.items (found.old.items
+        ++ all_late (declarations_of program.now) (length program.now.nodes))) }
 {
     let count = program.len();
     let mut counts = vec![in alloc; 0u8; count]?;

@@ -1,10 +1,9 @@
 //! Words that stand where they can't.
 
-ghost use Rattle.std.specs.Prelude.{◌≡◌, ◌++◌, ◌||◌, ◌&&◌, not, is_some, IfOk, OnOk};
-ghost use Rattle.scj_rules.specs.ClassRules.{c11, has_class_words, has_method_words};
+ghost use Rattle.std.specs.Prelude.{◌≡◌, ◌++◌, IfOk, OnOk};
+ghost use Rattle.scj_rules.specs.ClassRules.{c11, has_method_words, is_misplaced_on_class, is_misplaced_on_field, is_misplaced_on_variable, is_misplaced_on_method, is_misplaced_on_constructor};
 ghost use Rattle.scj_rules.specs.Views.{modifiers_at};
-ghost use Rattle.scj_rules.specs.Contexts.{contexts_in, context, declarations_of};
-ghost use Rattle.node_rules.specs.Misplaced.{on_class, on_field, on_method, on_constructor, on_variable};
+ghost use Rattle.scj_rules.specs.Contexts.{contexts_in, declarations_of};
 
 use crate::class_names::has_name;
 use crate::framework_methods::is_framework_method;
@@ -22,39 +21,57 @@ fn has_method_words(m: &Modifiers) -> bool
     m.runs_in.is_some() || m.is_synchronized
 }
 
-/// Whether a word stands before a class that can't.
-fn on_class(m: &Modifiers) -> bool
-    ensures { result ≡ on_class m.now }
+/// Whether what stands before a class holds a word that can't.
+fn is_off_class(program: &Program, flags: Option<NodeId>) -> bool
+    ensures { result ≡ is_misplaced_on_class (modifiers_at program.now.nodes flags) }
 {
-    has_method_words(m) || m.is_static
+    if flags.is_none() {
+        return false;
+    }
+    let m = modifiers_at(program, flags);
+    has_method_words(&m) || m.is_static
 }
 
-/// Whether a word stands before a field that can't.
-fn on_field(m: &Modifiers) -> bool
-    ensures { result ≡ on_field m.now }
+/// Whether what stands before a field holds a word that can't.
+fn is_off_field(program: &Program, flags: Option<NodeId>) -> bool
+    ensures { result ≡ is_misplaced_on_field (modifiers_at program.now.nodes flags) }
 {
-    m.defines_scope || has_method_words(m) || m.is_abstract
+    if flags.is_none() {
+        return false;
+    }
+    let m = modifiers_at(program, flags);
+    m.defines_scope || has_method_words(&m) || m.is_abstract
 }
 
-/// Whether a word stands before a parameter or a local that can't.
-fn on_variable(m: &Modifiers) -> bool
-    ensures { result ≡ on_variable m.now }
+/// Whether what stands before a parameter or a local holds a word that can't.
+fn is_off_variable(program: &Program, flags: Option<NodeId>) -> bool
+    ensures { result ≡ is_misplaced_on_variable (modifiers_at program.now.nodes flags) }
 {
-    m.defines_scope || has_method_words(m) || m.is_static || m.is_abstract
+    if flags.is_none() {
+        return false;
+    }
+    let m = modifiers_at(program, flags);
+    m.defines_scope || has_method_words(&m) || m.is_static || m.is_abstract
 }
 
-/// Whether a word stands before a method that can't.
+/// Whether what stands before a method holds a word that can't.
 #[tactic(auto, unfolding(scj_rules::specs::Contexts::declarations_of))]
-fn on_method(
+fn is_off_method(
     classes: &Classes<'_>,
     contexts: &Contexts,
     id: NodeId,
     name: &Name,
-    m: &Modifiers,
+    flags: Option<NodeId>,
 ) -> Result<bool, Memory>
     requires { contexts.now ≡ contexts_in classes.now }
-    ensures { IfOk result (λ is_wrong. is_wrong ≡ on_method (declarations_of classes.now) id name.now m.now) }
+    ensures { IfOk result
+        (λ is_wrong. is_wrong ≡ is_misplaced_on_method (declarations_of classes.now) id name.now
+        (modifiers_at classes.now.nodes flags)) }
 {
+    if flags.is_none() {
+        return Ok(false);
+    }
+    let m = modifiers_at(classes.program(), flags);
     if m.defines_scope || (m.is_static && m.is_abstract) {
         return Ok(true);
     }
@@ -68,79 +85,8 @@ fn on_method(
     is_framework_method(classes, context.class, id, name)
 }
 
-/// Whether a word stands before a constructor that can't, or its name is another than the class's.
-#[tactic(auto, unfolding(scj_rules::specs::Contexts::declarations_of))]
-fn on_constructor(
-    classes: &Classes<'_>,
-    contexts: &Contexts,
-    id: NodeId,
-    name: &Name,
-    m: &Modifiers,
-) -> bool
-    requires { contexts.now ≡ contexts_in classes.now }
-    ensures { result ≡ on_constructor (declarations_of classes.now) id name.now m.now }
-{
-    if m.defines_scope || has_method_words(m) || m.is_static || m.is_abstract {
-        return true;
-    }
-    if m.scope.is_some() {
-        return true;
-    }
-    let context = contexts.get(id);
-    !has_name(classes, context.class, name)
-}
-
-/// Whether what stands before a class holds a word that can't.
-fn is_off_class(program: &Program, flags: Option<NodeId>) -> bool
-    ensures { result ≡ on_class (modifiers_at program.now.nodes flags) }
-{
-    if flags.is_none() {
-        return false;
-    }
-    on_class(&modifiers_at(program, flags))
-}
-
-/// Whether what stands before a field holds a word that can't.
-fn is_off_field(program: &Program, flags: Option<NodeId>) -> bool
-    ensures { result ≡ on_field (modifiers_at program.now.nodes flags) }
-{
-    if flags.is_none() {
-        return false;
-    }
-    on_field(&modifiers_at(program, flags))
-}
-
-/// Whether what stands before a parameter or a local holds a word that can't.
-fn is_off_variable(program: &Program, flags: Option<NodeId>) -> bool
-    ensures { result ≡ on_variable (modifiers_at program.now.nodes flags) }
-{
-    if flags.is_none() {
-        return false;
-    }
-    on_variable(&modifiers_at(program, flags))
-}
-
-/// Whether what stands before a method holds a word that can't.
-fn is_off_method(
-    classes: &Classes<'_>,
-    contexts: &Contexts,
-    id: NodeId,
-    name: &Name,
-    flags: Option<NodeId>,
-) -> Result<bool, Memory>
-    requires { contexts.now ≡ contexts_in classes.now }
-    ensures { IfOk result
-        (λ is_wrong. is_wrong ≡ on_method (declarations_of classes.now) id name.now
-        (modifiers_at classes.now.nodes flags)) }
-{
-    if flags.is_none() {
-        return Ok(false);
-    }
-    let modifiers = modifiers_at(classes.program(), flags);
-    on_method(classes, contexts, id, name, &modifiers)
-}
-
 /// Whether what stands before a constructor holds a word that can't, or its name is another than the class's.
+#[tactic(auto, unfolding(scj_rules::specs::Contexts::declarations_of))]
 fn is_off_constructor(
     classes: &Classes<'_>,
     contexts: &Contexts,
@@ -149,10 +95,18 @@ fn is_off_constructor(
     flags: Option<NodeId>,
 ) -> bool
     requires { contexts.now ≡ contexts_in classes.now }
-    ensures { result ≡ on_constructor (declarations_of classes.now) id name.now (modifiers_at classes.now.nodes flags) }
+    ensures { result ≡ is_misplaced_on_constructor (declarations_of classes.now) id name.now
+        (modifiers_at classes.now.nodes flags) }
 {
-    let modifiers = modifiers_at(classes.program(), flags);
-    on_constructor(classes, contexts, id, name, &modifiers)
+    let m = modifiers_at(classes.program(), flags);
+    if m.defines_scope || has_method_words(&m) || m.is_static || m.is_abstract {
+        return true;
+    }
+    if m.scope.is_some() {
+        return true;
+    }
+    let context = contexts.get(id);
+    !has_name(classes, context.class, name)
 }
 
 /// Notes an annotation or a modifier that stands where it can't, and a constructor with another name than its class.

@@ -1,12 +1,11 @@
 //! What is broken at the nodes of a program.
 
-ghost use Rattle.std.specs.Prelude.{◌≡◌, ◌++◌, ◌↔◌, ◌<◌, [], Some, None, length, slice_get, OnOk};
-ghost use Rattle.std.specs.List.{Contains};
-ghost use Rattle.scj_base.specs.declared.findings.Found.{Found as Finding};
-ghost use Rattle.scj_tree.specs.Forest.{Forest};
+ghost use Rattle.std.specs.Prelude.{◌≡◌, ◌++◌, [], slice_get, OnOk};
+ghost use Rattle.scj_rules.specs.Words.{found_at};
 ghost use Rattle.scj_rules.specs.Contexts.{contexts_in, declarations_of};
 ghost use Rattle.scj_rules.specs.Phases.{over_nodes};
-ghost use Rattle.node_rules.specs.Nodes.{node_found, nodes_found, nodes_broken, found_at, is_asked_kind};
+ghost use Rattle.node_rules.specs.Findings.{FindSame};
+ghost use Rattle.node_rules.specs.Nodes.{node_found, nodes_broken, is_asked_kind};
 
 use crate::late::note_late;
 use crate::limits::note_parameters;
@@ -40,7 +39,7 @@ fn is_asked_kind(kind: &Option<NodeKind>) -> bool
 }
 
 /// Notes what is broken at a node of a kind that is asked, but for the limit on variables.
-#[tactic(auto, unfolding(crate::specs::Nodes::node_found, crate::specs::Nodes::found_at))]
+#[tactic(auto, unfolding(crate::specs::Nodes::node_found))]
 fn note_asked(
     found: &mut Vec<Found>,
     classes: &Classes<'_>,
@@ -49,7 +48,7 @@ fn note_asked(
 ) -> Result<(), Memory>
     requires { contexts.now ≡ contexts_in classes.now }
     ensures { OnOk result (found.new.items ≡ found.old.items
-        ++ found_at (declarations_of classes.now) (slice_get classes.now.nodes id) id) }
+        ++ found_at (slice_get classes.now.nodes id) (node_found (declarations_of classes.now) id)) }
 {
     let program = classes.program();
     let Some(node) = program.get(id) else {
@@ -71,7 +70,7 @@ fn note_node(
 ) -> Result<(), Memory>
     requires { contexts.now ≡ contexts_in classes.now }
     ensures { OnOk result (found.new.items ≡ found.old.items
-        ++ found_at (declarations_of classes.now) (slice_get classes.now.nodes id) id) }
+        ++ found_at (slice_get classes.now.nodes id) (node_found (declarations_of classes.now) id)) }
 {
     let kind = classes.program().kind(id);
     if !is_asked_kind(&kind) {
@@ -98,7 +97,6 @@ fn note_each(
 }
 
 /// Notes what is broken at the nodes.
-#[tactic(auto, unfolding(crate::specs::Nodes::nodes_found))]
 pub fn note_nodes(
     alloc: Global,
     found: &mut Vec<Found>,
@@ -106,15 +104,9 @@ pub fn note_nodes(
     contexts: &Contexts,
 ) -> Result<(), Memory>
     requires { contexts.now ≡ contexts_in classes.now }
-    ensures { OnOk result (found.new.items ≡ found.old.items ++ nodes_found (declarations_of classes.now)) }
+    ensures { OnOk result (FindSame found.new.items (found.old.items ++ nodes_broken (declarations_of classes.now))) }
 {
     note_each(found, classes, contexts)?;
     note_late(alloc, found, classes.program(), contexts)?;
     Ok(())
 }
-
-/// What is noted at the nodes is what the rules find there.
-pub fn nodes_are_found()
-    ensures { (forest : Forest) (finding : Finding) → Contains (nodes_found (declarations_of forest)) finding ↔ Contains
-        (nodes_broken (declarations_of forest)) finding }
-{}

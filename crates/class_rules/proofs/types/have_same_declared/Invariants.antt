@@ -1,7 +1,7 @@
 use Rattle.std.proofs.Common.{◌≡◌, length}
 use Rattle.std.specs.Cmp.Lexicographic.{pointwise}
 use Rattle.scj_rules.specs.ClassRules.{is_same_type}
-use Rattle.class_rules.specs.Overrides.{types_among}
+use Rattle.class_rules.specs.Types.{types_among}
 use Rattle.class_rules.proofs.types.have_same_declared.Given as goal
 
 -- the others are still to be compared

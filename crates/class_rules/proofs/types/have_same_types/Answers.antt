@@ -1,5 +1,4 @@
-use Rattle.std.proofs.Common.{◌∙◌, sym, ap}
-use Rattle.scj_rules.specs.ClassRules.{have_same_types}
+use Rattle.std.proofs.Common.{◌∙◌}
 use Rattle.method_rows.specs.Methods.{found_method, method_from}
 use Rattle.class_rules.proofs.OverrideLemmas.{same_declared}
 use Rattle.class_rules.proofs.types.have_same_types.Goals as goal

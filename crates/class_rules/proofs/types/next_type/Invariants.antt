@@ -1,5 +1,5 @@
 use Rattle.std.proofs.Common.{◌≡◌, length}
-use Rattle.class_rules.specs.Overrides.{types_among}
+use Rattle.class_rules.specs.Types.{types_among}
 use Rattle.class_rules.proofs.types.next_type.Given as goal
 
 -- no parameter so far
