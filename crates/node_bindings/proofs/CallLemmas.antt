@@ -1,31 +1,20 @@
 -- A call of a method of the framework, and of one of the program.
-use Rattle.std.proofs.Common.{◌≡◌, ℕ, List, ap, Option, Some, None}
-use Rattle.scj_rules.specs.declared.typing.Binding.{Binding}
+use Rattle.std.proofs.Common.{◌≡◌, ℕ, List, refl, Some, None}
 use Rattle.scj_rules.specs.declared.typing.Binding.TheVariants.{Builtin}
 use Rattle.scj_rules.specs.declared.typing.Receiver.{Receiver}
-use Rattle.scj_rules.specs.Classes.{FoundMethod}
+use Rattle.scj_rules.specs.Classes.{FoundMethod, method_number}
 use Rattle.scj_rules.specs.Contexts.{Declarations}
 use Rattle.scj_rules.specs.TypeRules.{Types}
-use Rattle.scj_rules.specs.Bindings.{target, method_binding}
-use Rattle.node_bindings.specs.Calls.{declared_binding}
+use Rattle.scj_rules.specs.Bindings.{plain_or, target, user_method_binding, method_binding}
 
-by_number : (p : Declarations) (types : Types) (r : Receiver) (arguments : List ℕ) (f : FoundMethod) (o : Option ℕ) →
-    f.method.builtin ≡ o
-    → method_binding p types r arguments f ≡ elim o as (λ _. Binding)
-    [ Some number ↦ Builtin (target types r f arguments number) | None ↦ declared_binding p types r arguments f ]
-unfolding method_binding
-by_number p types r arguments f o e =
-    ap (λ (x : Option ℕ). elim x as (λ _. Binding) [
-      | Some number ↦ Builtin (target types r f arguments number)
-      | None ↦ declared_binding p types r arguments f
-    ]) e
+module _ (p : Declarations) (types : Types) (r : Receiver) (arguments : List ℕ) (f : FoundMethod) where
+  pub of_framework : (number : ℕ) → f.method.builtin ≡ Some number →
+      method_binding p types r arguments f ≡ Builtin (target types r f arguments number)
+  unfolding method_binding
+  of_framework number e = rw e refl
 
-pub of_framework : (p : Declarations) (types : Types) (r : Receiver) (arguments : List ℕ) (f : FoundMethod)
-    (number : ℕ) → f.method.builtin ≡ Some number
-    → method_binding p types r arguments f ≡ Builtin (target types r f arguments number)
-of_framework p types r arguments f number e = by_number p types r arguments f (Some number) e
-
-pub of_program : (p : Declarations) (types : Types) (r : Receiver) (arguments : List ℕ) (f : FoundMethod) →
-    f.method.builtin ≡ None
-    → method_binding p types r arguments f ≡ declared_binding p types r arguments f
-of_program p types r arguments f e = by_number p types r arguments f None e
+  pub of_program : f.method.builtin ≡ None
+      → method_binding p types r arguments f ≡ plain_or (user_method_binding types r arguments f)
+      (method_number p.nodes p.users f.method.declared.node)
+  unfolding method_binding
+  of_program e = rw e refl

@@ -149,34 +149,28 @@ present test (x ∷ xs) first (suc k) v l e h =
     go rest false = let e : count_from test (first + 1) k ≡ 0 + count_from test (first + 1) k = omega arith in rest
         ∙ ap (λ n. Some n) e
 
-variable_within : (p : Declarations) (id : ℕ) → is_some (variable_at p.nodes id) ≡ true → id < length p.nodes
-variable_within p id = go (slice_get p.nodes id) refl
+variable_within : (p : Declarations) (member id : ℕ) → is_variable_of p member id ≡ true → id < length p.nodes
+unfolding is_variable_of
+variable_within p member id = go (slice_get p.nodes id) refl
   where
-    go : (o : Option Node) → slice_get p.nodes id ≡ o → is_some (option_and_then (variable_of p.nodes id) o) ≡ true →
-        id < length p.nodes
+    go : (o : Option Node) → slice_get p.nodes id ≡ o → (is_some (option_and_then (variable_of p.nodes id) o)
+        && holds (context p id).member (λ m. m == member)) ≡ true → id < length p.nodes
     go None e h = cc
     go (Some node) e h = slice_get_within p.nodes id node e
 
-own_number : (p : Declarations) (member id : ℕ) → is_some (variable_at p.nodes id) ≡ true →
-    holds (context p id).member (λ m. m == member) ≡ true →
+own_number : (p : Declarations) (member id : ℕ) → is_variable_of p member id ≡ true →
     number_before p id ≡ count_below (is_variable_of p member) id
-unfolding number_before
-own_number p member id v =
-    λ h. ap
-    (λ b. if b then elim (context p id).member as (λ _. ℕ) [ None ↦ 0 | Some m ↦ count_below (is_variable_of p m) id ]
-    else 0) v ∙ go (context p id).member h
+unfolding number_before is_variable_of
+own_number p member id = go (is_some (variable_at p.nodes id)) (context p id).member
   where
-    go : (o : Option ℕ) → holds o (λ m. m == member) ≡ true →
-        elim o as (λ _. ℕ) [ None ↦ 0 | Some m ↦ count_below (is_variable_of p m) id ] ≡ count_below
-        (is_variable_of p member) id
-    go None h = cc
-    go (Some m) h =
+    go : (v : Bool) (o : Option ℕ) → (v && holds o (λ m. m == member)) ≡ true →
+        (if v then elim o as (λ _. ℕ) [ None ↦ 0 | Some m ↦ count_below (is_variable_of p m) id ] else 0)
+        ≡ count_below (is_variable_of p member) id
+    go false o h = cc
+    go true None h = cc
+    go true (Some m) h =
         let same : m ≡ member = grind (arith, nat_tests) in
         ap (λ x. count_below (is_variable_of p x) id) same
-
-both : (a b : Bool) → (a && b) ≡ true → (a ≡ true) × (b ≡ true)
-both true b h = (refl, h)
-both false b h = cc
 
 -- the place of a variable among those of a member
 pub variable_place : (p : Declarations) (member variable : ℕ) (numbers : List ℕ) → numbers ≡ numbers_before p
@@ -190,41 +184,29 @@ variable_place p member variable numbers e = go (is_variable_of p member variabl
         ≡ (if b then Some (lookup 0 numbers variable) else None)
     go false h = absent (is_variable_of p member) p.nodes 0 variable h
     go true h =
-        let parts = both (is_some (variable_at p.nodes variable)) (holds (context p variable).member (λ m. m == member))
-        h in
-        let l = variable_within p variable parts.0 in
+        let l = variable_within p member variable h in
         let is_told : lookup 0 numbers variable ≡ number_before p variable =
         ap (λ ns. lookup 0 ns variable) e ∙ listed-at 0 (number_before p) (length p.nodes) variable
         ∙ (rw (lt-ltb variable (length p.nodes) l) refl) in
         present (is_variable_of p member) p.nodes 0 variable variable l (omega arith) h
         ∙ ap (λ n. Some n) (count_is (is_variable_of p member) variable
-        ∙ sym (is_told ∙ own_number p member variable parts.0 parts.1))
+        ∙ sym (is_told ∙ own_number p member variable h))
 
 -- ---- counting on
 
 pub number_at_member : (p : Declarations) (id member : ℕ) (counts : List ℕ) → is_some (variable_at p.nodes id) ≡ true →
     (context p id).member ≡ Some member → AreCounted p id counts → number_before p id ≡ lookup 0 counts member
 unfolding number_before
-number_at_member p id member counts v e h =
-    ap (λ b. if b then elim (context p id).member as (λ _. ℕ)
-    [ None ↦ 0 | Some m ↦ count_below (is_variable_of p m) id ] else 0) v
-    ∙ ap (λ (o : Option ℕ). elim o as (λ _. ℕ) [ None ↦ 0 | Some m ↦ count_below (is_variable_of p m) id ]) e
-    ∙ sym (h.at member)
+number_at_member p id member counts v e h = rw (v, e) (sym (h.at member))
 
 pub number_without_member : (p : Declarations) (id : ℕ) → is_some (variable_at p.nodes id) ≡ true →
     (context p id).member ≡ None → number_before p id ≡ 0
 unfolding number_before
-number_without_member p id v e =
-    ap (λ b. if b then elim (context p id).member as (λ _. ℕ)
-    [ None ↦ 0 | Some m ↦ count_below (is_variable_of p m) id ] else 0) v
-    ∙ ap (λ (o : Option ℕ). elim o as (λ _. ℕ) [ None ↦ 0 | Some m ↦ count_below (is_variable_of p m) id ]) e
+number_without_member p id v e = rw (v, e) refl
 
 pub number_of_other : (p : Declarations) (id : ℕ) → is_some (variable_at p.nodes id) ≡ false → number_before p id ≡ 0
 unfolding number_before
-number_of_other p id v =
-    ap
-    (λ b. if b then elim (context p id).member as (λ _. ℕ) [ None ↦ 0 | Some m ↦ count_below (is_variable_of p m) id ]
-    else 0) v
+number_of_other p id v = rw v refl
 
 count_next : (test : ℕ → Bool) (n : ℕ) → count_below test (n + 1) ≡ count_below test n + (if test n then 1 else 0)
 unfolding count_below
@@ -291,20 +273,6 @@ pub count_within : (p : Declarations) (id member : ℕ) (counts : List ℕ) → 
 count_within p id member counts h = let l = counts_few (is_variable_of p member) id in let e =
     h.at member in omega (arith, l, e)
 
--- ---- lemmas of the code
-
-pub own_place : (p : Declarations) (member variable : ℕ) (numbers : List ℕ) → numbers ≡ numbers_before p →
-    is_variable_of p member variable ≡ true
-    → Some (lookup 0 numbers variable) ≡ position (λ v. v == variable) (variables_of p member)
-own_place p member variable numbers e h =
-    sym (variable_place p member variable numbers e ∙ ap (λ b. if b then Some (lookup 0 numbers variable) else None) h)
-
-pub no_place : (p : Declarations) (member variable : ℕ) (numbers : List ℕ) → numbers ≡ numbers_before p →
-    is_variable_of p member variable ≡ false
-    → None ≡ position (λ v. v == variable) (variables_of p member)
-no_place p member variable numbers e h =
-    sym (variable_place p member variable numbers e ∙ ap (λ b. if b then Some (lookup 0 numbers variable) else None) h)
-
 and_false : (b : Bool) → (b && false) ≡ false
 and_false true = refl
 and_false false = refl
@@ -312,14 +280,12 @@ and_false false = refl
 pub no_member : (p : Declarations) (id : ℕ) (counts : List ℕ) → (context p id).member ≡ None → AreCounted p id counts →
     AreCounted p (id + 1) counts
 unfolding is_variable_of
-no_member p id counts e h =
-    none_more p id counts (λ m. ap (λ (o : Option ℕ). is_some (variable_at p.nodes id) && holds o (λ x. x == m)) e
-    ∙ and_false (is_some (variable_at p.nodes id))) h
+no_member p id counts e h = none_more p id counts (λ m. rw e (and_false (is_some (variable_at p.nodes id)))) h
 
 pub no_variable : (p : Declarations) (id : ℕ) (counts : List ℕ) → is_some (variable_at p.nodes id) ≡ false →
     AreCounted p id counts → AreCounted p (id + 1) counts
 unfolding is_variable_of
-no_variable p id counts e h = none_more p id counts (λ m. ap (λ b. b && holds (context p id).member (λ x. x == m)) e) h
+no_variable p id counts e h = none_more p id counts (λ m. rw e refl) h
 
 told_zero : (n m : ℕ) → ◌≡◌ {A = ℕ} (lookup {A = ℕ} 0 (replicate n 0) m) 0
 told_zero zero m = lookup-behind {A = ℕ} 0 [] m (omega arith)

@@ -1,5 +1,4 @@
 pub mod Arrays
-pub mod Calls
 pub mod Kinds
 pub mod Numbers
 pub mod Programs

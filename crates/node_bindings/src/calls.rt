@@ -3,9 +3,9 @@
 ghost use Rattle.std.specs.Prelude.{◌≡◌, IfOk, None, unwrap_or};
 ghost use Rattle.scj_tree.specs.Recursion.{lookup};
 ghost use Rattle.scj_rules.specs.Contexts.{declarations_of};
-ghost use Rattle.scj_rules.specs.Types.{called_method};
-ghost use Rattle.scj_rules.specs.Bindings.{plain_or, called_on, target, method_binding};
-ghost use Rattle.node_bindings.specs.Calls.{declared_binding, call_binding};
+ghost use Rattle.scj_rules.specs.Classes.{method_number};
+ghost use Rattle.scj_rules.specs.Types.{call_receiver, called_method};
+ghost use Rattle.scj_rules.specs.Bindings.{plain_or, called_on, target, user_method_binding, method_binding};
 ghost use Rattle.method_rows.specs.Methods.{found_method};
 
 use crate::fields::second_class;
@@ -15,7 +15,7 @@ use scj_base::{ClassId, Memory, MethodId, Name, NodeId};
 use scj_rules::{Binding, Receiver, Target, Ty};
 use scj_tree::Program;
 use type_rules::Known;
-use type_rules::names::{call_receiver, called_method};
+use type_rules::names::{call_receiver, method_called};
 use type_words::{class_of_receiver, is_void};
 
 /// The class, or another one where there is none.
@@ -76,9 +76,11 @@ fn declared_binding(
     arguments: &[NodeId],
     method: &MethodRef,
 ) -> Result<Binding, Memory>
-    ensures { IfOk result
-        (λ b. b ≡ declared_binding (declarations_of known.now) (lookup None types.now) receiver.now arguments.now
-        (found_method known.now.nodes method.now)) }
+    ensures { IfOk result (λ b. b ≡ plain_or
+        (user_method_binding (lookup None types.now) receiver.now arguments.now
+        (found_method known.now.nodes method.now))
+        (method_number (declarations_of known.now).nodes (declarations_of known.now).users
+        (found_method known.now.nodes method.now).method.declared.node)) }
 {
     let program = known.program();
     let Some(number) = known.classes().method_number(node(program, method)) else {
@@ -118,6 +120,7 @@ fn method_binding(
 fn call_on(
     known: &Known<'_>,
     types: &[Option<Ty>],
+    id: NodeId,
     receiver: &Receiver,
     name: &Name,
     arguments: &[NodeId],
@@ -127,7 +130,7 @@ fn call_on(
         (method_binding (declarations_of known.now) (lookup None types.now) receiver.now arguments.now)
         (called_method (declarations_of known.now) receiver.now name.now)) }
 {
-    match called_method(known, receiver, name) {
+    match method_called(known, id, receiver, name) {
         Some(method) => method_binding(known, types, receiver, arguments, &method),
         None => Ok(Binding::Plain),
     }
@@ -142,12 +145,13 @@ pub fn call_binding(
     object: &Option<NodeId>,
     arguments: &[NodeId],
 ) -> Result<Binding, Memory>
-    ensures { IfOk result
-        (λ b. b ≡ call_binding (declarations_of known.now) (lookup None types.now) id name.now object.now
-        arguments.now) }
+    ensures { let p = declarations_of known.now in
+        IfOk result (λ b. b ≡ plain_or
+        (λ r. plain_or (method_binding p (lookup None types.now) r arguments.now) (called_method p r name.now))
+        (call_receiver p (lookup None types.now) id object.now)) }
 {
     match call_receiver(known, types, id, object) {
-        Some(receiver) => call_on(known, types, &receiver, name, arguments),
+        Some(receiver) => call_on(known, types, id, &receiver, name, arguments),
         None => Ok(Binding::Plain),
     }
 }

@@ -12,7 +12,7 @@ use class_rows::{Classes, FieldRef};
 use scj_base::{ClassId, Memory, Name, NodeId};
 use scj_rules::{Binding, Receiver, Ty};
 use type_rules::Known;
-use type_rules::names::{accessed_field, told};
+use type_rules::names::{field_accessed, told};
 use type_words::{class_of_type, is_array_value, is_length};
 
 /// The sum, if it fits.
@@ -54,13 +54,13 @@ pub fn field_binding(classes: &Classes<'_>, field: &FieldRef) -> Binding
 
 /// What an access stands for.
 #[tactic(auto, unfolding(scj_rules::specs::Bindings::access_binding))]
-pub fn access_binding(known: &Known<'_>, receiver: &Receiver, name: &Name) -> Binding
+pub fn access_binding(known: &Known<'_>, id: NodeId, receiver: &Receiver, name: &Name) -> Binding
     ensures { result ≡ access_binding (declarations_of known.now) receiver.now name.now }
 {
     if is_array_value(receiver) && is_length(name) {
         return Binding::Length;
     }
-    match accessed_field(known, receiver, name) {
+    match field_accessed(known, id, receiver, name) {
         Some(field) => field_binding(known.classes(), &field),
         None => Binding::Plain,
     }

@@ -1,16 +1,19 @@
 //! What a node stands for, by its kind.
 
-ghost use Rattle.std.specs.Prelude.{◌≡◌, IfOk, None, Option, Some, option_and_then, slice_get};
+ghost use Rattle.std.specs.Prelude.{◌≡◌, IfOk, None, Option, Some, if◌then◌else◌, option_and_then, slice_get};
 ghost use Rattle.scj_tree.specs.Recursion.{lookup};
 ghost use Rattle.scj_tree.specs.declared.nodes.Node.TheVariants.{SimpleName};
-ghost use Rattle.scj_rules.specs.Classes.{superclass_in};
+ghost use Rattle.scj_rules.specs.Classes.{class_number, superclass_in};
+ghost use Rattle.scj_rules.specs.declared.typing.Binding.TheVariants.{Plain};
+ghost use Rattle.scj_rules.specs.declared.typing.FoundField.{FoundField};
+ghost use Rattle.scj_rules.specs.declared.typing.Receiver.TheVariants.{Class as the_class};
 ghost use Rattle.scj_rules.specs.Contexts.{declarations_of, contexts_in, context};
-ghost use Rattle.scj_rules.specs.Types.{array_of, meaning};
+ghost use Rattle.scj_rules.specs.Types.{array_of, meaning, receiver, accessed_field, is_form_part};
 ghost use Rattle.scj_rules.specs.TypeRules.{written_type};
-ghost use Rattle.scj_rules.specs.Bindings.{array_class, class_binding, meaning_binding, binding_of, binding_at};
+ghost use Rattle.scj_rules.specs.Bindings.{array_class, plain_or, class_binding, field_binding, access_binding, meaning_binding, binding_of, binding_at};
 ghost use Rattle.type_rules.specs.Meanings.{meant};
 ghost use Rattle.node_bindings.specs.Numbers.{numbers_before};
-ghost use Rattle.node_bindings.specs.Kinds.{can_stand, field_here, access_at, new_binding, new_array};
+ghost use Rattle.node_bindings.specs.Kinds.{can_stand};
 
 use crate::calls::call_binding;
 use crate::fields::{access_binding, array_class, class_binding, field_binding};
@@ -79,7 +82,9 @@ fn superclass_binding(known: &Known<'_>, class: Option<ClassId>) -> Binding
 
 /// The field of a name in the class where a node stands.
 fn field_here(known: &Known<'_>, id: NodeId, name: &Name) -> Binding
-    ensures { result ≡ field_here (declarations_of known.now) id name.now }
+    ensures { let p = declarations_of known.now in
+        result ≡ plain_or (λ (row : FoundField). field_binding p row.field)
+        (option_and_then (λ class. accessed_field p (the_class class) name.now) (context p id).class) }
 {
     let Some(class) = known.context(id).class else {
         return Binding::Plain;
@@ -91,18 +96,26 @@ fn field_here(known: &Known<'_>, id: NodeId, name: &Name) -> Binding
 }
 
 /// An access.
-fn access_at(known: &Known<'_>, types: &[Option<Ty>], object: NodeId, name: &Name) -> Binding
-    ensures { result ≡ access_at (declarations_of known.now) (lookup None types.now) object name.now }
+fn access_at(
+    known: &Known<'_>,
+    types: &[Option<Ty>],
+    id: NodeId,
+    object: NodeId,
+    name: &Name,
+) -> Binding
+    ensures { let p = declarations_of known.now in
+        result ≡ plain_or (λ r. access_binding p r name.now) (receiver p (lookup None types.now) object) }
 {
     match receiver(known, types, object) {
-        Some(receiver) => access_binding(known, &receiver, name),
+        Some(receiver) => access_binding(known, id, &receiver, name),
         None => Binding::Plain,
     }
 }
 
 /// A new object; the parts of a form stand for nothing.
 fn new_binding(known: &Known<'_>, id: NodeId, name: &Name) -> Binding
-    ensures { result ≡ new_binding (declarations_of known.now) id name.now }
+    ensures { let p = declarations_of known.now in
+        result ≡ (if is_form_part p id then Plain else class_binding (class_number p.names name.now)) }
 {
     if is_form_part(known, id) {
         Binding::Plain
@@ -121,7 +134,9 @@ fn array_written(known: &Known<'_>, element: NodeId) -> Option<Ty>
 
 /// A new array.
 fn new_array(known: &Known<'_>, element: NodeId) -> Result<Binding, Memory>
-    ensures { IfOk result (λ b. b ≡ new_array (declarations_of known.now) element) }
+    ensures { let p = declarations_of known.now in
+        IfOk result (λ b. b ≡ class_binding
+        (option_and_then (array_class p) (option_and_then array_of (written_type p element)))) }
 {
     match array_written(known, element) {
         Some(t) => {
@@ -159,7 +174,9 @@ fn binding_of(
         Node::SimpleName { place, name } => {
             name_binding(known, contexts, numbers, id, *place, name.get())
         }
-        Node::FieldAccess { name, object, .. } => Ok(access_at(known, types, *object, name.get())),
+        Node::FieldAccess { name, object, .. } => {
+            Ok(access_at(known, types, id, *object, name.get()))
+        },
         Node::Call {
             name,
             object,

@@ -60,7 +60,6 @@ fn counted(
 }
 
 /// The place of a variable among those of a member.
-#[tactic(auto, using(crate::proofs::CountLemmas::variable_place))]
 pub fn place_of(
     program: &Program,
     contexts: &Contexts,

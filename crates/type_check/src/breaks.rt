@@ -1,64 +1,25 @@
 //! What is broken at a node.
 
-ghost use Rattle.std.specs.Prelude.{◌≡◌, ◌++◌, Some, None, OnOk};
+ghost use Rattle.std.specs.Prelude.{◌≡◌, ◌++◌, None, OnOk};
 ghost use Rattle.scj_tree.specs.Recursion.{lookup};
 ghost use Rattle.scj_rules.specs.Contexts.{declarations_of};
 ghost use Rattle.scj_rules.specs.TypeRules.{type_breaks};
-ghost use Rattle.type_rules.specs.Kinds.{variable_breaks, value_breaks, end_breaks, size_breaks};
 
-use scj_base::{Found, Memory, Name, NodeId, Pos};
-use scj_rules::Ty;
+use crate::notes::{
+    is_declared_already, note_access, note_class, note_local, note_method, note_name, note_new,
+    note_new_array,
+};
+use scj_base::{Found, Memory, NodeId, Rule};
+use scj_rules::{Ty, report_if};
 use scj_tree::Node;
 use type_rules::Known;
-use type_rules::calls::{note_call, note_class, note_new};
-use type_rules::expressions::{
-    note_access, note_binary, note_cast, note_element, note_name, note_new_array, note_this,
-    note_unary,
-};
+use type_rules::calls::note_call;
+use type_rules::expressions::{misfits_cast, misfits_index, misfits_operand, misfits_operands};
 use type_rules::statements::{
-    note_assign, note_condition, note_end, note_return, note_size, note_super_call, note_value,
-    note_variable,
+    misfits_assignment, misfits_initial_value, misfits_long, misfits_result, misfits_super_call,
+    note_condition,
 };
-
-/// Notes what is broken at a local with a value.
-fn note_local(
-    known: &Known<'_>,
-    types: &[Option<Ty>],
-    id: NodeId,
-    place: Pos,
-    name_place: Pos,
-    name: &Name,
-    declared_type: NodeId,
-    value: NodeId,
-    found: &mut Vec<Found>,
-) -> Result<(), Memory>
-    ensures { OnOk result (found.new.items ≡ found.old.items
-        ++ (variable_breaks (declarations_of known.now) id name_place name.now
-        ++ value_breaks (declarations_of known.now) (lookup None types.now) place declared_type value)) }
-{
-    note_variable(known, id, name_place, name, found)?;
-    note_value(known, types, place, declared_type, value, found)?;
-    Ok(())
-}
-
-/// Notes what is broken at a method with a body.
-fn note_method(
-    known: &Known<'_>,
-    id: NodeId,
-    place: Pos,
-    name: &Name,
-    result_type: NodeId,
-    body: NodeId,
-    found: &mut Vec<Found>,
-) -> Result<(), Memory>
-    ensures { OnOk result (found.new.items ≡ found.old.items
-        ++ (end_breaks (declarations_of known.now) place result_type body
-        ++ size_breaks (declarations_of known.now) id place name.now result_type (Some body))) }
-{
-    note_end(known, place, result_type, body, found)?;
-    note_size(known, id, place, name, result_type, &Some(body), found)?;
-    Ok(())
-}
+use type_words::is_void;
 
 /// Notes what breaks the rules on types at a node.
 #[tactic(auto, unfolding(scj_rules::specs::TypeRules::type_breaks, scj_rules::specs::TypeRules::t1, scj_rules::specs::TypeRules::t2, scj_rules::specs::TypeRules::t3, scj_rules::specs::TypeRules::t4, scj_rules::specs::TypeRules::t5, scj_rules::specs::TypeRules::t6, scj_rules::specs::TypeRules::t7, scj_rules::specs::TypeRules::t8, scj_rules::specs::TypeRules::t9, scj_rules::specs::TypeRules::t10, scj_rules::specs::TypeRules::t11, scj_rules::specs::TypeRules::t12, scj_rules::specs::TypeRules::t13, scj_rules::specs::TypeRules::t14))]
@@ -81,7 +42,10 @@ pub fn note_breaks(
             ..
         } => match equals {
             Some(equals) => match value {
-                Some(value) => note_value(known, types, *equals, *declared_type, *value, found),
+                Some(value) => {
+                    let misfits = misfits_initial_value(known, types, *declared_type, *value);
+                    report_if(found, misfits, Rule::T7, *equals)
+                }
                 None => Ok(()),
             },
             None => Ok(()),
@@ -99,12 +63,18 @@ pub fn note_breaks(
             result_type,
             body,
             ..
-        } => note_size(known, id, *place, name.get(), *result_type, body, found),
-        Node::Parameter { place, name, .. } => note_variable(known, id, *place, name.get(), found),
-        Node::SuperCall { place, arguments } => {
-            note_super_call(known, types, id, *place, arguments.items(), found)
+        } => {
+            let misfits = misfits_long(known, id, name.get(), *result_type, body);
+            report_if(found, misfits, Rule::T14, *place)
         }
-        Node::Local { place, name, .. } => note_variable(known, id, *place, name.get(), found),
+        Node::Parameter { place, name, .. } | Node::Local { place, name, .. } => {
+            let twice = is_declared_already(known, id, name.get());
+            report_if(found, twice, Rule::T2, *place)
+        }
+        Node::SuperCall { place, arguments } => {
+            let misfits = misfits_super_call(known, types, id, arguments.items());
+            report_if(found, misfits, Rule::T6, *place)
+        }
         Node::LocalWithValue {
             place,
             name_place,
@@ -127,28 +97,45 @@ pub fn note_breaks(
             place,
             target,
             value,
-        } => note_assign(known, types, *place, *target, *value, found),
-        Node::If { condition, .. } => note_condition(known, types, *condition, found),
-        Node::While { condition, .. } => note_condition(known, types, *condition, found),
-        Node::For { condition, .. } => note_condition(known, types, *condition, found),
-        Node::Return { place, value } => note_return(known, types, id, *place, value, found),
+        } => {
+            let misfits = misfits_assignment(known, types, *target, *value);
+            report_if(found, misfits, Rule::T7, *place)
+        }
+        Node::If { condition, .. } | Node::While { condition, .. } | Node::For { condition, .. } =>
+            note_condition(known, types, *condition, found),
+        Node::Return { place, value } => match value {
+            Some(value) => {
+                let misfits = misfits_result(known, types, id, *value);
+                report_if(found, misfits, Rule::T9, *place)
+            }
+            None => report_if(found, !is_void(&known.result_at(id)), Rule::T9, *place),
+        },
         Node::Binary {
             place,
             operator,
             left,
             right,
-        } => note_binary(known, types, *place, *operator, *left, *right, found),
+        } => {
+            let misfits = misfits_operands(known, types, *operator, *left, *right);
+            report_if(found, misfits, Rule::T3, *place)
+        }
         Node::Unary {
             place,
             operator,
             operand,
-        } => note_unary(known, types, *place, *operator, *operand, found),
+        } => {
+            let misfits = misfits_operand(types, *operator, *operand);
+            report_if(found, misfits, Rule::T3, *place)
+        }
         Node::Cast {
             place,
             name,
             operand,
             ..
-        } => note_cast(known, types, *place, name.get(), *operand, found),
+        } => {
+            let misfits = misfits_cast(known, types, name.get(), *operand);
+            report_if(found, misfits, Rule::T12, *place)
+        }
         Node::SimpleName { place, name } => note_name(known, id, *place, name.get(), found),
         Node::FieldAccess {
             place,
@@ -174,7 +161,10 @@ pub fn note_breaks(
             place,
             array,
             index,
-        } => note_element(known, types, *place, *array, *index, found),
+        } => {
+            let misfits = misfits_index(types, *array, *index);
+            report_if(found, misfits, Rule::T3, *place)
+        }
         Node::New {
             place,
             name,
@@ -194,7 +184,7 @@ pub fn note_breaks(
             element,
             length,
         } => note_new_array(known, types, *place, *element, *length, found),
-        Node::This { place } => note_this(known, id, *place, found),
+        Node::This { place } => report_if(found, !known.has_object(id), Rule::T13, *place),
         Node::Flags { .. }
         | Node::DefineScope { .. }
         | Node::ScopeName { .. }

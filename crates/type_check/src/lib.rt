@@ -4,6 +4,7 @@
 mod breaks;
 mod kinds;
 mod names;
+mod notes;
 mod passes;
 mod types;
 mod values;

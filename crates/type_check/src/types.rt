@@ -8,6 +8,7 @@ ghost use Rattle.scj_rules.specs.Report.{IsReport};
 ghost use Rattle.scj_rules.specs.Phases.{BreaksTypeRules};
 ghost use Rattle.scj_rules.specs.TypeRules.{types_in};
 ghost use Rattle.class_rows.specs.Tables.{IsTableOf};
+ghost use Rattle.type_rules.specs.Meanings.{AreMeanings};
 
 use crate::passes::types_and_breaks;
 use class_rows::{ClassTable, Classes};
@@ -18,8 +19,8 @@ use scj_rules::{Bindings, Ty, put_in_order};
 use scj_tree::Program;
 use std::alloc::Global;
 use std::marker::Model;
-use type_rules::Known;
-use type_rules::names::{meanings_of, told};
+use type_rules::names::told;
+use type_rules::{Known, NodeMeaning};
 use type_words::returning;
 
 /// The types of the nodes of a program, and what these stand for. A contract sees two lists.
@@ -62,21 +63,22 @@ impl Types {
 }
 
 /// The types of the nodes of a program, what these stand for, and what breaks the rules on types, in the order of a
-/// report; by what is known of the program, which later phases ask too.
+/// report; by what is known of the program. Also the rows of what is looked up, which later phases ask too.
 pub fn check_known_types(
     alloc: Global,
     known: &Known<'_>,
     contexts: &Contexts,
-) -> Result<(Types, Vec<Found>), Memory>
+) -> Result<(Types, Vec<Found>, Vec<NodeMeaning>), Memory>
     requires { contexts.now ≡ contexts_in known.now }
     ensures types { IfOk result (λ r. r.0.types ≡ types_in (declarations_of known.now)) }
     ensures bindings { IfOk result (λ r. r.0.bindings ≡ bindings_in (declarations_of known.now)) }
     ensures report { IfOk result (λ r. IsReport (BreaksTypeRules known.now) r.1.items) }
+    ensures rows { IfOk result (λ r. AreMeanings known.now r.2.items) }
 {
-    let (types, mut found) = types_and_breaks(alloc, known)?;
+    let (types, mut found, rows) = types_and_breaks(alloc, known)?;
     put_in_order(&mut found);
-    let bindings = bindings_of(alloc, known, contexts, &types)?;
-    Ok((Types { types, bindings }, found))
+    let bindings = bindings_of(alloc, &known.with_meanings(&rows), contexts, &types)?;
+    Ok((Types { types, bindings }, found, rows))
 }
 
 /// The types of the nodes of a program, what these stand for, and what breaks the rules on types, in the order of a
@@ -95,7 +97,6 @@ pub fn check_types(
     let contexts = Contexts::of(alloc, program)?;
     let returns = returning(alloc, program)?;
     let known = Known::new(Classes::new(program, table), &contexts, &returns);
-    let meanings = meanings_of(alloc, &known)?;
-    let known = known.with_meanings(&meanings);
-    check_known_types(alloc, &known, &contexts)
+    let (types, found, _rows) = check_known_types(alloc, &known, &contexts)?;
+    Ok((types, found))
 }

@@ -88,6 +88,10 @@ untyped_some types ids i id l e h = go (types id) refl h
 pub all_typed : (types : Types) (ids : List ℕ) (i : ℕ) → length ids ≤ i → is_some (all_types types (drop i ids)) ≡ true
 all_typed types ids i l = ap (λ (xs : List ℕ). is_some (all_types types xs)) (drop_all i ids l) ∙ none_typed types
 
+pub typed_test : (o : Option (List Ty)) (b : Bool) → (is_some o && b) ≡ holds o (λ _. b)
+typed_test None b = refl
+typed_test (Some ts) b = refl
+
 module _ (p : Declarations) (types : Types) where
   with-first : (id : ℕ) (ids : List ℕ) (ts : List Ty) → all_types types (id ∷ ids) ≡ Some ts →
       (t : Ty) × (us : List Ty) × (types id ≡ Some t) × (all_types types ids ≡ Some us) × (ts ≡ t ∷ us)
@@ -134,14 +138,6 @@ module _ (p : Declarations) (types : Types) where
           holds o (λ ts. not (accepts_arguments p ds ts)) ≡ not (fit_each p types ds ids)
       go None e h = absurd (true≢false (sym h))
       go (Some ts) e h = ap not (same-fit ds ids ts e)
-
-  pub misfit_untyped : (ds : List Declared) (ids : List ℕ) → is_some (all_types types ids) ≡ false →
-      misfit p types ds ids ≡ false
-  misfit_untyped ds ids h = go (all_types types ids) h
-    where
-      go : (o : Option (List Ty)) → is_some o ≡ false → holds o (λ ts. not (accepts_arguments p ds ts)) ≡ false
-      go None h = refl
-      go (Some ts) h = absurd (true≢false h)
 
   and-right : (a b : Bool) → (a && b) ≡ true → b ≡ true
   and-right true b h = h

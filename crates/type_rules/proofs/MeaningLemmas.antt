@@ -1,18 +1,22 @@
--- What rows tell of names, with one row more.
-use Rattle.std.proofs.Common.{◌≡◌, ℕ, zero, suc, List, [], ◌∷◌, ◌++◌, length, refl, ap, sym, subst, ◌∙◌, Option, Some, None, true, false, option_map, slice_get, ◌⊎◌, inl, inr}
-use Rattle.std.proofs.lemmas.Bool.{true≢false}
+-- What rows tell, with one row more.
+use Rattle.std.proofs.Common.{◌≡◌, ℕ, zero, suc, List, [], ◌∷◌, ◌++◌, length, refl, ap, subst, ◌∙◌, Option, Some, None, option_map, slice_get, ◌⊎◌, inl, inr}
 use Rattle.std.specs.Prelude.{IfSome}
 use Rattle.scj_base.specs.declared.places.Pos.{Pos}
-use Rattle.scj_tree.specs.declared.nodes.Node.{Node}
-use Rattle.scj_tree.specs.declared.nodes.Node.TheVariants.{SimpleName}
+use Rattle.scj_tree.specs.declared.nodes.Node.TheVariants.{SimpleName, FieldAccess, Call}
 use Rattle.scj_tree.specs.Forest.{Forest}
-use Rattle.scj_tree.specs.Kinds.{kind_of}
+use Rattle.scj_rules.specs.Classes.{field_named, method_named}
 use Rattle.scj_rules.specs.Contexts.{declarations_of}
 use Rattle.scj_rules.specs.Types.{meaning}
+use Rattle.class_rows.specs.Fields.{found_field}
+use Rattle.class_rows.specs.declared.fields.FieldRef.{FieldRef}
+use Rattle.method_rows.specs.Methods.{found_method}
+use Rattle.method_rows.specs.declared.refs.MethodRef.{MethodRef}
 use Rattle.type_rules.specs.declared.meanings.NameMeaning.{NameMeaning}
-use Rattle.type_rules.specs.Meanings.{is_name_kind, meant, IsMeaningAt, AreMeanings}
+use Rattle.type_rules.specs.declared.meanings.NodeMeaning.{NodeMeaning}
+use Rattle.type_rules.specs.declared.meanings.NodeMeaning.TheVariants.{Name as of_name, Field as of_access, Method as of_call}
+use Rattle.type_rules.specs.Meanings.{meant, IsMeaningAt, AreMeanings}
 
-one_more : (rows : List NameMeaning) (last row : NameMeaning) (id : ℕ) → slice_get (rows ++ last ∷ []) id ≡ Some row →
+one_more : (rows : List NodeMeaning) (last row : NodeMeaning) (id : ℕ) → slice_get (rows ++ last ∷ []) id ≡ Some row →
     (slice_get rows id ≡ Some row) ⊎ ((length rows ≡ id) × (last ≡ row))
 one_more [] last row zero e = inr (refl, cc)
 one_more [] last row (suc n) e = absurd (cc)
@@ -23,7 +27,7 @@ one_more (first ∷ rows) last row (suc n) e =
 pub no_meanings : (forest : Forest) → AreMeanings forest []
 no_meanings forest id row e = absurd (cc)
 
-pub more_meanings : (forest : Forest) (rows : List NameMeaning) (last : NameMeaning) → AreMeanings forest rows →
+pub more_meanings : (forest : Forest) (rows : List NodeMeaning) (last : NodeMeaning) → AreMeanings forest rows →
     IsMeaningAt forest (length rows) last → AreMeanings forest (rows ++ last ∷ [])
 more_meanings forest rows last are is id row e =
     elim (one_more rows last row id e) [
@@ -31,24 +35,34 @@ more_meanings forest rows last are is id row e =
       | inr at ↦ subst (λ r. IsMeaningAt forest id r) at.1 (subst (λ n. IsMeaningAt forest n last) at.0 is)
     ]
 
-pub row_told : (forest : Forest) (rows : List NameMeaning) (id : ℕ) (o : Option NameMeaning) → AreMeanings forest rows →
-    slice_get rows id ≡ o → IfSome o (λ row. IsMeaningAt forest id row)
-row_told forest rows id None are e = tt
-row_told forest rows id (Some row) are e = are id row e
+-- ---- what the row of a node of this name tells
 
-pub told_there : (forest : Forest) (id : ℕ) (place : Pos) (written name : List ℕ) (o : Option NameMeaning) →
-    slice_get forest.nodes id ≡ Some (SimpleName place written) → written ≡ name
-    → IfSome o (λ row. IsMeaningAt forest id row) →
-    IfSome o (λ row. meant forest.nodes row ≡ meaning (declarations_of forest) id name)
-told_there forest id place written name None there same is = tt
-told_there forest id place written name (Some row) there same is =
-    subst (λ n. meant forest.nodes row ≡ meaning (declarations_of forest) id n) same (is place written there)
+module _ (forest : Forest) (rows : List NodeMeaning) (are : AreMeanings forest rows) (id : ℕ) (place : Pos)
+    (written name : List ℕ) where
+  pub told_name : (o : Option NameMeaning) → slice_get forest.nodes id ≡ Some (SimpleName place name) →
+      IfSome o (λ m. slice_get rows id ≡ Some (of_name m)) →
+      IfSome o (λ m. meant forest.nodes m ≡ meaning (declarations_of forest) id name)
+  unfolding IsMeaningAt
+  told_name None there told = tt
+  told_name (Some m) there told = are id (of_name m) told place name there
 
--- a node of another kind is no name
-pub no_name : (forest : Forest) (id : ℕ) (row : NameMeaning) →
-    is_name_kind (option_map kind_of (slice_get forest.nodes id)) ≡ false → IsMeaningAt forest id row
-unfolding kind_of
-no_name forest id row other place name there =
-    let named : is_name_kind (option_map kind_of (slice_get forest.nodes id)) ≡ true =
-    ap (λ (o : Option Node). is_name_kind (option_map kind_of o)) there in
-    absurd (true≢false (sym named ∙ other))
+  pub told_access : (class object : ℕ) (o : Option (Option FieldRef)) →
+      slice_get forest.nodes id ≡ Some (FieldAccess place written object) → written ≡ name →
+      IfSome o (λ field. slice_get rows id ≡ Some (of_access class field)) →
+      IfSome o (λ field. option_map (found_field forest.nodes) field ≡ field_named (declarations_of forest).classes
+      class name)
+  unfolding IsMeaningAt
+  told_access class object None there same told = tt
+  told_access class object (Some field) there same told = are id (of_access class field) told place written object there
+      ∙ ap (field_named (declarations_of forest).classes class) same
+
+  pub told_call : (class : ℕ) (object : Option ℕ) (arguments : List ℕ) (o : Option (Option MethodRef)) →
+      slice_get forest.nodes id ≡ Some (Call place written object arguments) → written ≡ name →
+      IfSome o (λ method. slice_get rows id ≡ Some (of_call class method)) →
+      IfSome o (λ method. option_map (found_method forest.nodes) method ≡ method_named (declarations_of forest).classes
+      class name)
+  unfolding IsMeaningAt
+  told_call class object arguments None there same told = tt
+  told_call class object arguments (Some method) there same told =
+      are id (of_call class method) told place written object arguments there
+      ∙ ap (method_named (declarations_of forest).classes class) same

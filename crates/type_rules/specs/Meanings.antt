@@ -1,23 +1,20 @@
--- What a name stands for, by a short row.
-use Rattle.std.specs.Prelude.{ℕ, ◌≡◌, Bool, true, false, List, Option, Some, slice_get}
+-- What simple names, accesses and calls stand for, by short rows.
+use Rattle.std.specs.Prelude.{ℕ, ◌≡◌, List, Option, Some, slice_get, option_map}
 use Rattle.scj_base.specs.declared.places.Pos.{Pos}
 use Rattle.scj_tree.specs.declared.nodes.Node.{Node}
-use Rattle.scj_tree.specs.declared.nodes.Node.TheVariants.{SimpleName}
-use Rattle.scj_tree.specs.declared.kinds.NodeKind.{NodeKind}
-use Rattle.scj_tree.specs.declared.kinds.NodeKind.TheVariants.{SimpleName as simple_name_kind}
+use Rattle.scj_tree.specs.declared.nodes.Node.TheVariants.{SimpleName, FieldAccess, Call}
 use Rattle.scj_tree.specs.Forest.{Forest}
+use Rattle.scj_rules.specs.Classes.{field_named, method_named}
 use Rattle.scj_rules.specs.Contexts.{declarations_of}
 use Rattle.scj_rules.specs.Types.{meaning}
 use Rattle.scj_rules.specs.declared.typing.Meaning.{Meaning}
 use Rattle.scj_rules.specs.declared.typing.Meaning.TheVariants.{Variable as a_variable, Field as a_field, Class as a_class, Nothing as nothing}
 use Rattle.class_rows.specs.Fields.{found_field}
+use Rattle.method_rows.specs.Methods.{found_method}
 use Rattle.type_rules.specs.declared.meanings.NameMeaning.{NameMeaning}
 use Rattle.type_rules.specs.declared.meanings.NameMeaning.TheVariants.{Variable as variable_row, Field as field_row, Class as class_row, Nothing as no_row}
-
--- the kind of simple names
-abbrev pub is_name_kind : Option NodeKind → Bool
-is_name_kind (Some simple_name_kind) = true
-is_name_kind _ = false
+use Rattle.type_rules.specs.declared.meanings.NodeMeaning.{NodeMeaning}
+use Rattle.type_rules.specs.declared.meanings.NodeMeaning.TheVariants.{Name as of_name, Field as of_access, Method as of_call, Nothing as of_other}
 
 unfoldable pub meant : List Node → NameMeaning → Meaning
 meant nodes (variable_row variable) = a_variable variable
@@ -25,11 +22,20 @@ meant nodes (field_row field) = a_field (found_field nodes field)
 meant nodes (class_row class) = a_class class
 meant nodes no_row = nothing
 
--- the row tells what the name stands for at a node, if that is one
-abbrev pub IsMeaningAt : Forest → ℕ → NameMeaning → Type 0
-IsMeaningAt forest id row = (place : Pos) (name : List ℕ) → slice_get forest.nodes id ≡ Some (SimpleName place name) →
+-- the row tells what the node's name stands for, or which field or method of the node's name the class has
+unfoldable pub IsMeaningAt : Forest → ℕ → NodeMeaning → Type 0
+IsMeaningAt forest id (of_name row) =
+    (place : Pos) (name : List ℕ) → slice_get forest.nodes id ≡ Some (SimpleName place name) →
     meant forest.nodes row ≡ meaning (declarations_of forest) id name
+IsMeaningAt forest id (of_access class field) =
+    (place : Pos) (name : List ℕ) (object : ℕ) → slice_get forest.nodes id ≡ Some (FieldAccess place name object) →
+    option_map (found_field forest.nodes) field ≡ field_named (declarations_of forest).classes class name
+IsMeaningAt forest id (of_call class method) =
+    (place : Pos) (name : List ℕ) (object : Option ℕ) (arguments : List ℕ) →
+    slice_get forest.nodes id ≡ Some (Call place name object arguments) →
+    option_map (found_method forest.nodes) method ≡ method_named (declarations_of forest).classes class name
+IsMeaningAt forest id of_other = Unit
 
 -- the rows that are there tell it of the first nodes
-abbrev pub AreMeanings : Forest → List NameMeaning → Type 0
-AreMeanings forest rows = (id : ℕ) (row : NameMeaning) → slice_get rows id ≡ Some row → IsMeaningAt forest id row
+abbrev pub AreMeanings : Forest → List NodeMeaning → Type 0
+AreMeanings forest rows = (id : ℕ) (row : NodeMeaning) → slice_get rows id ≡ Some row → IsMeaningAt forest id row

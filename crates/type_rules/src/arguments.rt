@@ -103,7 +103,7 @@ pub fn misfit(known: &Known<'_>, types: &[Option<Ty>], takes: &Takes, ids: &[Nod
 pub fn constructor_parameters(known: &Known<'_>, class: ClassId) -> Takes
     ensures { taken known.now.nodes result ≡ constructor_parameters (declarations_of known.now).classes class }
 {
-    match known.constructor_in(class) {
+    match known.classes().constructor_in(class) {
         Some(node) => Takes::Listed(node_views::constructor_parameters(known.program(), node)),
         None => Takes::Listed(None),
     }

@@ -1,23 +1,21 @@
 //! What is broken at calls, at `new` and at classes.
 
-ghost use Rattle.std.specs.Prelude.{◌≡◌, ◌++◌, ◌&&◌, ◌||◌, not, [], ◌∷◌, true, None, Some, OnOk, is_some, option_map, option_and_then};
-ghost use Rattle.std.specs.List.{list_any};
+ghost use Rattle.std.specs.Prelude.{◌≡◌, ◌++◌, ◌&&◌, not, [], None, OnOk, option_map};
+ghost use Rattle.scj_base.specs.declared.findings.Rule.TheVariants.{T3 as t3, T5 as t5, T6 as t6, T13 as t13};
 ghost use Rattle.scj_tree.specs.Recursion.{lookup};
-ghost use Rattle.scj_rules.specs.Views.{DeclaredConstructor};
-ghost use Rattle.scj_rules.specs.Classes.{FoundMethod, class_number, superclass_in, is_empty};
-ghost use Rattle.scj_rules.specs.Words.{holds};
+ghost use Rattle.scj_rules.specs.Classes.{superclass_in};
+ghost use Rattle.scj_rules.specs.Words.{broken, holds};
 ghost use Rattle.scj_rules.specs.Contexts.{declarations_of};
-ghost use Rattle.scj_rules.specs.Types.{all_types, called_method, is_size_method, is_callable, is_form_part, is_int, kind_is, is_concrete, is_form, has_form, form_in, constructor_parameters, constructor_in};
-ghost use Rattle.scj_rules.specs.TypeRules.{misfits_new, misfits_form_part, has_untyped_argument, has_other_than_int, misfits_class, calls_unwritten, is_concrete_safelet, is_never_made};
+ghost use Rattle.scj_rules.specs.Types.{all_types, call_receiver, called_method, is_no_reference, is_size_method, is_callable, is_form_part, is_int, kind_is};
+ghost use Rattle.scj_rules.specs.TypeRules.{typed_call, lacks_method, misfit, misfits_method, lacks_object_of_method, misfits_new, misfits_form_part, has_untyped_argument, has_other_than_int, makes_no_object, is_misplaced_form, misfits_class, calls_unwritten, takes_arguments, is_concrete_safelet, is_never_made, lacks_form};
 ghost use Rattle.method_rows.specs.Methods.{found_method};
-ghost use Rattle.type_rules.specs.Kinds.{called_breaks, call_breaks, new_breaks, class_breaks, lacks_found, misfits_found, needs_object};
 
 use crate::arguments::{Takes, are_typed, constructor_parameters, misfit, takes_none};
 use crate::expressions::{is_form_class, lacks_object};
 use crate::forms::{has_form, has_right_form, is_form_part, super_arguments};
 use crate::known::Known;
-use crate::names::{call_receiver, called_method, told};
-use crate::statements::is_long_row;
+use crate::names::{call_receiver, method_called, told};
+use crate::statements::has_framework_size;
 use method_rows::{MethodRef, is_callable_row, is_static, result_type};
 use scj_base::ids::{OBJECT, SAFELET};
 use scj_base::{ClassId, Found, Memory, Name, NodeId, Pos, Rule};
@@ -32,7 +30,7 @@ fn is_size_method(known: &Known<'_>, method: &MethodRef) -> bool
 {
     let program = known.program();
     is_long(&result_type(program, method))
-        && is_long_row(known, method.on, &method_rows::name(program, method))
+        && has_framework_size(known, method.on, &method_rows::name(program, method))
 }
 
 /// Whether a program may call the method.
@@ -43,10 +41,18 @@ fn is_callable(known: &Known<'_>, method: &MethodRef) -> bool
 }
 
 /// Whether no method was found for a receiver that a program may call, or a static one through a value.
-fn lacks_found(known: &Known<'_>, receiver: &Receiver, method: &Option<MethodRef>) -> bool
-    ensures { result ≡ lacks_found (declarations_of known.now) receiver.now
-        (option_map (found_method known.now.nodes) method.now) }
+#[tactic(auto, unfolding(scj_rules::specs::TypeRules::lacks_method))]
+fn lacks_method(
+    known: &Known<'_>,
+    receiver: &Receiver,
+    name: &Name,
+    method: &Option<MethodRef>,
+) -> bool
+    requires { option_map (found_method known.now.nodes) method.now ≡ called_method (declarations_of known.now)
+        receiver.now name.now }
+    ensures { result ≡ lacks_method (declarations_of known.now) receiver.now name.now }
 {
+    let _ = name;
     if is_no_reference(receiver) {
         return false;
     }
@@ -60,34 +66,82 @@ fn lacks_found(known: &Known<'_>, receiver: &Receiver, method: &Option<MethodRef
 }
 
 /// Whether the arguments don't fit the method that was found.
-#[tactic(auto, unfolding(crate::specs::Parameters::taken))]
-fn misfits_found(
+#[tactic(auto, unfolding(scj_rules::specs::TypeRules::misfits_method, crate::specs::Parameters::taken))]
+fn misfits_method(
     known: &Known<'_>,
     types: &[Option<Ty>],
+    receiver: &Receiver,
+    name: &Name,
     method: &Option<MethodRef>,
     arguments: &[NodeId],
 ) -> bool
-    ensures { result ≡ misfits_found (declarations_of known.now) (lookup None types.now)
-        (option_map (found_method known.now.nodes) method.now) arguments.now }
+    requires { option_map (found_method known.now.nodes) method.now ≡ called_method (declarations_of known.now)
+        receiver.now name.now }
+    ensures { result ≡ misfits_method (declarations_of known.now) (lookup None types.now) receiver.now name.now
+        arguments.now }
 {
+    if lacks_method(known, receiver, name, method) {
+        return false;
+    }
     match method {
         Some(method) => misfit(known, types, &Takes::Method(*method), arguments),
         None => false,
     }
 }
 
-/// Whether the method that was found isn't static.
-fn needs_object(known: &Known<'_>, method: &Option<MethodRef>) -> bool
-    ensures { result ≡ needs_object (option_map (found_method known.now.nodes) method.now) }
+/// Whether a method that isn't static was found, and no object is at hand.
+fn lacks_object_of_method(
+    known: &Known<'_>,
+    id: NodeId,
+    receiver: &Receiver,
+    name: &Name,
+    method: &Option<MethodRef>,
+) -> bool
+    requires { option_map (found_method known.now.nodes) method.now ≡ called_method (declarations_of known.now)
+        receiver.now name.now }
+    ensures { result ≡ lacks_object_of_method (declarations_of known.now) id name.now receiver.now }
 {
+    if !lacks_object(known, id, receiver) {
+        return false;
+    }
+    if lacks_method(known, receiver, name, method) {
+        return false;
+    }
     match method {
         Some(method) => !is_static(known.program(), method),
         None => false,
     }
 }
 
-/// Notes what is broken at a call whose receiver is known, and whose arguments have types.
-#[tactic(auto, unfolding(scj_rules::specs::TypeRules::lacks_method, scj_rules::specs::TypeRules::misfits_method))]
+/// Whether the arguments have types, and a test holds.
+#[tactic(auto, using(crate::proofs::ArgumentLemmas::typed_test))]
+fn typed_and(types: &[Option<Ty>], arguments: &[NodeId], test: bool) -> bool
+    ensures { result ≡ holds (all_types (lookup None types.now) arguments.now) (λ _. test) }
+{
+    are_typed(types, arguments) && test
+}
+
+/// Notes the rules that are broken at a call.
+fn note_four(
+    found: &mut Vec<Found>,
+    place: Pos,
+    is_plain: bool,
+    lacks: bool,
+    misfits: bool,
+    is_apart: bool,
+) -> Result<(), Memory>
+    ensures { OnOk result (found.new.items ≡ found.old.items
+        ++ (broken is_plain t3 place ++ (broken lacks t5 place
+        ++ (broken misfits t6 place ++ (broken is_apart t13 place ++ []))))) }
+{
+    report_if(found, is_plain, Rule::T3, place)?;
+    report_if(found, lacks, Rule::T5, place)?;
+    report_if(found, misfits, Rule::T6, place)?;
+    report_if(found, is_apart, Rule::T13, place)?;
+    Ok(())
+}
+
+/// Notes what is broken at a call whose receiver is known.
 fn note_called(
     known: &Known<'_>,
     types: &[Option<Ty>],
@@ -99,22 +153,26 @@ fn note_called(
     found: &mut Vec<Found>,
 ) -> Result<(), Memory>
     ensures { OnOk result (found.new.items ≡ found.old.items
-        ++ called_breaks (declarations_of known.now) (lookup None types.now) id place name.now receiver.now
-        arguments.now) }
+        ++ (broken (holds (all_types (lookup None types.now) arguments.now) (λ _. is_no_reference receiver.now)) t3 place
+        ++ (broken (holds (all_types (lookup None types.now) arguments.now)
+        (λ _. lacks_method (declarations_of known.now) receiver.now name.now)) t5 place
+        ++ (broken (misfits_method (declarations_of known.now) (lookup None types.now) receiver.now name.now
+        arguments.now) t6 place
+        ++ (broken (holds (all_types (lookup None types.now) arguments.now)
+        (λ _. lacks_object_of_method (declarations_of known.now) id name.now receiver.now)) t13 place ++ []))))) }
 {
-    let method = called_method(known, receiver, name);
-    let lacks = lacks_found(known, receiver, &method);
-    let misfits = !lacks && misfits_found(known, types, &method, arguments);
-    let is_apart = lacks_object(known, id, receiver) && !lacks && needs_object(known, &method);
-    report_if(found, is_no_reference(receiver), Rule::T3, place)?;
-    report_if(found, lacks, Rule::T5, place)?;
-    report_if(found, misfits, Rule::T6, place)?;
-    report_if(found, is_apart, Rule::T13, place)?;
+    let method = method_called(known, id, receiver, name);
+    let lacking = lacks_method(known, receiver, name, &method);
+    let misfits = misfits_method(known, types, receiver, name, &method, arguments);
+    let apart = lacks_object_of_method(known, id, receiver, name, &method);
+    let is_plain = typed_and(types, arguments, is_no_reference(receiver));
+    let lacks = typed_and(types, arguments, lacking);
+    let is_apart = typed_and(types, arguments, apart);
+    note_four(found, place, is_plain, lacks, misfits, is_apart)?;
     Ok(())
 }
 
 /// Notes what is broken at a call.
-#[tactic(auto, using(crate::proofs::CallLemmas::called, crate::proofs::CallLemmas::uncalled, crate::proofs::CallLemmas::untyped_call))]
 pub fn note_call(
     known: &Known<'_>,
     types: &[Option<Ty>],
@@ -126,15 +184,21 @@ pub fn note_call(
     found: &mut Vec<Found>,
 ) -> Result<(), Memory>
     ensures { OnOk result (found.new.items ≡ found.old.items
-        ++ call_breaks (declarations_of known.now) (lookup None types.now) id place name.now object.now arguments.now) }
+        ++ (broken (typed_call (declarations_of known.now) (lookup None types.now) id object.now arguments.now
+        is_no_reference) t3 place
+        ++ (broken (typed_call (declarations_of known.now) (lookup None types.now) id object.now arguments.now
+        (λ r. lacks_method (declarations_of known.now) r name.now)) t5 place
+        ++ (broken (holds (call_receiver (declarations_of known.now) (lookup None types.now) id object.now)
+        (λ r. misfits_method (declarations_of known.now) (lookup None types.now) r name.now arguments.now)) t6 place
+        ++ (broken (typed_call (declarations_of known.now) (lookup None types.now) id object.now arguments.now
+        (lacks_object_of_method (declarations_of known.now) id name.now)) t13 place ++ []))))) }
 {
-    let Some(receiver) = call_receiver(known, types, id, object) else {
-        return Ok(());
-    };
-    if !are_typed(types, arguments) {
-        return Ok(());
+    match call_receiver(known, types, id, object) {
+        Some(receiver) => {
+            note_called(known, types, id, place, name, &receiver, arguments, found)
+        }
+        None => Ok(()),
     }
-    note_called(known, types, id, place, name, &receiver, arguments, found)
 }
 
 /// Whether an argument in a form has a type that isn't int.
@@ -184,7 +248,7 @@ fn no_int(known: &Known<'_>, types: &[Option<Ty>], id: NodeId) -> bool
 
 /// Whether the arguments of a `new` don't fit.
 #[tactic(auto, unfolding(scj_rules::specs::TypeRules::misfits_new))]
-fn misfits_new(
+pub fn misfits_new(
     known: &Known<'_>,
     types: &[Option<Ty>],
     id: NodeId,
@@ -212,68 +276,39 @@ fn misfits_new(
 
 /// Whether the class has no objects of its own, and is no part of a form.
 #[tactic(auto, unfolding(scj_rules::specs::Types::is_form, scj_rules::specs::Types::is_concrete))]
-fn is_never_made_class(known: &Known<'_>, class: ClassId) -> bool
+fn is_never_made(known: &Known<'_>, class: ClassId) -> bool
     ensures { result ≡ kind_is is_never_made (declarations_of known.now) class }
 {
-    match known.kind(class) {
+    match known.classes().kind(class) {
         Some(ClassKind::Abstract | ClassKind::Interface | ClassKind::Static) => true,
         _ => false,
     }
 }
 
 /// Whether a `new` with arguments that have types makes what has no objects.
-fn makes_none(known: &Known<'_>, types: &[Option<Ty>], name: &Name, arguments: &[NodeId]) -> bool
-    ensures { result ≡ holds (all_types (lookup None types.now) arguments.now)
-        (λ ts. holds (class_number (declarations_of known.now).names name.now)
-        (kind_is is_never_made (declarations_of known.now))) }
+pub fn makes_no_object(
+    known: &Known<'_>,
+    types: &[Option<Ty>],
+    name: &Name,
+    arguments: &[NodeId],
+) -> bool
+    ensures { result ≡ makes_no_object (declarations_of known.now) (lookup None types.now) name.now arguments.now }
 {
-    if !are_typed(types, arguments) {
-        return false;
-    }
-    match known.class_of(name) {
-        Some(class) => is_never_made_class(known, class),
+    let has_none = match known.class_of(name) {
+        Some(class) => is_never_made(known, class),
         None => false,
-    }
+    };
+    typed_and(types, arguments, has_none)
 }
 
 /// Whether a part of a form is made outside of one.
-fn is_misplaced(known: &Known<'_>, id: NodeId, name: &Name) -> bool
-    ensures { result ≡ (holds (class_number (declarations_of known.now).names name.now)
-        (kind_is is_form (declarations_of known.now)) && not (is_form_part (declarations_of known.now) id)) }
+pub fn is_misplaced_form(known: &Known<'_>, id: NodeId, name: &Name) -> bool
+    ensures { result ≡ is_misplaced_form (declarations_of known.now) id name.now }
 {
     match known.class_of(name) {
         Some(class) => is_form_class(known, class) && !is_form_part(known, id),
         None => false,
     }
-}
-
-/// Notes what is broken at a `new`.
-pub fn note_new(
-    known: &Known<'_>,
-    types: &[Option<Ty>],
-    id: NodeId,
-    place: Pos,
-    name: &Name,
-    arguments: &[NodeId],
-    found: &mut Vec<Found>,
-) -> Result<(), Memory>
-    ensures { OnOk result (found.new.items ≡ found.old.items
-        ++ new_breaks (declarations_of known.now) (lookup None types.now) id place name.now arguments.now) }
-{
-    report_if(
-        found,
-        misfits_new(known, types, id, name, arguments),
-        Rule::T6,
-        place,
-    )?;
-    report_if(
-        found,
-        makes_none(known, types, name, arguments),
-        Rule::T11,
-        place,
-    )?;
-    report_if(found, is_misplaced(known, id, name), Rule::T14, place)?;
-    Ok(())
 }
 
 /// Whether the constructor of a class calls its superclass's without writing so.
@@ -283,13 +318,20 @@ fn calls_unwritten(known: &Known<'_>, class: ClassId) -> bool
     super_arguments(known, class).is_none()
 }
 
+/// Whether the constructor of a class takes arguments.
+fn takes_arguments(known: &Known<'_>, class: ClassId) -> bool
+    ensures { result ≡ takes_arguments (declarations_of known.now) class }
+{
+    !takes_none(known, &constructor_parameters(known, class))
+}
+
 /// Whether the class is a safelet that has objects.
 #[tactic(auto, unfolding(scj_rules::specs::Types::is_concrete))]
 fn is_concrete_safelet(known: &Known<'_>, class: ClassId) -> bool
     ensures { result ≡ is_concrete_safelet (declarations_of known.now) class }
 {
-    match known.kind(class) {
-        Some(ClassKind::Concrete) => known.implements(class, SAFELET),
+    match known.classes().kind(class) {
+        Some(ClassKind::Concrete) => known.classes().implements(class, SAFELET),
         _ => false,
     }
 }
@@ -298,52 +340,32 @@ fn is_concrete_safelet(known: &Known<'_>, class: ClassId) -> bool
 fn misfits_super(known: &Known<'_>, class: ClassId) -> bool
     ensures { result ≡ (calls_unwritten (declarations_of known.now) class
         && holds (superclass_in (declarations_of known.now).classes class)
-        (λ superclass. not (is_empty (constructor_parameters (declarations_of known.now).classes superclass)))) }
+        (takes_arguments (declarations_of known.now))) }
 {
     if !calls_unwritten(known, class) {
         return false;
     }
-    match known.superclass(class) {
-        Some(superclass) => !takes_none(known, &constructor_parameters(known, superclass)),
+    match known.classes().superclass(class) {
+        Some(superclass) => takes_arguments(known, superclass),
         None => false,
     }
 }
 
 /// Whether a constructor that takes arguments is called without any.
 #[tactic(auto, unfolding(scj_rules::specs::TypeRules::misfits_class))]
-fn misfits_class(known: &Known<'_>, class: ClassId) -> bool
+pub fn misfits_class(known: &Known<'_>, class: ClassId) -> bool
     ensures { result ≡ misfits_class (declarations_of known.now) class }
 {
     misfits_super(known, class)
-        || (is_concrete_safelet(known, class)
-            && !takes_none(known, &constructor_parameters(known, class)))
+        || (is_concrete_safelet(known, class) && takes_arguments(known, class))
 }
 
 /// Whether the form is missing with which the constructor of a class has to begin.
-fn lacks_form(known: &Known<'_>, class: ClassId) -> bool
-    ensures { result ≡ (holds (superclass_in (declarations_of known.now).classes class) has_form
-        && not (is_some (form_in (declarations_of known.now) class))) }
+pub fn lacks_form(known: &Known<'_>, class: ClassId) -> bool
+    ensures { result ≡ lacks_form (declarations_of known.now) class }
 {
-    match known.superclass(class) {
+    match known.classes().superclass(class) {
         Some(superclass) => has_form(superclass) && !has_right_form(known, class),
         None => false,
     }
-}
-
-/// Notes what is broken at a class.
-pub fn note_class(
-    known: &Known<'_>,
-    place: Pos,
-    name: &Name,
-    found: &mut Vec<Found>,
-) -> Result<(), Memory>
-    ensures { OnOk result (found.new.items ≡ found.old.items
-        ++ class_breaks (declarations_of known.now) place name.now) }
-{
-    let Some(class) = known.class_of(name) else {
-        return Ok(());
-    };
-    report_if(found, misfits_class(known, class), Rule::T6, place)?;
-    report_if(found, lacks_form(known, class), Rule::T14, place)?;
-    Ok(())
 }

@@ -4,7 +4,7 @@ ghost use Rattle.std.specs.Prelude.{◌≡◌, ◌&&◌, option_copied, option_m
 ghost use Rattle.scj_builtins.specs.Framework.{priority_parameters, storage_parameters};
 ghost use Rattle.scj_rules.specs.Definitions.{read};
 ghost use Rattle.scj_rules.specs.Views.{DeclaredConstructor};
-ghost use Rattle.scj_rules.specs.Words.{is_among, holds};
+ghost use Rattle.scj_rules.specs.Words.{is_among};
 ghost use Rattle.scj_rules.specs.Contexts.{declarations_of};
 ghost use Rattle.scj_rules.specs.Types.{new_of, is_new, periodic_part, release_part, form_parts, has_form, form_in, is_form_part, constructor_in};
 ghost use Rattle.type_rules.specs.Forms.{middle_listed, form_listed, times_listed, more_listed};
@@ -154,7 +154,7 @@ pub fn super_arguments<'a>(known: &Known<'a>, class: ClassId) -> Option<&'a [Nod
     ensures { option_copied result ≡ option_and_then (λ (c : DeclaredConstructor). c.super_call)
         (constructor_in (declarations_of known.now).classes class) }
 {
-    let node = known.constructor_in(class)?;
+    let node = known.classes().constructor_in(class)?;
     node_views::super_call_arguments(known.program(), node)
 }
 
@@ -163,7 +163,7 @@ pub fn super_arguments<'a>(known: &Known<'a>, class: ClassId) -> Option<&'a [Nod
 fn form_in(known: &Known<'_>, class: ClassId) -> Option<Form>
     ensures { option_map form_listed result ≡ form_in (declarations_of known.now) class }
 {
-    let superclass = known.classes.superclass(class)?;
+    let superclass = known.classes().superclass(class)?;
     if !has_form(superclass) {
         return None;
     }

@@ -1,44 +1,34 @@
 //! What is told of a program before its types are.
 
-ghost use Rattle.std.specs.Prelude.{◌≡◌, slice_get, option_map, option_and_then, IfSome};
-ghost use Rattle.scj_rules.specs.Classes.{ClassRow, class_number, superclass_in, all_interfaces, framework_row_named};
+ghost use Rattle.std.specs.Prelude.{◌≡◌, Some, slice_get, option_map, IfSome};
+ghost use Rattle.scj_tree.specs.declared.nodes.Node.TheVariants.{SimpleName};
+ghost use Rattle.scj_rules.specs.Classes.{class_number, field_named, method_named};
 ghost use Rattle.scj_rules.specs.Contexts.{declarations_of, contexts_in, context, variable_named, has_object};
-ghost use Rattle.scj_rules.specs.Types.{constructor_in, meaning};
-ghost use Rattle.scj_rules.specs.Views.{constructor_at};
+ghost use Rattle.scj_rules.specs.Types.{meaning};
 ghost use Rattle.scj_rules.specs.TypeRules.{result_at, always_returns};
-ghost use Rattle.scj_rules.specs.Words.{is_among};
 ghost use Rattle.method_rows.specs.Methods.{found_method};
+ghost use Rattle.class_rows.specs.Fields.{found_field};
 ghost use Rattle.type_words.specs.Returns.{all_returns};
-ghost use Rattle.type_rules.specs.Meanings.{meant, IsMeaningAt, AreMeanings};
+ghost use Rattle.type_rules.specs.Meanings.{meant, AreMeanings};
 
-use crate::meanings::NameMeaning;
-use class_rows::Classes;
+use crate::meanings::{NameMeaning, NodeMeaning, field_told, method_told, name_told};
+use class_rows::{Classes, FieldRef};
 use method_rows::MethodRef;
 use node_contexts::Contexts;
-use scj_base::{ClassId, Name, NodeId};
+use scj_base::{ClassId, Name, NodeId, Pos};
 use scj_builtins::ClassKind;
 use scj_rules::{Context, WrittenType};
 use scj_tree::{Node, Program};
 use std::marker::Model;
 
-/// The row of a node, if there is one.
-fn row_at(rows: &[NameMeaning], id: NodeId) -> Option<NameMeaning>
-    ensures { result ≡ slice_get rows.now id }
-{
-    match rows.get(id.place()) {
-        Some(row) => Some(*row),
-        None => None,
-    }
-}
-
-/// A program with its classes, the contexts of its nodes, those that always return, and what names stand for as far as
-/// that is told. A contract sees the program.
+/// A program with its classes, the contexts of its nodes, those that always return, and what names, accesses and calls
+/// stand for as far as that is told. A contract sees the program.
 #[derive(Drop)]
 pub struct Known<'a> {
     pub(crate) classes: Classes<'a>,
     contexts: &'a Contexts,
     returns: &'a [bool],
-    meanings: &'a [NameMeaning],
+    meanings: &'a [NodeMeaning],
 }
 
 impl<'a> Model for Known<'a> {
@@ -68,24 +58,32 @@ impl<'a> Known<'a> {
         }
     }
 
-    /// The same, with what the names of the first nodes stand for, so that it needn't be looked up.
-    pub fn with_meanings(self, meanings: &'a [NameMeaning]) -> Known<'a>
-        requires { AreMeanings self meanings.now }
-        ensures { result ≡ self.entry }
+    /// The same, with what the first nodes stand for, so that it needn't be looked up.
+    pub fn with_meanings<'b>(&'b self, meanings: &'b [NodeMeaning]) -> Known<'b>
+        requires { AreMeanings self.now meanings.now }
+        ensures { result ≡ self.now }
     {
         Known {
-            classes: self.classes,
+            classes: self.classes.again(),
             contexts: self.contexts,
             returns: self.returns,
             meanings,
         }
     }
 
-    /// The row of a node, where it is told.
-    pub(crate) fn meaning_row(&self, id: NodeId) -> Option<NameMeaning>
-        ensures { IfSome result (λ row. IsMeaningAt self.now id row) }
+    /// The rows that are told, of the first nodes.
+    fn rows(&self) -> &[NodeMeaning]
+        ensures { AreMeanings self.now result.now }
     {
-        row_at(self.meanings, id)
+        self.meanings
+    }
+
+    /// What a node that is this name stands for, where that is told.
+    pub(crate) fn told_there(&self, id: NodeId, place: Pos, name: &Name) -> Option<NameMeaning>
+        requires { slice_get self.now.nodes id ≡ Some (SimpleName place name.now) }
+        ensures { IfSome result (λ row. meant self.now.nodes row ≡ meaning (declarations_of self.now) id name.now) }
+    {
+        name_told(self.rows(), id)
     }
 
     /// What the name stands for at a node, where that is told.
@@ -93,9 +91,56 @@ impl<'a> Known<'a> {
         ensures { IfSome result (λ row. meant self.now.nodes row ≡ meaning (declarations_of self.now) id name.now) }
     {
         match self.program().get(id)? {
-            Node::SimpleName { name: written, .. } => {
+            Node::SimpleName {
+                place,
+                name: written,
+            } => {
                 if *written.get() == *name {
-                    self.meaning_row(id)
+                    self.told_there(id, *place, name)
+                } else {
+                    None
+                }
+            }
+            _ => None,
+        }
+    }
+
+    /// The field of a name that a class has, where an access tells it.
+    pub(crate) fn told_field(
+        &self,
+        id: NodeId,
+        class: ClassId,
+        name: &Name,
+    ) -> Option<Option<FieldRef>>
+        ensures { IfSome result (λ field. option_map (found_field self.now.nodes) field ≡ field_named
+            (declarations_of self.now).classes class name.now) }
+    {
+        match self.program().get(id)? {
+            Node::FieldAccess { name: written, .. } => {
+                if *written.get() == *name {
+                    field_told(self.rows(), id, class)
+                } else {
+                    None
+                }
+            }
+            _ => None,
+        }
+    }
+
+    /// The method of a name that a class has, where a call tells it.
+    pub(crate) fn told_method(
+        &self,
+        id: NodeId,
+        class: ClassId,
+        name: &Name,
+    ) -> Option<Option<MethodRef>>
+        ensures { IfSome result (λ method. option_map (found_method self.now.nodes) method ≡ method_named
+            (declarations_of self.now).classes class name.now) }
+    {
+        match self.program().get(id)? {
+            Node::Call { name: written, .. } => {
+                if *written.get() == *name {
+                    method_told(self.rows(), id, class)
                 } else {
                     None
                 }
@@ -131,44 +176,6 @@ impl<'a> Known<'a> {
         ensures { result ≡ class_number (declarations_of self.now).names name.now }
     {
         self.classes.class_of(name)
-    }
-
-    /// The superclass as it counts.
-    pub fn superclass(&self, class: ClassId) -> Option<ClassId>
-        ensures { result ≡ superclass_in (declarations_of self.now).classes class }
-    {
-        self.classes.superclass(class)
-    }
-
-    /// The framework's own method of a name, for a class.
-    pub fn framework_row_named(&self, class: ClassId, name: &Name) -> Option<MethodRef>
-        ensures { option_map (found_method self.now.nodes) result ≡ framework_row_named
-            (declarations_of self.now).classes class name.now }
-    {
-        self.classes.framework_row_named(class, name)
-    }
-
-    /// What a class may be used for.
-    pub fn kind(&self, class: ClassId) -> Option<ClassKind>
-        ensures { result ≡ option_map (λ (row : ClassRow). row.kind)
-            (slice_get (declarations_of self.now).classes class) }
-    {
-        self.classes.kind(class)
-    }
-
-    /// Whether a class of the chain implements the interface.
-    pub fn implements(&self, class: ClassId, interface: ClassId) -> bool
-        ensures { result ≡ is_among interface (all_interfaces (declarations_of self.now).classes class) }
-    {
-        self.classes.implements(class, interface)
-    }
-
-    /// The node of the first constructor of a class.
-    pub fn constructor_in(&self, class: ClassId) -> Option<NodeId>
-        ensures { option_and_then (constructor_at self.now.nodes) result ≡ constructor_in
-            (declarations_of self.now).classes class }
-    {
-        self.classes.constructor_in(class)
     }
 
     /// The variable of a name that is known at a node.

@@ -9,7 +9,8 @@ pub mod known;
 pub mod meanings;
 pub mod names;
 pub mod results;
+pub mod rows;
 pub mod statements;
 
 pub use known::Known;
-pub use meanings::NameMeaning;
+pub use meanings::{NameMeaning, NodeMeaning};

@@ -1,6 +1,6 @@
 //! What names, accesses and calls mean, and which types fit.
 
-ghost use Rattle.std.specs.Prelude.{◌≡◌, ◌&&◌, ◌||◌, [], ◌∷◌, None, Some, length, option_and_then, option_map, slice_get, IfOk};
+ghost use Rattle.std.specs.Prelude.{◌≡◌, ◌&&◌, ◌||◌, [], ◌∷◌, None, Some, option_and_then, option_map, slice_get};
 ghost use Rattle.scj_base.specs.Vocabulary.{sign_equal, sign_not_equal, sign_less, sign_greater, sign_less_equal, sign_greater_equal, sign_and_and, sign_or_or};
 ghost use Rattle.scj_tree.specs.Recursion.{lookup};
 ghost use Rattle.scj_tree.specs.declared.nodes.Node.TheVariants.{SimpleName};
@@ -8,11 +8,11 @@ ghost use Rattle.scj_rules.specs.Definitions.{read};
 ghost use Rattle.scj_rules.specs.Words.{is_among};
 ghost use Rattle.scj_rules.specs.Classes.{field_named};
 ghost use Rattle.scj_rules.specs.Contexts.{declarations_of, context};
-ghost use Rattle.scj_rules.specs.Types.{type_written, assigns, binary_type, is_int, is_boolean, is_reference, meaning, class_meaning, class_at_name, receiver, call_receiver, accessed_field, called_method, is_size_method, is_callable};
+ghost use Rattle.scj_rules.specs.Types.{type_written, assigns, binary_type, is_int, is_boolean, is_reference, meaning, class_meaning, class_at_name, receiver, call_receiver, accessed_field, called_method};
 ghost use Rattle.scj_rules.specs.TypeRules.{written_type};
 ghost use Rattle.method_rows.specs.Methods.{found_method};
 ghost use Rattle.class_rows.specs.Fields.{found_field};
-ghost use Rattle.type_rules.specs.Meanings.{is_name_kind, meant, IsMeaningAt, AreMeanings};
+ghost use Rattle.type_rules.specs.Meanings.{meant};
 
 use crate::known::Known;
 use crate::meanings::{NameMeaning, class_in};
@@ -21,10 +21,9 @@ use method_rows::{MethodRef, declared, is_callable_row};
 use scj_base::vocabulary::{
     AND_AND, EQUAL, GREATER, GREATER_EQUAL, LESS, LESS_EQUAL, NOT_EQUAL, OR_OR,
 };
-use scj_base::{ClassId, Memory, Name, NodeId, Pos};
+use scj_base::{ClassId, Name, NodeId, Pos};
 use scj_rules::{Receiver, Ty, WrittenType};
-use scj_tree::{Node, NodeKind};
-use std::alloc::Global;
+use scj_tree::Node;
 use type_words::{are_same, class_of_receiver, is_long, is_reference};
 
 /// The type of a node, among those that are told.
@@ -233,51 +232,10 @@ pub fn meaning_there(known: &Known<'_>, id: NodeId, place: Pos, name: &Name) -> 
     requires { slice_get known.now.nodes id ≡ Some (SimpleName place name.now) }
     ensures { meant known.now.nodes result ≡ meaning (declarations_of known.now) id name.now }
 {
-    match known.meaning_row(id) {
+    match known.told_there(id, place, name) {
         Some(told) => told,
         None => looked_up(known, id, name),
     }
-}
-
-/// What the name stands for at a node that is one.
-fn name_meaning(known: &Known<'_>, id: NodeId) -> NameMeaning
-    ensures { IsMeaningAt known.now id result }
-{
-    match known.program().get(id) {
-        Some(Node::SimpleName { name, .. }) => looked_up(known, id, name.get()),
-        _ => NameMeaning::Nothing,
-    }
-}
-
-/// Whether nodes of this kind are simple names.
-fn is_name_kind(kind: &Option<NodeKind>) -> bool
-    ensures { result ≡ is_name_kind kind.now }
-{
-    matches!(kind, Some(NodeKind::SimpleName))
-}
-
-/// What the name stands for at a node, if that is one, without a look at other nodes.
-#[tactic(auto, using(crate::proofs::MeaningLemmas::no_name))]
-fn meaning_at(known: &Known<'_>, id: NodeId) -> NameMeaning
-    ensures { IsMeaningAt known.now id result }
-{
-    if is_name_kind(&known.program().kind(id)) {
-        name_meaning(known, id)
-    } else {
-        NameMeaning::Nothing
-    }
-}
-
-/// What the names of all nodes stand for, in time that grows with their number and that of the variables around them.
-pub fn meanings_of(alloc: Global, known: &Known<'_>) -> Result<Vec<NameMeaning>, Memory>
-    ensures lookup { IfOk result (λ rows. AreMeanings known.now rows.items) }
-    ensures whole { IfOk result (λ rows. length rows.items ≡ length known.now.nodes) }
-{
-    let mut rows = Vec::with_capacity(alloc, known.program().len())?;
-    for place in 0..known.program().len() {
-        rows.push(meaning_at(known, NodeId::at(place as u32)))?;
-    }
-    Ok(rows)
 }
 
 /// The class that a node names, where it is a simple name that stands for a class.
@@ -334,6 +292,23 @@ pub fn accessed_field(known: &Known<'_>, receiver: &Receiver, name: &Name) -> Op
     known.classes.field_named(class, name)
 }
 
+/// The same at the node of an access, whose row may tell it.
+pub fn field_accessed(
+    known: &Known<'_>,
+    id: NodeId,
+    receiver: &Receiver,
+    name: &Name,
+) -> Option<FieldRef>
+    ensures { option_map (found_field known.now.nodes) result ≡ accessed_field (declarations_of known.now) receiver.now
+        name.now }
+{
+    let class = class_of_receiver(receiver)?;
+    match known.told_field(id, class, name) {
+        Some(told) => told,
+        None => known.classes.field_named(class, name),
+    }
+}
+
 /// The method of a name that a receiver has.
 pub fn called_method(known: &Known<'_>, receiver: &Receiver, name: &Name) -> Option<MethodRef>
     ensures { option_map (found_method known.now.nodes) result ≡ called_method (declarations_of known.now) receiver.now
@@ -341,4 +316,21 @@ pub fn called_method(known: &Known<'_>, receiver: &Receiver, name: &Name) -> Opt
 {
     let class = class_of_receiver(receiver)?;
     known.classes.method_named(class, name)
+}
+
+/// The same at the node of a call, whose row may tell it.
+pub fn method_called(
+    known: &Known<'_>,
+    id: NodeId,
+    receiver: &Receiver,
+    name: &Name,
+) -> Option<MethodRef>
+    ensures { option_map (found_method known.now.nodes) result ≡ called_method (declarations_of known.now) receiver.now
+        name.now }
+{
+    let class = class_of_receiver(receiver)?;
+    match known.told_method(id, class, name) {
+        Some(told) => told,
+        None => known.classes.method_named(class, name),
+    }
 }

@@ -12,7 +12,7 @@ ghost use Rattle.type_rules.specs.Meanings.{meant};
 
 use crate::known::Known;
 use crate::meanings::NameMeaning;
-use crate::names::{accessed_field, called_method, type_written, written_type};
+use crate::names::{field_accessed, method_called, type_written, written_type};
 use class_rows::FieldRef;
 use class_rows::fields::field_type as written_of;
 use method_rows::result_type;
@@ -60,23 +60,23 @@ fn field_type(known: &Known<'_>, found: &Option<FieldRef>) -> Option<Ty>
     }
 }
 
-/// The type of a field or of an array's length.
+/// The type of a field or of an array's length, accessed at a node.
 #[tactic(auto, unfolding(scj_rules::specs::TypeRules::access_type))]
-pub fn access_type(known: &Known<'_>, receiver: &Receiver, name: &Name) -> Option<Ty>
+pub fn access_type(known: &Known<'_>, id: NodeId, receiver: &Receiver, name: &Name) -> Option<Ty>
     ensures { result ≡ access_type (declarations_of known.now) receiver.now name.now }
 {
     if is_array_value(receiver) && is_length(name) {
         return Some(Ty::Int);
     }
-    field_type(known, &accessed_field(known, receiver, name))
+    field_type(known, &field_accessed(known, id, receiver, name))
 }
 
-/// The type of a call: the method's result.
+/// The type of a call at a node: the method's result.
 #[tactic(auto, unfolding(scj_rules::specs::TypeRules::call_type))]
-pub fn call_type(known: &Known<'_>, receiver: &Receiver, name: &Name) -> Option<Ty>
+pub fn call_type(known: &Known<'_>, id: NodeId, receiver: &Receiver, name: &Name) -> Option<Ty>
     ensures { result ≡ call_type (declarations_of known.now) receiver.now name.now }
 {
-    match called_method(known, receiver, name) {
+    match method_called(known, id, receiver, name) {
         Some(method) => type_written(known, &result_type(known.program(), &method)),
         None => None,
     }

@@ -1,15 +1,11 @@
 //! What is broken at declarations and statements.
 
-ghost use Rattle.std.specs.Prelude.{◌≡◌, ◌++◌, ◌||◌, [], None, OnOk, option_and_then};
+ghost use Rattle.std.specs.Prelude.{◌≡◌, ◌++◌, None, OnOk};
 ghost use Rattle.scj_tree.specs.Recursion.{lookup};
-ghost use Rattle.scj_rules.specs.declared.views.WrittenType.TheVariants.{Long as long_type};
-ghost use Rattle.scj_rules.specs.Classes.{FoundMethod, superclass_in, framework_row_named};
-ghost use Rattle.scj_rules.specs.ClassRules.{is_same_type};
 ghost use Rattle.scj_rules.specs.Definitions.{read};
 ghost use Rattle.scj_rules.specs.Words.{holds};
-ghost use Rattle.scj_rules.specs.Contexts.{declarations_of, context};
-ghost use Rattle.scj_rules.specs.TypeRules.{superclass_at, misfits_value, is_length_target, fits_result, misfits_size};
-ghost use Rattle.type_rules.specs.Kinds.{value_breaks, size_breaks, end_breaks, variable_breaks, super_breaks, assign_breaks, condition_breaks, return_breaks};
+ghost use Rattle.scj_rules.specs.Contexts.{declarations_of};
+ghost use Rattle.scj_rules.specs.TypeRules.{superclass_at, misfits_value, misfits_initial_value, misfits_assignment, is_length_target, misfits_condition, fits_result, misfits_result, ends_without_return, has_framework_size, misfits_size, misfits_long, misfits_super_call};
 
 use crate::arguments::{constructor_parameters, misfit};
 use crate::forms::has_form;
@@ -17,62 +13,34 @@ use crate::known::Known;
 use crate::names::{assigns, receiver, told, type_written, written_type};
 use method_rows::result_type;
 use node_views::{place_at, type_at};
-use scj_base::{ClassId, Found, Memory, Name, NodeId, Pos, Rule};
+use scj_base::{ClassId, Found, Memory, Name, NodeId, Rule};
 use scj_rules::{Ty, WrittenType, report_if};
 use scj_tree::Node;
 use type_words::{are_same, is_array_value, is_length, is_long, is_size_body, is_void};
 
-/// Notes a variable whose name is known already.
-pub fn note_variable(
-    known: &Known<'_>,
-    id: NodeId,
-    place: Pos,
-    name: &Name,
-    found: &mut Vec<Found>,
-) -> Result<(), Memory>
-    ensures { OnOk result (found.new.items ≡ found.old.items
-        ++ variable_breaks (declarations_of known.now) id place name.now) }
-{
-    report_if(
-        found,
-        known.variable_named(id, name).is_some(),
-        Rule::T2,
-        place,
-    )
-}
-
 /// Whether a value can't be assigned to the target, where both have types.
-pub fn misfits_value(known: &Known<'_>, target: &Option<Ty>, value: &Option<Ty>) -> bool
+fn misfits_value(known: &Known<'_>, target: &Option<Ty>, value: &Option<Ty>) -> bool
     ensures { result ≡ misfits_value (declarations_of known.now) target.now value.now }
 {
-    match target {
-        Some(target) => match value {
-            Some(value) => !assigns(known, value, target),
-            None => false,
-        },
-        None => false,
+    match (target, value) {
+        (Some(target), Some(value)) => !assigns(known, value, target),
+        _ => false,
     }
 }
 
-/// Notes a value that a variable doesn't take.
-pub fn note_value(
+/// Whether a declared variable doesn't take its value.
+pub fn misfits_initial_value(
     known: &Known<'_>,
     types: &[Option<Ty>],
-    place: Pos,
     declared_type: NodeId,
     value: NodeId,
-    found: &mut Vec<Found>,
-) -> Result<(), Memory>
-    ensures { OnOk result (found.new.items ≡ found.old.items
-        ++ value_breaks (declarations_of known.now) (lookup None types.now) place declared_type value) }
+) -> bool
+    ensures { result ≡ misfits_initial_value (declarations_of known.now) (lookup None types.now) declared_type value }
 {
-    let target = written_type(known, declared_type);
-    let value = told(types, value);
-    report_if(
-        found,
-        misfits_value(known, &target, &value),
-        Rule::T7,
-        place,
+    misfits_value(
+        known,
+        &written_type(known, declared_type),
+        &told(types, value),
     )
 }
 
@@ -92,24 +60,20 @@ fn is_length_target(known: &Known<'_>, types: &[Option<Ty>], target: NodeId) -> 
     }
 }
 
-/// Notes an assignment whose value doesn't fit, or whose target is the length of an array.
-pub fn note_assign(
+/// Whether an assigned value doesn't fit, or its target is the length of an array.
+pub fn misfits_assignment(
     known: &Known<'_>,
     types: &[Option<Ty>],
-    place: Pos,
     target: NodeId,
     value: NodeId,
-    found: &mut Vec<Found>,
-) -> Result<(), Memory>
-    ensures { OnOk result (found.new.items ≡ found.old.items
-        ++ assign_breaks (declarations_of known.now) (lookup None types.now) place target value) }
+) -> bool
+    ensures { result ≡ misfits_assignment (declarations_of known.now) (lookup None types.now) target value }
 {
     let old = told(types, target);
     let new = told(types, value);
-    let test = old.is_some()
+    old.is_some()
         && new.is_some()
-        && (misfits_value(known, &old, &new) || is_length_target(known, types, target));
-    report_if(found, test, Rule::T7, place)
+        && (misfits_value(known, &old, &new) || is_length_target(known, types, target))
 }
 
 /// Notes a condition that isn't boolean.
@@ -121,7 +85,7 @@ pub fn note_condition(
     found: &mut Vec<Found>,
 ) -> Result<(), Memory>
     ensures { OnOk result (found.new.items ≡ found.old.items
-        ++ condition_breaks (declarations_of known.now) (lookup None types.now) condition) }
+        ++ misfits_condition (declarations_of known.now) (lookup None types.now) condition) }
 {
     let test = match told(types, condition) {
         Some(t) => !are_same(&t, &Ty::Bool),
@@ -146,56 +110,29 @@ fn fits_result(known: &Known<'_>, result_type: &WrittenType, t: &Ty) -> bool
     }
 }
 
-/// Notes a `return` that doesn't fit the result.
-pub fn note_return(
-    known: &Known<'_>,
-    types: &[Option<Ty>],
-    id: NodeId,
-    place: Pos,
-    value: &Option<NodeId>,
-    found: &mut Vec<Found>,
-) -> Result<(), Memory>
-    ensures { OnOk result (found.new.items ≡ found.old.items
-        ++ return_breaks (declarations_of known.now) (lookup None types.now) id place value.now) }
+/// Whether the value of a `return` doesn't fit the result.
+pub fn misfits_result(known: &Known<'_>, types: &[Option<Ty>], id: NodeId, value: NodeId) -> bool
+    ensures { result ≡ misfits_result (declarations_of known.now) (lookup None types.now) id value }
 {
-    let result_type = known.result_at(id);
-    let test = match value {
-        None => !is_void(&result_type),
-        Some(value) => match told(types, *value) {
-            Some(t) => !fits_result(known, &result_type, &t),
-            None => false,
-        },
-    };
-    report_if(found, test, Rule::T9, place)
+    match told(types, value) {
+        Some(t) => !fits_result(known, &known.result_at(id), &t),
+        None => false,
+    }
 }
 
-/// Notes a body with a result that doesn't always return.
+/// Whether a body with a result doesn't always return.
 #[tactic(auto, unfolding(scj_rules::specs::Contexts::declarations_of))]
-pub fn note_end(
-    known: &Known<'_>,
-    place: Pos,
-    result_type: NodeId,
-    body: NodeId,
-    found: &mut Vec<Found>,
-) -> Result<(), Memory>
-    ensures { OnOk result (found.new.items ≡ found.old.items
-        ++ end_breaks (declarations_of known.now) place result_type body) }
+pub fn ends_without_return(known: &Known<'_>, result_type: NodeId, body: NodeId) -> bool
+    ensures { result ≡ ends_without_return (declarations_of known.now) result_type body }
 {
-    let written = type_at(known.program(), result_type);
-    report_if(
-        found,
-        !is_void(&written) && !known.always_returns(body),
-        Rule::T10,
-        place,
-    )
+    !is_void(&type_at(known.program(), result_type)) && !known.always_returns(body)
 }
 
 /// Whether the framework has a method of the name for the class, whose result is `long`.
-pub fn is_long_row(known: &Known<'_>, class: ClassId, name: &Name) -> bool
-    ensures { result ≡ holds (framework_row_named (declarations_of known.now).classes class name.now)
-        (λ (row : FoundMethod). is_same_type row.method.declared.declared_type long_type) }
+pub fn has_framework_size(known: &Known<'_>, class: ClassId, name: &Name) -> bool
+    ensures { result ≡ has_framework_size (declarations_of known.now) class name.now }
 {
-    match known.framework_row_named(class, name) {
+    match known.classes().framework_row_named(class, name) {
         Some(row) => is_long(&result_type(known.program(), &row)),
         None => false,
     }
@@ -207,7 +144,7 @@ fn misfits_size(known: &Known<'_>, id: NodeId, name: &Name, body: &Option<NodeId
     ensures { result ≡ misfits_size (declarations_of known.now) id name.now body.now }
 {
     let is_size = match known.context(id).class {
-        Some(class) => is_long_row(known, class, name),
+        Some(class) => has_framework_size(known, class, name),
         None => false,
     };
     if !is_size {
@@ -219,27 +156,18 @@ fn misfits_size(known: &Known<'_>, id: NodeId, name: &Name, body: &Option<NodeId
     }
 }
 
-/// Notes a method of result `long` that is no size method.
+/// Whether a method has the result `long` and is no size method.
 #[tactic(auto, unfolding(scj_rules::specs::Contexts::declarations_of))]
-pub fn note_size(
+pub fn misfits_long(
     known: &Known<'_>,
     id: NodeId,
-    place: Pos,
     name: &Name,
     result_type: NodeId,
     body: &Option<NodeId>,
-    found: &mut Vec<Found>,
-) -> Result<(), Memory>
-    ensures { OnOk result (found.new.items ≡ found.old.items
-        ++ size_breaks (declarations_of known.now) id place name.now result_type body.now) }
+) -> bool
+    ensures { result ≡ misfits_long (declarations_of known.now) id name.now result_type body.now }
 {
-    let written = type_at(known.program(), result_type);
-    report_if(
-        found,
-        is_long(&written) && misfits_size(known, id, name, body),
-        Rule::T14,
-        place,
-    )
+    is_long(&type_at(known.program(), result_type)) && misfits_size(known, id, name, body)
 }
 
 /// The superclass of the class in which a node stands.
@@ -247,22 +175,19 @@ fn superclass_at(known: &Known<'_>, id: NodeId) -> Option<ClassId>
     ensures { result ≡ superclass_at (declarations_of known.now) id }
 {
     let class = known.context(id).class?;
-    known.superclass(class)
+    known.classes().superclass(class)
 }
 
-/// Notes a super call whose arguments don't fit.
-pub fn note_super_call(
+/// Whether the arguments of a super call don't fit, where no form is due.
+pub fn misfits_super_call(
     known: &Known<'_>,
     types: &[Option<Ty>],
     id: NodeId,
-    place: Pos,
     arguments: &[NodeId],
-    found: &mut Vec<Found>,
-) -> Result<(), Memory>
-    ensures { OnOk result (found.new.items ≡ found.old.items
-        ++ super_breaks (declarations_of known.now) (lookup None types.now) id place arguments.now) }
+) -> bool
+    ensures { result ≡ misfits_super_call (declarations_of known.now) (lookup None types.now) id arguments.now }
 {
-    let test = match superclass_at(known, id) {
+    match superclass_at(known, id) {
         Some(superclass) => {
             !has_form(superclass)
                 && misfit(
@@ -273,6 +198,5 @@ pub fn note_super_call(
                 )
         }
         None => false,
-    };
-    report_if(found, test, Rule::T6, place)
+    }
 }

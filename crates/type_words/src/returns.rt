@@ -1,6 +1,6 @@
 //! Statements that always return (as JLS 14.21, but for statements that aren't reached).
 
-ghost use Rattle.std.specs.Prelude.{◌≡◌, ◌≤◌, List, IfOk, false, is_some};
+ghost use Rattle.std.specs.Prelude.{◌≡◌, IfOk, false, is_some};
 ghost use Rattle.std.specs.List.{list_any};
 ghost use Rattle.scj_tree.specs.Recursion.{lookup};
 ghost use Rattle.scj_rules.specs.Definitions.{read};

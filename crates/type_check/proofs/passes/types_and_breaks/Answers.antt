@@ -1,4 +1,4 @@
-use Rattle.std.proofs.Common.{◌≡◌, ◌++◌, ℕ, List, Option, None, ap, ◌∙◌, subst, arith, length}
+use Rattle.std.proofs.Common.{◌≡◌, ◌+◌, ◌++◌, ℕ, List, Option, None, ap, sym, ◌∙◌, subst, arith, length}
 use Rattle.scj_base.specs.declared.findings.Found.{Found}
 use Rattle.scj_tree.specs.Forest.{Forest, IsForest}
 use Rattle.scj_tree.specs.Recursion.{lookup, bottom_up, joined_below}
@@ -7,6 +7,9 @@ use Rattle.scj_rules.specs.Contexts.{Declarations, declarations_of}
 use Rattle.scj_rules.specs.Phases.{over_nodes, type_phase}
 use Rattle.scj_rules.specs.TypeRules.{type_of_next, types_in}
 use Rattle.type_words.proofs.ReturnLemmas.{bottom_up-more}
+use Rattle.type_rules.specs.declared.meanings.NodeMeaning.{NodeMeaning}
+use Rattle.type_rules.specs.Meanings.{AreMeanings}
+use Rattle.type_rules.proofs.MeaningLemmas.{no_meanings}
 use Rattle.type_check.specs.Passes.{breaks_at}
 use Rattle.type_check.proofs.PassLemmas.{joined-more, nodes-are}
 use Rattle.type_check.proofs.TypedLemmas.{breaks_so_far}
@@ -14,7 +17,14 @@ use Rattle.type_check.proofs.passes.types_and_breaks.Goals as goal
 
 pub loop-place-init : goal.loop-place-init
 unfolding bottom_up joined_below
-loop-place-init c = record { typed = c.in_ok-types.ensures.items; noted = c.new-found.ensures.items }
+loop-place-init c =
+    let P : List NodeMeaning → Type 0 = λ rows. AreMeanings c.args.known.now rows in
+    record {
+      typed = c.in_ok-types.ensures.items;
+      noted = c.new-found.ensures.items;
+      right = subst P (sym c.in_ok-rows.ensures.items) (no_meanings c.args.known.now);
+      so_many = ap length c.in_ok-rows.ensures.items;
+    }
 
 pub loop-place-preserved : goal.loop-place-preserved
 loop-place-preserved c =
@@ -27,17 +37,19 @@ loop-place-preserved c =
     subst P c.program-program.ensures c.len-place-end.ensures.whole in
     let value : c.in_ok-t.t ≡ type_of_next p place (lookup None types) =
     c.in_ok-t.ensures.type_of
-    ∙ ap (λ (ts : List (Option Ty)). type_of_next p c.at.result (lookup None ts)) c.deref.ensures.value
-    ∙ ap (λ (n : ℕ). type_of_next p n (lookup None types)) c.at.ensures in
-    let broken_here : breaks_at p (lookup None c.deref.result.now) c.at.result ≡ f place =
-    ap (λ (ts : List (Option Ty)). breaks_at p (lookup None ts) c.at.result) c.deref.ensures.value
-    ∙ ap (λ (n : ℕ). breaks_at p (lookup None types) n) c.at.ensures
+    ∙ ap (λ (ts : List (Option Ty)). type_of_next p c.at-id.result (lookup None ts)) c.deref-in-loop-place-2.ensures.value
+    ∙ ap (λ (n : ℕ). type_of_next p n (lookup None types)) c.at-id.ensures in
+    let broken_here : breaks_at p (lookup None c.deref-in-loop-place-2.result.now) c.at-id.result ≡ f place =
+    ap (λ (ts : List (Option Ty)). breaks_at p (lookup None ts) c.at-id.result) c.deref-in-loop-place-2.ensures.value
+    ∙ ap (λ (n : ℕ). breaks_at p (lookup None types) n) c.at-id.ensures
     ∙ ap so_far c.loop-place.invariant.typed ∙ breaks_so_far c.args.known.now whole place in
     record {
       typed = c.in_ok-push.ensures.items
           ∙ bottom_up-more None (type_of_next p) place types c.in_ok-t.t c.loop-place.invariant.typed value;
       noted = c.in_ok-t.ensures.found ∙ ap (λ (fs : List Found). c.loop-place.found.items ++ fs) broken_here
           ∙ joined-more f place c.loop-place.found.items c.loop-place.invariant.noted;
+      right = c.in_ok-add_row.ensures.told;
+      so_many = c.in_ok-add_row.ensures.next ∙ ap (λ n. n + 1) c.at-id.ensures;
     }
 
 pub returns-clause-types : goal.returns-clause-types

@@ -1,14 +1,17 @@
-use Rattle.std.proofs.Common.{◌≡◌, None}
+use Rattle.std.proofs.Common.{◌≡◌, None, length}
 use Rattle.scj_tree.specs.Recursion.{lookup, bottom_up, joined_below}
 use Rattle.scj_rules.specs.Contexts.{declarations_of}
 use Rattle.scj_rules.specs.TypeRules.{type_of_next, types_in}
+use Rattle.type_rules.specs.Meanings.{AreMeanings}
 use Rattle.type_check.specs.Passes.{breaks_at}
 use Rattle.type_check.proofs.passes.types_and_breaks.Given as goal
 
--- the types of the nodes so far, and what is broken at them
+-- the types of the nodes so far, what is broken at them, and their rows
 abbrev pub invariant-loop-place : goal.invariant-loop-place
 invariant-loop-place l = record {
   typed : l.types.items ≡ bottom_up None (type_of_next (declarations_of l.known)) l.place;
   noted : l.found.items ≡ joined_below
       (breaks_at (declarations_of l.known) (lookup None (types_in (declarations_of l.known)))) l.place;
+  right : AreMeanings l.known l.rows.items;
+  so_many : length l.rows.items ≡ l.place;
 }

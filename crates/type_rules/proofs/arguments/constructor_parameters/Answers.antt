@@ -15,10 +15,10 @@ returns-in-Some c =
     (option_map (λ (d : DeclaredConstructor). d.parameters) (constructor_at f.nodes c.in-Some.node)) [] in
     subst P c.program.ensures c.constructor_parameters.ensures
     ∙ ap (λ (o : Option DeclaredConstructor). unwrap_or (option_map (λ (d : DeclaredConstructor). d.parameters) o) [])
-    c.in-Some.ensures ∙ parameters_of (constructor_in (declarations_of c.args.known.now).classes c.args.class)
+    (rw c.classes.ensures at c.in-Some.ensures.whole) ∙ parameters_of (constructor_in (declarations_of c.args.known.now).classes c.args.class)
 
 pub returns-in-None : goal.returns-in-None
 unfolding taken constructor_parameters
 returns-in-None c =
     ap (λ (o : Option DeclaredConstructor). elim o as (λ _. List Declared) [ None ↦ [] | Some d ↦ d.parameters ])
-    c.in-None.ensures
+    (rw c.classes.ensures at c.in-None.ensures.whole)
