@@ -1,11 +1,4 @@
-pub mod ClassScopeLemmas
-pub mod DefinitionLemmas
-pub mod FindingLemmas
-pub mod JumpLemmas
 pub mod NameLemmas
-pub mod NumberLemmas
-pub mod OwnerLemmas
-pub mod ParentLemmas
 pub mod PhaseLemmas
 pub mod TreeLemmas
 pub mod UserLemmas

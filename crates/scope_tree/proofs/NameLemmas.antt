@@ -1,138 +1,118 @@
--- Names that are the same, and the number that a name has among definitions.
-use Rattle.std.proofs.Common.{◌≡◌, ℕ, suc, ◌+◌, ◌<◌, Bool, true, false, cond, List, [], ◌∷◌, ◌++◌, length, take, get_or, Option, Some, None, refl, sym, ap, ◌∙◌, subst, arith, add-zero, ⊎_elim, if◌then◌else◌}
+-- The scopes by their names, from the last class on.
+use Rattle.std.proofs.Common.{◌≡◌, ℕ, suc, ◌+◌, ◌-◌, ◌<◌, ◌≤◌, Bool, true, false, cond, List, ◌∷◌, length, drop, get_or, find, slice_get, Option, Some, None, refl, sym, ap, ◌∙◌, arith, ⊎_elim, if◌then◌else◌, option_and_then}
+use Rattle.std.proofs.Math.Seq.{drop-cons}
 use Rattle.std.specs.Cmp.Lexicographic.{slice_cmp}
 use Rattle.std.specs.Ordering.{nat_cmp, is_eq}
-use Rattle.std.specs.Option.{option_or, is_some}
-use Rattle.std.specs.List.{position, position_from}
-use Rattle.std.proofs.lemmas.Bool.{cases_Bool, true≢false}
-use Rattle.std.proofs.lemmas.List.{take_more, length-take-le}
+use Rattle.std.proofs.lemmas.Bool.{true≢false, cases_lt}
+use Rattle.std.proofs.lemmas.List.{drop_all}
 use Rattle.std.proofs.lemmas.Bool.Decides.{nat_tests}
 use Rattle.std.proofs.lemmas.Cmp.{same_from_slice_cmp, nat_list_eq_equiv}
-use Rattle.std.proofs.lemmas.Iterator.Adapters.{position_from-zero}
+use Rattle.std.proofs.lemmas.Option.{slice_get-get_or}
 use Rattle.std.proofs.lemmas.Slice.Eq.{bytes_eq-Decides}
-use Rattle.scj_rules.specs.declared.scopes.Definition.{Definition}
 use Rattle.scj_base.specs.Bytes.{is_same}
-use Rattle.scj_rules.specs.Definitions.{is_reserved}
-use Rattle.scope_tree.specs.DefinitionsSupport.{first_index}
-use Rattle.scope_tree.specs.Index.{IsIndex, entered}
+use Rattle.scj_tree.specs.Forest.{Forest, IsForest}
+use Rattle.scj_rules.specs.declared.scopes.Definition.{Definition}
+use Rattle.scj_rules.specs.Definitions.{is_reserved, first_definition, definition_of, definitions_in, definitions, in_front}
+use Rattle.scj_rules.specs.Classes.{class_nodes, first_user_class}
+use Rattle.scj_rules.specs.Contexts.{Declarations, declarations_of}
+use Rattle.scj_rules.specs.ScopeRules.{definition_in, scope_of_definition}
+use Rattle.scope_tree.specs.Names.{entered}
+use Rattle.scope_tree.proofs.UserLemmas.{class_count, definition_at_place, no_definition_below, scope_at_place}
 
-pub same-true : (xs ys : List ℕ) → is_same xs ys ≡ true → xs ≡ ys
+same-true : (xs ys : List ℕ) → is_same xs ys ≡ true → xs ≡ ys
 same-true xs ys h = (bytes_eq-Decides xs ys).0 h
 
-pub same-from : (xs ys : List ℕ) → xs ≡ ys → is_same xs ys ≡ true
-same-from xs ys h = (bytes_eq-Decides xs ys).1 h
-
-same-sym : (xs ys : List ℕ) → is_same xs ys ≡ is_same ys xs
-same-sym xs ys = nat_list_eq_equiv.symm xs ys
-
-pub ordered_same : (xs ys : List ℕ) → is_eq (slice_cmp nat_cmp xs ys) ≡ is_same xs ys
+pub ordered_same : (xs ys : List ℕ) → is_eq (slice_cmp nat_cmp xs ys) ≡ is_same ys xs
 ordered_same xs ys = same_from_slice_cmp nat_cmp is_eq is_same refl (λ _ _. refl) (λ _ _. refl)
-    (λ x y xs ys o h. grind (arith, nat_tests)) xs ys _ refl
+    (λ x y xs ys o h. grind (arith, nat_tests)) xs ys _ refl ∙ nat_list_eq_equiv.symm xs ys
 
-or_none : {A : Type 0} (o : Option A) → o ≡ option_or o None
-or_none None = refl
-or_none (Some x) = refl
+-- the scope of a name by the definitions of the classes from a number on
+abbrev pub scope_from : Forest → ℕ → List ℕ → Option ℕ
+scope_from forest n name = option_and_then (scope_of_definition (declarations_of forest))
+    (first_definition (definitions_in forest.nodes (drop (n - first_user_class) (class_nodes forest))) name)
 
--- entering a name under an index
-pub entered_reserved : (find : List ℕ → Option ℕ) (name : List ℕ) (number : ℕ) → is_reserved name ≡ true →
-    (other : List ℕ) → find other ≡ entered find name number other
-unfolding entered
-entered_reserved find name number h other = rw h refl
+-- a definition in front of others
+in_front_first : (scope : Definition → Option ℕ) (class : ℕ) (d : Definition) (ds : List Definition) (name : List ℕ)
+    → scope d ≡ Some class
+    → (if is_reserved d.scope.name then option_and_then scope (first_definition ds name)
+    else (if is_same name d.scope.name then Some class else option_and_then scope (first_definition ds name)))
+    ≡ option_and_then scope (first_definition (d ∷ ds) name)
+unfolding first_definition
+in_front_first scope class d ds name h =
+    go (is_reserved d.scope.name) (is_reserved name) (is_same name d.scope.name) (find (λ (e : Definition). is_same name e.scope.name) ds)
+    (λ e. ap is_reserved (same-true name d.scope.name e))
+  where
+    go : (taken reserved same : Bool) (o : Option Definition) → (same ≡ true → reserved ≡ taken)
+        → (if taken then option_and_then scope (if reserved then None else o)
+        else (if same then Some class else option_and_then scope (if reserved then None else o)))
+        ≡ option_and_then scope (if reserved then None else cond same (Some d) o)
+    go true true same o e = refl
+    go true false true o e = absurd (true≢false (sym (e refl)))
+    go true false false o e = refl
+    go false true true o e = absurd (true≢false (e refl))
+    go false true false o e = refl
+    go false false true o e = sym h
+    go false false false o e = refl
 
-kept : (same : Bool) (o : Option ℕ) (n : ℕ) → (same ≡ true → is_some o ≡ true) →
-    o ≡ option_or o (if same then Some n else None)
-kept false o n h = or_none o
-kept true None n h = absurd (true≢false (sym (h refl)))
-kept true (Some x) n h = refl
+module _ (forest : Forest) (whole : IsForest forest) where
+  abbrev p : Declarations
+  p = declarations_of forest
 
-put : (same : Bool) (o : Option ℕ) (n : ℕ) → (same ≡ true → is_some o ≡ false) →
-    cond same (Some n) o ≡ option_or o (if same then Some n else None)
-put false o n h = or_none o
-put true None n h = refl
-put true (Some x) n h = absurd (true≢false (h refl))
+  -- no class is left behind the last
+  pub none_from : (n : ℕ) (found : Option ℕ) (name : List ℕ) → n ≡ length p.classes → found ≡ None →
+      found ≡ scope_from forest n name
+  unfolding definitions_in first_definition
+  none_from n found name e none =
+      let l : length (class_nodes forest) ≤ n - first_user_class = omega (arith, e, class_count forest whole) in
+      rw (drop_all (n - first_user_class) (class_nodes forest) l) (none ∙ go (is_reserved name))
+    where
+      go : (t : Bool) → ◌≡◌ {A = Option ℕ} None (option_and_then (scope_of_definition p) (if t then None else None))
+      go true = refl
+      go false = refl
 
-pub entered_known : (find : List ℕ → Option ℕ) (name : List ℕ) (number : ℕ) → is_reserved name ≡ false →
-    is_some (find name) ≡ true → (other : List ℕ) → find other ≡ entered find name number other
-unfolding entered
-entered_known find name number h k other =
-    rw h (kept (is_same name other) (find other) number
-    (λ e. subst (λ (t : List ℕ). is_some (find t) ≡ true) (same-true name other e) k))
+  -- one class more
+  pub entered_from : (m n : ℕ) (found : Option ℕ) (name : List ℕ) → m ≡ n + 1 → m ≤ length p.classes →
+      found ≡ scope_from forest m name → entered (definition_in p n) n name found ≡ scope_from forest n name
+  unfolding definitions_in
+  entered_from m n found name e l before = ⊎_elim
+      (λ (low : n < first_user_class).
+      let none : definition_in p n ≡ None = no_definition_below forest n low in
+      let same : m - first_user_class ≡ n - first_user_class = omega (arith, low, e) in
+      rw none (before ∙ ap (λ k. option_and_then (scope_of_definition p)
+      (first_definition (definitions_in forest.nodes (drop k (class_nodes forest))) name)) same))
+      (λ (high : first_user_class ≤ n). user (n - first_user_class) (omega (arith, high)) refl)
+      (cases_lt n first_user_class)
+    where
+      go : (k x : ℕ) → n ≡ first_user_class + k → slice_get (class_nodes forest) k ≡ Some x → (rest : List ℕ)
+          (o : Option Definition) → definition_of forest.nodes x ≡ o
+          → entered o n name
+          (option_and_then (scope_of_definition p) (first_definition (definitions_in forest.nodes rest) name))
+          ≡ option_and_then (scope_of_definition p)
+          (first_definition (in_front o (definitions_in forest.nodes rest)) name)
+      go k x e there rest None f = refl
+      go k x e there rest (Some d) f =
+          in_front_first (scope_of_definition p) n d (definitions_in forest.nodes rest) name
+          (scope_at_place forest whole k x d there f ∙ ap Some (sym e))
 
-pub entered_new : (find after : List ℕ → Option ℕ) (name : List ℕ) (number : ℕ) → is_reserved name ≡ false →
-    is_some (find name) ≡ false
-    → ((other : List ℕ) → after other ≡ cond (is_eq (slice_cmp nat_cmp name other)) (Some number) (find other)) →
-    (other : List ℕ) → after other ≡ entered find name number other
-unfolding entered
-entered_new find after name number h k updates other =
-    rw (h, updates other, ordered_same name other)
-    (put (is_same name other) (find other) number
-    (λ e. subst (λ (t : List ℕ). is_some (find t) ≡ false) (same-true name other e) k))
+      user : (k : ℕ) → n ≡ first_user_class + k → k ≡ n - first_user_class
+          → entered (definition_in p n) n name found ≡ scope_from forest n name
+      user k f same =
+          let ids : List ℕ = class_nodes forest in
+          let inside : k < length ids = omega (arith, l, e, f, class_count forest whole) in
+          let x : ℕ = get_or ids k 0 in
+          let there : slice_get ids k ≡ Some x = slice_get-get_or ids k 0 inside in
+          let here : drop (n - first_user_class) ids ≡ x ∷ drop (suc k) ids = ap (λ i. drop i ids) (sym same)
+          ∙ drop-cons ids k 0 inside in
+          let next : m - first_user_class ≡ suc k = omega (arith, e, f) in
+          let later : found ≡ option_and_then (scope_of_definition p)
+          (first_definition (definitions_in forest.nodes (drop (suc k) ids)) name) =
+          before ∙ ap (λ i. option_and_then (scope_of_definition p)
+          (first_definition (definitions_in forest.nodes (drop i ids)) name)) next in
+          let written : definition_in p n ≡ definition_of forest.nodes x = ap (definition_in p) f
+          ∙ definition_at_place forest whole k x there in
+          rw (here, written, later) (go k x f there (drop (suc k) ids) (definition_of forest.nodes x) refl)
 
--- one definition more
-from_push : {X : Type 0} (p : X → Bool) (i : ℕ) (xs : List X) (y : X) →
-    position_from p i (xs ++ y ∷ []) ≡ option_or (position_from p i xs) (if p y then Some (i + length xs) else None)
-from_push p i [] y = rw (add-zero) refl
-from_push p i (x ∷ xs) y =
-    ⊎_elim (λ (e : p x ≡ true). rw e refl)
-    (λ (e : p x ≡ false). let shift : (i + 1) + length xs ≡ i + suc (length xs) = omega arith in
-    rw e
-    (from_push p (i + 1) xs y
-    ∙ ap (λ n. option_or (position_from p (i + 1) xs) (if p y then Some n else None)) shift))
-    (cases_Bool (p x))
-
-position_push : {X : Type 0} (p : X → Bool) (xs : List X) (y : X) →
-    position p (xs ++ y ∷ []) ≡ option_or (position p xs) (if p y then Some (length xs) else None)
-position_push p xs y =
-    position_from-zero p (xs ++ y ∷ []) ∙ from_push p 0 xs y
-    ∙ ap (λ n. option_or (position_from p 0 xs) (if p y then Some n else None))
-    (let e : 0 + length xs ≡ length xs = omega arith in e)
-    ∙ ap (λ o. option_or o (if p y then Some (length xs) else None)) (sym (position_from-zero p xs))
-
-push_cases : (other_reserved reserved same : Bool) (o : Option ℕ) (n : ℕ) → (same ≡ true → other_reserved ≡ reserved)
-    → (if other_reserved then None else option_or o (if same then Some n else None))
-    ≡ (if reserved then (if other_reserved then None else o) else option_or (if other_reserved then None else o)
-    (if same then Some n else None))
-push_cases true true same o n h = refl
-push_cases true false true o n h = absurd (true≢false (h refl))
-push_cases true false false o n h = refl
-push_cases false true true o n h = absurd (true≢false (sym (h refl)))
-push_cases false true false o n h = sym (or_none o)
-push_cases false false same o n h = refl
-
-pub first_index-push : (xs : List Definition) (d : Definition) (other : List ℕ) →
-    first_index (xs ++ d ∷ []) other ≡ entered (first_index xs) d.scope.name (length xs) other
-unfolding first_index entered
-first_index-push xs d other =
-    let p = position_push (λ (e : Definition). is_same other e.scope.name) xs d in
-    rw (p, same-sym other d.scope.name)
-    (push_cases (is_reserved other) (is_reserved d.scope.name) (is_same d.scope.name other)
-    (position (λ e. is_same other e.scope.name) xs) (length xs)
-    (λ e. ap is_reserved (sym (same-true d.scope.name other e))))
-
-none_named : (other : List ℕ) → None ≡ first_index [] other
-unfolding first_index
-none_named other = ⊎_elim (λ (e : is_reserved other ≡ true). rw e refl) (λ (e : is_reserved other ≡ false). rw e refl)
-    (cases_Bool (is_reserved other))
-
-pub no_index : (find : List ℕ → Option ℕ) → ((other : List ℕ) → find other ≡ None) → IsIndex [] find
-no_index find h = record { finds = λ other. h other ∙ none_named other }
-
-entered-alike : (find other_find : List ℕ → Option ℕ) (name : List ℕ) (number : ℕ) (other : List ℕ) →
-    find other ≡ other_find other → entered find name number other ≡ entered other_find name number other
-unfolding entered
-entered-alike find other_find name number other e =
-    ap (λ o. if is_reserved name then o else option_or o (if is_same name other then Some number else None)) e
-
-pub index_more : (ds : List Definition) (k : ℕ) (r : Definition) (find after : List ℕ → Option ℕ) → k < length ds →
-    IsIndex (take k ds) find
-    → ((other : List ℕ) → after other ≡ entered find (get_or ds k r).scope.name k other) →
-    IsIndex (take (k + 1) ds) after
-index_more ds k r find after h index entry =
-    let size : length (take k ds) ≡ k = length-take-le k ds (omega (arith, h)) in
-    let name : List ℕ = (get_or ds k r).scope.name in
-    record {
-      finds = λ other. entry other ∙ entered-alike find (first_index (take k ds)) name k other (index.finds other)
-          ∙ ap (λ n. entered (first_index (take k ds)) name n other) (sym size)
-          ∙ sym (first_index-push (take k ds) (get_or ds k r) other)
-          ∙ ap (λ t. first_index t other) (sym (take_more ds k r h));
-    }
+  pub all_from : (name : List ℕ) → scope_from forest 0 name
+      ≡ option_and_then (scope_of_definition p) (first_definition p.scopes name)
+  unfolding declarations_of definitions
+  all_from name = refl

@@ -1,48 +1,48 @@
 -- What the tree of scopes holds.
-use Rattle.std.specs.Prelude.{◌≡◌, ◌<◌, ◌^◌, ℕ, List, [], ◌∷◌, length, slice_get, Option, Some, None, if◌then◌else◌, is_some}
-use Rattle.std.specs.BTreeMap.{get}
-use Rattle.std.specs.Cmp.Lexicographic.{slice_cmp}
-use Rattle.std.specs.Ordering.{nat_cmp}
+use Rattle.std.specs.Prelude.{◌≡◌, ◌<◌, ◌^◌, ℕ, List, [], false, length, Option, Some, None}
 use Rattle.scj_tree.specs.Forest.{Forest}
-use Rattle.scj_tree.specs.Recursion.{listed, joined_below}
-use Rattle.scj_rules.specs.Words.{chain, ◌>>=◌}
-use Rattle.scj_rules.specs.Definitions.{first_definition}
+use Rattle.scj_tree.specs.Recursion.{lookup, listed}
+use Rattle.scj_rules.specs.Words.{chain}
 use Rattle.scj_rules.specs.Contexts.{Declarations, declarations_of}
-use Rattle.scj_rules.specs.ScopeRules.{scope_of_definition, definition_in, defined_by, defined_by_chain, parent_scope}
+use Rattle.scj_rules.specs.ScopeRules.{defined_by, defined_by_chain, parent_scope}
 use Rattle.scj_rules.specs.StaticScopes.{is_implied_immortal, class_scope}
-use Rattle.scope_tree.specs.declared.trees.ScopeNames.{ScopeNames}
+use Rattle.scj_rules.specs.declared.scopes.ClassScope.{ClassScope}
+use Rattle.scj_rules.specs.declared.scopes.ClassScope.TheVariants.{Unannotated as unannotated, Annotated as annotated, Unknown as unknown}
+use Rattle.scope_tree.specs.declared.trees.ScopeRow.{ScopeRow}
 use Rattle.scope_tree.specs.declared.trees.ScopeTree.{ScopeTree}
+use Rattle.scope_tree.specs.Names.{IsNaming}
 
--- a class, where it writes a definition
-unfoldable pub owner_at : Declarations → ℕ → List ℕ
-owner_at p class = if is_some (definition_in p class) then class ∷ [] else []
+-- what is said of a class, and of a number that no class has
+unfoldable pub row_of : Declarations → ℕ → ScopeRow
+row_of p class =
+    record {
+      defined = defined_by p class;
+      chained = defined_by_chain p class;
+      parent = parent_scope p class;
+      is_implied = is_implied_immortal p class;
+      scope = class_scope p class;
+    }
 
--- the classes that write definitions, as far as those below a number go
-unfoldable pub owners_below : Declarations → ℕ → List ℕ
-owners_below p n = joined_below (owner_at p) n
-
--- the names find the scope that the first definition of each name makes: the index has the number of the definition,
--- and the owners have its class at that number
-pub record IsNaming (p : Declarations) (names : ScopeNames) : Type 0 where
-  pub finds : (name : List ℕ) → (get (slice_cmp nat_cmp) names.index name >>= slice_get names.owners.items)
-      ≡ (first_definition p.scopes name >>= scope_of_definition p)
+abbrev pub no_row : ScopeRow
+no_row = record { defined = None; chained = None; parent = None; is_implied = false; scope = unannotated }
 
 -- the tree has at the number of each class what is said of it
 pub record IsTreeOf (forest : Forest) (tree : ScopeTree) : Type 0 where
   pub few : length (declarations_of forest).classes < 2 ^ 32
   pub names : IsNaming (declarations_of forest) tree.names
-  pub defined : tree.defined.items
-      ≡ listed (defined_by (declarations_of forest)) (length (declarations_of forest).classes)
-  pub chained : tree.chained.items
-      ≡ listed (defined_by_chain (declarations_of forest)) (length (declarations_of forest).classes)
-  pub parents : tree.parents.items
-      ≡ listed (parent_scope (declarations_of forest)) (length (declarations_of forest).classes)
-  pub implied : tree.implied.items
-      ≡ listed (is_implied_immortal (declarations_of forest)) (length (declarations_of forest).classes)
-  pub class_scopes : tree.class_scopes.items
-      ≡ listed (class_scope (declarations_of forest)) (length (declarations_of forest).classes)
+  pub rows : tree.rows.items ≡ listed (row_of (declarations_of forest)) (length (declarations_of forest).classes)
+
+-- the parents that rows tell
+unfoldable pub parent_in : List ScopeRow → ℕ → Option ℕ
+parent_in rows scope = (lookup no_row rows scope).parent
 
 -- a chain from a number that may be missing
 abbrev pub chain_from : (ℕ → Option ℕ) → ℕ → Option ℕ → List ℕ
 chain_from next bound None = []
 chain_from next bound (Some a) = chain next bound a
+
+-- the scope of an annotated class
+abbrev pub annotated_scope : ClassScope → Option ℕ
+annotated_scope unannotated = None
+annotated_scope (annotated s) = Some s
+annotated_scope unknown = None

@@ -1,15 +1,16 @@
 //! Where the instances of classes lie.
 
-ghost use Rattle.std.specs.Prelude.{◌≡◌, ◌==◌, length, not};
+ghost use Rattle.std.specs.Prelude.{◌≡◌, ◌==◌, false, length, not};
 ghost use Rattle.std.specs.List.{list_any};
-ghost use Rattle.scj_tree.specs.Recursion.{listed};
+ghost use Rattle.scj_tree.specs.Recursion.{lookup, listed};
 ghost use Rattle.scj_rules.specs.Contexts.{declarations_of};
-ghost use Rattle.scj_rules.specs.StaticScopes.{is_implied_immortal, has_unknown_scope, is_not_scope, implied_scopes, differs_from_above, scope_of_right_class, class_scope_under, class_scope_on};
-ghost use Rattle.scope_tree.specs.Trees.{IsNaming};
+ghost use Rattle.scj_rules.specs.StaticScopes.{is_implied_immortal, has_unknown_scope, is_not_scope, implied_scopes, differs_from_above, scope_of_right_class, class_scope_under, class_scope_on, class_scope};
+ghost use Rattle.scope_tree.specs.Names.{IsNaming};
 
 use crate::classes::{scope_number, scope_written_in};
-use crate::trees::{ScopeNames, mark};
+use crate::trees::ScopeNames;
 use class_rows::Classes;
+use class_rows::chains::Chain;
 use scj_base::ids::{MISSION, MISSION_SEQUENCER, SAFELET};
 use scj_base::{ClassId, ScopeId};
 use scj_builtins::FRAMEWORK_CLASS_COUNT;
@@ -137,26 +138,52 @@ fn class_scope_under(
     scope_of_right_class(classes, names, &written, above, implied)
 }
 
-/// The scope of the first class of a chain, by the table of what is implied of classes.
-#[tactic(auto, using(crate::proofs::ClassScopeLemmas::scope_at_end, crate::proofs::ClassScopeLemmas::scope_before, crate::proofs::TreeLemmas::implied_by_table))]
-pub fn class_scope_on(
+/// What stands in marks at the number of a class.
+pub fn mark(marks: &[bool], class: u32) -> bool
+    ensures { result ≡ lookup false marks.now class }
+{
+    match marks.get(class as usize) {
+        Some(mark) => *mark,
+        None => false,
+    }
+}
+
+/// The scope of the first class of a chain, by the marks of what is implied of classes.
+#[tactic(auto, using(crate::proofs::TreeLemmas::implied_by_table), unfolding(scj_rules::specs::StaticScopes::class_scope_on))]
+fn class_scope_on(
     classes: &Classes,
     names: &ScopeNames,
     implied: &[bool],
-    chain: &[ClassId],
+    chain: Chain<'_>,
 ) -> ClassScope
     requires named { IsNaming (declarations_of classes.now) names.now }
     requires implied { implied.now ≡ listed (is_implied_immortal (declarations_of classes.now))
         (length (declarations_of classes.now).classes) }
-    ensures { result ≡ class_scope_on (declarations_of classes.now) chain.now }
+    ensures { result ≡ class_scope_on (declarations_of classes.now) chain.entry }
 {
-    let mut scope = ClassScope::Unannotated;
-    let mut left = chain.len();
-    while left > 0 {
-        left -= 1;
-        let class = chain[left];
-        let is_implied = mark(implied, class.number());
-        scope = class_scope_under(classes, names, &scope, class, is_implied);
+    let mut rest = chain;
+    match rest.next() {
+        Some(class) => {
+            let is_implied = mark(implied, class.number());
+            let above = class_scope_on(classes, names, implied, rest);
+            class_scope_under(classes, names, &above, class, is_implied)
+        }
+        None => ClassScope::Unannotated,
     }
-    scope
+}
+
+/// Where the instances of a class lie, by the marks of what is implied of classes.
+#[tactic(auto, unfolding(scj_rules::specs::StaticScopes::class_scope))]
+pub fn class_scope(
+    classes: &Classes,
+    names: &ScopeNames,
+    implied: &[bool],
+    class: ClassId,
+) -> ClassScope
+    requires named { IsNaming (declarations_of classes.now) names.now }
+    requires implied { implied.now ≡ listed (is_implied_immortal (declarations_of classes.now))
+        (length (declarations_of classes.now).classes) }
+    ensures { result ≡ class_scope (declarations_of classes.now) class }
+{
+    class_scope_on(classes, names, implied, classes.superclasses(class))
 }

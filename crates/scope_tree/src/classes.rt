@@ -1,12 +1,12 @@
 //! What single classes say of scopes.
 
-ghost use Rattle.std.specs.Prelude.{◌≡◌, option_map, option_and_then, slice_get};
-ghost use Rattle.scj_rules.specs.Definitions.{first_definition, definition_of};
+ghost use Rattle.std.specs.Prelude.{◌≡◌, option_map, option_and_then};
+ghost use Rattle.scj_rules.specs.Definitions.{definition_of};
 ghost use Rattle.scj_rules.specs.Contexts.{declarations_of};
-ghost use Rattle.scj_rules.specs.ScopeRules.{scope_number, scope_of_definition, definition_in, defined_by, parent_scope, scope_written_in, user_class_in};
+ghost use Rattle.scj_rules.specs.ScopeRules.{scope_number, definition_in, defined_by, defined_by_chain, parent_scope, scope_written_in, user_class_in};
 ghost use Rattle.scj_rules.specs.Views.{WrittenClass};
 ghost use Rattle.scj_tree.specs.Forest.{IsForest};
-ghost use Rattle.scope_tree.specs.Trees.{IsNaming};
+ghost use Rattle.scope_tree.specs.Names.{IsNaming};
 
 use crate::headers::definition;
 use crate::trees::ScopeNames;
@@ -67,26 +67,6 @@ pub fn scope_written_in(classes: &Classes, class: ClassId) -> Option<Written>
     modifiers_in(classes, class)?.scope
 }
 
-/// The scope that the class of a definition makes.
-fn owner_of(owners: &[ClassId], definition: Option<usize>) -> Option<ScopeId>
-    ensures { result ≡ option_and_then (λ k. slice_get owners.now k) definition }
-{
-    match owners.get(definition?) {
-        Some(owner) => Some(ScopeId::at(owner.number())),
-        None => None,
-    }
-}
-
-/// The scope that is defined under a name.
-fn defined_scope(classes: &Classes, names: &ScopeNames, name: &Name) -> Option<ScopeId>
-    requires { IsNaming (declarations_of classes.now) names.now }
-    ensures { result ≡ option_and_then (scope_of_definition (declarations_of classes.now))
-        (first_definition (declarations_of classes.now).scopes name.now) }
-{
-    let definition = names.index.get(name).copied();
-    owner_of(&names.owners, definition)
-}
-
 /// The scope of a name.
 #[tactic(auto, unfolding(scj_rules::specs::ScopeRules::scope_number))]
 pub fn scope_number(classes: &Classes, names: &ScopeNames, name: &Name) -> Option<ScopeId>
@@ -96,7 +76,7 @@ pub fn scope_number(classes: &Classes, names: &ScopeNames, name: &Name) -> Optio
     if name.bytes() == b"IMMORTAL".as_slice() {
         return Some(ScopeId::IMMORTAL);
     }
-    defined_scope(classes, names, name)
+    names.scopes.get(name).copied()
 }
 
 /// The scope that a class defines.
@@ -107,6 +87,21 @@ pub fn defined_by(classes: &Classes, names: &ScopeNames, class: ClassId) -> Opti
 {
     let definition = definition_in(classes, class)?;
     scope_number(classes, names, &definition.scope.name)
+}
+
+/// The scope that the chain of a class defines, the first class that does.
+#[tactic(auto, using(class_rows::proofs::WalkLemmas::along_found, class_rows::proofs::WalkLemmas::along_next, class_rows::proofs::WalkLemmas::along_end), unfolding(scj_rules::specs::ScopeRules::defined_by_chain))]
+pub fn defined_by_chain(classes: &Classes, names: &ScopeNames, class: ClassId) -> Option<ScopeId>
+    requires { IsNaming (declarations_of classes.now) names.now }
+    ensures { result ≡ defined_by_chain (declarations_of classes.now) class }
+{
+    let mut chain = classes.superclasses(class);
+    while let Some(at) = chain.next() {
+        if let Some(scope) = defined_by(classes, names, at) {
+            return Some(scope);
+        }
+    }
+    None
 }
 
 /// The parent of the scope that a class is the first to define.

@@ -1,12 +1,11 @@
-//! The definitions of scopes, read out of the tree of a program.
+//! The definition of a scope, read out of the tree of a program.
 
-ghost use Rattle.std.specs.Prelude.{◌≡◌, ◌++◌, IfOk, OnOk};
-ghost use Rattle.scj_rules.specs.Definitions.{flags_of, define_scope_of, values_of, written_of, read, definition_of, definitions_in, definitions};
+ghost use Rattle.std.specs.Prelude.{◌≡◌};
+ghost use Rattle.scj_rules.specs.Definitions.{flags_of, define_scope_of, values_of, written_of, read, definition_of};
 
-use scj_base::{Memory, NodeId};
+use scj_base::NodeId;
 use scj_rules::{Definition, Written};
 use scj_tree::{Node, Program};
-use std::alloc::Global;
 
 /// The annotations and modifiers of a class.
 #[tactic(auto, unfolding(scj_rules::specs::Definitions::flags_of))]
@@ -81,31 +80,4 @@ pub fn definition(program: &Program, class: NodeId) -> Option<Definition>
         scope,
         parent,
     })
-}
-
-/// Puts the definitions of these classes last.
-fn add_definitions(
-    program: &Program,
-    classes: &[NodeId],
-    all: &mut Vec<Definition>,
-) -> Result<(), Memory>
-    ensures { OnOk result (all.new.items ≡ all.old.items ++ definitions_in program.now.nodes classes.now) }
-{
-    for class in classes {
-        if let Some(definition) = definition(program, *class) {
-            all.push(definition)?;
-        }
-    }
-    Ok(())
-}
-
-/// The definitions of a program: file after file, each in the order of the source.
-pub fn definitions_of(alloc: Global, program: &Program) -> Result<Vec<Definition>, Memory>
-    ensures { IfOk result (λ all. all.items ≡ definitions program.now) }
-{
-    let mut all = Vec::new(alloc);
-    for file in 0..program.file_count() {
-        add_definitions(program, program.classes(file as u8), &mut all)?;
-    }
-    Ok(all)
 }

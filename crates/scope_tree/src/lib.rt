@@ -2,16 +2,13 @@
 #![tactic(auto)]
 
 mod builds;
-mod chains;
 mod class_scopes;
 mod classes;
-mod cycles;
-mod definitions;
 mod headers;
 mod names;
+mod rows;
 mod rules;
 pub mod scopes;
-mod tables;
 pub mod trees;
 
 pub use builds::build;

@@ -1,14 +1,15 @@
 //! The scopes by their names.
 
-ghost use Rattle.std.specs.Prelude.{◌≡◌, List, ℕ, IfOk, OnOk};
-ghost use Rattle.std.specs.BTreeMap.{get};
-ghost use Rattle.std.specs.Cmp.Lexicographic.{slice_cmp};
-ghost use Rattle.std.specs.Ordering.{nat_cmp};
+ghost use Rattle.std.specs.Prelude.{◌≡◌, List, ℕ, length, IfOk, OnOk};
+ghost use Rattle.scj_rules.specs.Contexts.{declarations_of};
 ghost use Rattle.scj_rules.specs.Definitions.{is_reserved};
-ghost use Rattle.scope_tree.specs.Index.{IsIndex, entered};
+ghost use Rattle.scj_rules.specs.ScopeRules.{definition_in};
+ghost use Rattle.scope_tree.specs.Names.{IsNaming, entered, scope_named};
 
-use scj_base::{Memory, Name};
-use scj_rules::Definition;
+use crate::classes::{definition_in, is_whole};
+use crate::trees::ScopeNames;
+use class_rows::Classes;
+use scj_base::{ClassId, Memory, Name, ScopeId};
 use std::alloc::Global;
 use std::collections::BTreeMap;
 
@@ -24,29 +25,37 @@ pub fn is_reserved(name: &Name) -> bool
         || bytes == b"UNKNOWN".as_slice()
 }
 
-/// Enters a definition's number under its name, unless the name is reserved or has a scope.
-fn enter(index: &mut BTreeMap<Name, usize>, name: Name, number: usize) -> Result<(), Memory>
-    ensures { OnOk result
-        ((other : List ℕ) → get (slice_cmp nat_cmp) index.new other ≡ entered (get (slice_cmp nat_cmp) index.old) name
-        number other) }
+/// Enters the scope that a class defines, unless its name is reserved, in place of one of that name.
+fn enter(names: &mut ScopeNames, classes: &Classes, class: ClassId) -> Result<(), Memory>
+    ensures { OnOk result ((name : List ℕ) →
+        scope_named names.new name ≡ entered (definition_in (declarations_of classes.now) class) class name
+        (scope_named names.old name)) }
 {
-    if is_reserved(&name) {
+    let Some(definition) = definition_in(classes, class) else {
+        return Ok(());
+    };
+    if is_reserved(&definition.scope.name) {
         return Ok(());
     }
-    if index.contains_key(&name) {
-        return Ok(());
-    }
-    index.insert(name, number)?;
+    let scope = ScopeId::at(class.number());
+    names.scopes.insert(definition.scope.name, scope)?;
     Ok(())
 }
 
-/// The number of each scope, under its name.
-pub fn index_of(alloc: Global, definitions: &[Definition]) -> Result<BTreeMap<Name, usize>, Memory>
-    ensures { IfOk result (λ index. IsIndex definitions.now (get (slice_cmp nat_cmp) index)) }
+/// The scopes by their names, of so many classes. The last class is entered first, so that the first one of a name
+/// stays.
+pub fn names_of(alloc: Global, classes: &Classes, count: u32) -> Result<ScopeNames, Memory>
+    requires { count ≡ length (declarations_of classes.now).classes }
+    ensures { IfOk result (λ names. IsNaming (declarations_of classes.now) names) }
 {
-    let mut index = BTreeMap::new(alloc);
-    for number in 0..definitions.len() {
-        enter(&mut index, definitions[number].scope.name, number)?;
+    is_whole(classes);
+    let mut names = ScopeNames {
+        scopes: BTreeMap::new(alloc),
+    };
+    let mut left = count;
+    while left > 0 {
+        left -= 1;
+        enter(&mut names, classes, ClassId::at(left))?;
     }
-    Ok(index)
+    Ok(names)
 }

@@ -1,25 +1,22 @@
-//! The rules on the classes that define scopes.
+//! The rules on scopes, class after class.
 
-ghost use Rattle.std.specs.Prelude.{◌≡◌, ◌++◌, not, ◌&&◌, ◌||◌, is_some, option_map, OnOk, IfOk};
+ghost use Rattle.std.specs.Prelude.{◌≡◌, ◌++◌, OnOk, IfOk, is_some};
 ghost use Rattle.std.specs.List.{list_any};
-ghost use Rattle.scj_base.specs.Bytes.{is_same};
-ghost use Rattle.scj_rules.specs.Words.{holds, along};
-ghost use Rattle.scj_rules.specs.declared.scopes.Written.{Written};
-ghost use Rattle.scj_rules.specs.Classes.{superclasses, classes_above};
+ghost use Rattle.scj_rules.specs.Words.{found_at};
+ghost use Rattle.scj_rules.specs.Classes.{superclasses};
 ghost use Rattle.scj_rules.specs.Contexts.{declarations_of};
-ghost use Rattle.scj_rules.specs.ScopeRules.{definition_in, is_handler, lacks_scope, needs_scope, scope_written_in, misfits_parent, user_class_in, s4, s5};
-ghost use Rattle.scj_rules.specs.Phases.{at_class};
-ghost use Rattle.scope_tree.specs.Rules.{definer_breaks, class_scope_breaks, definer_phase, header_of, s6_at};
-ghost use Rattle.scope_tree.specs.Trees.{IsNaming};
+ghost use Rattle.scj_rules.specs.Phases.{BreaksScopeRules, at_class, scope_phase};
+ghost use Rattle.scj_rules.specs.Report.{IsReport};
+ghost use Rattle.scj_rules.specs.ScopeRules.{definition_breaks, definition_in, has_wrong_parent, is_cyclic_scope, is_defined_already, is_handler, is_wrong_class, lacks_scope, lies_in_parent, makes_scope, misfits_parent, needs_scope, s1, s2, s3, s4, s5, s6, scope_breaks, scope_written_on_chain, user_class_in};
 
-use crate::chains::{any_defines, scope_written_on, superclasses_of};
-use crate::classes::{definition_in, modifiers_in, place_in, scope_number};
-use crate::tables::class_numbered;
-use crate::trees::ScopeNames;
+use crate::classes::{modifiers_in, place_in};
+use crate::names::is_reserved;
+use crate::scopes::Scopes;
 use class_rows::Classes;
+use class_rows::chains::Chain;
 use scj_base::ids::{APERIODIC_EVENT_HANDLER, MISSION, PERIODIC_EVENT_HANDLER, RUNNABLE};
-use scj_base::{ClassId, Found, Memory, Name, Pos, Rule, ScopeId};
-use scj_rules::{Definition, report_if};
+use scj_base::{ClassId, Found, Memory, Rule, ScopeId};
+use scj_rules::{Definition, Written, put_in_order, report_if};
 use std::alloc::Global;
 
 /// Whether a class stands under one of the framework's classes of handlers.
@@ -30,91 +27,137 @@ fn is_handler(classes: &Classes, class: ClassId) -> bool
         || classes.is_under(class, APERIODIC_EVENT_HANDLER)
 }
 
-/// What stands above a class on its chain.
-#[tactic(auto, unfolding(scj_rules::specs::Classes::classes_above, scj_rules::specs::Classes::superclasses, scj_rules::specs::Words::chain_behind))]
-fn classes_above_of(
-    alloc: Global,
-    classes: &Classes,
-    class: ClassId,
-) -> Result<Vec<ClassId>, Memory>
-    ensures { IfOk result (λ all. all.items ≡ classes_above (declarations_of classes.now).classes class) }
+/// Whether a class of the chain writes a definition.
+fn any_defines(scopes: &Scopes, chain: Chain<'_>) -> bool
+    ensures { result ≡ list_any (λ class. is_some (definition_in (declarations_of scopes.now) class)) chain.entry }
 {
-    match classes.superclass(class) {
-        Some(above) => superclasses_of(alloc, classes, above),
-        None => Ok(Vec::new(alloc)),
+    let mut rest = chain;
+    while let Some(class) = rest.next() {
+        if scopes.definition_in(class).is_some() {
+            return true;
+        }
+    }
+    false
+}
+
+/// Whether a definition's name is reserved, or another class makes its scope.
+fn is_defined_already(scopes: &Scopes, class: ClassId, definition: &Definition) -> bool
+    ensures { result ≡ is_defined_already (declarations_of scopes.now) class definition.now }
+{
+    if is_reserved(&definition.scope.name) {
+        return true;
+    }
+    match scopes.scope_number(&definition.scope.name) {
+        Some(scope) => scope.number() != class.number(),
+        None => false,
     }
 }
 
-/// Notes S4 at the definition of a class, below those above it.
-#[tactic(auto, unfolding(scj_rules::specs::ScopeRules::s4))]
-fn note_wrong_class(
-    found: &mut Vec<Found>,
-    classes: &Classes,
-    class: ClassId,
-    definition: &Definition,
-    above: &[ClassId],
-) -> Result<(), Memory>
-    requires { above.now ≡ classes_above (declarations_of classes.now).classes class }
-    ensures { OnOk result (found.new.items ≡ found.old.items ++ s4 (declarations_of classes.now) class definition.now) }
+/// Whether a definition makes the scope of its name.
+fn makes_scope(scopes: &Scopes, class: ClassId, definition: &Definition) -> bool
+    ensures { result ≡ makes_scope (declarations_of scopes.now) class definition.now }
 {
-    let may_define = classes.is_under(class, MISSION)
-        || (is_handler(classes, class) || classes.is_sub(class, RUNNABLE));
-    let is_wrong = !may_define || any_defines(classes, above);
-    report_if(found, is_wrong, Rule::S4, definition.scope.place)
+    match scopes.scope_number(&definition.scope.name) {
+        Some(scope) => scope.number() == class.number(),
+        None => false,
+    }
 }
 
-/// Whether the scope in which the instances of a class lie has been written by this name.
-fn lies_in(classes: &Classes, chain: &[ClassId], name: &Name) -> bool
-    ensures { result ≡ holds (along (scope_written_in (declarations_of classes.now)) chain.now)
-        (λ (w : Written). is_same w.name name.now) }
+/// Whether a class must define no scope.
+fn is_wrong_class(scopes: &Scopes, class: ClassId) -> bool
+    ensures { result ≡ is_wrong_class (declarations_of scopes.now) class }
 {
-    match scope_written_on(classes, chain) {
-        Some(written) => written.name == *name,
+    let classes = scopes.classes();
+    let may_define = classes.is_under(class, MISSION)
+        || (is_handler(classes, class) || classes.is_sub(class, RUNNABLE));
+    !may_define || any_defines(scopes, classes.classes_above(class))
+}
+
+/// The scope that a class of the chain writes for its instances, the first that does.
+#[tactic(auto, using(class_rows::proofs::WalkLemmas::along_found, class_rows::proofs::WalkLemmas::along_next, class_rows::proofs::WalkLemmas::along_end), unfolding(scj_rules::specs::ScopeRules::scope_written_on_chain))]
+fn scope_written_on_chain(scopes: &Scopes, class: ClassId) -> Option<Written>
+    ensures { result ≡ scope_written_on_chain (declarations_of scopes.now) class }
+{
+    let mut chain = scopes.classes().superclasses(class);
+    while let Some(at) = chain.next() {
+        if let Some(written) = scopes.scope_written_in(at) {
+            return Some(written);
+        }
+    }
+    None
+}
+
+/// Whether the instances of a class lie in the parent of its scope.
+fn lies_in_parent(scopes: &Scopes, class: ClassId, definition: &Definition) -> bool
+    ensures { result ≡ lies_in_parent (declarations_of scopes.now) class definition.now }
+{
+    match scope_written_on_chain(scopes, class) {
+        Some(written) => written.name == definition.parent.name,
         None => false,
     }
 }
 
 /// Whether a parent doesn't suit the class that names it.
-#[tactic(auto, unfolding(scj_rules::specs::ScopeRules::misfits_parent, scj_rules::specs::ScopeRules::scope_written_on_chain))]
-fn misfits_parent(
-    classes: &Classes,
-    class: ClassId,
-    definition: &Definition,
-    chain: &[ClassId],
-    parent: ScopeId,
-) -> bool
-    requires { chain.now ≡ superclasses (declarations_of classes.now).classes class }
-    ensures { result ≡ misfits_parent (declarations_of classes.now) class definition.now parent }
+#[tactic(auto, unfolding(scj_rules::specs::ScopeRules::misfits_parent))]
+fn misfits_parent(scopes: &Scopes, class: ClassId, definition: &Definition, parent: ScopeId) -> bool
+    ensures { result ≡ misfits_parent (declarations_of scopes.now) class definition.now parent }
 {
+    let classes = scopes.classes();
     if classes.is_under(class, MISSION) {
         return parent != ScopeId::IMMORTAL;
     }
     if is_handler(classes, class) {
         return !(classes.is_under(ClassId::at(parent.number()), MISSION)
-            && lies_in(classes, chain, &definition.parent.name));
+            && lies_in_parent(scopes, class, definition));
     }
     classes.is_sub(class, RUNNABLE) && parent == ScopeId::IMMORTAL
 }
 
-/// Notes S5 at the definition of a class.
-#[tactic(auto, unfolding(scj_rules::specs::ScopeRules::s5))]
-fn note_wrong_parent(
+/// Whether the parent is a scope, and doesn't suit the class.
+fn has_wrong_parent(scopes: &Scopes, class: ClassId, definition: &Definition) -> bool
+    ensures { result ≡ has_wrong_parent (declarations_of scopes.now) class definition.now }
+{
+    match scopes.scope_number(&definition.parent.name) {
+        Some(parent) => misfits_parent(scopes, class, definition, parent),
+        None => false,
+    }
+}
+
+/// Notes what is broken at the definition of a class.
+#[tactic(auto, unfolding(scj_rules::specs::ScopeRules::s1, scj_rules::specs::ScopeRules::s2, scj_rules::specs::ScopeRules::s3, scj_rules::specs::ScopeRules::s4, scj_rules::specs::ScopeRules::s5))]
+fn note_definition(
     found: &mut Vec<Found>,
-    classes: &Classes,
-    names: &ScopeNames,
+    scopes: &Scopes,
     class: ClassId,
     definition: &Definition,
-    chain: &[ClassId],
 ) -> Result<(), Memory>
-    requires named { IsNaming (declarations_of classes.now) names.now }
-    requires whole { chain.now ≡ superclasses (declarations_of classes.now).classes class }
-    ensures { OnOk result (found.new.items ≡ found.old.items ++ s5 (declarations_of classes.now) class definition.now) }
+    ensures { let p = declarations_of scopes.now in
+        OnOk result (found.new.items ≡ found.old.items ++ (s1 p class definition.now ++ s2 p class definition.now
+        ++ s3 p class definition.now ++ s4 p class definition.now ++ s5 p class definition.now)) }
 {
-    let is_wrong = match scope_number(classes, names, &definition.parent.name) {
-        Some(parent) => misfits_parent(classes, class, definition, chain, parent),
-        None => false,
-    };
-    report_if(found, is_wrong, Rule::S5, definition.parent.place)
+    let scope = definition.scope.place;
+    let parent = definition.parent.place;
+    let is_taken = is_defined_already(scopes, class, definition);
+    let is_unknown = scopes.scope_number(&definition.parent.name).is_none();
+    let is_cycle = makes_scope(scopes, class, definition) && scopes.is_cyclic(class);
+    let misfits = has_wrong_parent(scopes, class, definition);
+    report_if(found, is_taken, Rule::S1, scope)?;
+    report_if(found, is_unknown, Rule::S2, parent)?;
+    report_if(found, is_cycle, Rule::S3, parent)?;
+    report_if(found, is_wrong_class(scopes, class), Rule::S4, scope)?;
+    report_if(found, misfits, Rule::S5, parent)?;
+    Ok(())
+}
+
+/// Notes what is broken at the definition that a class writes.
+#[tactic(auto, unfolding(scj_rules::specs::ScopeRules::definition_breaks))]
+fn note_written(found: &mut Vec<Found>, scopes: &Scopes, class: ClassId) -> Result<(), Memory>
+    ensures { OnOk result (found.new.items ≡ found.old.items ++ definition_breaks (declarations_of scopes.now) class) }
+{
+    match scopes.definition_in(class) {
+        Some(definition) => note_definition(found, scopes, class, &definition),
+        None => Ok(()),
+    }
 }
 
 /// Whether a class that isn't abstract has a scope of its own.
@@ -124,101 +167,65 @@ fn needs_scope(classes: &Classes, class: ClassId) -> bool
     classes.is_under(class, MISSION) || is_handler(classes, class)
 }
 
+/// Whether a class of the chain of a class writes a definition.
+fn chain_defines(scopes: &Scopes, class: ClassId) -> bool
+    ensures { let p = declarations_of scopes.now in
+        result ≡ list_any (λ class. is_some (definition_in p class)) (superclasses p.classes class) }
+{
+    any_defines(scopes, scopes.classes().superclasses(class))
+}
+
 /// Whether no class of the chain defines the scope that a class needs.
-fn lacks_scope(classes: &Classes, class: ClassId, is_abstract: bool, chain: &[ClassId]) -> bool
-    requires { chain.now ≡ superclasses (declarations_of classes.now).classes class }
-    ensures { result ≡ lacks_scope (declarations_of classes.now) class is_abstract }
+fn lacks_scope(scopes: &Scopes, class: ClassId, is_abstract: bool) -> bool
+    ensures { result ≡ lacks_scope (declarations_of scopes.now) class is_abstract }
 {
-    !is_abstract && (needs_scope(classes, class) && !any_defines(classes, chain))
+    !is_abstract && (needs_scope(scopes.classes(), class) && !chain_defines(scopes, class))
 }
 
-/// Notes S6 at a class.
-#[tactic(auto, unfolding(crate::specs::Rules::s6_at))]
-fn note_missing(
-    found: &mut Vec<Found>,
-    classes: &Classes,
-    class: ClassId,
-    header: (bool, Pos),
-    chain: &[ClassId],
-) -> Result<(), Memory>
-    requires { chain.now ≡ superclasses (declarations_of classes.now).classes class }
-    ensures { OnOk result (found.new.items ≡ found.old.items
-        ++ s6_at (declarations_of classes.now) class header.0 header.1) }
+/// Notes S6 at a class, if it is a user class.
+#[tactic(auto, using(crate::proofs::PhaseLemmas::missing_at), unfolding(scj_rules::specs::ScopeRules::s6))]
+fn note_missing(found: &mut Vec<Found>, scopes: &Scopes, class: ClassId) -> Result<(), Memory>
+    ensures { let p = declarations_of scopes.now in
+        OnOk result (found.new.items ≡ found.old.items ++ found_at (user_class_in p.classes class) (s6 p class)) }
 {
-    let (is_abstract, place) = header;
-    let test = lacks_scope(classes, class, is_abstract, chain);
-    report_if(found, test, Rule::S6, place)
-}
-
-/// Notes S4 and S5 at the definition of a class.
-#[tactic(auto, unfolding(crate::specs::Rules::definer_breaks))]
-fn note_definition(
-    alloc: Global,
-    found: &mut Vec<Found>,
-    classes: &Classes,
-    names: &ScopeNames,
-    class: ClassId,
-    chain: &[ClassId],
-) -> Result<(), Memory>
-    requires named { IsNaming (declarations_of classes.now) names.now }
-    requires whole { chain.now ≡ superclasses (declarations_of classes.now).classes class }
-    ensures { OnOk result (found.new.items ≡ found.old.items ++ definer_breaks (declarations_of classes.now) class) }
-{
-    let Some(definition) = definition_in(classes, class) else {
-        return Ok(());
-    };
-    let above = classes_above_of(alloc, classes, class)?;
-    note_wrong_class(found, classes, class, &definition, &above)?;
-    note_wrong_parent(found, classes, names, class, &definition, chain)?;
-    Ok(())
-}
-
-/// Whether a user class is abstract, and where it is named.
-fn header_in(classes: &Classes, class: ClassId) -> Option<(bool, Pos)>
-    ensures { result ≡ option_map header_of (user_class_in (declarations_of classes.now).classes class) }
-{
+    let classes = scopes.classes();
     match (modifiers_in(classes, class), place_in(classes, class)) {
-        (Some(modifiers), Some(place)) => Some((modifiers.is_abstract, place)),
-        _ => None,
+        (Some(modifiers), Some(place)) => {
+            let test = lacks_scope(scopes, class, modifiers.is_abstract);
+            report_if(found, test, Rule::S6, place)
+        }
+        _ => Ok(()),
     }
 }
 
-/// Notes S4 to S6 at a class.
-#[tactic(auto, using(crate::proofs::PhaseLemmas::broken_at_class, crate::proofs::PhaseLemmas::nothing_at_class))]
-fn note_class(
-    alloc: Global,
-    found: &mut Vec<Found>,
-    classes: &Classes,
-    names: &ScopeNames,
-    class: ClassId,
-) -> Result<(), Memory>
-    requires { IsNaming (declarations_of classes.now) names.now }
-    ensures { OnOk result (found.new.items ≡ found.old.items
-        ++ at_class (declarations_of classes.now)
-        (λ class row c. class_scope_breaks (declarations_of classes.now) class c) class) }
+/// Notes what is broken at a class.
+#[tactic(auto, using(crate::proofs::PhaseLemmas::parts_at))]
+fn note_class(found: &mut Vec<Found>, scopes: &Scopes, class: ClassId) -> Result<(), Memory>
+    ensures { let p = declarations_of scopes.now in
+        OnOk result (found.new.items ≡ found.old.items ++ at_class p (λ class row c. scope_breaks p class c) class) }
 {
-    let Some(header) = header_in(classes, class) else {
-        return Ok(());
-    };
-    let chain = superclasses_of(alloc, classes, class)?;
-    note_definition(alloc, found, classes, names, class, &chain)?;
-    note_missing(found, classes, class, header, &chain)?;
+    note_written(found, scopes, class)?;
+    note_missing(found, scopes, class)?;
     Ok(())
 }
 
-/// What S4 to S6 find at the classes.
-#[tactic(auto, using(crate::proofs::PhaseLemmas::classes_joined), unfolding(scj_tree::specs::Recursion::joined_below, crate::specs::Rules::definer_phase))]
-pub fn note_classes(
-    alloc: Global,
-    found: &mut Vec<Found>,
-    classes: &Classes,
-    names: &ScopeNames,
-) -> Result<(), Memory>
-    requires { IsNaming (declarations_of classes.now) names.now }
-    ensures { OnOk result (found.new.items ≡ found.old.items ++ definer_phase (declarations_of classes.now)) }
+/// What is broken at the classes.
+#[tactic(auto, using(crate::proofs::PhaseLemmas::classes_joined), unfolding(scj_tree::specs::Recursion::joined_below, scj_rules::specs::Phases::scope_phase))]
+fn broken_classes(alloc: Global, scopes: &Scopes) -> Result<Vec<Found>, Memory>
+    ensures { IfOk result (λ found. found.items ≡ scope_phase (declarations_of scopes.now)) }
 {
-    for number in 0..classes.count() {
-        note_class(alloc, found, classes, names, class_numbered(number)?)?;
+    let mut found = Vec::new(alloc);
+    for number in 0..scopes.class_count() {
+        note_class(&mut found, scopes, ClassId::at(number as u32))?;
     }
-    Ok(())
+    Ok(found)
+}
+
+/// What is broken at the classes, in the order of a report.
+pub fn report_of(alloc: Global, scopes: &Scopes) -> Result<Vec<Found>, Memory>
+    ensures { IfOk result (λ found. IsReport (BreaksScopeRules scopes.now) found.items) }
+{
+    let mut found = broken_classes(alloc, scopes)?;
+    put_in_order(&mut found);
+    Ok(found)
 }

@@ -3,10 +3,10 @@
 ghost use Rattle.std.specs.Prelude.{◌≡◌, ◌<◌, ◌^◌, length};
 ghost use Rattle.class_rows.specs.Tables.{IsTableOf};
 ghost use Rattle.scj_rules.specs.Contexts.{declarations_of};
-ghost use Rattle.scj_rules.specs.ScopeRules.{scope_number, definition_in, defined_by, defined_by_chain, parent_scope, is_outer, scope_written_in};
+ghost use Rattle.scj_rules.specs.ScopeRules.{scope_number, definition_in, defined_by, defined_by_chain, parent_scope, is_outer, is_cyclic_scope, scope_written_in};
 ghost use Rattle.scj_rules.specs.StaticScopes.{class_scope, is_implied_immortal, has_unknown_scope, differs_from_above};
 
-use crate::trees::{ScopeTree, class_entry, entry, is_outer_in, mark};
+use crate::trees::ScopeTree;
 use crate::{class_scopes, classes};
 use class_rows::{ClassTable, Classes};
 use scj_base::{ClassId, Name, ScopeId};
@@ -87,57 +87,59 @@ impl<'a> Scopes<'a> {
     }
 
     /// The scope that a class defines.
-    #[tactic(auto, using(crate::proofs::TreeLemmas::defined_by_table))]
+    #[tactic(auto, unfolding(crate::specs::Trees::row_of))]
     pub fn defined_by(&self, class: ClassId) -> Option<ScopeId>
         ensures { result ≡ defined_by (declarations_of self.now) class }
     {
-        let tree = self.tree;
-        entry(&tree.defined, class.number())
+        self.tree.row(class.number()).defined
     }
 
     /// The scope that the chain of a class defines.
-    #[tactic(auto, using(crate::proofs::TreeLemmas::chained_by_table))]
+    #[tactic(auto, unfolding(crate::specs::Trees::row_of))]
     pub fn defined_by_chain(&self, class: ClassId) -> Option<ScopeId>
         ensures { result ≡ defined_by_chain (declarations_of self.now) class }
     {
-        let tree = self.tree;
-        entry(&tree.chained, class.number())
+        self.tree.row(class.number()).chained
     }
 
     /// The parent of a scope.
-    #[tactic(auto, using(crate::proofs::TreeLemmas::parent_by_table))]
+    #[tactic(auto, unfolding(crate::specs::Trees::row_of))]
     pub fn parent_scope(&self, scope: ScopeId) -> Option<ScopeId>
         ensures { result ≡ parent_scope (declarations_of self.now) scope }
     {
-        let tree = self.tree;
-        entry(&tree.parents, scope.number())
+        self.tree.row(scope.number()).parent
     }
 
     /// Whether the first scope is the second one, or lies outside it.
-    #[tactic(auto, using(crate::proofs::TreeLemmas::outer_by_table))]
     pub fn is_outer(&self, a: ScopeId, b: ScopeId) -> bool
         ensures { result ≡ is_outer (declarations_of self.now) a b }
     {
-        let tree = self.tree;
-        is_outer_in(&tree.parents, a, b)
+        self.tree.outer(a, b)
+    }
+
+    /// Whether the parents of a scope lead back to it.
+    #[tactic(auto, unfolding(scj_rules::specs::Words::chain_behind))]
+    pub(crate) fn is_cyclic(&self, class: ClassId) -> bool
+        ensures { result ≡ is_cyclic_scope (declarations_of self.now) class }
+    {
+        let scope = ScopeId::at(class.number());
+        self.tree.is_reached(scope, self.parent_scope(scope))
     }
 
     /// Where the instances of a class lie.
-    #[tactic(auto, using(crate::proofs::TreeLemmas::class_scope_by_table))]
+    #[tactic(auto, unfolding(crate::specs::Trees::row_of))]
     pub fn class_scope(&self, class: ClassId) -> ClassScope
         ensures { result ≡ class_scope (declarations_of self.now) class }
     {
-        let tree = self.tree;
-        class_entry(&tree.class_scopes, class.number())
+        self.tree.row(class.number()).scope
     }
 
     /// Whether the instances of a class lie in `IMMORTAL` although it doesn't write so.
-    #[tactic(auto, using(crate::proofs::TreeLemmas::implied_by_tree))]
+    #[tactic(auto, unfolding(crate::specs::Trees::row_of))]
     pub fn is_implied_immortal(&self, class: ClassId) -> bool
         ensures { result ≡ is_implied_immortal (declarations_of self.now) class }
     {
-        let tree = self.tree;
-        mark(&tree.implied, class.number())
+        self.tree.row(class.number()).is_implied
     }
 
     /// Whether a value is written that names no scope.

@@ -1,12 +1,11 @@
 //! The tree of scopes.
 
-ghost use Rattle.std.specs.Prelude.{◌≡◌, ◌==◌, ◌||◌, false, length};
-ghost use Rattle.scj_tree.specs.Recursion.{lookup};
-ghost use Rattle.scj_rules.specs.Words.{is_among, chain};
+ghost use Rattle.std.specs.Prelude.{◌≡◌, length};
 ghost use Rattle.scj_tree.specs.Forest.{Forest};
+ghost use Rattle.scj_tree.specs.Recursion.{lookup};
+ghost use Rattle.scj_rules.specs.Words.{is_among};
 ghost use Rattle.scj_rules.specs.Contexts.{declarations_of};
-ghost use Rattle.scj_rules.specs.declared.scopes.ClassScope.TheVariants.{Unannotated as unannotated};
-ghost use Rattle.scope_tree.specs.Annotated.{annotated_scope};
+ghost use Rattle.scope_tree.specs.Trees.{annotated_scope, chain_from, no_row, parent_in};
 
 use scj_base::{ClassId, Name, ScopeId};
 use scj_rules::ClassScope;
@@ -15,10 +14,22 @@ use std::collections::BTreeMap;
 /// The scopes of a program by their names.
 #[derive(Drop)]
 pub struct ScopeNames {
-    /// The number of the definition that makes the scope of each name.
-    pub(crate) index: BTreeMap<Name, usize>,
-    /// The classes that write definitions, in their order.
-    pub(crate) owners: Vec<ClassId>,
+    pub(crate) scopes: BTreeMap<Name, ScopeId>,
+}
+
+/// What is said of a class.
+#[derive(Clone, Copy)]
+pub struct ScopeRow {
+    /// The scope that it defines.
+    pub(crate) defined: Option<ScopeId>,
+    /// The scope that its chain defines.
+    pub(crate) chained: Option<ScopeId>,
+    /// The parent of the scope that it is the first to define.
+    pub(crate) parent: Option<ScopeId>,
+    /// Whether its instances lie in `IMMORTAL` although it doesn't write so.
+    pub(crate) is_implied: bool,
+    /// Where its instances lie.
+    pub(crate) scope: ClassScope,
 }
 
 /// The scopes of a program and of its classes.
@@ -26,46 +37,8 @@ pub struct ScopeNames {
 pub struct ScopeTree {
     /// The scopes by their names.
     pub(crate) names: ScopeNames,
-    /// The scope that each class defines.
-    pub(crate) defined: Vec<Option<ScopeId>>,
-    /// The scope that the chain of each class defines.
-    pub(crate) chained: Vec<Option<ScopeId>>,
-    /// The parent of the scope that each class is the first to define.
-    pub(crate) parents: Vec<Option<ScopeId>>,
-    /// Whether the instances of each class lie in `IMMORTAL` although it doesn't write so.
-    pub(crate) implied: Vec<bool>,
-    /// Where the instances of each class lie.
-    pub(crate) class_scopes: Vec<ClassScope>,
-}
-
-/// What stands in a table at the number of a class.
-pub fn entry(table: &[Option<ScopeId>], number: u32) -> Option<ScopeId>
-    ensures { result ≡ lookup None table.now number }
-{
-    match table.get(number as usize) {
-        Some(scope) => *scope,
-        None => None,
-    }
-}
-
-/// What stands in a table of class scopes at the number of a class.
-pub fn class_entry(table: &[ClassScope], number: u32) -> ClassScope
-    ensures { result ≡ lookup unannotated table.now number }
-{
-    match table.get(number as usize) {
-        Some(scope) => *scope,
-        None => ClassScope::Unannotated,
-    }
-}
-
-/// What stands in a table of marks at the number of a class.
-pub fn mark(table: &[bool], number: u32) -> bool
-    ensures { result ≡ lookup false table.now number }
-{
-    match table.get(number as usize) {
-        Some(mark) => *mark,
-        None => false,
-    }
+    /// What is said of each class, at its number.
+    pub(crate) rows: Vec<ScopeRow>,
 }
 
 /// The scope of an annotated class.
@@ -78,60 +51,93 @@ fn annotated_scope(scope: &ClassScope) -> Option<ScopeId>
     }
 }
 
-/// Whether a scope stands on the chain of parents of another one, itself among them.
-#[tactic(auto, using(crate::proofs::TreeLemmas::chain_here, crate::proofs::TreeLemmas::chain_ended))]
-pub fn is_reached(parents: &[Option<ScopeId>], a: ScopeId, b: ScopeId) -> bool
-    ensures { result ≡ is_among a (chain (lookup None parents.now) (length parents.now) b) }
+/// What stands in rows at the number of a class.
+fn row_at(rows: &[ScopeRow], class: u32) -> ScopeRow
+    ensures { result ≡ lookup no_row rows.now class }
 {
-    let mut here = Some(b);
-    let mut left = parents.len();
+    match rows.get(class as usize) {
+        Some(row) => *row,
+        None => ScopeRow {
+            defined: None,
+            chained: None,
+            parent: None,
+            is_implied: false,
+            scope: ClassScope::Unannotated,
+        },
+    }
+}
+
+/// The parent of a scope, as rows tell it.
+#[tactic(auto, unfolding(crate::specs::Trees::parent_in))]
+fn parent_in(rows: &[ScopeRow], scope: ScopeId) -> Option<ScopeId>
+    ensures { result ≡ parent_in rows.now scope }
+{
+    row_at(rows, scope.number()).parent
+}
+
+/// Whether a scope stands on a chain of parents.
+#[tactic(auto, using(crate::proofs::TreeLemmas::chain_here, crate::proofs::TreeLemmas::chain_ended))]
+fn is_reached(rows: &[ScopeRow], a: ScopeId, from: Option<ScopeId>) -> bool
+    ensures { result ≡ is_among a (chain_from (parent_in rows.now) (length rows.now) from) }
+{
+    let mut here = from;
+    let mut left = rows.len();
     while left > 0 {
         let Some(scope) = here else {
             return false;
         };
-        if scope == a {
+        if a == scope {
             return true;
         }
-        here = entry(parents, scope.number());
+        here = parent_in(rows, scope);
         left -= 1;
     }
     false
 }
 
-/// Whether a scope is the root or stands on the chain of parents of another one.
-pub fn is_outer_in(parents: &[Option<ScopeId>], a: ScopeId, b: ScopeId) -> bool
-    ensures { result ≡ ((a == 0) || is_among a (chain (lookup None parents.now) (length parents.now) b)) }
-{
-    a == ScopeId::IMMORTAL || is_reached(parents, a, b)
-}
-
 impl ScopeTree {
-    ghost use Rattle.scj_rules.specs.ScopeRules.{is_outer, defined_by};
+    ghost use Rattle.scj_rules.specs.ScopeRules.{is_outer, defined_by, parent_scope};
     ghost use Rattle.scj_rules.specs.StaticScopes.{class_scope};
-    ghost use Rattle.scope_tree.specs.Trees.{IsTreeOf};
+    ghost use Rattle.scope_tree.specs.Trees.{IsTreeOf, row_of};
+
+    /// What is said of a class, or of a number that none has.
+    #[tactic(auto, using(crate::proofs::TreeLemmas::row_by_table))]
+    pub(crate) fn row(&self, class: u32) -> ScopeRow
+        ensures { (forest : Forest) → IsTreeOf forest self.now → result ≡ row_of (declarations_of forest) class }
+    {
+        row_at(&self.rows, class)
+    }
+
+    /// Whether a scope stands on a chain of parents.
+    pub(crate) fn is_reached(&self, a: ScopeId, from: Option<ScopeId>) -> bool
+        ensures { (forest : Forest) → IsTreeOf forest self.now → result ≡ is_among a
+            (chain_from (parent_scope (declarations_of forest)) (length (declarations_of forest).classes) from) }
+    {
+        is_reached(&self.rows, a, from)
+    }
 
     /// Whether the first scope is the second one, or lies outside it.
-    #[tactic(auto, using(crate::proofs::TreeLemmas::outer_by_table))]
+    #[tactic(auto, unfolding(scj_rules::specs::ScopeRules::is_outer))]
     pub fn outer(&self, a: ScopeId, b: ScopeId) -> bool
         ensures { (forest : Forest) → IsTreeOf forest self.now → result ≡ is_outer (declarations_of forest) a b }
     {
-        is_outer_in(&self.parents, a, b)
+        a == ScopeId::IMMORTAL || self.is_reached(a, Some(b))
     }
 
     /// The scope in which the instances of a class lie.
-    #[tactic(auto, using(crate::proofs::TreeLemmas::class_scope_by_table))]
+    #[tactic(auto, unfolding(crate::specs::Trees::row_of))]
     pub fn class_scope(&self, class: ClassId) -> Option<ScopeId>
         ensures { (forest : Forest) → IsTreeOf forest self.now →
             result ≡ annotated_scope (class_scope (declarations_of forest) class) }
     {
-        annotated_scope(&class_entry(&self.class_scopes, class.number()))
+        annotated_scope(&self.row(class.number()).scope)
     }
 
     /// The scope that a class defines.
-    #[tactic(auto, using(crate::proofs::TreeLemmas::defined_by_table))]
+    #[tactic(auto, unfolding(crate::specs::Trees::row_of))]
     pub fn defined_by(&self, class: ClassId) -> Option<ScopeId>
         ensures { (forest : Forest) → IsTreeOf forest self.now → result ≡ defined_by (declarations_of forest) class }
     {
-        entry(&self.defined, class.number())
+        self.row(class.number()).defined
     }
 }

@@ -1,22 +1,19 @@
-use Rattle.std.proofs.Common.{◌∙◌, sym}
-use Rattle.std.specs.BTreeMap.{get}
-use Rattle.std.specs.Cmp.Lexicographic.{slice_cmp}
-use Rattle.std.specs.Ordering.{nat_cmp}
-use Rattle.scope_tree.proofs.NameLemmas.{entered_reserved, entered_known, entered_new}
+use Rattle.std.proofs.Common.{◌≡◌, ◌∙◌, false, Some, ap, sym, cond}
+use Rattle.scj_rules.specs.Contexts.{declarations_of}
+use Rattle.scj_rules.specs.Definitions.{is_reserved}
+use Rattle.scj_rules.specs.ScopeRules.{definition_in}
+use Rattle.scj_base.specs.Bytes.{is_same}
+use Rattle.scope_tree.specs.Names.{scope_named}
+use Rattle.scope_tree.proofs.NameLemmas.{ordered_same}
 use Rattle.scope_tree.proofs.names.enter.Goals as goal
 
-pub returns-then-is_reserved : goal.returns-then-is_reserved
-returns-then-is_reserved c = entered_reserved (get (slice_cmp nat_cmp) c.args.index.now) c.args.name c.args.number
-    (sym c.is_reserved.ensures ∙ c.if-is_reserved.true)
-
-pub returns-then-contains_key : goal.returns-then-contains_key
-returns-then-contains_key c =
-    entered_known (get (slice_cmp nat_cmp) c.args.index.now) c.args.name c.args.number
-    (sym c.is_reserved.ensures ∙ c.if-is_reserved.false) (sym c.contains_key.ensures ∙ c.if-contains_key.true)
-
 pub returns : goal.returns
-returns c =
-    entered_new (get (slice_cmp nat_cmp) c.args.index.now) (get (slice_cmp nat_cmp) c.insert.new.self) c.args.name
-    c.args.number (sym c.is_reserved.ensures ∙ c.if-is_reserved.false)
-    (sym c.contains_key.ensures ∙ c.if-contains_key.false)
-    c.in_ok-insert.ensures.updates.0
+returns c = λ name.
+    let d = c.in-Some.definition in
+    let here : definition_in (declarations_of c.args.classes.now) c.args.class ≡ Some d = sym c.definition_in.ensures
+    ∙ c.in-Some.is in
+    let free : is_reserved d.scope.name ≡ false = sym c.is_reserved.ensures ∙ c.if-is_reserved.false in
+    let other = scope_named c.args.names.now name in
+    rw (here, free) (c.in_ok-insert.ensures.updates.0 name
+    ∙ ap (λ t. cond t (Some c.at-scope.result) other) (ordered_same d.scope.name name)
+    ∙ ap (λ n. cond (is_same name d.scope.name) (Some n) other) (c.at-scope.ensures ∙ c.number.ensures))

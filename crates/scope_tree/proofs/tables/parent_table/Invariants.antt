@@ -1,8 +1,0 @@
-use Rattle.std.proofs.Common.{◌≡◌}
-use Rattle.scj_tree.specs.Recursion.{listed}
-use Rattle.scj_rules.specs.Contexts.{declarations_of}
-use Rattle.scj_rules.specs.ScopeRules.{parent_scope}
-use Rattle.scope_tree.proofs.tables.parent_table.Given as goal
-
-abbrev pub invariant-loop-number : goal.invariant-loop-number
-invariant-loop-number l = l.table.items ≡ listed (parent_scope (declarations_of l.classes)) l.number
