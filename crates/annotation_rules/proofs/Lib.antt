@@ -1,3 +1,3 @@
-pub mod MethodLemmas
+pub mod BareLemmas
+pub mod NodeLemmas
 pub mod ParameterLemmas
-pub mod UnwrittenLemmas

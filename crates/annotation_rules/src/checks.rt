@@ -2,14 +2,14 @@
 
 ghost use Rattle.std.specs.Prelude.{◌≡◌, ◌++◌, Some, true, IfOk, OnOk, option_map, slice_get};
 ghost use Rattle.scj_tree.specs.Kinds.{kind_of};
-ghost use Rattle.scj_rules.specs.Words.{holds};
+ghost use Rattle.scj_rules.specs.Words.{found_at, holds};
 ghost use Rattle.class_rows.specs.Tables.{IsTableOf};
 ghost use Rattle.scope_tree.specs.Trees.{IsTreeOf};
 ghost use Rattle.scj_rules.specs.Contexts.{declarations_of};
-ghost use Rattle.scj_rules.specs.AnnotationRules.{scoped_declaration_at, a1, a2, a9, annotation_breaks};
+ghost use Rattle.scj_rules.specs.AnnotationRules.{a1, a2, annotation_breaks, scoped_declaration_at};
 ghost use Rattle.scj_rules.specs.Phases.{over_nodes, IsFound};
 ghost use Rattle.scj_rules.specs.Report.{IsReport};
-ghost use Rattle.annotation_rules.specs.Parts.{may_break, may_break_kind, is_bare, unknown_at, contradiction_at, unknown_of_class, other_of_class, found_at};
+ghost use Rattle.annotation_rules.specs.Parts.{may_break, is_bare};
 
 use crate::classes;
 use crate::fields::note_misfit;
@@ -17,42 +17,14 @@ use crate::methods::note_runs_in;
 use crate::things::{self, scoped_declaration_at};
 use class_rows::ClassTable;
 use node_contexts::Contexts;
-use scj_base::{ClassId, Found, Memory, NodeId, Pos};
+use scj_base::{Found, Memory, NodeId};
 use scj_rules::{ScopedDeclaration, put_in_order};
 use scj_tree::{Node, NodeKind, Program};
 use scope_tree::{ScopeTree, Scopes};
 use static_scopes::{Runs, Scoped};
 use std::alloc::Global;
 
-/// Notes A1 at a class.
-fn note_unknown_of_class(
-    found: &mut Vec<Found>,
-    scoped: &Scoped,
-    class: Option<ClassId>,
-) -> Result<(), Memory>
-    ensures { OnOk result (found.new.items ≡ found.old.items ++ unknown_of_class (declarations_of scoped.now) class) }
-{
-    match class {
-        Some(class) => classes::note_unknown(found, scoped, class),
-        None => Ok(()),
-    }
-}
-
-/// Notes A1 at a thing.
-fn note_unknown_at(
-    found: &mut Vec<Found>,
-    scoped: &Scoped,
-    thing: &Option<ScopedDeclaration>,
-) -> Result<(), Memory>
-    ensures { OnOk result (found.new.items ≡ found.old.items ++ unknown_at (declarations_of scoped.now) thing.now) }
-{
-    match thing {
-        Some(thing) => things::note_unknown(found, scoped, thing),
-        None => Ok(()),
-    }
-}
-
-/// Notes A1 at a node.
+/// Notes A1 at a node, which declares this thing, if any.
 #[tactic(auto, unfolding(scj_rules::specs::AnnotationRules::a1))]
 fn note_unknown(
     found: &mut Vec<Found>,
@@ -65,27 +37,11 @@ fn note_unknown(
     ensures { OnOk result (found.new.items ≡ found.old.items ++ a1 (declarations_of scoped.now) id node.now) }
 {
     match node {
-        Node::Class { name, .. } => {
-            let class = scoped.scopes().classes().class_of(name.get());
-            note_unknown_of_class(found, scoped, class)
-        }
-        _ => note_unknown_at(found, scoped, thing),
-    }
-}
-
-/// Notes A2 at a class that is named at a place.
-fn note_other_of_class(
-    found: &mut Vec<Found>,
-    scoped: &Scoped,
-    class: Option<ClassId>,
-    place: Pos,
-) -> Result<(), Memory>
-    ensures { OnOk result (found.new.items ≡ found.old.items
-        ++ other_of_class (declarations_of scoped.now) place class) }
-{
-    match class {
-        Some(class) => classes::note_other_scope(found, scoped, class, place),
-        None => Ok(()),
+        Node::Class { name, .. } => match scoped.scopes().classes().class_of(name.get()) {
+            Some(class) => classes::note_unknown(found, scoped, class),
+            None => Ok(()),
+        },
+        _ => things::note_unknown(found, scoped, thing),
     }
 }
 
@@ -101,36 +57,44 @@ fn note_other(
 {
     let _ = id;
     match node {
-        Node::Class { place, name, .. } => {
-            let class = scoped.scopes().classes().class_of(name.get());
-            note_other_of_class(found, scoped, class, *place)
-        }
+        Node::Class { place, name, .. } => match scoped.scopes().classes().class_of(name.get()) {
+            Some(class) => classes::note_other_scope(found, scoped, class, *place),
+            None => Ok(()),
+        },
         _ => Ok(()),
     }
 }
 
-/// Notes A9 at a node.
-#[tactic(auto, unfolding(scj_rules::specs::AnnotationRules::a9))]
-fn note_contradiction(
-    found: &mut Vec<Found>,
-    scoped: &Scoped,
-    id: NodeId,
-    node: &Node,
-    thing: &Option<ScopedDeclaration>,
-) -> Result<(), Memory>
-    requires { thing.now ≡ scoped_declaration_at (declarations_of scoped.now) id node.now }
-    ensures { OnOk result (found.new.items ≡ found.old.items ++ a9 (declarations_of scoped.now) id node.now) }
+/// Whether a node declares something before which nothing is written.
+#[tactic(auto, unfolding(crate::specs::Parts::is_bare))]
+fn is_bare(node: &Node) -> bool
+    ensures { result ≡ is_bare node.now }
 {
-    let _ = id;
-    let _ = node;
-    match thing {
-        Some(thing) => things::note_contradiction(found, scoped, thing),
-        None => Ok(()),
+    match node {
+        Node::Field { flags: None, .. } => true,
+        Node::Method { flags: None, .. } => true,
+        Node::Parameter { flags: None, .. } => true,
+        Node::Local { flags: None, .. } => true,
+        Node::LocalWithValue { flags: None, .. } => true,
+        _ => false,
     }
 }
 
-/// Notes what is broken at a declaration.
-#[tactic(auto, unfolding(scj_rules::specs::AnnotationRules::annotation_breaks))]
+/// Notes what is broken at a declaration before which nothing is written.
+#[tactic(auto, using(crate::proofs::BareLemmas::bare_breaks))]
+fn note_bare(found: &mut Vec<Found>, scoped: &Scoped, id: NodeId, node: &Node) -> Result<(), Memory>
+    requires there { slice_get (declarations_of scoped.now).nodes id ≡ Some node.now }
+    requires bare { true ≡ is_bare node.now }
+    ensures { OnOk result (found.new.items ≡ found.old.items
+        ++ annotation_breaks (declarations_of scoped.now) id node.now) }
+{
+    note_misfit(found, scoped, id, node)?;
+    note_runs_in(found, scoped, id, node)?;
+    Ok(())
+}
+
+/// Notes what is broken at a node.
+#[tactic(auto, unfolding(scj_rules::specs::AnnotationRules::annotation_breaks, scj_rules::specs::AnnotationRules::a9))]
 fn note_declaration(
     found: &mut Vec<Found>,
     scoped: &Scoped,
@@ -145,52 +109,11 @@ fn note_declaration(
     note_other(found, scoped, id, node)?;
     note_misfit(found, scoped, id, node)?;
     note_runs_in(found, scoped, id, node)?;
-    note_contradiction(found, scoped, id, node, &thing)?;
+    things::note_contradiction(found, scoped, &thing)?;
     Ok(())
 }
 
-/// Whether a rule on annotations may be broken at a node.
-#[tactic(auto, unfolding(crate::specs::Parts::may_break))]
-fn may_break(node: &Node) -> bool
-    ensures { result ≡ may_break node.now }
-{
-    match node {
-        Node::Class { .. } => true,
-        Node::Field { .. } => true,
-        Node::Method { .. } => true,
-        Node::Parameter { flags, .. } => flags.is_some(),
-        Node::Local { flags, .. } => flags.is_some(),
-        Node::LocalWithValue { flags, .. } => flags.is_some(),
-        _ => false,
-    }
-}
-
-/// Whether a node is a field or a method before which nothing is written.
-#[tactic(auto, unfolding(crate::specs::Parts::is_bare))]
-fn is_bare(node: &Node) -> bool
-    ensures { result ≡ is_bare node.now }
-{
-    match node {
-        Node::Field { flags: None, .. } => true,
-        Node::Method { flags: None, .. } => true,
-        _ => false,
-    }
-}
-
-/// Notes what is broken at a field or a method before which nothing is written.
-#[tactic(auto, using(crate::proofs::UnwrittenLemmas::bare_breaks))]
-fn note_bare(found: &mut Vec<Found>, scoped: &Scoped, id: NodeId, node: &Node) -> Result<(), Memory>
-    requires there { slice_get (declarations_of scoped.now).nodes id ≡ Some node.now }
-    requires bare { true ≡ is_bare node.now }
-    ensures { OnOk result (found.new.items ≡ found.old.items
-        ++ annotation_breaks (declarations_of scoped.now) id node.now) }
-{
-    note_misfit(found, scoped, id, node)?;
-    note_runs_in(found, scoped, id, node)?;
-    Ok(())
-}
-
-/// Notes what is broken at a node.
+/// The same, where a declaration before which nothing is written breaks few rules.
 fn note_annotation(
     found: &mut Vec<Found>,
     scoped: &Scoped,
@@ -201,9 +124,6 @@ fn note_annotation(
     ensures { OnOk result (found.new.items ≡ found.old.items
         ++ annotation_breaks (declarations_of scoped.now) id node.now) }
 {
-    if !may_break(node) {
-        return Ok(());
-    }
     if is_bare(node) {
         return note_bare(found, scoped, id, node);
     }
@@ -211,56 +131,49 @@ fn note_annotation(
 }
 
 /// Whether a rule on annotations may be broken at a node of this kind.
-#[tactic(auto, unfolding(crate::specs::Parts::may_break_kind))]
-fn may_break_kind(kind: NodeKind) -> bool
-    ensures { result ≡ may_break_kind kind }
+#[tactic(auto, unfolding(crate::specs::Parts::may_break))]
+fn may_break(kind: NodeKind) -> bool
+    ensures { result ≡ may_break kind }
 {
     match kind {
-        NodeKind::Class => true,
-        NodeKind::Field => true,
-        NodeKind::Method => true,
-        NodeKind::Parameter => true,
-        NodeKind::Local => true,
-        NodeKind::LocalWithValue => true,
+        NodeKind::Class
+        | NodeKind::Field
+        | NodeKind::Method
+        | NodeKind::Parameter
+        | NodeKind::Local
+        | NodeKind::LocalWithValue => true,
         _ => false,
     }
 }
 
 /// Whether a rule on annotations may be broken at the node of a number, as its kind tells.
 fn may_break_at(program: &Program, id: NodeId) -> bool
-    ensures { result ≡ holds (option_map kind_of (slice_get program.now.nodes id)) may_break_kind }
+    ensures { result ≡ holds (option_map kind_of (slice_get program.now.nodes id)) may_break }
 {
     match program.kind(id) {
-        Some(kind) => may_break_kind(kind),
+        Some(kind) => may_break(kind),
         None => false,
     }
 }
 
-/// Notes what is broken at the node of a number, by a look at it.
-#[tactic(auto, unfolding(crate::specs::Parts::found_at, scj_rules::specs::Contexts::declarations_of))]
-fn note_looked_at(found: &mut Vec<Found>, scoped: &Scoped, id: NodeId) -> Result<(), Memory>
-    ensures { OnOk result (found.new.items ≡ found.old.items ++ found_at (declarations_of scoped.now) id) }
+/// Notes what is broken at the node of a number. Nodes of most kinds break nothing, and aren't looked at.
+#[tactic(auto, unfolding(scj_rules::specs::Contexts::declarations_of))]
+fn note_node(found: &mut Vec<Found>, scoped: &Scoped, id: NodeId) -> Result<(), Memory>
+    ensures { let p = declarations_of scoped.now in
+        OnOk result (found.new.items ≡ found.old.items ++ found_at (slice_get p.nodes id) (annotation_breaks p id)) }
 {
+    if !may_break_at(scoped.program(), id) {
+        return Ok(());
+    }
     match scoped.program().get(id) {
         Some(node) => note_annotation(found, scoped, id, node),
         None => Ok(()),
     }
 }
 
-/// Notes what is broken at the node of a number. Nodes of most kinds break nothing, and aren't looked at.
-#[tactic(auto, using(crate::proofs::UnwrittenLemmas::nothing_of_kind))]
-fn note_node(found: &mut Vec<Found>, scoped: &Scoped, id: NodeId) -> Result<(), Memory>
-    ensures { OnOk result (found.new.items ≡ found.old.items ++ found_at (declarations_of scoped.now) id) }
-{
-    if !may_break_at(scoped.program(), id) {
-        return Ok(());
-    }
-    note_looked_at(found, scoped, id)
-}
-
 /// Notes what is broken at the nodes of a program.
-#[tactic(auto, using(crate::proofs::MethodLemmas::nodes_joined), unfolding(scj_tree::specs::Recursion::joined_below))]
-pub fn note_annotations(found: &mut Vec<Found>, scoped: &Scoped) -> Result<(), Memory>
+#[tactic(auto, using(crate::proofs::NodeLemmas::nodes_joined), unfolding(scj_tree::specs::Recursion::joined_below))]
+fn note_annotations(found: &mut Vec<Found>, scoped: &Scoped) -> Result<(), Memory>
     ensures { OnOk result (found.new.items ≡ found.old.items
         ++ over_nodes (declarations_of scoped.now) (annotation_breaks (declarations_of scoped.now))) }
 {

@@ -1,12 +1,11 @@
 //! A1 and A2 of classes.
 
-ghost use Rattle.std.specs.Prelude.{◌≡◌, ◌++◌, Some, OnOk};
-ghost use Rattle.scj_base.specs.declared.findings.Rule.TheVariants.{A1, A2};
+ghost use Rattle.std.specs.Prelude.{◌≡◌, ◌++◌, OnOk};
+ghost use Rattle.scj_base.specs.declared.findings.Rule.TheVariants.{A2};
 ghost use Rattle.scj_rules.specs.Words.{broken};
 ghost use Rattle.scj_rules.specs.Contexts.{declarations_of};
 ghost use Rattle.scj_rules.specs.ScopeRules.{scope_written_in};
-ghost use Rattle.scj_rules.specs.StaticScopes.{has_unknown_scope, differs_from_above, is_implied_immortal};
-ghost use Rattle.scj_rules.specs.AnnotationRules.{broken_value, scope_above, a2_place};
+ghost use Rattle.scj_rules.specs.AnnotationRules.{a1_of_class, scope_above, has_other_scope, a2_place};
 
 use scj_base::{ClassId, Found, Memory, Pos, Rule};
 use scj_rules::{ClassScope, Written, report_if};
@@ -15,8 +14,7 @@ use static_scopes::Scoped;
 /// Notes A1 at the value that is written at a class.
 pub fn note_unknown(found: &mut Vec<Found>, scoped: &Scoped, class: ClassId) -> Result<(), Memory>
     ensures { OnOk result (found.new.items ≡ found.old.items
-        ++ broken_value (scope_written_in (declarations_of scoped.now) class)
-        (λ w. has_unknown_scope (declarations_of scoped.now) (Some w)) A1) }
+        ++ a1_of_class (declarations_of scoped.now) class) }
 {
     let scopes = scoped.scopes();
     let written = scopes.scope_written_in(class);
@@ -57,8 +55,7 @@ pub fn note_other_scope(
     place: Pos,
 ) -> Result<(), Memory>
     ensures { OnOk result (found.new.items ≡ found.old.items
-        ++ broken (differs_from_above (declarations_of scoped.now) (scope_written_in (declarations_of scoped.now) class)
-        (scope_above (declarations_of scoped.now) class) (is_implied_immortal (declarations_of scoped.now) class)) A2
+        ++ broken (has_other_scope (declarations_of scoped.now) class) A2
         (a2_place place (scope_written_in (declarations_of scoped.now) class))) }
 {
     let scopes = scoped.scopes();

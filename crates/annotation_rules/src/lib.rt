@@ -8,4 +8,4 @@ mod methods;
 mod overrides;
 mod things;
 
-pub use checks::{check_annotations, check_scoped_annotations, note_annotations};
+pub use checks::{check_annotations, check_scoped_annotations};

@@ -1,16 +1,13 @@
 //! Whether a method has other scopes than the one that it overrides.
 
-ghost use Rattle.std.specs.Prelude.{◌≡◌, ◌&&◌, option_map};
+ghost use Rattle.std.specs.Prelude.{◌≡◌};
 ghost use Rattle.method_rows.specs.Methods.{found_method};
-ghost use Rattle.scj_rules.specs.Words.{holds};
-ghost use Rattle.scj_rules.specs.Classes.{FoundMethod, is_user_class, method_above};
 ghost use Rattle.scj_rules.specs.Contexts.{declarations_of};
-ghost use Rattle.scj_rules.specs.AnnotationRules.{seen_in, differ, result_scope, scopes_differ};
-ghost use Rattle.scj_rules.specs.StaticScopes.{runs_in};
+ghost use Rattle.scj_rules.specs.AnnotationRules.{seen_in, differ, runs_in_differs, result_differs, scopes_differ, misfits_above, overrides_scopes};
 ghost use Rattle.annotation_rules.specs.Overrides.{parameter_differs, differs_at, parameters_from};
 
 use method_rows::{MethodRef, parameter, parameter_count};
-use scj_base::{ClassId, Name};
+use scj_base::ClassId;
 use scj_builtins::FRAMEWORK_CLASS_COUNT;
 use scj_rules::{Declared, Scope};
 use static_scopes::{Scoped, are_same_scope};
@@ -101,9 +98,8 @@ fn parameters_differ(scoped: &Scoped, method: &MethodRef, above: &MethodRef) -> 
 
 /// Whether a method runs in another scope than the one above.
 fn runs_elsewhere(scoped: &Scoped, method: &MethodRef, above: &MethodRef) -> bool
-    ensures { let p = declarations_of scoped.now in let f = found_method scoped.now.nodes method.now in
-        let g = found_method scoped.now.nodes above.now in
-        result ≡ differ (runs_in p f.on f.method) (seen_in p f.on (runs_in p g.on g.method)) }
+    ensures { let f = found_method scoped.now.nodes method.now in let g = found_method scoped.now.nodes above.now in
+        result ≡ runs_in_differs (declarations_of scoped.now) f.on f.method g.on g.method }
 {
     let other = scoped.runs_in(above);
     let own = scoped.runs_in(method);
@@ -112,9 +108,8 @@ fn runs_elsewhere(scoped: &Scoped, method: &MethodRef, above: &MethodRef) -> boo
 
 /// Whether a method's result has another scope than the one above.
 fn result_differs(scoped: &Scoped, method: &MethodRef, above: &MethodRef) -> bool
-    ensures { let p = declarations_of scoped.now in let f = found_method scoped.now.nodes method.now in
-        let g = found_method scoped.now.nodes above.now in
-        result ≡ differ (result_scope p f.on f.method) (seen_in p f.on (result_scope p g.on g.method)) }
+    ensures { let f = found_method scoped.now.nodes method.now in let g = found_method scoped.now.nodes above.now in
+        result ≡ result_differs (declarations_of scoped.now) f.on f.method g.on g.method }
 {
     let other = scoped.result_scope(above);
     let own = scoped.result_scope(method);
@@ -131,32 +126,26 @@ fn scopes_differ(scoped: &Scoped, method: &MethodRef, above: &MethodRef) -> bool
         || (parameters_differ(scoped, method, above) || result_differs(scoped, method, above))
 }
 
-/// The method of a name above a method's class.
-fn method_above(scoped: &Scoped, method: &MethodRef, name: &Name) -> Option<MethodRef>
-    ensures { option_map (found_method scoped.now.nodes) result ≡ method_above (declarations_of scoped.now).classes
-        (found_method scoped.now.nodes method.now).on name.now }
-{
-    let class = class_of(scoped, method);
-    scoped.scopes().classes().method_above(class, name)
-}
-
 /// Whether the method above is a user class's and has other scopes.
 fn misfits_above(scoped: &Scoped, method: &MethodRef, above: &MethodRef) -> bool
-    ensures { let p = declarations_of scoped.now in let f = found_method scoped.now.nodes method.now in
-        let g = found_method scoped.now.nodes above.now in
-        result ≡ (is_user_class g.on && scopes_differ p f.on f.method g.on g.method) }
+    ensures { let f = found_method scoped.now.nodes method.now in let g = found_method scoped.now.nodes above.now in
+        result ≡ misfits_above (declarations_of scoped.now) f.on f.method g }
 {
     class_of(scoped, above).number() >= FRAMEWORK_CLASS_COUNT
         && scopes_differ(scoped, method, above)
 }
 
-/// Whether a method has other scopes than the one of a user class that it overrides.
-pub fn overrides_scopes(scoped: &Scoped, method: &MethodRef, name: &Name) -> bool
-    ensures { let p = declarations_of scoped.now in let f = found_method scoped.now.nodes method.now in
-        result ≡ holds (method_above p.classes f.on name.now) (λ (g : FoundMethod). is_user_class g.on
-        && scopes_differ p f.on f.method g.on g.method) }
+/// Whether a method that isn't static has other scopes than the one of a user class that it overrides.
+pub fn overrides_scopes(scoped: &Scoped, method: &MethodRef) -> bool
+    ensures { let f = found_method scoped.now.nodes method.now in
+        result ≡ overrides_scopes (declarations_of scoped.now) f.on f.method }
 {
-    match &method_above(scoped, method, name) {
+    if method_rows::is_static(scoped.program(), method) {
+        return false;
+    }
+    let name = method_rows::name(scoped.program(), method);
+    let class = class_of(scoped, method);
+    match &scoped.scopes().classes().method_above(class, &name) {
         Some(above) => misfits_above(scoped, method, above),
         None => false,
     }

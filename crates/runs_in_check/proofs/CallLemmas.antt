@@ -1,74 +1,100 @@
--- Calls by their parts.
-use Rattle.std.proofs.Common.{◌≡◌, ◌++◌, ℕ, List, true, false, Option, None, Some, is_some, option_and_then, unwrap_or, refl, sym, ap}
-use Rattle.std.proofs.lemmas.Bool.{true≢false}
+-- Calls and assignments by their parts.
+use Rattle.std.proofs.Common.{◌≡◌, ◌++◌, ℕ, Bool, true, false, List, [], ◌∷◌, Option, None, Some, option_and_then, append_assoc, refl, sym, ap, ◌∙◌, true≢false}
 use Rattle.scj_base.specs.declared.findings.Found.{Found}
+use Rattle.scj_base.specs.declared.findings.Rule.{Rule}
 use Rattle.scj_base.specs.declared.findings.Rule.TheVariants.{E2}
 use Rattle.scj_base.specs.declared.places.Pos.{Pos}
-use Rattle.scj_tree.specs.Forest.{Forest}
-use Rattle.scj_rules.specs.Words.{broken}
-use Rattle.scj_rules.specs.Views.{DeclaredMethod, method_at}
-use Rattle.scj_rules.specs.AnnotationRules.{result_scope}
-use Rattle.scj_rules.specs.Contexts.{declarations_of}
-use Rattle.scj_rules.specs.UseRules.{Scopes, current_at, receiver_scope, e3_of_call}
+use Rattle.scj_tree.specs.declared.nodes.Node.TheVariants.{Call}
+use Rattle.scj_rules.specs.declared.typing.Scope.{Scope}
+use Rattle.scj_rules.specs.Words.{broken, found_at, holds}
+use Rattle.scj_rules.specs.Classes.{FoundMethod}
+use Rattle.scj_rules.specs.Types.{constructor_parameters}
+use Rattle.scj_rules.specs.StaticScopes.{this_in}
+use Rattle.scj_rules.specs.UseRules.{current_at, receiver_scope, method_called, of_user, misfits_runs_in, misfit_arguments, called_user_method, called_builtin, misfits_call, e3_of_call, e3_of_constructor, e1, e2, e3, e4_and_e5, e6, e7, e8, e9, e10, use_breaks}
 use Rattle.method_rows.specs.declared.refs.MethodRef.{MethodRef}
-use Rattle.method_rows.specs.declared.refs.MethodSource.TheVariants.{Declared as declared_source}
-use Rattle.method_rows.specs.Methods.{found_method, method_from, no_method}
+use Rattle.method_rows.specs.Methods.{found_method}
+use Rattle.type_rules.specs.declared.arguments.Takes.{Takes}
+use Rattle.type_rules.specs.Parameters.{taken}
 use Rattle.runs_in_check.specs.declared.arguments.Callee.{Callee}
-use Rattle.runs_in_check.specs.declared.arguments.Called.TheVariants.{Method}
-use Rattle.runs_in_check.specs.Callees.{parameters_of, declared_scope, arguments_breaks}
-use Rattle.runs_in_check.specs.Parts.{misfits_call, user_call_breaks}
+use Rattle.runs_in_check.specs.declared.uses.At.{At}
+use Rattle.runs_in_check.specs.Callees.{seen_scope, callee_at, entry_breaks}
+use Rattle.runs_in_check.specs.Told.{declared, types, scopes}
 
--- a user's method, as its caller sees it
-abbrev pub callee_at : Forest → Scopes → ℕ → Option ℕ → MethodRef → Callee
-callee_at forest scopes id object m =
-    record {
-      called = Method m;
-      object = receiver_scope (declarations_of forest) scopes id object;
-      current = current_at
-          (declarations_of forest) id;
-    }
+-- an assignment of a value that fits breaks nothing
+pub right_assign : (test : Bool) (o : Option Rule) (place : Pos) → false ≡ test →
+    found_at o (λ rule. broken test rule place) ≡ []
+right_assign test None place h = refl
+right_assign true (Some rule) place h = absurd (true≢false (sym h))
+right_assign false (Some rule) place h = refl
 
-pub method_arguments : (forest : Forest) (scopes : Scopes) (id : ℕ) (object : Option ℕ) (m : MethodRef)
-    (arguments : List ℕ)
-    → arguments_breaks forest scopes (callee_at forest scopes id object m) arguments
-    ≡ e3_of_call (declarations_of forest) scopes (receiver_scope (declarations_of forest) scopes id object)
-    (current_at (declarations_of forest) id) arguments (found_method forest.nodes m)
-unfolding parameters_of declared_scope e3_of_call
-method_arguments forest scopes id object m arguments = refl
+pub user_call : (at : At) (callee : Callee) (place : Pos) (object : Option ℕ) (m : MethodRef) (arguments : List ℕ) →
+    callee ≡ callee_at at object m
+    → broken (holds callee.runs_in (misfits_runs_in (declared at) at.id callee.object)) E2 place
+    ++ misfit_arguments (declared at) (scopes at) (seen_scope (declared at) callee)
+    (taken at.uses.now.nodes callee.takes) arguments
+    ≡ broken (misfits_call (declared at) (scopes at) at.id object (found_method at.uses.now.nodes m)) E2 place
+    ++ e3_of_call (declared at) (scopes at) (receiver_scope (declared at) (scopes at) at.id object)
+    (current_at (declared at) at.id) arguments (found_method at.uses.now.nodes m)
+unfolding e3_of_call taken
+user_call at callee place object m arguments e = rw e refl
 
-pub user_call_is : (forest : Forest) (scopes : Scopes) (id : ℕ) (place : Pos) (object : Option ℕ) (m : MethodRef)
-    (arguments : List ℕ)
-    → broken (misfits_call (declarations_of forest) scopes id object (found_method forest.nodes m)) E2 place
-    ++ arguments_breaks forest scopes (callee_at forest scopes id object m) arguments
-    ≡ user_call_breaks (declarations_of forest) scopes id place object arguments (found_method forest.nodes m)
-unfolding user_call_breaks
-user_call_is forest scopes id place object m arguments =
-    ap (λ (fs : List Found). broken
-    (misfits_call (declarations_of forest) scopes id object (found_method forest.nodes m)) E2 place ++ fs)
-    (method_arguments forest scopes id object m arguments)
+pub constructor_call : (at : At) (takes : Takes) (this object : Option Scope) (arguments : List ℕ) (class : ℕ) →
+    taken at.uses.now.nodes takes ≡ constructor_parameters (declared at).classes class → this ≡ this_in (declared at) class
+    → misfit_arguments (declared at) (scopes at)
+    (seen_scope (declared at) (record {
+      takes = takes;
+      class = class;
+      runs_in = this;
+      is_static = false;
+      object = object;
+      current = object;
+    })) (taken at.uses.now.nodes takes) arguments
+    ≡ e3_of_constructor (declared at) (scopes at) object arguments class
+unfolding e3_of_constructor
+constructor_call at takes this object arguments class e h = rw (e, h) refl
 
--- the result of the method at a node
-pub result_of_method : (forest : Forest) (class member : ℕ) → is_some (method_at forest.nodes member) ≡ true
-    → result_scope (declarations_of forest) class
-    (found_method forest.nodes (record { on = class; source = declared_source member })).method
-    ≡ option_and_then (λ (m : DeclaredMethod). result_scope (declarations_of forest) class m)
-    (method_at (declarations_of forest).nodes member)
-unfolding found_method method_from declarations_of
-result_of_method forest class member h = go (method_at forest.nodes member) h
+at_call : (at : At) (place : Pos) (name : List ℕ) (object : Option ℕ) (arguments : List ℕ)
+    → use_breaks (declared at) (types at) (scopes at) at.id (Call place name object arguments)
+    ≡ broken (holds (called_user_method (declared at) (types at) at.id object name)
+    (misfits_call (declared at) (scopes at) at.id object)) E2 place
+    ++ (found_at (called_user_method (declared at) (types at) at.id object name)
+    (e3_of_call (declared at) (scopes at) (receiver_scope (declared at) (scopes at) at.id object)
+    (current_at (declared at) at.id) arguments)
+    ++ entry_breaks (declared at) (types at) (scopes at) at.id place
+    (called_builtin (declared at) (types at) at.id object name) arguments)
+unfolding use_breaks e1 e2 e3 e4_and_e5 e6 e7 e8 e9 e10 entry_breaks
+at_call at place name object [] = refl
+at_call at place name object (o ∷ []) = refl
+at_call at place name object (o ∷ r ∷ []) = refl
+at_call at place name object (o ∷ r ∷ x ∷ xs) = refl
+
+-- what is noted of a method, and then of its number, is what is broken at a call
+pub call_parts : (at : At) (place : Pos) (name : List ℕ) (object : Option ℕ) (arguments : List ℕ)
+    (old middle new : List Found) (method : Option FoundMethod) (number : Option ℕ)
+    → method ≡ method_called (declared at) (types at) at.id object name
+    → number ≡ option_and_then (λ (f : FoundMethod). f.method.builtin) method
+    → middle ≡ old ++ (broken (holds (of_user method) (misfits_call (declared at) (scopes at) at.id object)) E2 place
+    ++ found_at (of_user method) (e3_of_call (declared at) (scopes at)
+    (receiver_scope (declared at) (scopes at) at.id object) (current_at (declared at) at.id) arguments))
+    → new ≡ middle ++ entry_breaks (declared at) (types at) (scopes at) at.id place number arguments
+    → new ≡ old ++ use_breaks (declared at) (types at) (scopes at) at.id (Call place name object arguments)
+call_parts at place name object arguments old middle new method number m n u e =
+    e ∙ ap (λ (fs : List Found). fs ++ entries number) u
+    ∙ ap (λ (k : Option ℕ). (old ++ (wrong method ++ misfits method)) ++ entries k) n
+    ∙ append_assoc old (wrong method ++ misfits method) (entries (number_of method))
+    ∙ ap (λ (fs : List Found). old ++ fs) (append_assoc (wrong method) (misfits method) (entries (number_of method))
+    ∙ ap (λ (o : Option FoundMethod). wrong o ++ (misfits o ++ entries (number_of o))) m
+    ∙ sym (at_call at place name object arguments))
   where
-    go : (o : Option DeclaredMethod) → is_some o ≡ true →
-        result_scope (declarations_of forest) class (unwrap_or o no_method) ≡ option_and_then
-        (λ (m : DeclaredMethod). result_scope (declarations_of forest) class m) o
-    go None h = absurd (true≢false (sym h))
-    go (Some m) h = refl
+    number_of : Option FoundMethod → Option ℕ
+    number_of o = option_and_then (λ (f : FoundMethod). f.method.builtin) o
 
-pub result_of_none : (forest : Forest) (class member : ℕ) → is_some (method_at forest.nodes member) ≡ false
-    → option_and_then (λ (m : DeclaredMethod). result_scope (declarations_of forest) class m)
-    (method_at (declarations_of forest).nodes member) ≡ None
-unfolding declarations_of
-result_of_none forest class member h = go (method_at forest.nodes member) h
-  where
-    go : (o : Option DeclaredMethod) → is_some o ≡ false →
-        option_and_then (λ (m : DeclaredMethod). result_scope (declarations_of forest) class m) o ≡ None
-    go None h = refl
-    go (Some m) h = absurd (true≢false h)
+    wrong : Option FoundMethod → List Found
+    wrong o = broken (holds (of_user o) (misfits_call (declared at) (scopes at) at.id object)) E2 place
+
+    misfits : Option FoundMethod → List Found
+    misfits o = found_at (of_user o) (e3_of_call (declared at) (scopes at)
+        (receiver_scope (declared at) (scopes at) at.id object) (current_at (declared at) at.id) arguments)
+
+    entries : Option ℕ → List Found
+    entries k = entry_breaks (declared at) (types at) (scopes at) at.id place k arguments

@@ -1,5 +1,4 @@
 pub mod ArgumentLemmas
-pub mod BreakLemmas
 pub mod CallLemmas
-pub mod PhaseLemmas
+pub mod KindLemmas
 pub mod PlainLemmas

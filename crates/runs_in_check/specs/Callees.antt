@@ -1,49 +1,55 @@
 -- What a call asks of its arguments, as the caller sees it.
-use Rattle.std.specs.Prelude.{ℕ, Bool, false, List, Option, Some, None, option_and_then}
+use Rattle.std.specs.Prelude.{ℕ, Bool, List, [], ◌∷◌, ◌++◌, Option}
 use Rattle.scj_base.specs.declared.findings.Found.{Found}
-use Rattle.scj_base.specs.declared.findings.Rule.TheVariants.{E3}
-use Rattle.scj_tree.specs.Forest.{Forest}
+use Rattle.scj_base.specs.declared.findings.Rule.TheVariants.{E3, E7, E8}
+use Rattle.scj_base.specs.declared.places.Pos.{Pos}
 use Rattle.scj_rules.specs.declared.typing.Scope.{Scope}
 use Rattle.scj_rules.specs.declared.views.Declared.{Declared}
-use Rattle.scj_rules.specs.Words.{broken}
+use Rattle.scj_rules.specs.Words.{broken, holds, ◌>>=◌}
 use Rattle.scj_rules.specs.Views.{place_at}
-use Rattle.scj_rules.specs.Contexts.{declarations_of}
-use Rattle.scj_rules.specs.Types.{constructor_parameters}
-use Rattle.scj_rules.specs.StaticScopes.{substitute, parameter_scope, constructor_parameter_scope}
-use Rattle.scj_rules.specs.UseRules.{Scopes, misfit_scope, misfit_arguments}
+use Rattle.scj_rules.specs.Contexts.{Declarations}
+use Rattle.scj_rules.specs.StaticScopes.{declaration_scope, runs_in, scoped_variable, substitute}
+use Rattle.scj_rules.specs.TypeRules.{Types}
+use Rattle.scj_rules.specs.UseRules.{Scopes, current_at, receiver_scope, misfit_scope, enters_wrong, executes_wrong}
+use Rattle.method_rows.specs.declared.refs.MethodRef.{MethodRef}
 use Rattle.method_rows.specs.Methods.{found_method}
-use Rattle.runs_in_check.specs.declared.arguments.Called.{Called}
-use Rattle.runs_in_check.specs.declared.arguments.Called.TheVariants.{Method, Constructor}
+use Rattle.type_rules.specs.declared.arguments.Takes.TheVariants.{Method}
 use Rattle.runs_in_check.specs.declared.arguments.Callee.{Callee}
-
--- the parameters of what is called
-unfoldable pub parameters_of : Forest → Called → List Declared
-parameters_of forest (Method m) = (found_method forest.nodes m).method.parameters
-parameters_of forest (Constructor class) = constructor_parameters (declarations_of forest).classes class
-
--- the scope of a parameter where it is declared
-unfoldable pub declared_scope : Forest → Called → Declared → Option Scope
-declared_scope forest (Method m) d = parameter_scope (declarations_of forest) (found_method forest.nodes m).on
-    (found_method forest.nodes m).method d
-declared_scope forest (Constructor class) d = constructor_parameter_scope (declarations_of forest) class d
+use Rattle.runs_in_check.specs.declared.uses.At.{At}
+use Rattle.runs_in_check.specs.Told.{declared, scopes}
 
 -- the scope of a parameter as the caller sees it
-abbrev pub seen_scope : Forest → Callee → Declared → Option Scope
-seen_scope forest callee d =
-    option_and_then (substitute callee.object callee.current) (declared_scope forest callee.called d)
+abbrev pub seen_scope : Declarations → Callee → Declared → Option Scope
+seen_scope p callee d =
+    declaration_scope p (scoped_variable callee.class callee.runs_in callee.is_static d)
+    >>= substitute callee.object callee.current
+
+-- a user's method as its caller sees it
+abbrev pub callee_at : At → Option ℕ → MethodRef → Callee
+callee_at at object m =
+    let p = declared at in
+    let f = found_method at.uses.now.nodes m in
+    record {
+      takes = Method m;
+      class = f.on;
+      runs_in = runs_in p f.on f.method;
+      is_static = f.method.declared.modifiers.is_static;
+      object = receiver_scope p (scopes at) at.id object;
+      current = current_at p at.id;
+    }
 
 -- a value of a scope doesn't fit a parameter, if there is one
-unfoldable pub misfits_parameter : (Declared → Option Scope) → Option Declared → Option Scope → Bool
-misfits_parameter seen None value = false
-misfits_parameter seen (Some d) value = misfit_scope value (seen d)
+abbrev pub misfits_parameter : (Declared → Option Scope) → Option Declared → Option Scope → Bool
+misfits_parameter seen parameter value = holds parameter (λ (d : Declared). misfit_scope value (seen d))
 
 -- E3 of an argument, where there is a parameter for it
-abbrev pub argument_breaks : Forest → Scopes → (Declared → Option Scope) → Option Declared → ℕ → List Found
-argument_breaks forest scopes seen o argument =
-    broken (misfits_parameter seen o (scopes argument)) E3 (place_at forest.nodes argument)
+abbrev pub argument_breaks : Declarations → Scopes → (Declared → Option Scope) → Option Declared → ℕ → List Found
+argument_breaks p scopes seen parameter argument =
+    broken (misfits_parameter seen parameter (scopes argument)) E3 (place_at p.nodes argument)
 
--- E3 of all arguments
-abbrev pub arguments_breaks : Forest → Scopes → Callee → List ℕ → List Found
-arguments_breaks forest scopes callee arguments =
-    misfit_arguments (declarations_of forest) scopes (seen_scope forest callee) (parameters_of forest callee.called)
-    arguments
+-- E7 and E8 of a call of the framework's method of a number, if it has one
+unfoldable pub entry_breaks : Declarations → Types → Scopes → ℕ → Pos → Option ℕ → List ℕ → List Found
+entry_breaks p types scopes id place builtin (o ∷ r ∷ []) =
+    broken (holds builtin (λ number. enters_wrong p types id number r)) E7 place
+    ++ (broken (holds builtin (λ number. executes_wrong p types scopes number o r)) E8 place ++ [])
+entry_breaks p types scopes id place builtin _ = []

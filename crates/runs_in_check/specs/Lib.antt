@@ -1,4 +1,3 @@
 pub mod Callees
-pub mod Parts
 pub mod Phase
-pub mod Plain
+pub mod Told

@@ -1,30 +1,28 @@
-//! The checks on uses, and the report of their phase.
+//! The checks on uses.
 
-ghost use Rattle.std.specs.Prelude.{◌≡◌, ◌↔◌, ◌++◌, None, IfOk, OnOk, option_map, slice_get};
-ghost use Rattle.std.specs.List.{Contains};
-ghost use Rattle.scj_base.specs.declared.findings.Found.{Found as Finding};
+ghost use Rattle.std.specs.Prelude.{◌≡◌, ◌++◌, None, IfOk, OnOk, option_map, slice_get};
 ghost use Rattle.scj_tree.specs.Kinds.{kind_of};
 ghost use Rattle.scj_tree.specs.Recursion.{lookup};
 ghost use Rattle.class_rows.specs.Tables.{IsTableOf};
 ghost use Rattle.scope_tree.specs.Trees.{IsTreeOf};
 ghost use Rattle.scj_rules.specs.Contexts.{declarations_of};
-ghost use Rattle.scj_rules.specs.Report.{IsReport};
 ghost use Rattle.scj_rules.specs.Words.{holds};
 ghost use Rattle.scj_rules.specs.TypeRules.{types_in};
 ghost use Rattle.scj_rules.specs.UseRules.{use_breaks};
-ghost use Rattle.scj_rules.specs.Phases.{over_nodes, BreaksUseRules};
-ghost use Rattle.runs_in_check.specs.Phase.{at_node, may_break, broken_uses, broken_annotations, AreInOrder};
+ghost use Rattle.scj_rules.specs.Phases.{over_nodes};
+ghost use Rattle.runs_in_check.specs.Phase.{may_break, breaks_at, broken_uses, AreInOrder};
+ghost use Rattle.runs_in_check.specs.Told.{declared, types, scopes};
 
 use crate::breaks::note_uses;
 use crate::scopes::scopes_of;
-use crate::uses::Uses;
+use crate::uses::{At, Uses};
 use class_rows::{ClassTable, Classes};
 use node_contexts::Contexts;
 use scj_base::{Found, Memory, NodeId};
 use scj_rules::{Scope, Ty, put_in_order};
 use scj_tree::{NodeKind, Program};
 use scope_tree::{ScopeTree, Scopes};
-use static_scopes::{Runs, Scoped};
+use static_scopes::{Runs, Scoped, variables_of};
 use std::alloc::Global;
 use type_rules::Known;
 use type_words::returning;
@@ -35,84 +33,65 @@ fn may_break(kind: NodeKind) -> bool
     ensures { result ≡ may_break kind }
 {
     match kind {
-        NodeKind::SuperCall => true,
-        NodeKind::LocalWithValue => true,
-        NodeKind::Assign => true,
-        NodeKind::Return => true,
-        NodeKind::Cast => true,
-        NodeKind::Call => true,
-        NodeKind::New => true,
-        NodeKind::NewArray => true,
+        NodeKind::SuperCall
+        | NodeKind::LocalWithValue
+        | NodeKind::Assign
+        | NodeKind::Return
+        | NodeKind::Cast
+        | NodeKind::Call
+        | NodeKind::New
+        | NodeKind::NewArray => true,
         _ => false,
     }
 }
 
-/// Whether a rule on uses may be broken at the node of a number, as its kind tells.
-fn may_break_at(uses: &Uses<'_>, id: NodeId) -> bool
-    ensures { result ≡ holds (option_map kind_of (slice_get uses.now.nodes id)) may_break }
+/// Whether a rule on uses may be broken at the node, as its kind tells.
+fn may_break_at(at: &At<'_>) -> bool
+    ensures { result ≡ holds (option_map kind_of (slice_get at.now.uses.now.nodes at.now.id)) may_break }
 {
-    match uses.program().kind(id) {
+    match at.uses.program().kind(at.id) {
         Some(kind) => may_break(kind),
         None => false,
     }
 }
 
-/// Notes what is broken at the node of a number, by a look at it.
-fn note_looked_at(
-    found: &mut Vec<Found>,
-    uses: &Uses<'_>,
-    types: &[Option<Ty>],
-    scopes: &[Option<Scope>],
-    id: NodeId,
-) -> Result<(), Memory>
-    ensures { let p = declarations_of uses.now in
-        OnOk result (found.new.items ≡ found.old.items
-        ++ at_node p (use_breaks p (lookup None types.now) (lookup None scopes.now)) id) }
+/// Notes what is broken at the node. Nodes of most kinds break nothing, and aren't looked at.
+#[tactic(auto, unfolding(scj_rules::specs::Contexts::declarations_of))]
+fn note_node(found: &mut Vec<Found>, at: &At<'_>) -> Result<(), Memory>
+    ensures { OnOk result (found.new.items ≡ found.old.items
+        ++ breaks_at (declared at.now) (types at.now) (scopes at.now) at.now.id) }
 {
-    match uses.node(id) {
-        Some(node) => {
-            note_uses(found, uses, types, scopes, id, node)?;
-            Ok(())
-        }
+    if !may_break_at(at) {
+        return Ok(());
+    }
+    match at.uses.program().get(at.id) {
+        Some(node) => note_uses(found, at, node),
         None => Ok(()),
     }
 }
 
-/// Notes what is broken at the node of a number. Nodes of most kinds break nothing, and aren't looked at.
-fn note_node(
-    found: &mut Vec<Found>,
-    uses: &Uses<'_>,
-    types: &[Option<Ty>],
-    scopes: &[Option<Scope>],
-    id: NodeId,
-) -> Result<(), Memory>
-    ensures { let p = declarations_of uses.now in
-        OnOk result (found.new.items ≡ found.old.items
-        ++ at_node p (use_breaks p (lookup None types.now) (lookup None scopes.now)) id) }
-{
-    if !may_break_at(uses, id) {
-        return Ok(());
-    }
-    note_looked_at(found, uses, types, scopes, id)?;
-    Ok(())
-}
-
 /// What is broken at the nodes, one behind the other.
-fn found_at_nodes(
+#[tactic(auto, using(crate::proofs::KindLemmas::nodes_joined), unfolding(scj_tree::specs::Recursion::joined_below))]
+fn found_at_nodes<'a>(
     alloc: Global,
-    uses: &Uses<'_>,
-    types: &[Option<Ty>],
-    scopes: &[Option<Scope>],
+    uses: &'a Uses<'a>,
+    types: &'a [Option<Ty>],
+    scopes: &'a [Option<Scope>],
 ) -> Result<Vec<Found>, Memory>
     ensures { let p = declarations_of uses.now in
         IfOk result
         (λ found. found.items ≡ over_nodes p (use_breaks p (lookup None types.now) (lookup None scopes.now))) }
 {
-    let program = uses.program();
     let mut found = Vec::new(alloc);
-    for place in 0..program.len() {
+    for place in 0..uses.program().len() {
         let id = NodeId::at(place as u32);
-        note_node(&mut found, uses, types, scopes, id)?;
+        let at = At {
+            uses,
+            types,
+            scopes,
+            id,
+        };
+        note_node(&mut found, &at)?;
     }
     Ok(found)
 }
@@ -163,26 +142,8 @@ pub fn check_scopes(
     let runs = Runs::of(alloc, &scopes, &contexts)?;
     let known = Known::new(Classes::new(program, table), &contexts, &returns);
     let scoped = Scoped::new(scopes, &contexts, &runs);
-    let uses = Uses::new(known, scoped);
+    let variables = variables_of(alloc, &scoped)?;
+    let uses = Uses::new(known, scoped.with_variables(&variables));
     let found = check_uses(alloc, &uses, types)?;
-    Ok(found)
-}
-
-/// The report of a phase of which both parts are told: what is broken at annotations, and what is broken at uses.
-pub fn joined_report(
-    program: &Program,
-    annotations: Vec<Found>,
-    uses: &[Found],
-) -> Result<Vec<Found>, Memory>
-    requires annotations { (finding : Finding) →
-        Contains annotations.items finding ↔ Contains (broken_annotations (declarations_of program.now)) finding }
-    requires uses { let p = declarations_of program.now in (finding : Finding) →
-        Contains uses.now finding ↔ Contains (broken_uses p (lookup None (types_in p))) finding }
-    ensures { IfOk result (λ found. IsReport (BreaksUseRules program.now) found.items) }
-{
-    let _ = program;
-    let mut found = annotations;
-    found.extend_from_slice(uses)?;
-    put_in_order(&mut found);
     Ok(found)
 }

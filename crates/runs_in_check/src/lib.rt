@@ -1,13 +1,13 @@
 //! The static scopes of expressions, and the checks on uses.
 #![tactic(auto)]
 
-pub mod arguments;
-pub mod breaks;
-pub mod calls;
-pub mod checks;
-pub mod scopes;
-pub mod uses;
-pub mod words;
+mod arguments;
+mod breaks;
+mod calls;
+mod checks;
+mod scopes;
+mod uses;
+mod words;
 
-pub use checks::{check_scopes, check_uses, joined_report};
+pub use checks::{check_scopes, check_uses};
 pub use uses::Uses;

@@ -3,4 +3,5 @@ pub mod SampleLaws
 pub mod SourceLaws
 pub mod StandLaws
 pub mod SyntaxLaws
+pub mod UseLemmas
 pub mod VerdictLaws

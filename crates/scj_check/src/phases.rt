@@ -1,28 +1,32 @@
 //! The phases of a check of a program: classes and limits, types, scopes, and annotations with uses.
 
-ghost use Rattle.std.specs.Prelude.{◌≡◌, IfOk};
+ghost use Rattle.std.specs.Prelude.{◌≡◌, ◌↔◌, None, IfOk};
+ghost use Rattle.std.specs.List.{Contains};
+ghost use Rattle.scj_base.specs.declared.findings.Found.{Found as Finding};
+ghost use Rattle.scj_tree.specs.Recursion.{lookup};
 ghost use Rattle.class_rows.specs.Tables.{IsTableOf};
 ghost use Rattle.scope_tree.specs.Trees.{IsTreeOf};
 ghost use Rattle.scj_rules.specs.Contexts.{declarations_of, contexts_in};
 ghost use Rattle.scj_rules.specs.Bindings.{bindings_in};
-ghost use Rattle.scj_rules.specs.Phases.{NothingBreaks, BreaksClassRules, BreaksUseRules};
+ghost use Rattle.scj_rules.specs.AnnotationRules.{annotation_breaks};
+ghost use Rattle.scj_rules.specs.Phases.{over_nodes, NothingBreaks, BreaksClassRules, BreaksUseRules};
 ghost use Rattle.scj_rules.specs.Report.{IsReport};
 ghost use Rattle.scj_rules.specs.TypeRules.{types_in};
+ghost use Rattle.runs_in_check.specs.Phase.{broken_uses};
 ghost use Rattle.scj_check.specs.Verdicts.{IsJudgement, IsTyped, IsScoped};
 
 use annotation_rules::check_scoped_annotations;
 use class_table::{ClassTable, Classes, build_with_contexts};
 use node_contexts::Contexts;
-use runs_in_check::{Uses, check_uses, joined_report};
+use runs_in_check::{Uses, check_uses};
 use scj_base::{Found, Memory};
-use scj_rules::Bindings;
+use scj_rules::{Bindings, put_in_order};
 use scj_tree::Program;
 use scope_tree::{ScopeTree, Scopes};
-use static_scopes::{Runs, Scoped};
+use static_scopes::{Runs, Scoped, variables_of};
 use std::alloc::Global;
 use type_check::{Types, check_known_types};
 use type_rules::Known;
-use type_rules::names::meanings_of;
 use type_words::returning;
 
 /// What the phases leave of a program.
@@ -35,7 +39,7 @@ pub enum Judgement {
 }
 
 /// Judges a program, phase after phase. What several phases ask is made once: the contexts of the nodes, those that
-/// always return, what names stand for, and where methods run.
+/// always return, what names stand for, where methods run, and where variables and fields lie.
 pub fn judge(alloc: Global, program: &Program) -> Result<Judgement, Memory>
     ensures { IfOk result (λ judgement. IsJudgement program.now judgement) }
 {
@@ -60,12 +64,11 @@ fn judge_types(
 {
     let returns = returning(alloc, program)?;
     let known = Known::new(Classes::new(program, table), contexts, &returns);
-    let meanings = meanings_of(alloc, &known)?;
-    let known = known.with_meanings(&meanings);
-    let (types, found) = check_known_types(alloc, &known, contexts)?;
+    let (types, found, rows) = check_known_types(alloc, &known, contexts)?;
     if found.len() > 0 {
         return Ok(Judgement::Broken(found));
     }
+    let known = known.with_meanings(&rows);
     Ok(judge_scopes(alloc, program, table, contexts, known, types)?)
 }
 
@@ -111,6 +114,8 @@ fn judge_uses(
 {
     let runs = Runs::of(alloc, &scopes, contexts)?;
     let scoped = Scoped::new(scopes, contexts, &runs);
+    let variables = variables_of(alloc, &scoped)?;
+    let scoped = scoped.with_variables(&variables);
     let found = late_report(alloc, program, known, scoped, &types)?;
     if found.len() > 0 {
         return Ok(Judgement::Broken(found));
@@ -135,4 +140,23 @@ fn late_report(
     let uses = Uses::new(known, scoped);
     let broken = check_uses(alloc, &uses, types.all())?;
     Ok(joined_report(program, annotations, &broken)?)
+}
+
+/// The report of a phase of which both parts are told: what is broken at annotations, and what is broken at uses.
+fn joined_report(
+    program: &Program,
+    annotations: Vec<Found>,
+    uses: &[Found],
+) -> Result<Vec<Found>, Memory>
+    requires annotations { let p = declarations_of program.now in (finding : Finding) →
+        Contains annotations.items finding ↔ Contains (over_nodes p (annotation_breaks p)) finding }
+    requires uses { let p = declarations_of program.now in (finding : Finding) →
+        Contains uses.now finding ↔ Contains (broken_uses p (lookup None (types_in p))) finding }
+    ensures { IfOk result (λ found. IsReport (BreaksUseRules program.now) found.items) }
+{
+    let _ = program;
+    let mut found = annotations;
+    found.extend_from_slice(uses)?;
+    put_in_order(&mut found);
+    Ok(found)
 }

@@ -1,4 +1,3 @@
-pub mod BareLemmas
 pub mod RunLemmas
 pub mod SafeletLemmas
-pub mod ThingLemmas
+pub mod VariableLemmas

@@ -1,34 +1,38 @@
--- The table of the scopes in which methods run.
-use Rattle.std.specs.Prelude.{◌≡◌, ℕ, Bool, true, false, List, length, Option, option_and_then}
-use Rattle.scj_tree.specs.declared.kinds.NodeKind.{NodeKind}
-use Rattle.scj_tree.specs.declared.kinds.NodeKind.TheVariants.{Method as method_kind}
+-- The tables of scopes: those in which methods run and fields lie, and those of variables.
+use Rattle.std.specs.Prelude.{◌≡◌, ℕ, List, length, slice_get, Option, Some, None}
 use Rattle.scj_tree.specs.Forest.{Forest}
 use Rattle.scj_tree.specs.Recursion.{listed}
+use Rattle.scj_rules.specs.Words.{◌>>=◌}
 use Rattle.scj_rules.specs.declared.typing.Scope.{Scope}
-use Rattle.scj_rules.specs.Views.{method_at}
-use Rattle.scj_rules.specs.Contexts.{Declarations, declarations_of, context, contexts_in}
+use Rattle.scj_rules.specs.declared.views.Declared.{Declared}
+use Rattle.scj_rules.specs.Views.{DeclaredMethod, method_at, field_at}
+use Rattle.scj_rules.specs.Contexts.{Declarations, declarations_of, contexts_in, in_class}
 use Rattle.scj_rules.specs.declared.contexts.Context.{Context}
-use Rattle.scj_rules.specs.StaticScopes.{runs_in}
+use Rattle.scj_rules.specs.StaticScopes.{runs_in, field_scope}
+use Rattle.scj_rules.specs.UseRules.{variable_scope_at}
 use Rattle.static_scopes.specs.declared.runs.Runs.{Runs}
 
--- nodes of this kind declare methods
-unfoldable pub is_method_kind : NodeKind → Bool
-is_method_kind method_kind = true
-is_method_kind _ = false
+-- of a method of a class RunsIn, of a field its scope
+abbrev pub scope_of_member : Declarations → ℕ → Option DeclaredMethod → Option Declared → Option Scope
+scope_of_member p class (Some m) field = runs_in p class m
+scope_of_member p class None field = field >>= field_scope p class
 
--- RunsIn of the method at a node, in a class
-unfoldable pub runs_in_at : Declarations → ℕ → ℕ → Option Scope
-runs_in_at p class id = option_and_then (runs_in p class) (method_at p.nodes id)
-
--- what the table has at a node: of a method RunsIn in its class
+-- what the table has at a node: that of the member of its class that it declares
 unfoldable pub run_at : Declarations → ℕ → Option Scope
-run_at p id = option_and_then (λ class. runs_in_at p class id) (context p id).class
+run_at p id = in_class p id (λ class. scope_of_member p class (method_at p.nodes id) (field_at p.nodes id))
 
 -- the table has at each node what is said of it
 pub record AreRuns (forest : Forest) (runs : Runs) : Type 0 where
   pub rows : runs.rows.items ≡ listed (run_at (declarations_of forest)) (length forest.nodes)
 
--- these are the contexts of the program, and the table is that program's
-pub record AreTablesOf (forest : Forest) (contexts : List Context) (runs : Runs) : Type 0 where
+-- the rows that are there tell of the first nodes the scopes of the variables that they declare
+abbrev pub AreVariables : Forest → List (Option Scope) → Type 0
+AreVariables forest rows = (id : ℕ) (row : Option Scope) → slice_get rows id ≡ Some row →
+    row ≡ variable_scope_at (declarations_of forest) id
+
+-- these are the contexts of the program, and the tables are that program's
+pub record AreTablesOf (forest : Forest) (contexts : List Context) (runs : Runs)
+    (variables : List (Option Scope)) : Type 0 where
   pub own_contexts : contexts ≡ contexts_in forest
   pub own_runs : AreRuns forest runs
+  pub own_variables : AreVariables forest variables

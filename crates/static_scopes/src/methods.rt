@@ -1,30 +1,43 @@
 //! Where methods run.
 
-ghost use Rattle.std.specs.Prelude.{◌≡◌, ◌||◌};
+ghost use Rattle.std.specs.Prelude.{◌≡◌, ◌||◌, option_map, IfSome};
 ghost use Rattle.scj_rules.specs.Words.{holds};
+ghost use Rattle.scj_rules.specs.Views.{method_at};
 ghost use Rattle.scj_rules.specs.Contexts.{declarations_of};
 ghost use Rattle.scj_rules.specs.StaticScopes.{differs_from_fixed, names_inner_scope, has_unknown_runs_in, has_other_runs_in, free_runs_in, runs_in};
 ghost use Rattle.scj_rules.specs.declared.scopes.Written.{Written as WrittenName};
-ghost use Rattle.static_scopes.specs.Found.{method_in};
+ghost use Rattle.method_rows.specs.declared.refs.MethodRef.{MethodRef as Row};
+ghost use Rattle.method_rows.specs.Methods.{found_method};
 
 use crate::framework::{fixed_for, is_inherited_by_safelet};
-use crate::names::{default_runs_in, differs_from, is_known_name, written_scope};
-use method_rows::{MethodRef, declared};
-use scj_base::{ClassId, Name, ScopeId};
-use scj_rules::{Declared, Scope, Written};
+use crate::names::{default_runs_in, is_known_name, is_other_scope, resolve_name, written_scope};
+use method_rows::{MethodRef, MethodSource, declared};
+use node_views::is_method;
+use scj_base::{ClassId, Name, NodeId, ScopeId};
+use scj_rules::{Scope, Written};
+use scj_tree::Program;
 use scope_tree::Scopes;
 
-/// What is declared of a method.
-pub fn declared_of(scopes: &Scopes, method: &MethodRef) -> Declared
-    ensures { result ≡ (method_in scopes.now method.now).declared }
+/// The row of the method that a node declares, if it declares one, in a class.
+#[tactic(auto, using(crate::proofs::RunLemmas::some_method, crate::proofs::RunLemmas::is_none), unfolding(method_rows::specs::Methods::found_method, method_rows::specs::Methods::method_from))]
+pub fn method_at(program: &Program, class: ClassId, id: NodeId) -> Option<MethodRef>
+    ensures method { method_at program.now.nodes id ≡ option_map
+        (λ (m : Row). (found_method program.now.nodes m).method) result }
+    ensures class { IfSome result (λ m. (found_method program.now.nodes m).on ≡ class) }
 {
-    declared(scopes.classes().program(), method)
+    if !is_method(program, id) {
+        return None;
+    }
+    Some(MethodRef {
+        on: class,
+        source: MethodSource::Declared(id),
+    })
 }
 
 /// Whether `@RunsIn` of a method names no scope; of a static method, another than `CALLER`.
 #[tactic(auto, unfolding(scj_rules::specs::StaticScopes::has_unknown_runs_in))]
 pub fn has_unknown_runs_in(scopes: &Scopes, method: &MethodRef, written: &Written) -> bool
-    ensures { result ≡ has_unknown_runs_in (declarations_of scopes.now) (method_in scopes.now method.now) written.now }
+    ensures { result ≡ has_unknown_runs_in (declarations_of scopes.now) (found_method scopes.now.nodes method.now).method written.now }
 {
     if method_rows::is_static(scopes.classes().program(), method) {
         return written.name.bytes() != b"CALLER".as_slice();
@@ -33,11 +46,15 @@ pub fn has_unknown_runs_in(scopes: &Scopes, method: &MethodRef, written: &Writte
 }
 
 /// Whether a name differs from the scope that is fixed for a method.
+#[tactic(auto, unfolding(scj_rules::specs::StaticScopes::differs_from))]
 fn differs_from_fixed(scopes: &Scopes, class: ClassId, method_name: &Name, name: &Name) -> bool
     ensures { result ≡ differs_from_fixed (declarations_of scopes.now) class method_name.now name.now }
 {
     match &fixed_for(scopes, class, method_name) {
-        Some(fixed) => differs_from(scopes, class, &Some(Scope::Caller), name, fixed),
+        Some(fixed) => {
+            let resolution = resolve_name(scopes, class, &Some(Scope::Caller), name);
+            is_other_scope(&resolution, fixed)
+        }
         None => false,
     }
 }
@@ -60,7 +77,7 @@ pub fn has_other_runs_in(
     method: &MethodRef,
     written: &Written,
 ) -> bool
-    ensures { result ≡ has_other_runs_in (declarations_of scopes.now) class (method_in scopes.now method.now)
+    ensures { result ≡ has_other_runs_in (declarations_of scopes.now) class (found_method scopes.now.nodes method.now).method
         written.now }
 {
     let method_name = method_rows::name(scopes.classes().program(), method);
@@ -87,8 +104,8 @@ fn has_wrong_runs_in(
     written: &Option<Written>,
 ) -> bool
     ensures { result ≡ holds written.now
-        (λ (w : WrittenName). has_unknown_runs_in (declarations_of scopes.now) (method_in scopes.now method.now) w
-        || has_other_runs_in (declarations_of scopes.now) class (method_in scopes.now method.now) w) }
+        (λ (w : WrittenName). has_unknown_runs_in (declarations_of scopes.now) (found_method scopes.now.nodes method.now).method w
+        || has_other_runs_in (declarations_of scopes.now) class (found_method scopes.now.nodes method.now).method w) }
 {
     match written {
         Some(written) => {
@@ -102,9 +119,9 @@ fn has_wrong_runs_in(
 /// Where a method runs.
 #[tactic(auto, unfolding(scj_rules::specs::StaticScopes::runs_in))]
 pub fn runs_in(scopes: &Scopes, class: ClassId, method: &MethodRef) -> Option<Scope>
-    ensures { result ≡ runs_in (declarations_of scopes.now) class (method_in scopes.now method.now) }
+    ensures { result ≡ runs_in (declarations_of scopes.now) class (found_method scopes.now.nodes method.now).method }
 {
-    let declared = declared_of(scopes, method);
+    let declared = declared(scopes.classes().program(), method);
     let modifiers = declared.modifiers;
     let written = modifiers.runs_in;
     if has_wrong_runs_in(scopes, class, method, &written) {

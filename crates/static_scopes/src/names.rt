@@ -2,11 +2,11 @@
 
 ghost use Rattle.std.specs.Prelude.{◌≡◌};
 ghost use Rattle.scj_rules.specs.Contexts.{declarations_of};
-ghost use Rattle.scj_rules.specs.StaticScopes.{this_in, default_runs_in, resolved_or_missing, resolve_defined, resolve_name, is_other_scope, written_scope, is_known_name, differs_from};
+ghost use Rattle.scj_rules.specs.StaticScopes.{this_in, default_runs_in, resolved_or_missing, resolve_name, is_other_scope, written_scope, is_known_name};
 
-use crate::words::are_same_scope;
+use crate::words::{are_same_scope, scope_or};
 use scj_base::{ClassId, Name};
-use scj_rules::{ClassScope, Resolution, Scope};
+use scj_rules::{Resolution, Scope};
 use scope_tree::Scopes;
 
 /// Where the objects of a class lie, as their own methods say it.
@@ -14,12 +14,7 @@ use scope_tree::Scopes;
 pub fn this_in(scopes: &Scopes, class: ClassId) -> Option<Scope>
     ensures { result ≡ this_in (declarations_of scopes.now) class }
 {
-    let scope = scopes.class_scope(class);
-    match &scope {
-        ClassScope::Unannotated => Some(Scope::This),
-        ClassScope::Annotated(scope) => Some(Scope::In(*scope)),
-        ClassScope::Unknown => None,
-    }
+    scope_or(&scopes.class_scope(class), &Some(Scope::This))
 }
 
 /// Where a method of a class runs that says nothing of it.
@@ -27,12 +22,7 @@ pub fn this_in(scopes: &Scopes, class: ClassId) -> Option<Scope>
 pub fn default_runs_in(scopes: &Scopes, class: ClassId) -> Option<Scope>
     ensures { result ≡ default_runs_in (declarations_of scopes.now) class }
 {
-    let scope = scopes.class_scope(class);
-    match &scope {
-        ClassScope::Unannotated => Some(Scope::Caller),
-        ClassScope::Annotated(scope) => Some(Scope::In(*scope)),
-        ClassScope::Unknown => None,
-    }
+    scope_or(&scopes.class_scope(class), &Some(Scope::Caller))
 }
 
 /// A scope that may be missing, as what a name denotes.
@@ -42,16 +32,6 @@ fn resolved_or_missing(scope: &Option<Scope>) -> Resolution
     match scope {
         Some(scope) => Resolution::Resolved(*scope),
         None => Resolution::Missing,
-    }
-}
-
-/// What the name of a defined scope denotes.
-fn resolve_defined(scopes: &Scopes, name: &Name) -> Resolution
-    ensures { result ≡ resolve_defined (declarations_of scopes.now) name.now }
-{
-    match scopes.scope_number(name) {
-        Some(scope) => Resolution::Resolved(Scope::In(scope)),
-        None => Resolution::Unresolved,
     }
 }
 
@@ -71,7 +51,10 @@ pub fn resolve_name(
     if name.bytes() == b"CALLER".as_slice() {
         return resolved_or_missing(current);
     }
-    resolve_defined(scopes, name)
+    match scopes.scope_number(name) {
+        Some(scope) => Resolution::Resolved(Scope::In(scope)),
+        None => Resolution::Unresolved,
+    }
 }
 
 /// The scope that a name denotes, in a class and where a scope is current.
@@ -86,8 +69,7 @@ pub fn written_scope(
 {
     match &resolve_name(scopes, class, current, name) {
         Resolution::Resolved(scope) => Some(*scope),
-        Resolution::Missing => None,
-        Resolution::Unresolved => None,
+        Resolution::Missing | Resolution::Unresolved => None,
     }
 }
 
@@ -108,18 +90,4 @@ pub fn is_other_scope(resolution: &Resolution, scope: &Scope) -> bool
         Resolution::Missing => false,
         Resolution::Unresolved => true,
     }
-}
-
-/// Whether a name denotes another scope than this one, in a class and where a scope is current.
-#[tactic(auto, unfolding(scj_rules::specs::StaticScopes::differs_from))]
-pub fn differs_from(
-    scopes: &Scopes,
-    class: ClassId,
-    current: &Option<Scope>,
-    name: &Name,
-    scope: &Scope,
-) -> bool
-    ensures { result ≡ differs_from (declarations_of scopes.now) class current.now name.now scope.now }
-{
-    is_other_scope(&resolve_name(scopes, class, current, name), scope)
 }

@@ -1,8 +1,8 @@
-//! Variables and fields whose values are no references, as their nodes tell.
+//! Variables whose values are no references, as their nodes tell.
 
 ghost use Rattle.std.specs.Prelude.{◌≡◌};
 ghost use Rattle.scj_rules.specs.Words.{holds};
-ghost use Rattle.scj_rules.specs.Views.{type_at, type_of_node, variable_at, variable_of, field_at, field_of};
+ghost use Rattle.scj_rules.specs.Views.{type_at, type_of_node, variable_at, variable_of};
 ghost use Rattle.scj_rules.specs.StaticScopes.{has_no_scope};
 ghost use Rattle.scj_rules.specs.declared.views.Declared.{Declared as Declaration};
 
@@ -31,17 +31,6 @@ pub fn has_plain_type(program: &Program, id: NodeId) -> bool
         Some(Node::Parameter { declared_type, .. }) => is_plain_type(program, *declared_type),
         Some(Node::Local { declared_type, .. }) => is_plain_type(program, *declared_type),
         Some(Node::LocalWithValue { declared_type, .. }) => is_plain_type(program, *declared_type),
-        _ => false,
-    }
-}
-
-/// Whether a node declares a field of type `int` or `boolean`.
-#[tactic(auto, unfolding(scj_rules::specs::Views::field_of))]
-pub fn has_plain_field(program: &Program, id: NodeId) -> bool
-    ensures { result ≡ holds (field_at program.now.nodes id) (λ (d : Declaration). has_no_scope d.declared_type) }
-{
-    match program.get(id) {
-        Some(Node::Field { declared_type, .. }) => is_plain_type(program, *declared_type),
         _ => false,
     }
 }

@@ -1,76 +1,54 @@
-//! The table of the scopes in which methods run.
+//! The table of the scopes in which methods run and fields lie.
 
 ghost use Rattle.std.specs.Prelude.{◌≡◌, IfOk, length};
 ghost use Rattle.scj_tree.specs.Recursion.{lookup, listed};
-ghost use Rattle.scj_rules.specs.Words.{holds};
 ghost use Rattle.scj_rules.specs.Contexts.{declarations_of, contexts_in};
-ghost use Rattle.static_scopes.specs.Runs.{AreRuns, is_method_kind, run_at, runs_in_at};
+ghost use Rattle.static_scopes.specs.Runs.{AreRuns, run_at};
 
-use crate::methods::runs_in;
-use method_rows::{MethodRef, MethodSource};
+use crate::methods::{method_at, runs_in};
+use crate::things::field_scope;
 use node_contexts::Contexts;
-use node_views::is_method;
-use scj_base::{ClassId, Memory, NodeId};
+use node_views::{field_at, is_field, is_method};
+use scj_base::{Memory, NodeId};
 use scj_rules::Scope;
-use scj_tree::NodeKind;
 use scope_tree::Scopes;
 use std::alloc::Global;
 
-/// Where the methods of a program run, at their nodes.
+/// Where the methods of a program run, and its fields lie, at their nodes.
 #[derive(Drop)]
 pub struct Runs {
     pub(crate) rows: Vec<Option<Scope>>,
 }
 
-/// Where the method at a node runs, in a class.
-#[tactic(auto, using(crate::proofs::RunLemmas::run_in_class, crate::proofs::RunLemmas::no_run_in_class))]
-fn run_in(scopes: &Scopes, class: ClassId, id: NodeId) -> Option<Scope>
-    ensures { result ≡ runs_in_at (declarations_of scopes.now) class id }
-{
-    if !is_method(scopes.classes().program(), id) {
-        return None;
-    }
-    let method = MethodRef {
-        on: class,
-        source: MethodSource::Declared(id),
-    };
-    runs_in(scopes, class, &method)
-}
-
-/// What the table has at a node, by the class in which it stands.
+/// What the table has at the node of a member of a class.
 #[tactic(auto, unfolding(crate::specs::Runs::run_at, scj_rules::specs::Contexts::declarations_of))]
-fn run_here(scopes: &Scopes, contexts: &Contexts, id: NodeId) -> Option<Scope>
+fn run_of_member(scopes: &Scopes, contexts: &Contexts, id: NodeId) -> Option<Scope>
     requires { contexts.now ≡ contexts_in scopes.now }
     ensures { result ≡ run_at (declarations_of scopes.now) id }
 {
     let context = contexts.get(id);
-    match context.class {
-        Some(class) => run_in(scopes, class, id),
-        None => None,
+    let class = context.class?;
+    let program = scopes.classes().program();
+    match (&method_at(program, class, id), &field_at(program, id)) {
+        (Some(method), _) => runs_in(scopes, class, method),
+        (None, Some(field)) => field_scope(scopes, class, field),
+        (None, None) => None,
     }
 }
 
-/// Whether a node of this kind, if there is one, declares a method.
-#[tactic(auto, unfolding(crate::specs::Runs::is_method_kind))]
-fn is_method_kind(kind: Option<NodeKind>) -> bool
-    ensures { result ≡ holds kind is_method_kind }
-{
-    match kind {
-        Some(NodeKind::Method) => true,
-        _ => false,
-    }
-}
-
-/// What the table has at a node. Other nodes than methods are told by their kinds.
+/// What the table has at a node. Other nodes than methods and fields are told by their kinds.
 #[tactic(auto, using(crate::proofs::RunLemmas::no_run))]
 fn run_at(scopes: &Scopes, contexts: &Contexts, id: NodeId) -> Option<Scope>
     requires { contexts.now ≡ contexts_in scopes.now }
     ensures { result ≡ run_at (declarations_of scopes.now) id }
 {
-    if !is_method_kind(scopes.classes().program().kind(id)) {
-        return None;
+    let program = scopes.classes().program();
+    if !is_method(program, id) {
+        if !is_field(program, id) {
+            return None;
+        }
     }
-    run_here(scopes, contexts, id)
+    run_of_member(scopes, contexts, id)
 }
 
 /// The rows of the table.
@@ -95,7 +73,7 @@ fn rows_of(
 impl Runs {
     ghost use Rattle.static_scopes.specs.Runs.{AreRuns};
 
-    /// Where the methods of a program run.
+    /// Where the methods of a program run, and its fields lie.
     pub fn of(alloc: Global, scopes: &Scopes, contexts: &Contexts) -> Result<Runs, Memory>
         requires { contexts.now ≡ contexts_in scopes.now }
         ensures { IfOk result (λ runs. AreRuns scopes.now runs) }
@@ -105,12 +83,12 @@ impl Runs {
     }
 }
 
-/// What stands in the table at a node.
-pub fn run_in_table(rows: &[Option<Scope>], id: NodeId) -> Option<Scope>
+/// What rows tell of a node.
+pub fn told(rows: &[Option<Scope>], id: NodeId) -> Option<Scope>
     ensures { result ≡ lookup None rows.now id }
 {
     match rows.get(id.place()) {
-        Some(run) => *run,
+        Some(scope) => *scope,
         None => None,
     }
 }

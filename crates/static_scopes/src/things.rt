@@ -1,22 +1,19 @@
 //! The scopes of variables, fields and results.
 
-ghost use Rattle.std.specs.Prelude.{◌≡◌};
-ghost use Rattle.scj_rules.specs.ClassRules.{class_written};
+ghost use Rattle.std.specs.Prelude.{◌≡◌, not};
+ghost use Rattle.scj_rules.specs.Words.{holds};
 ghost use Rattle.scj_rules.specs.Contexts.{declarations_of};
-ghost use Rattle.scj_rules.specs.StaticScopes.{has_no_scope, type_scope, is_unannotated, denotes_nothing, resolve_at, is_unknown_scope, contradicts, is_rightly_scoped, scope_as_written, declaration_scope, scoped_variable, scoped_field, is_outer_of, suits_field, misfits_field, field_scope};
-ghost use Rattle.scj_rules.specs.declared.views.WrittenType.TheVariants.{Class as class_type};
-ghost use Rattle.static_scopes.specs.Found.{right_thing_scope, suited_scope};
+ghost use Rattle.scj_rules.specs.StaticScopes.{class_scope, has_no_scope, type_scope, is_unannotated, denotes_nothing, resolve_at, is_unknown_scope, contradicts, is_rightly_scoped, scope_as_written, declaration_scope, scoped_variable, scoped_field, suits_field, misfits_field, field_scope};
 
 use crate::names::{is_other_scope, resolve_name, this_in, written_scope};
-use crate::words::are_same_scope;
-use class_rows::Classes;
+use crate::words::{are_same_scope, scope_or};
 use scj_base::{ClassId, Name, ScopeId};
 use scj_rules::{ClassScope, Declared, Resolution, Scope, ScopedDeclaration, Written, WrittenType};
 use scope_tree::Scopes;
 
 /// Whether the values of a type are no references.
 #[tactic(auto, unfolding(scj_rules::specs::StaticScopes::has_no_scope))]
-pub fn has_no_scope(declared_type: &WrittenType) -> bool
+fn has_no_scope(declared_type: &WrittenType) -> bool
     ensures { result ≡ has_no_scope declared_type.now }
 {
     matches!(
@@ -29,36 +26,17 @@ pub fn has_no_scope(declared_type: &WrittenType) -> bool
     )
 }
 
-/// The class of a written type, where it is a class type.
-#[tactic(auto, unfolding(scj_rules::specs::ClassRules::class_written))]
-fn class_written(classes: &Classes, declared_type: &WrittenType) -> Option<ClassId>
-    ensures { result ≡ class_written (declarations_of classes.now).names declared_type.now }
-{
-    match declared_type {
-        WrittenType::Class(name) => classes.class_of(name),
-        _ => None,
-    }
-}
-
-/// Where the values of a class of this name lie.
-#[tactic(auto, unfolding(scj_rules::specs::StaticScopes::type_scope, scj_rules::specs::ClassRules::class_written))]
-pub fn named_class_scope(scopes: &Scopes, name: &Name) -> ClassScope
-    ensures { result ≡ type_scope (declarations_of scopes.now) (class_type name.now) }
-{
-    match scopes.classes().class_of(name) {
-        Some(class) => scopes.class_scope(class),
-        None => ClassScope::Unannotated,
-    }
-}
-
 /// Where all values of a type lie.
-#[tactic(auto, unfolding(scj_rules::specs::StaticScopes::type_scope))]
-pub fn type_scope(scopes: &Scopes, declared_type: &WrittenType) -> ClassScope
+#[tactic(auto, unfolding(scj_rules::specs::StaticScopes::type_scope, scj_rules::specs::ClassRules::class_written))]
+fn type_scope(scopes: &Scopes, declared_type: &WrittenType) -> ClassScope
     ensures { result ≡ type_scope (declarations_of scopes.now) declared_type.now }
 {
-    match class_written(scopes.classes(), declared_type) {
-        Some(class) => scopes.class_scope(class),
-        None => ClassScope::Unannotated,
+    match declared_type {
+        WrittenType::Class(name) => match scopes.classes().class_of(name) {
+            Some(class) => scopes.class_scope(class),
+            None => ClassScope::Unannotated,
+        },
+        _ => ClassScope::Unannotated,
     }
 }
 
@@ -77,8 +55,7 @@ fn denotes_nothing(scopes: &Scopes, thing: &ScopedDeclaration, name: &Name) -> b
     ensures { result ≡ denotes_nothing (declarations_of scopes.now) thing.now name.now }
 {
     if name.bytes() == b"THIS".as_slice() {
-        let scope = scopes.class_scope(thing.class);
-        return thing.is_static && is_unannotated(&scope);
+        return thing.is_static && is_unannotated(&scopes.class_scope(thing.class));
     }
     name.bytes() == b"CALLER".as_slice() && thing.is_field
 }
@@ -100,8 +77,7 @@ pub fn is_unknown_scope(scopes: &Scopes, thing: &ScopedDeclaration, written: &Wr
     ensures { result ≡ is_unknown_scope (declarations_of scopes.now) thing.now written.now }
 {
     match &resolve_at(scopes, thing, &written.name) {
-        Resolution::Resolved(_) => false,
-        Resolution::Missing => false,
+        Resolution::Resolved(_) | Resolution::Missing => false,
         Resolution::Unresolved => true,
     }
 }
@@ -124,7 +100,7 @@ pub fn contradicts(scopes: &Scopes, thing: &ScopedDeclaration, written: &Written
 }
 
 /// Whether what is written at a thing breaks no rule.
-pub fn is_rightly_scoped(scopes: &Scopes, thing: &ScopedDeclaration) -> bool
+fn is_rightly_scoped(scopes: &Scopes, thing: &ScopedDeclaration) -> bool
     ensures { result ≡ is_rightly_scoped (declarations_of scopes.now) thing.now }
 {
     match &thing.scope {
@@ -146,17 +122,6 @@ fn scope_as_written(scopes: &Scopes, thing: &ScopedDeclaration) -> Option<Scope>
     }
 }
 
-/// The scope of a thing whose declaration breaks no rule.
-fn right_thing_scope(scopes: &Scopes, thing: &ScopedDeclaration) -> Option<Scope>
-    ensures { result ≡ right_thing_scope (declarations_of scopes.now) thing.now }
-{
-    match &type_scope(scopes, &thing.declared_type) {
-        ClassScope::Unannotated => scope_as_written(scopes, thing),
-        ClassScope::Annotated(scope) => Some(Scope::In(*scope)),
-        ClassScope::Unknown => None,
-    }
-}
-
 /// The scope of a thing.
 #[tactic(auto, unfolding(scj_rules::specs::StaticScopes::declaration_scope))]
 pub fn declaration_scope(scopes: &Scopes, thing: &ScopedDeclaration) -> Option<Scope>
@@ -165,11 +130,11 @@ pub fn declaration_scope(scopes: &Scopes, thing: &ScopedDeclaration) -> Option<S
     if has_no_scope(&thing.declared_type) {
         return None;
     }
-    if is_rightly_scoped(scopes, thing) {
-        right_thing_scope(scopes, thing)
-    } else {
-        None
+    if !is_rightly_scoped(scopes, thing) {
+        return None;
     }
+    let scope = type_scope(scopes, &thing.declared_type);
+    scope_or(&scope, &scope_as_written(scopes, thing))
 }
 
 /// A parameter, a local or a result as a thing.
@@ -214,19 +179,8 @@ pub fn scoped_field(scopes: &Scopes, class: ClassId, field: &Declared) -> Scoped
     }
 }
 
-/// Whether a scope is the one of a number or lies outside it.
-#[tactic(auto, unfolding(scj_rules::specs::StaticScopes::is_outer_of))]
-fn is_outer_of(scopes: &Scopes, inner: ScopeId, scope: &Scope) -> bool
-    ensures { result ≡ is_outer_of (declarations_of scopes.now) inner scope.now }
-{
-    match scope {
-        Scope::In(outer) => scopes.is_outer(*outer, inner),
-        _ => false,
-    }
-}
-
 /// Whether a field may have a scope.
-#[tactic(auto, unfolding(scj_rules::specs::StaticScopes::suits_field))]
+#[tactic(auto, unfolding(scj_rules::specs::StaticScopes::suits_field, scj_rules::specs::StaticScopes::is_outer_of))]
 fn suits_field(scopes: &Scopes, class: &ClassScope, is_static: bool, scope: &Scope) -> bool
     ensures { result ≡ suits_field (declarations_of scopes.now) class.now is_static scope.now }
 {
@@ -236,8 +190,22 @@ fn suits_field(scopes: &Scopes, class: &ClassScope, is_static: bool, scope: &Sco
     }
     match class {
         ClassScope::Unannotated => are_same_scope(scope, &Scope::This) || in_immortal,
-        ClassScope::Annotated(inner) => is_outer_of(scopes, *inner, scope),
+        ClassScope::Annotated(inner) => match scope {
+            Scope::In(outer) => scopes.is_outer(*outer, *inner),
+            _ => false,
+        },
         ClassScope::Unknown => true,
+    }
+}
+
+/// Whether a field of a class that lies in a scope, if in any, may not lie there.
+fn misfits_class(scopes: &Scopes, class: ClassId, is_static: bool, scope: &Option<Scope>) -> bool
+    ensures { let p = declarations_of scopes.now in
+        result ≡ holds scope.now (λ s. not (suits_field p (class_scope p class) is_static s)) }
+{
+    match scope {
+        Some(scope) => !suits_field(scopes, &scopes.class_scope(class), is_static, scope),
+        None => false,
     }
 }
 
@@ -247,44 +215,19 @@ pub fn misfits_field(scopes: &Scopes, class: ClassId, field: &Declared) -> bool
     ensures { result ≡ misfits_field (declarations_of scopes.now) class field.now }
 {
     let thing = scoped_field(scopes, class, field);
-    let class_scope = scopes.class_scope(class);
-    match &declaration_scope(scopes, &thing) {
-        Some(scope) => !suits_field(scopes, &class_scope, thing.is_static, scope),
-        None => false,
-    }
-}
-
-/// A scope, where a field of the class may have it.
-pub fn suited_scope(
-    scopes: &Scopes,
-    class: ClassId,
-    is_static: bool,
-    scope: &Option<Scope>,
-) -> Option<Scope>
-    ensures { result ≡ suited_scope (declarations_of scopes.now) class is_static scope.now }
-{
-    match scope {
-        Some(scope) => {
-            let class_scope = scopes.class_scope(class);
-            if suits_field(scopes, &class_scope, is_static, scope) {
-                Some(*scope)
-            } else {
-                None
-            }
-        }
-        None => None,
-    }
+    let scope = declaration_scope(scopes, &thing);
+    misfits_class(scopes, class, thing.is_static, &scope)
 }
 
 /// The scope of a field.
-#[tactic(auto, using(crate::proofs::ThingLemmas::field_without_scope, crate::proofs::ThingLemmas::suited_field))]
+#[tactic(auto, unfolding(scj_rules::specs::StaticScopes::field_scope, scj_rules::specs::StaticScopes::misfits_field))]
 pub fn field_scope(scopes: &Scopes, class: ClassId, field: &Declared) -> Option<Scope>
     ensures { result ≡ field_scope (declarations_of scopes.now) class field.now }
 {
-    if has_no_scope(&field.declared_type) {
-        return None;
-    }
     let thing = scoped_field(scopes, class, field);
     let scope = declaration_scope(scopes, &thing);
-    suited_scope(scopes, class, thing.is_static, &scope)
+    if misfits_class(scopes, class, thing.is_static, &scope) {
+        return None;
+    }
+    scope
 }

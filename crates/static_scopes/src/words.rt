@@ -1,9 +1,9 @@
 //! Static scopes, one beside another.
 
 ghost use Rattle.std.specs.Prelude.{◌≡◌};
-ghost use Rattle.scj_rules.specs.StaticScopes.{are_same_scope, fits, substitute};
+ghost use Rattle.scj_rules.specs.StaticScopes.{are_same_scope, fits, substitute, scope_or};
 
-use scj_rules::Scope;
+use scj_rules::{ClassScope, Scope};
 
 /// Whether two scopes are the same.
 #[tactic(auto, unfolding(scj_rules::specs::StaticScopes::are_same_scope))]
@@ -40,5 +40,16 @@ pub fn substitute(receiver: &Option<Scope>, current: &Option<Scope>, scope: &Sco
         Scope::This => *receiver,
         Scope::Caller => *current,
         _ => Some(*scope),
+    }
+}
+
+/// Where an object of a class lies: in the class's scope, or in this one where the class is unannotated.
+pub fn scope_or(scope: &ClassScope, other: &Option<Scope>) -> Option<Scope>
+    ensures { result ≡ scope_or scope.now other.now }
+{
+    match scope {
+        ClassScope::Unannotated => *other,
+        ClassScope::Annotated(scope) => Some(Scope::In(*scope)),
+        ClassScope::Unknown => None,
     }
 }

@@ -2,7 +2,7 @@ use Rattle.std.proofs.Common.{◌++◌, List, append_assoc, sym, ap, ◌∙◌}
 use Rattle.scj_base.specs.declared.findings.Found.{Found}
 use Rattle.scj_rules.specs.Contexts.{declarations_of}
 use Rattle.scj_rules.specs.AnnotationRules.{a3_to_a5, a6_to_a8}
-use Rattle.annotation_rules.proofs.UnwrittenLemmas.{bare_breaks}
+use Rattle.annotation_rules.proofs.BareLemmas.{bare_breaks}
 use Rattle.annotation_rules.proofs.checks.note_bare.Goals as goal
 
 pub returns : goal.returns

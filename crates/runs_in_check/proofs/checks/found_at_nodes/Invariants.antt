@@ -1,13 +1,9 @@
 use Rattle.std.proofs.Common.{◌≡◌, None}
 use Rattle.scj_tree.specs.Recursion.{lookup, joined_below}
 use Rattle.scj_rules.specs.Contexts.{declarations_of}
-use Rattle.scj_rules.specs.UseRules.{use_breaks}
-use Rattle.runs_in_check.specs.Phase.{at_node}
+use Rattle.runs_in_check.specs.Phase.{breaks_at}
 use Rattle.runs_in_check.proofs.checks.found_at_nodes.Given as goal
 
--- what is broken at the nodes so far is found
 abbrev pub invariant-loop-place : goal.invariant-loop-place
 invariant-loop-place l =
-    l.found.items ≡ joined_below
-    (at_node (declarations_of l.uses)
-    (use_breaks (declarations_of l.uses) (lookup None l.types) (lookup None l.scopes))) l.place
+    l.found.items ≡ joined_below (breaks_at (declarations_of l.uses) (lookup None l.types) (lookup None l.scopes)) l.place

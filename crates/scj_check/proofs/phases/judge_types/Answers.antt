@@ -6,7 +6,7 @@ pub returns-then-len-gt0 : goal.returns-then-len-gt0
 returns-then-len-gt0 c = (
   omega arith,
   told_of_types _ _ (omega arith) c.requires.classes
-      (rw (c.with_meanings-known.ensures, c.new-known.ensures, c.new.ensures) at c.in_ok-types.ensures.report),
+      (rw (c.new-known.ensures, c.new.ensures) at c.in_ok-types.ensures.report),
 )
 
 pub judge_scopes-requires-clause-typed : goal.judge_scopes-requires-clause-typed
@@ -14,5 +14,5 @@ judge_scopes-requires-clause-typed c =
     record {
       classes = c.requires.classes;
       types = nothing_found _ _ (omega arith)
-          (rw (c.with_meanings-known.ensures, c.new-known.ensures, c.new.ensures) at c.in_ok-types.ensures.report);
+          (rw (c.new-known.ensures, c.new.ensures) at c.in_ok-types.ensures.report);
     }

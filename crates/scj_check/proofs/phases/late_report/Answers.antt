@@ -1,8 +1,6 @@
-use Rattle.runs_in_check.specs.Phase.{broken_annotations, broken_uses}
 use Rattle.scj_check.proofs.phases.late_report.Goals as goal
 
 pub joined_report-requires-clause-annotations : goal.joined_report-requires-clause-annotations
-unfolding broken_annotations
 joined_report-requires-clause-annotations c =
     λ finding. (rw c.requires.scoped at c.in_ok-annotations.ensures).exact finding
 

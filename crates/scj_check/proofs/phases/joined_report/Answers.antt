@@ -1,5 +1,5 @@
-use Rattle.runs_in_check.proofs.PhaseLemmas.{report_is}
-use Rattle.runs_in_check.proofs.checks.joined_report.Goals as goal
+use Rattle.scj_check.proofs.UseLemmas.{report_is}
+use Rattle.scj_check.proofs.phases.joined_report.Goals as goal
 
 pub returns : goal.returns
 returns c =
