@@ -4,6 +4,7 @@
 pub mod laws;
 pub mod nodes;
 pub mod parts;
+pub mod rows;
 pub mod shows;
 pub mod symbols;
 

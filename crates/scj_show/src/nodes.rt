@@ -8,19 +8,20 @@ use crate::parts::{
     put_body_with_call, put_brackets, put_each, put_extended, put_implemented, put_in_parentheses,
     put_maybe, put_object, put_parameters, put_scope_definition, put_sign_if_set, put_word_if_set,
 };
+use crate::rows::Parts;
 use scj_base::{Memory, Name, NodeId, vocabulary};
 use scj_tree::{Node, NodeList};
 
 /// Puts the parts of a class.
 #[tactic(auto, unfolding(crate::specs::Parts::class_parts))]
 fn put_class(
-    parts: &mut Vec<Part>,
+    parts: &mut Parts,
     name: Name,
     flags: Option<NodeId>,
     header: Option<NodeId>,
     members: &NodeList,
 ) -> Result<(), Memory>
-    ensures { OnOk result (parts.new.items ≡ parts.old.items ++ class_parts name flags header members.now) }
+    ensures { OnOk result (parts.new ≡ parts.old ++ class_parts name flags header members.now) }
 {
     put_maybe(parts, flags)?;
     put(parts, &[Part::Word(vocabulary::CLASS), Part::Named(name)])?;
@@ -49,11 +50,11 @@ struct Modifiers {
 /// Puts the parts of flags.
 #[tactic(auto, unfolding(crate::specs::Parts::flag_parts))]
 fn put_flags(
-    parts: &mut Vec<Part>,
+    parts: &mut Parts,
     annotations: Annotations,
     modifiers: Modifiers,
 ) -> Result<(), Memory>
-    ensures { OnOk result (parts.new.items ≡ parts.old.items ++ flag_parts annotations.define_scope
+    ensures { OnOk result (parts.new ≡ parts.old ++ flag_parts annotations.define_scope
         annotations.scope annotations.runs_in modifiers.is_static modifiers.is_abstract modifiers.is_synchronized) }
 {
     put_maybe(parts, annotations.define_scope)?;
@@ -67,12 +68,12 @@ fn put_flags(
 /// Puts the parts of a class's name as a type.
 #[tactic(auto, unfolding(crate::specs::Parts::class_type_parts))]
 fn put_class_type(
-    parts: &mut Vec<Part>,
+    parts: &mut Parts,
     name: Name,
     argument: Option<NodeId>,
     is_array: bool,
 ) -> Result<(), Memory>
-    ensures { OnOk result (parts.new.items ≡ parts.old.items ++ class_type_parts name argument is_array) }
+    ensures { OnOk result (parts.new ≡ parts.old ++ class_type_parts name argument is_array) }
 {
     put(parts, &[Part::Named(name)])?;
     put_argument(parts, argument)?;
@@ -82,13 +83,13 @@ fn put_class_type(
 /// Puts the parts of a field.
 #[tactic(auto, unfolding(crate::specs::Parts::field_parts))]
 fn put_field(
-    parts: &mut Vec<Part>,
+    parts: &mut Parts,
     name: Name,
     flags: Option<NodeId>,
     declared_type: NodeId,
     value: Option<NodeId>,
 ) -> Result<(), Memory>
-    ensures { OnOk result (parts.new.items ≡ parts.old.items ++ field_parts name flags declared_type value) }
+    ensures { OnOk result (parts.new ≡ parts.old ++ field_parts name flags declared_type value) }
 {
     put_maybe(parts, flags)?;
     put(parts, &[Part::Whole(declared_type), Part::Named(name)])?;
@@ -99,14 +100,14 @@ fn put_field(
 /// Puts the parts of a method.
 #[tactic(auto, unfolding(crate::specs::Parts::method_parts))]
 fn put_method(
-    parts: &mut Vec<Part>,
+    parts: &mut Parts,
     name: Name,
     flags: Option<NodeId>,
     result_type: NodeId,
     parameters: Option<NodeId>,
     body: Option<NodeId>,
 ) -> Result<(), Memory>
-    ensures { OnOk result (parts.new.items ≡ parts.old.items
+    ensures { OnOk result (parts.new ≡ parts.old
         ++ method_parts name flags result_type parameters body) }
 {
     put_maybe(parts, flags)?;
@@ -118,14 +119,14 @@ fn put_method(
 /// Puts the parts of a constructor.
 #[tactic(auto, unfolding(crate::specs::Parts::constructor_parts))]
 fn put_constructor(
-    parts: &mut Vec<Part>,
+    parts: &mut Parts,
     name: Name,
     flags: Option<NodeId>,
     parameters: Option<NodeId>,
     super_call: Option<NodeId>,
     body: NodeId,
 ) -> Result<(), Memory>
-    ensures { OnOk result (parts.new.items ≡ parts.old.items
+    ensures { OnOk result (parts.new ≡ parts.old
         ++ constructor_parts name flags parameters super_call body) }
 {
     put_maybe(parts, flags)?;
@@ -136,8 +137,8 @@ fn put_constructor(
 
 /// Puts the parts of a call of a superclass's constructor.
 #[tactic(auto, unfolding(crate::specs::Parts::super_call_parts))]
-fn put_super_call(parts: &mut Vec<Part>, arguments: &NodeList) -> Result<(), Memory>
-    ensures { OnOk result (parts.new.items ≡ parts.old.items ++ super_call_parts arguments.now) }
+fn put_super_call(parts: &mut Parts, arguments: &NodeList) -> Result<(), Memory>
+    ensures { OnOk result (parts.new ≡ parts.old ++ super_call_parts arguments.now) }
 {
     put(parts, &[Part::Word(vocabulary::SUPER)])?;
     put_in_parentheses(parts, arguments.items())?;
@@ -146,8 +147,8 @@ fn put_super_call(parts: &mut Vec<Part>, arguments: &NodeList) -> Result<(), Mem
 
 /// Puts the statements of a block and its `}`.
 #[tactic(auto, unfolding(crate::specs::Parts::block_end))]
-fn put_block_end(parts: &mut Vec<Part>, statements: &NodeList) -> Result<(), Memory>
-    ensures { OnOk result (parts.new.items ≡ parts.old.items ++ block_end statements.now) }
+fn put_block_end(parts: &mut Parts, statements: &NodeList) -> Result<(), Memory>
+    ensures { OnOk result (parts.new ≡ parts.old ++ block_end statements.now) }
 {
     put_each(parts, statements.items())?;
     put(parts, &[Part::Sign(vocabulary::RIGHT_BRACE)])
@@ -155,8 +156,8 @@ fn put_block_end(parts: &mut Vec<Part>, statements: &NodeList) -> Result<(), Mem
 
 /// Puts the parts of a `return`.
 #[tactic(auto, unfolding(crate::specs::Parts::return_parts))]
-fn put_return(parts: &mut Vec<Part>, value: Option<NodeId>) -> Result<(), Memory>
-    ensures { OnOk result (parts.new.items ≡ parts.old.items ++ return_parts value) }
+fn put_return(parts: &mut Parts, value: Option<NodeId>) -> Result<(), Memory>
+    ensures { OnOk result (parts.new ≡ parts.old ++ return_parts value) }
 {
     put(parts, &[Part::Word(vocabulary::RETURN)])?;
     put_maybe(parts, value)?;
@@ -166,12 +167,12 @@ fn put_return(parts: &mut Vec<Part>, value: Option<NodeId>) -> Result<(), Memory
 /// Puts the parts of a call.
 #[tactic(auto, unfolding(crate::specs::Parts::call_parts))]
 fn put_call(
-    parts: &mut Vec<Part>,
+    parts: &mut Parts,
     name: Name,
     object: Option<NodeId>,
     arguments: &NodeList,
 ) -> Result<(), Memory>
-    ensures { OnOk result (parts.new.items ≡ parts.old.items ++ call_parts name object arguments.now) }
+    ensures { OnOk result (parts.new ≡ parts.old ++ call_parts name object arguments.now) }
 {
     put_object(parts, object)?;
     put(parts, &[Part::Named(name)])?;
@@ -180,8 +181,8 @@ fn put_call(
 
 /// Puts the parts of a node.
 #[tactic(auto, unfolding(crate::specs::Parts::parts_of))]
-pub fn put_parts(parts: &mut Vec<Part>, node: &Node) -> Result<(), Memory>
-    ensures { OnOk result (parts.new.items ≡ parts.old.items ++ parts_of node.now) }
+pub fn put_parts(parts: &mut Parts, node: &Node) -> Result<(), Memory>
+    ensures { OnOk result (parts.new ≡ parts.old ++ parts_of node.now) }
 {
     match node {
         Node::Class {
@@ -504,8 +505,8 @@ pub fn put_parts(parts: &mut Vec<Part>, node: &Node) -> Result<(), Memory>
 
 /// Puts the parts of a block behind its `{`, or of an assignment before its `;`.
 #[tactic(auto, unfolding(crate::specs::Parts::bare_parts))]
-pub fn put_bare_parts(parts: &mut Vec<Part>, node: &Node) -> Result<(), Memory>
-    ensures { OnOk result (parts.new.items ≡ parts.old.items ++ bare_parts node.now) }
+pub fn put_bare_parts(parts: &mut Parts, node: &Node) -> Result<(), Memory>
+    ensures { OnOk result (parts.new ≡ parts.old ++ bare_parts node.now) }
 {
     match node {
         Node::Block { statements, .. } => put_block_end(parts, statements),

@@ -3,6 +3,7 @@
 ghost use Rattle.std.specs.Prelude.{◌≡◌, ◌++◌, OnOk};
 ghost use Rattle.scj_show.specs.Parts.{maybe, each as each_node, each_behind_comma, listed, in_parentheses as listed_in_parentheses, annotation as annotated, scope_definition as defined, word_if_set as set_word, argument_in_brackets as bracketed_argument, brackets as bracket_pair, extended, implemented, assigned, parameters_or_none as parameters_in_parentheses, body_or_semicolon as body_if_there, body_with_call as body_of_constructor, alternative, object_and_dot as dotted, sign_if_set as set_sign};
 
+use crate::rows::Parts;
 use scj_base::{Memory, Name, NodeId, vocabulary};
 
 /// A part of a printed node.
@@ -25,17 +26,21 @@ pub enum Part {
 }
 
 /// Puts parts behind the others.
-pub fn put(parts: &mut Vec<Part>, more: &[Part]) -> Result<(), Memory>
-    ensures { OnOk result (parts.new.items ≡ parts.old.items ++ more.now) }
+pub fn put(parts: &mut Parts, more: &[Part]) -> Result<(), Memory>
+    ensures { OnOk result (parts.new ≡ parts.old ++ more.now) }
 {
-    parts.extend_from_slice(more)?;
+    let mut rest = more;
+    while let [part, others @ ..] = rest {
+        parts.push(*part)?;
+        rest = others;
+    }
     Ok(())
 }
 
 /// Puts a node, if there is one.
 #[tactic(auto, unfolding(crate::specs::Parts::maybe))]
-pub fn put_maybe(parts: &mut Vec<Part>, node: Option<NodeId>) -> Result<(), Memory>
-    ensures { OnOk result (parts.new.items ≡ parts.old.items ++ maybe node) }
+pub fn put_maybe(parts: &mut Parts, node: Option<NodeId>) -> Result<(), Memory>
+    ensures { OnOk result (parts.new ≡ parts.old ++ maybe node) }
 {
     match node {
         None => Ok(()),
@@ -45,8 +50,8 @@ pub fn put_maybe(parts: &mut Vec<Part>, node: Option<NodeId>) -> Result<(), Memo
 
 /// Puts nodes one behind the other.
 #[tactic(auto, unfolding(crate::specs::Parts::each))]
-pub fn put_each(parts: &mut Vec<Part>, nodes: &[NodeId]) -> Result<(), Memory>
-    ensures { OnOk result (parts.new.items ≡ parts.old.items ++ each_node nodes.now) }
+pub fn put_each(parts: &mut Parts, nodes: &[NodeId]) -> Result<(), Memory>
+    ensures { OnOk result (parts.new ≡ parts.old ++ each_node nodes.now) }
 {
     let mut rest = nodes;
     while let [id, others @ ..] = rest {
@@ -58,8 +63,8 @@ pub fn put_each(parts: &mut Vec<Part>, nodes: &[NodeId]) -> Result<(), Memory>
 
 /// Puts nodes, each behind a comma.
 #[tactic(auto, unfolding(crate::specs::Parts::each_behind_comma))]
-fn put_each_behind_comma(parts: &mut Vec<Part>, nodes: &[NodeId]) -> Result<(), Memory>
-    ensures { OnOk result (parts.new.items ≡ parts.old.items ++ each_behind_comma nodes.now) }
+fn put_each_behind_comma(parts: &mut Parts, nodes: &[NodeId]) -> Result<(), Memory>
+    ensures { OnOk result (parts.new ≡ parts.old ++ each_behind_comma nodes.now) }
 {
     let mut rest = nodes;
     while let [id, others @ ..] = rest {
@@ -71,8 +76,8 @@ fn put_each_behind_comma(parts: &mut Vec<Part>, nodes: &[NodeId]) -> Result<(), 
 
 /// Puts nodes with commas between them.
 #[tactic(auto, unfolding(crate::specs::Parts::listed))]
-fn put_listed(parts: &mut Vec<Part>, nodes: &[NodeId]) -> Result<(), Memory>
-    ensures { OnOk result (parts.new.items ≡ parts.old.items ++ listed nodes.now) }
+fn put_listed(parts: &mut Parts, nodes: &[NodeId]) -> Result<(), Memory>
+    ensures { OnOk result (parts.new ≡ parts.old ++ listed nodes.now) }
 {
     match nodes {
         [] => Ok(()),
@@ -85,8 +90,8 @@ fn put_listed(parts: &mut Vec<Part>, nodes: &[NodeId]) -> Result<(), Memory>
 
 /// Puts nodes with commas between them, in parentheses.
 #[tactic(auto, unfolding(crate::specs::Parts::in_parentheses))]
-pub fn put_in_parentheses(parts: &mut Vec<Part>, nodes: &[NodeId]) -> Result<(), Memory>
-    ensures { OnOk result (parts.new.items ≡ parts.old.items ++ listed_in_parentheses nodes.now) }
+pub fn put_in_parentheses(parts: &mut Parts, nodes: &[NodeId]) -> Result<(), Memory>
+    ensures { OnOk result (parts.new ≡ parts.old ++ listed_in_parentheses nodes.now) }
 {
     put(parts, &[Part::Sign(vocabulary::LEFT_PARENTHESIS)])?;
     put_listed(parts, nodes)?;
@@ -95,8 +100,8 @@ pub fn put_in_parentheses(parts: &mut Vec<Part>, nodes: &[NodeId]) -> Result<(),
 
 /// Puts a word, if it is set.
 #[tactic(auto, unfolding(crate::specs::Parts::word_if_set))]
-pub fn put_word_if_set(parts: &mut Vec<Part>, is_set: bool, word: u8) -> Result<(), Memory>
-    ensures { OnOk result (parts.new.items ≡ parts.old.items ++ set_word is_set word) }
+pub fn put_word_if_set(parts: &mut Parts, is_set: bool, word: u8) -> Result<(), Memory>
+    ensures { OnOk result (parts.new ≡ parts.old ++ set_word is_set word) }
 {
     if is_set {
         return put(parts, &[Part::Word(word)]);
@@ -106,8 +111,8 @@ pub fn put_word_if_set(parts: &mut Vec<Part>, is_set: bool, word: u8) -> Result<
 
 /// Puts a sign, if it is set.
 #[tactic(auto, unfolding(crate::specs::Parts::sign_if_set))]
-pub fn put_sign_if_set(parts: &mut Vec<Part>, is_set: bool, sign: u8) -> Result<(), Memory>
-    ensures { OnOk result (parts.new.items ≡ parts.old.items ++ set_sign is_set sign) }
+pub fn put_sign_if_set(parts: &mut Parts, is_set: bool, sign: u8) -> Result<(), Memory>
+    ensures { OnOk result (parts.new ≡ parts.old ++ set_sign is_set sign) }
 {
     if is_set {
         return put(parts, &[Part::Sign(sign)]);
@@ -117,12 +122,8 @@ pub fn put_sign_if_set(parts: &mut Vec<Part>, is_set: bool, sign: u8) -> Result<
 
 /// Puts an annotation with the name of a scope, if there is one.
 #[tactic(auto, unfolding(crate::specs::Parts::annotation))]
-pub fn put_annotation(
-    parts: &mut Vec<Part>,
-    name: Name,
-    scope: Option<NodeId>,
-) -> Result<(), Memory>
-    ensures { OnOk result (parts.new.items ≡ parts.old.items ++ annotated name scope) }
+pub fn put_annotation(parts: &mut Parts, name: Name, scope: Option<NodeId>) -> Result<(), Memory>
+    ensures { OnOk result (parts.new ≡ parts.old ++ annotated name scope) }
 {
     match scope {
         None => Ok(()),
@@ -141,12 +142,8 @@ pub fn put_annotation(
 
 /// Puts the definition of a scope, its name first.
 #[tactic(auto, unfolding(crate::specs::Parts::scope_definition))]
-pub fn put_scope_definition(
-    parts: &mut Vec<Part>,
-    name: NodeId,
-    parent: NodeId,
-) -> Result<(), Memory>
-    ensures { OnOk result (parts.new.items ≡ parts.old.items ++ defined name parent) }
+pub fn put_scope_definition(parts: &mut Parts, name: NodeId, parent: NodeId) -> Result<(), Memory>
+    ensures { OnOk result (parts.new ≡ parts.old ++ defined name parent) }
 {
     put(
         parts,
@@ -168,8 +165,8 @@ pub fn put_scope_definition(
 
 /// Puts a type argument with its brackets, if there is one.
 #[tactic(auto, unfolding(crate::specs::Parts::argument_in_brackets))]
-pub fn put_argument(parts: &mut Vec<Part>, argument: Option<NodeId>) -> Result<(), Memory>
-    ensures { OnOk result (parts.new.items ≡ parts.old.items ++ bracketed_argument argument) }
+pub fn put_argument(parts: &mut Parts, argument: Option<NodeId>) -> Result<(), Memory>
+    ensures { OnOk result (parts.new ≡ parts.old ++ bracketed_argument argument) }
 {
     match argument {
         None => Ok(()),
@@ -186,8 +183,8 @@ pub fn put_argument(parts: &mut Vec<Part>, argument: Option<NodeId>) -> Result<(
 
 /// Puts the brackets of an array's type.
 #[tactic(auto, unfolding(crate::specs::Parts::brackets))]
-pub fn put_brackets(parts: &mut Vec<Part>, is_array: bool) -> Result<(), Memory>
-    ensures { OnOk result (parts.new.items ≡ parts.old.items ++ bracket_pair is_array) }
+pub fn put_brackets(parts: &mut Parts, is_array: bool) -> Result<(), Memory>
+    ensures { OnOk result (parts.new ≡ parts.old ++ bracket_pair is_array) }
 {
     if is_array {
         return put(
@@ -203,8 +200,8 @@ pub fn put_brackets(parts: &mut Vec<Part>, is_array: bool) -> Result<(), Memory>
 
 /// Puts the class behind `extends`, if there is one.
 #[tactic(auto, unfolding(crate::specs::Parts::extended))]
-pub fn put_extended(parts: &mut Vec<Part>, superclass: Option<NodeId>) -> Result<(), Memory>
-    ensures { OnOk result (parts.new.items ≡ parts.old.items ++ extended superclass) }
+pub fn put_extended(parts: &mut Parts, superclass: Option<NodeId>) -> Result<(), Memory>
+    ensures { OnOk result (parts.new ≡ parts.old ++ extended superclass) }
 {
     match superclass {
         None => Ok(()),
@@ -214,8 +211,8 @@ pub fn put_extended(parts: &mut Vec<Part>, superclass: Option<NodeId>) -> Result
 
 /// Puts the interfaces behind `implements`, if there are some.
 #[tactic(auto, unfolding(crate::specs::Parts::implemented))]
-pub fn put_implemented(parts: &mut Vec<Part>, interfaces: &[NodeId]) -> Result<(), Memory>
-    ensures { OnOk result (parts.new.items ≡ parts.old.items ++ implemented interfaces.now) }
+pub fn put_implemented(parts: &mut Parts, interfaces: &[NodeId]) -> Result<(), Memory>
+    ensures { OnOk result (parts.new ≡ parts.old ++ implemented interfaces.now) }
 {
     match interfaces {
         [] => Ok(()),
@@ -231,8 +228,8 @@ pub fn put_implemented(parts: &mut Vec<Part>, interfaces: &[NodeId]) -> Result<(
 
 /// Puts a value behind `=`, if there is one.
 #[tactic(auto, unfolding(crate::specs::Parts::assigned))]
-pub fn put_assigned(parts: &mut Vec<Part>, value: Option<NodeId>) -> Result<(), Memory>
-    ensures { OnOk result (parts.new.items ≡ parts.old.items ++ assigned value) }
+pub fn put_assigned(parts: &mut Parts, value: Option<NodeId>) -> Result<(), Memory>
+    ensures { OnOk result (parts.new ≡ parts.old ++ assigned value) }
 {
     match value {
         None => Ok(()),
@@ -242,8 +239,8 @@ pub fn put_assigned(parts: &mut Vec<Part>, value: Option<NodeId>) -> Result<(), 
 
 /// Puts parameters, or the parentheses of none.
 #[tactic(auto, unfolding(crate::specs::Parts::parameters_or_none))]
-pub fn put_parameters(parts: &mut Vec<Part>, parameters: Option<NodeId>) -> Result<(), Memory>
-    ensures { OnOk result (parts.new.items ≡ parts.old.items ++ parameters_in_parentheses parameters) }
+pub fn put_parameters(parts: &mut Parts, parameters: Option<NodeId>) -> Result<(), Memory>
+    ensures { OnOk result (parts.new ≡ parts.old ++ parameters_in_parentheses parameters) }
 {
     match parameters {
         None => put(
@@ -259,8 +256,8 @@ pub fn put_parameters(parts: &mut Vec<Part>, parameters: Option<NodeId>) -> Resu
 
 /// Puts a method's body, or `;`.
 #[tactic(auto, unfolding(crate::specs::Parts::body_or_semicolon))]
-pub fn put_body(parts: &mut Vec<Part>, body: Option<NodeId>) -> Result<(), Memory>
-    ensures { OnOk result (parts.new.items ≡ parts.old.items ++ body_if_there body) }
+pub fn put_body(parts: &mut Parts, body: Option<NodeId>) -> Result<(), Memory>
+    ensures { OnOk result (parts.new ≡ parts.old ++ body_if_there body) }
 {
     match body {
         None => put(parts, &[Part::Sign(vocabulary::SEMICOLON)]),
@@ -271,11 +268,11 @@ pub fn put_body(parts: &mut Vec<Part>, body: Option<NodeId>) -> Result<(), Memor
 /// Puts a constructor's body, with the call of the superclass's constructor at its begin.
 #[tactic(auto, unfolding(crate::specs::Parts::body_with_call))]
 pub fn put_body_with_call(
-    parts: &mut Vec<Part>,
+    parts: &mut Parts,
     super_call: Option<NodeId>,
     body: NodeId,
 ) -> Result<(), Memory>
-    ensures { OnOk result (parts.new.items ≡ parts.old.items ++ body_of_constructor super_call body) }
+    ensures { OnOk result (parts.new ≡ parts.old ++ body_of_constructor super_call body) }
 {
     match super_call {
         None => put(parts, &[Part::Whole(body)]),
@@ -292,8 +289,8 @@ pub fn put_body_with_call(
 
 /// Puts what stands behind `else`, if it is there.
 #[tactic(auto, unfolding(crate::specs::Parts::alternative))]
-pub fn put_alternative(parts: &mut Vec<Part>, else_part: Option<NodeId>) -> Result<(), Memory>
-    ensures { OnOk result (parts.new.items ≡ parts.old.items ++ alternative else_part) }
+pub fn put_alternative(parts: &mut Parts, else_part: Option<NodeId>) -> Result<(), Memory>
+    ensures { OnOk result (parts.new ≡ parts.old ++ alternative else_part) }
 {
     match else_part {
         None => Ok(()),
@@ -303,8 +300,8 @@ pub fn put_alternative(parts: &mut Vec<Part>, else_part: Option<NodeId>) -> Resu
 
 /// Puts an object and the dot behind it, if there is one.
 #[tactic(auto, unfolding(crate::specs::Parts::object_and_dot))]
-pub fn put_object(parts: &mut Vec<Part>, object: Option<NodeId>) -> Result<(), Memory>
-    ensures { OnOk result (parts.new.items ≡ parts.old.items ++ dotted object) }
+pub fn put_object(parts: &mut Parts, object: Option<NodeId>) -> Result<(), Memory>
+    ensures { OnOk result (parts.new ≡ parts.old ++ dotted object) }
 {
     match object {
         None => Ok(()),

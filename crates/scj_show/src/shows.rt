@@ -7,6 +7,7 @@ ghost use Rattle.scj_show.specs.Works.{pending, size_of_part, size, work};
 
 use crate::nodes::{put_bare_parts, put_parts};
 use crate::parts::{Part, put_each};
+use crate::rows::Parts;
 use crate::symbols::{put_name, put_number, put_sign, put_text, put_word};
 use scj_base::{Memory, NodeId};
 use scj_tree::{Node, Program};
@@ -23,8 +24,8 @@ pub fn show(alloc: Global, program: &Program, file: u8) -> Result<Vec<u8>, Memor
     let count = program.file_count();
     prove!((file as usize) < count);
     let mut text = Vec::new(alloc);
-    let mut parts = Vec::new(alloc);
-    let mut waiting = Vec::new(alloc);
+    let mut parts = Parts::new(alloc);
+    let mut waiting = Parts::new(alloc);
     put_each(&mut parts, program.classes(file))?;
     turn_over(&mut waiting, &mut parts)?;
     print(alloc, program, &mut waiting, &mut text)?;
@@ -35,12 +36,12 @@ pub fn show(alloc: Global, program: &Program, file: u8) -> Result<Vec<u8>, Memor
 fn print(
     alloc: Global,
     program: &Program,
-    waiting: &mut Vec<Part>,
+    waiting: &mut Parts,
     text: &mut Vec<u8>,
 ) -> Result<(), Memory>
-    ensures { OnOk result (text.new.items ≡ text.old.items ++ canonical (pending program.now.nodes waiting.old.items)) }
+    ensures { OnOk result (text.new.items ≡ text.old.items ++ canonical (pending program.now.nodes waiting.old)) }
 {
-    let mut parts = Vec::new(alloc);
+    let mut parts = Parts::new(alloc);
     while let Some(part) = waiting.pop() {
         print_part(alloc, program, part, &mut parts, text)?;
         turn_over(waiting, &mut parts)?;
@@ -49,9 +50,9 @@ fn print(
 }
 
 /// Moves parts to those that wait, so that the first of them comes first.
-fn turn_over(waiting: &mut Vec<Part>, parts: &mut Vec<Part>) -> Result<(), Memory>
-    ensures moved { OnOk result (waiting.new.items ≡ waiting.old.items ++ reverse parts.old.items) }
-    ensures empty { OnOk result (parts.new.items ≡ []) }
+fn turn_over(waiting: &mut Parts, parts: &mut Parts) -> Result<(), Memory>
+    ensures moved { OnOk result (waiting.new ≡ waiting.old ++ reverse parts.old) }
+    ensures empty { OnOk result (parts.new ≡ []) }
 {
     while let Some(part) = parts.pop() {
         waiting.push(part)?;
@@ -64,15 +65,15 @@ fn print_part(
     alloc: Global,
     program: &Program,
     part: Part,
-    parts: &mut Vec<Part>,
+    parts: &mut Parts,
     text: &mut Vec<u8>,
 ) -> Result<(), Memory>
-    requires { parts.old.items ≡ [] }
+    requires { parts.old ≡ [] }
     ensures printed { OnOk result
-        (text.new.items ++ canonical (symbols_of_parts (written program.now.nodes) parts.new.items)
+        (text.new.items ++ canonical (symbols_of_parts (written program.now.nodes) parts.new)
         ≡ text.old.items ++ canonical (symbols_of_part (written program.now.nodes) part)) }
     ensures smaller { OnOk result
-        (work program.now.nodes parts.new.items < size_of_part (size program.now.nodes) part) }
+        (work program.now.nodes parts.new < size_of_part (size program.now.nodes) part) }
 {
     match part {
         Part::Whole(id) => print_node(program, id, parts, text)?,
@@ -90,15 +91,15 @@ fn print_part(
 fn print_node(
     program: &Program,
     id: NodeId,
-    parts: &mut Vec<Part>,
+    parts: &mut Parts,
     text: &mut Vec<u8>,
 ) -> Result<(), Memory>
-    requires { parts.old.items ≡ [] }
+    requires { parts.old ≡ [] }
     ensures printed { OnOk result
-        (text.new.items ++ canonical (symbols_of_parts (written program.now.nodes) parts.new.items)
+        (text.new.items ++ canonical (symbols_of_parts (written program.now.nodes) parts.new)
         ≡ text.old.items ++ canonical (symbols_of_part (written program.now.nodes) (Part.Whole id))) }
     ensures smaller { OnOk result
-        (work program.now.nodes parts.new.items < size_of_part (size program.now.nodes) (Part.Whole id)) }
+        (work program.now.nodes parts.new < size_of_part (size program.now.nodes) (Part.Whole id)) }
 {
     if id.place() >= program.len() {
         return Ok(());
@@ -110,12 +111,12 @@ fn print_node(
 }
 
 /// Leaves the bare parts of a node to be printed.
-fn print_bare(program: &Program, id: NodeId, parts: &mut Vec<Part>) -> Result<(), Memory>
-    requires { parts.old.items ≡ [] }
-    ensures printed { OnOk result (symbols_of_parts (written program.now.nodes) parts.new.items
+fn print_bare(program: &Program, id: NodeId, parts: &mut Parts) -> Result<(), Memory>
+    requires { parts.old ≡ [] }
+    ensures printed { OnOk result (symbols_of_parts (written program.now.nodes) parts.new
         ≡ symbols_of_part (written program.now.nodes) (Part.Bare id)) }
     ensures smaller { OnOk result
-        (work program.now.nodes parts.new.items < size_of_part (size program.now.nodes) (Part.Bare id)) }
+        (work program.now.nodes parts.new < size_of_part (size program.now.nodes) (Part.Bare id)) }
 {
     if id.place() >= program.len() {
         return Ok(());

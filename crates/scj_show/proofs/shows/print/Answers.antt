@@ -7,23 +7,23 @@ use Rattle.scj_show.proofs.shows.print.Goals as goal
 
 pub loop-part-smaller : goal.loop-part-smaller
 loop-part-smaller c =
-    let less : work c.args.program.now.nodes (c.pop.new.self.items ++ reverse c.print_part.new.parts.items) < work
-    c.args.program.now.nodes c.loop-part.waiting.items =
-    step_smaller c.args.program.now.nodes c.loop-part.waiting.items c.pop.new.self.items c.in-Some.part
-    c.print_part.new.parts.items c.in-Some.ensures.items c.in_ok-print_part.ensures.smaller in
-    let moved : c.pop.new.self.items ++ reverse c.print_part.new.parts.items ≡ c.turn_over.new.waiting.items =
+    let less : work c.args.program.now.nodes (c.pop.new.self ++ reverse c.print_part.new.parts) < work
+    c.args.program.now.nodes c.loop-part.waiting =
+    step_smaller c.args.program.now.nodes c.loop-part.waiting c.pop.new.self c.in-Some.part
+    c.print_part.new.parts c.in-Some.ensures c.in_ok-print_part.ensures.smaller in
+    let moved : c.pop.new.self ++ reverse c.print_part.new.parts ≡ c.turn_over.new.waiting =
     sym c.in_ok-turn_over.ensures.moved in
     rw moved at less
 
 pub loop-part-preserved : goal.loop-part-preserved
 loop-part-preserved c =
     let one : c.print_part.new.text.items
-    ++ canonical (pending c.args.program.now.nodes (c.pop.new.self.items ++ reverse c.print_part.new.parts.items))
-    ≡ c.loop-part.text.items ++ canonical (pending c.args.program.now.nodes c.loop-part.waiting.items) =
-    step_printed c.args.program.now.nodes c.loop-part.waiting.items c.pop.new.self.items c.in-Some.part
-    c.print_part.new.parts.items c.loop-part.text.items c.print_part.new.text.items c.in-Some.ensures.items
+    ++ canonical (pending c.args.program.now.nodes (c.pop.new.self ++ reverse c.print_part.new.parts))
+    ≡ c.loop-part.text.items ++ canonical (pending c.args.program.now.nodes c.loop-part.waiting) =
+    step_printed c.args.program.now.nodes c.loop-part.waiting c.pop.new.self c.in-Some.part
+    c.print_part.new.parts c.loop-part.text.items c.print_part.new.text.items c.in-Some.ensures
     c.in_ok-print_part.ensures.printed in
-    let moved : c.turn_over.new.waiting.items ≡ c.pop.new.self.items ++ reverse c.print_part.new.parts.items =
+    let moved : c.turn_over.new.waiting ≡ c.pop.new.self ++ reverse c.print_part.new.parts =
     c.in_ok-turn_over.ensures.moved in
     record {
       whole = ap (λ (t : List Part). c.print_part.new.text.items ++ canonical (pending c.args.program.now.nodes t))
@@ -33,6 +33,6 @@ loop-part-preserved c =
 
 pub returns : goal.returns
 returns c =
-    let none : c.loop-part.waiting.items ≡ [] = search rules in
-    all_printed c.args.program.now.nodes c.loop-part.waiting.items c.loop-part.text.items _ none
+    let none : c.loop-part.waiting ≡ [] = search rules in
+    all_printed c.args.program.now.nodes c.loop-part.waiting c.loop-part.text.items _ none
     c.loop-part.invariant.whole

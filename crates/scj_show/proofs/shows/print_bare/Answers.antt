@@ -6,19 +6,19 @@ use Rattle.scj_show.proofs.shows.print_bare.Goals as goal
 pub returns-then-place-len-clause-printed : goal.returns-then-place-len-clause-printed
 returns-then-place-len-clause-printed c =
     let behind : length c.args.program.now.nodes ≤ c.args.id = omega arith in
-    bare_printed_behind c.args.program.now.nodes c.args.id c.args.parts.now.items behind c.requires
+    bare_printed_behind c.args.program.now.nodes c.args.id c.args.parts.now behind c.requires
 
 pub returns-then-place-len-clause-smaller : goal.returns-then-place-len-clause-smaller
 returns-then-place-len-clause-smaller c = none_smaller _ _ _ c.requires
 
 pub returns-clause-printed : goal.returns-clause-printed
 returns-clause-printed c =
-    let put : c.put_bare_parts.new.parts.items ≡ bare_parts c.node.result.now =
+    let put : c.put_bare_parts.new.parts ≡ bare_parts c.node.result.now =
     rw c.requires at c.in_ok-put_bare_parts.ensures in
     bare_printed _ _ _ _ c.len.ensures.whole.children_first c.node.ensures put
 
 pub returns-clause-smaller : goal.returns-clause-smaller
 returns-clause-smaller c =
-    let put : c.put_bare_parts.new.parts.items ≡ bare_parts c.node.result.now =
+    let put : c.put_bare_parts.new.parts ≡ bare_parts c.node.result.now =
     rw c.requires at c.in_ok-put_bare_parts.ensures in
     bare_smaller _ _ _ _ c.len.ensures.whole.children_first c.node.ensures put
