@@ -4,9 +4,9 @@
     check_programs.py            says which file differs, and then ends with status 1
     check_programs.py --write    writes the files anew
 
-Each folder in crates/scj_nodes/data is a program: its files in the order of their names. The nodes of `some_name` stand
+Each folder in crates/scj_tables/data/programs is a program: its files in the order of their names. The nodes of `some_name` stand
 in crates/scj_model/proofs/ProgramSomeName.antt, and those of a program that breaks a rule, whose code its name begins
-with, in crates/needed_rules/proofs. All stand in the `stdout` of crates/scj_nodes, which prints what the parser makes of
+with, in crates/needed_rules/proofs. All stand in the table `nodes` of crates/scj_tables, which prints what the parser makes of
 the same files.
 """
 import pathlib
@@ -14,9 +14,11 @@ import re
 import subprocess
 import sys
 
+import table_files
+
 HERE = pathlib.Path(__file__).resolve().parent
 CRATES = HERE.parent / "crates"
-NODES = CRATES / "scj_nodes"
+PROGRAMS = CRATES / "scj_tables" / "data" / "programs"
 
 
 def printed(words):
@@ -25,9 +27,9 @@ def printed(words):
 
 
 def expected_files():
-    """Each file that is made, with its text."""
+    """Each file that is made, and each part of the table, with its text."""
     calls, lines = [], []
-    for folder in sorted((NODES / "data").iterdir()):
+    for folder in sorted(PROGRAMS.iterdir()):
         names = sorted(path.name for path in folder.iterdir())
         words = [folder.name] + [str(folder / name) for name in names]
         crate = "needed_rules" if re.match(r"[a-z]\d+_", folder.name) else "scj_model"
@@ -35,17 +37,32 @@ def expected_files():
         yield CRATES / crate / "proofs" / f"{module}.antt", printed(words)
         calls.append(" ".join([folder.name] + names) + "\n")
         lines.append(printed(["--lines"] + words))
-    yield NODES / "stdin", "".join(calls)
-    yield NODES / "stdout", "".join(lines)
+    yield "stdin", "".join(calls)
+    yield "stdout", "".join(lines)
+
+
+def kept(place):
+    """The text that stands in a file or in a part of the table."""
+    if isinstance(place, str):
+        return table_files.read(place, "nodes")
+    return place.read_text() if place.exists() else None
+
+
+def put(place, text):
+    """Writes a file or a part of the table."""
+    if isinstance(place, str):
+        table_files.write(place, "nodes", text)
+    else:
+        place.write_text(text)
 
 
 def main():
     differs = False
-    for path, text in expected_files():
+    for place, text in expected_files():
         if "--write" in sys.argv:
-            path.write_text(text)
-        elif not path.exists() or path.read_text() != text:
-            print(f"{path.name} isn't what print_nodes.py prints")
+            put(place, text)
+        elif kept(place) != text:
+            print(f"{place} isn't what print_nodes.py prints")
             differs = True
     sys.exit(1 if differs else 0)
 

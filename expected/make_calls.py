@@ -1,5 +1,5 @@
 #!/usr/bin/env python3
-"""Makes the cases of crates/scj_reports that run programs, and what they print.
+"""Makes the cases among the reports of crates/scj_tables that run programs, and what they print.
 
     make_calls.py            writes them before the changes of a program, which are the last case
     make_calls.py --check    says whether they stand there, and ends with status 1 where they don't
@@ -16,9 +16,9 @@ import tomllib
 
 sys.dont_write_bytecode = True
 import slow_machine
+import table_files
 
 HERE = pathlib.Path(__file__).resolve().parent
-HOME = HERE.parent / "crates" / "scj_reports"
 FIRST = "== run "
 LAST = "== changes of a program\n"
 ROOM = 65536
@@ -410,7 +410,7 @@ MANY = """@DefineScope(name="M", parent="IMMORTAL") class Main extends Mission {
 
 
 def limits(tables):
-    front = (HERE.parent / "crates/scj_nodes/data/ordinary_use/B.java").read_text()
+    front = (HERE.parent / "crates/scj_tables/data/programs/ordinary_use/B.java").read_text()
     plan = 'version = 1\nunits = 2000\nstore = 5000\nfire = [{ at = 1500, handler = "H" }]\n'
     for count in 64, 65:
         text = MANY.replace("COUNT", str(count))
@@ -433,16 +433,15 @@ def main():
     tables = made()
     differs = False
     for name, lines in ("stdin", tables.asked), ("stdout", tables.told):
-        path = HOME / name
-        before = path.read_bytes().decode("latin-1")
+        before = table_files.read(name, "reports")
         front, behind = before.split(LAST)
         text = front.split("\n" + FIRST)[0].removesuffix("\n") + "\n"
-        text += "".join(line + "\n" for line in lines).encode().decode("latin-1") + LAST + behind
+        text += "".join(line + "\n" for line in lines) + LAST + behind
         if text != before and sys.argv[1:] == ["--check"]:
-            print("make_calls.py: crates/scj_reports/%s has other cases" % name)
+            print("make_calls.py: crates/scj_tables/%s has other cases" % name)
             differs = True
         elif text != before:
-            path.write_bytes(text.encode("latin-1"))
+            table_files.write(name, "reports", text)
     sys.exit(1 if differs else 0)
 
 

@@ -1,17 +1,17 @@
-"""Makes the cases of crates/scj_cases and what each must print, by the recogniser beside this file.
+"""Makes the table `changed` of crates/scj_tables and what each must print, by the recogniser beside this file.
 
-    python3 make_cases.py        writes crates/scj_cases/stdin and crates/scj_cases/stdout
+    python3 make_cases.py        writes it
 
 The rows in `ROWS` and `HEIGHTS` were written by hand from docs/LANGUAGE.md; the recogniser has to agree with the
 former. All others are changes of a few files: one byte, or one token, or a cut. A source in the grammar breaks C8 at
 its first place, since it has no safelet, but for those in `SAFELETS`.
 """
 
-import os
 import sys
 
 sys.dont_write_bytecode = True
 import recogniser
+import table_files
 from recogniser import begin, lex, refused, step
 
 TEXTS = {
@@ -334,10 +334,8 @@ def main():
     ask_bytes(cases, "s", SCOPED, SAMPLE)
     ask_tokens(cases, "e", EVERYTHING)
     ask_prefixes(cases, "e", EVERYTHING)
-    folder = os.path.join(os.path.dirname(os.path.abspath(__file__)), "..", "crates", "scj_cases")
     for name, lines in ("stdin", cases.lines), ("stdout", cases.answers):
-        with open(os.path.join(folder, name), "w") as file:
-            file.write("".join(text + "\n" for text in lines))
+        table_files.write(name, "changed", "".join(text + "\n" for text in lines))
     print(len(cases.answers), "cases,", sum(len(text) + 1 for text in cases.lines), "bytes")
 
 

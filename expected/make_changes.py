@@ -1,6 +1,6 @@
 """Makes changes of the program changed.java beside this file, and the report of each by slow_rules.py.
 
-    python3 make_changes.py      writes them behind the last case of crates/scj_reports/stdin and stdout
+    python3 make_changes.py      writes them behind the last case of the reports of crates/scj_tables
 
 Each change is one that the grammar allows: a name in the place of another one, an annotation or a word more or less,
 another literal, type or operator, arguments, a `return`, a super call or a superclass less.
@@ -12,6 +12,7 @@ import sys
 
 sys.dont_write_bytecode = True
 import slow_rules
+import table_files
 import trees
 
 HEAD = "== changes of a program"
@@ -155,13 +156,9 @@ def main():
         kept += 1
         asked.append(f"~ {begin} {end} {new}")
         told += [asked[-1]] + report + ["status %d" % (0 if report == ["accepted"] else 1)]
-    home = os.path.join(folder, "..", "crates", "scj_reports")
     for name, lines in ("stdin", asked), ("stdout", told):
-        path = os.path.join(home, name)
-        with open(path) as file:
-            before = file.read().split(HEAD + "\n")[0]
-        with open(path, "w") as file:
-            file.write(before + "".join(line + "\n" for line in lines))
+        before = table_files.read(name, "reports").split(HEAD + "\n")[0]
+        table_files.write(name, "reports", before + "".join(line + "\n" for line in lines))
     print(kept, "changes of", len(changes))
 
 

@@ -1,7 +1,7 @@
 #!/usr/bin/env python3
 """Makes many small accepted programs with plans, and their traces by the slow machine beside this file.
 
-    make_runs.py                    writes the two tables, stdin and stdout of crates/scj_runs
+    make_runs.py                    writes the table `runs` of crates/scj_tables
     make_runs.py STDIN STDOUT       writes them elsewhere
     make_runs.py --sample FOLDER    writes the first 60 cases as folders that check_runs.py reads
     make_runs.py --statistics       counts what all the runs have together: operations, faults, kinds of lines, phases
@@ -19,6 +19,7 @@ slow_rules.py is asked of each one, and what it refuses is left out. A trace has
 are cut where it would have more.
 """
 import collections
+import io
 import itertools
 import multiprocessing
 import pathlib
@@ -30,6 +31,7 @@ import edge_runs
 import phrases
 import slow_machine
 import small_runs
+import table_files
 
 CASES = 3000
 SAMPLE = 60
@@ -902,10 +904,13 @@ def main():
     count = CASES
     if words[:1] == ["--count"]:
         count, words = int(words[1]), words[2:]
-    home = pathlib.Path(__file__).resolve().parent.parent / "crates" / "scj_runs"
-    words = words or [home / "stdin", home / "stdout"]
     counts = collections.Counter()
-    if words[0] == "--statistics":
+    if not words:
+        given, expected = io.StringIO(), io.StringIO()
+        write(given, expected, count, counts)
+        table_files.write("stdin", "runs", given.getvalue())
+        table_files.write("stdout", "runs", expected.getvalue())
+    elif words[0] == "--statistics":
         size = 0
         for _, (files, plan, lines) in cases(count, counts):
             size += sum(len(text) for _, text in files) + len(plan) + sum(len(line) + 1 for line in lines)

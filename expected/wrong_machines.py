@@ -1,5 +1,5 @@
 #!/usr/bin/env python3
-"""Tells whether the runs of crates/scj_runs would show a machine that is wrong in one way.
+"""Tells whether the runs of crates/scj_tables would show a machine that is wrong in one way.
 
     wrong_machines.py            tries each wrong machine, and says which no run shows; then the status is 1
     wrong_machines.py --names    tells of each by which run it is shown
@@ -10,16 +10,14 @@ small_runs.py stand first there.
 """
 import collections
 import multiprocessing
-import pathlib
 import sys
 import tomllib
 
 import phrases
 import slow_machine
+import table_files
 from slow_machine import FRAMES, HANDLERS, PRIORITIES, Fault, Frame, Machine, Program, Thing
 from wrong_turns import TURNS, on
-
-HOME = pathlib.Path(__file__).resolve().parent.parent / "crates" / "scj_runs"
 
 # ---- the machines
 
@@ -288,14 +286,14 @@ WRONG = {
 def table():
     """The runs of the table: the name, the files, the plan and the lines of each."""
     told, name = {}, None
-    for line in (HOME / "stdout").read_text().splitlines():
+    for line in table_files.read("stdout", "runs").splitlines():
         if line.startswith("== "):
             name = line[3:]
             told[name] = []
         elif not line.startswith("status "):
             told[name].append(line)
     runs = []
-    for case in (HOME / "stdin").read_text().split("\n== ")[1:]:
+    for case in table_files.read("stdin", "runs").split("\n== ")[1:]:
         name, *files = ("\n" + case).split("\n-- ")
         files = [file.split("\n", 1) for file in files]
         texts = [phrases.whole(text.removesuffix("\n") + "\n") for _, text in files]

@@ -1,7 +1,12 @@
-//! One program: its files read, and its nodes printed.
+//! Programs whose nodes are printed, as the definitions of the reference machine write them.
+//!
+//! A line, `NAME FILE FILE ..`, names a program and its files in `data/programs/NAME`. Its nodes are printed in
+//! their order, one a line, below a line `== NAME`, and behind them the classes of each file.
 
-use crate::nodes::{print_list, print_node};
+mod lines;
+
 use case_tables::Stop;
+use lines::{print_list, print_node};
 use scj_base::NodeId;
 use scj_check::{Reading, Sources, read};
 use scj_io::Shelf;
@@ -25,7 +30,7 @@ pub fn print_program<S: Shelf, W: Write>(
     };
     let mut sources = Sources::new(alloc);
     for file in files.split(' ') {
-        let path = format!(in alloc; "{name}/{file}")?;
+        let path = format!(in alloc; "programs/{name}/{file}")?;
         add_file(alloc, shelf, &mut sources, path)?;
     }
     match read(alloc, &sources)? {

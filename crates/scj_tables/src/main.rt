@@ -1,18 +1,21 @@
-//! Prints the nodes of programs, as the definitions of the reference machine write them.
+//! Runs tables of cases, and prints what comes of each case.
 //!
-//! A line of the input, `NAME FILE FILE ..`, names a program and its files in `data/NAME`. Its nodes are printed in
-//! their order, one a line, below a line `== NAME`, and behind them the classes of each file.
+//! A line `%% NAME` of the input begins a table, and is printed: `reports`, `changed`, `runs` or `nodes`. The module of
+//! that name says how the lines of the table are read.
 #![tactic(auto)]
 
+mod changed;
 mod nodes;
-mod programs;
+mod reports;
+mod runs;
+mod tables;
 
 use case_tables::Stop;
-use programs::print_program;
 use scj_io::FileShelf;
 use std::alloc::Global;
 use std::io::{self, BufRead, BufReader, BufWriter, Write};
 use std::rt::Files;
+use tables::Tables;
 
 fn main(rt: HostRuntime) -> Result<(), Stop> {
     let alloc = rt.alloc();
@@ -27,11 +30,12 @@ fn print_all<F: Files, R: BufRead + Drop, W: Write + Drop>(
     input: R,
     mut out: W,
 ) -> Result<(), Stop> {
-    let mut shelf = FileShelf::new(files);
+    let mut tables = Tables::new(alloc, FileShelf::new(files));
     for line in input.lines(alloc) {
         let line = line?;
-        print_program(alloc, &mut shelf, &line, &mut out)?;
+        tables.take_line(&line, &mut out)?;
     }
+    tables.end(&mut out)?;
     out.flush()?;
     Ok(())
 }

@@ -1,6 +1,6 @@
 //! A whole call of the checker on a case.
 
-use crate::cases::Case;
+use super::cases::Case;
 use case_tables::Stop;
 use scj_base::Status;
 use scj_cli::scj;

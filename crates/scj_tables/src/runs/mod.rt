@@ -1,0 +1,67 @@
+//! Programs that are run by their plans, and of each run all that it put and its status.
+//!
+//! The table begins with short forms: a line `$X TEXT` says for which text `$X` stands below, X being a letter or a
+//! digit. A case begins with a line `== NAME`. Below it, `-- FILE` begins a file of the case, whose lines follow; the
+//! plan's name is `plan.toml`, and the others are the sources in their order. In texts and lines `\xNN` is one byte, by
+//! two digits from 0 to 9 and a to f, and a line that ends in `\` has no line feed behind it.
+
+mod calls;
+mod cases;
+mod short_forms;
+
+use calls::print;
+use case_tables::Stop;
+use cases::Case;
+use short_forms::ShortForms;
+use std::alloc::Global;
+use std::io::Write;
+
+/// The case that is being read, and the short forms.
+#[derive(Drop)]
+pub struct Run {
+    alloc: Global,
+    short_forms: ShortForms,
+    case: Option<Case>,
+}
+
+impl Run {
+    /// A run without cases yet.
+    pub fn new(alloc: Global) -> Run {
+        Run {
+            alloc,
+            short_forms: ShortForms::new(alloc),
+            case: None,
+        }
+    }
+
+    /// Takes the next line of the input.
+    pub fn take_line<W: Write>(&mut self, line: &str, out: &mut W) -> Result<(), Stop> {
+        if let Some(name) = line.strip_prefix("== ") {
+            self.run_case(out)?;
+            self.case = Some(Case::new(self.alloc, name)?);
+            return Ok(());
+        }
+        let Some(case) = &mut self.case else {
+            let text = line.strip_prefix("$").ok_or(Stop::BadLine)?;
+            return self.short_forms.add(text);
+        };
+        if let Some(name) = line.strip_prefix("-- ") {
+            return case.begin_file(name);
+        }
+        let whole = self.short_forms.whole(line)?;
+        case.add_line(&whole)
+    }
+
+    /// Runs the last case.
+    pub fn end<W: Write>(&mut self, out: &mut W) -> Result<(), Stop> {
+        self.run_case(out)
+    }
+
+    fn run_case<W: Write>(&mut self, out: &mut W) -> Result<(), Stop> {
+        if let Some(case) = &mut self.case {
+            case.end_file()?;
+            print(self.alloc, case, out)?;
+        }
+        Ok(())
+    }
+}
