@@ -307,11 +307,15 @@ def deep(count):
 SHAPES = {"ordinary": ordinary, "few": few, "chain": chain, "fields": fields, "methods": methods, "locals": locals_, "block": block, "scopes": scopes, "overrides": overrides, "calls": calls, "deep": deep}
 
 
-def main():
-    shape, count, folder = sys.argv[1], int(sys.argv[2]), sys.argv[3]
-    for number, text in enumerate(SHAPES[shape](count)):
+def write_files(texts, folder):
+    for number, text in enumerate(texts):
         with open(os.path.join(folder, f"F{number}.java"), "w") as file:
             file.write(text)
+
+
+def main():
+    shape, count, folder = sys.argv[1], int(sys.argv[2]), sys.argv[3]
+    write_files(SHAPES[shape](count), folder)
 
 
 if __name__ == "__main__":
