@@ -23,47 +23,46 @@ EDITS = {
     "L2": "scj_lexer/number_one_larger",
     "L3": "scj_lexer/open_comment_as_bad_byte scj_lexer/overlapping_close",
     "L4": "scj_lexer/name_one_shorter",
-    "P1": "parser_steps/place_one_token_late parser_steps/token_skipped "
-    "scj_parser/stops_are_too_deep scj_check/grammar_break_dropped",
-    "P2": "scj_parser/deep_at_64 scj_parser/first_node_named scj_parser/lower_of_body_and_super_call "
-    "scj_parser/lower_of_two_operands scj_parser/super_call_under_no_block",
+    "P1": "parser_steps/place_one_token_late parser_steps/token_skipped scj_parser/stops_are_too_deep "
+    "scj_check/grammar_break_dropped",
+    "P2": "scj_parser/deep_at_64 scj_parser/first_node_named scj_parser/lower_of_two_operands "
+    "scj_parser/super_call_under_no_block",
     "C1": "class_rules/later_class_has_the_name class_headers/known_name_overwritten",
-    "C2": "class_marks/no_extends_is_unknown class_table/forbidden_super_by_another_rule",
-    "C3": "class_marks/all_are_cyclic class_marks/cycles_forgiven class_rows/mission_is_cyclic",
-    "C4": "class_rules/hiding_is_fine class_members/known_member_overwritten",
-    "C5": "class_members/method_and_constructor",
-    "C6": "class_rules/parameters_compared_with_themselves class_rules/types_compared_by_name_alone",
-    "C7": "class_rules/interface_method_left_open node_views/static_is_abstract",
-    "C8": "class_rules/second_safelet_not_named class_table/safelets_left_out class_headers/framework_names_lost",
+    "C2": "class_rules/forbidden_super_by_another_rule",
+    "C3": "class_headers/cycles_forgiven class_headers/own_step_missed",
+    "C4": "class_rules/hiding_is_fine class_rows/class_lost symbol_table/look_up_begins_at_the_class",
+    "C5": "class_rows/method_and_constructor",
+    "C6": "class_rules/parameters_compared_with_themselves symbol_table/names_stay_when_a_class_is_left",
+    "C7": "node_views/static_is_abstract class_rules/framework_methods_left_open "
+    "symbol_table/open_names_stay_open",
+    "C8": "class_rules/second_safelet_not_named class_table/safelets_left_out "
+    "class_headers/first_file_left_out",
     "C9": "node_rules/cast_of_any_class node_rules/casts_passed_over node_rules/mission_argument_noted",
-    "C10": "class_marks/aperiodic_is_no_kind class_marks/no_kind_is_added class_marks/static_and_too_many class_marks/extends_forbidden_twice "
-    "class_marks/old_is_new class_marks/static_is_implemented class_marks/too_many_either_way "
-    "class_table/forbidden_super_by_another_rule",
+    "C10": "class_headers/static_is_nameable class_headers/too_many_either_way "
+    "class_rules/forbidden_super_by_another_rule class_headers/interfaces_are_forgotten",
     "C11": "node_rules/local_at_its_value node_rules/static_class",
-    "K1": "class_rules/last_allowed_class_is_too_many class_table/no_limits",
+    "K1": "class_rules/last_allowed_class_is_too_many",
     "K2": "node_rules/one_local_more",
     "K3": "node_rules/one_parameter_more",
-    "K4": "class_rules/one_field_more class_table/no_limits",
-    "T1": "type_rules/no_meanings_told type_check/unknown_name_passed_over "
-    "node_contexts/local_known_in_its_own_value node_contexts/local_known_below_an_if_alone",
-    "T2": "type_rules/known_name_is_right node_contexts/same_variable_again",
-    "T3": "type_rules/void_call_as_an_operand type_rules/unrelated_references_compared type_check/operands_swapped",
+    "K4": "class_rules/one_field_more symbol_table/fields_above_are_not_counted",
+    "T1": "type_check/unknown_name_passed_over node_contexts/local_known_in_its_own_value "
+    "node_contexts/local_known_below_an_if_alone",
+    "T2": "node_contexts/same_variable_again",
+    "T3": "type_check/operands_swapped",
     "T4": "type_rules/static_field_through_a_value",
-    "T5": "type_rules/size_method_called",
-    "T6": "type_rules/more_arguments_than_parameters type_rules/untyped_part_misfits node_views/first_parameter_twice",
+    "T5": "type_rules/size_method_called type_rules/no_method_told",
+    "T6": "type_rules/more_arguments_than_parameters node_views/first_parameter_twice",
     "T7": "type_rules/value_and_target_swapped",
     "T8": "",
-    "T9": "type_rules/int_fits_no_long type_words/void_is_long",
-    "T10": "type_rules/body_that_returns_is_noted type_words/loops_never_return type_words/one_branch_returns "
-    "type_words/while_true_may_end",
+    "T9": "type_words/void_is_long",
+    "T10": "type_words/loops_never_return type_words/one_branch_returns type_words/while_true_may_end",
     "T11": "type_rules/static_class_made",
-    "T12": "type_rules/cast_down_refused",
-    "T13": "type_rules/this_in_static_calls node_contexts/object_in_static_members",
+    "T12": "",
+    "T13": "node_contexts/object_in_static_members",
     "T14": "type_rules/form_twice_for_storage type_words/largest_size_refused",
-    "S1": "scope_tree/place_of_the_parent scope_tree/reserved_makes_scope scope_tree/unknown_can_be_defined",
-    "S2": "scope_tree/parent_behind_is_unknown scope_tree/root_is_unknown",
-    "S3": "scope_tree/cycle_asked_of_every_definition scope_tree/jumps_too_short "
-    "scope_tree/own_parent_missed",
+    "S1": "scope_tree/entered_under_the_parent scope_tree/unknown_can_be_defined",
+    "S2": "scope_tree/place_of_the_scope",
+    "S3": "scope_tree/every_scope_is_on_a_cycle",
     "S4": "scope_tree/wrong_parent_as_wrong_class",
     "S5": "scope_tree/mission_below_a_mission scope_tree/wrong_parent_as_wrong_class",
     "S6": "",
@@ -76,11 +75,10 @@ EDITS = {
     "A6": "annotation_rules/override_may_run_elsewhere annotation_rules/static_override "
     "annotation_rules/this_is_as_written_above",
     "A7": "annotation_rules/unknown_runs_in_as_other static_scopes/static_method_may_name_this",
-    "A8": "static_scopes/compared_as_spelled",
-    "A9": "annotation_rules/contradiction_as_unknown static_scopes/boolean_is_no_plain_type "
-          "static_scopes/unknown_name_as_known_elsewhere",
+    "A8": "static_scopes/nothing_defined_fixes_nothing",
+    "A9": "annotation_rules/contradiction_as_unknown static_scopes/unknown_name_as_known_elsewhere",
     "E1": "",
-    "E2": "runs_in_check/caller_refused runs_in_check/missing_scope_breaks static_scopes/method_runs_with_its_object",
+    "E2": "runs_in_check/caller_refused static_scopes/method_runs_with_its_object",
     "E3": "runs_in_check/this_not_replaced static_scopes/null_fits_nothing",
     "E4": "runs_in_check/any_value_is_stored",
     "E5": "runs_in_check/any_value_is_stored runs_in_check/caller_value_into_an_own_field",
@@ -88,15 +86,14 @@ EDITS = {
     "E7": "runs_in_check/entered_from_anywhere scope_tree/parents_are_the_scopes",
     "E8": "runs_in_check/executed_at_unnamed_scope",
     "E9": "runs_in_check/any_value_is_cast",
-    "E10": "runs_in_check/array_of_inner_scope scope_tree/immortal_is_not_outer scope_tree/own_scope_is_not_outer",
+    "E10": "runs_in_check/array_of_inner_scope scope_tree/own_scope_is_not_outer",
 }
 # Of every rule.
 COMMON = {
     "the order of a report, and each break once": "scj_check/not_sorted scj_check/first_break_only",
     "the phases": "scj_check/classes_and_types_together scj_check/scopes_and_uses_together",
-    "the places of the lexemes": "scj_lexer/column_from_zero scj_lexer/line_ended_by_carriage_return",
-    "the texts of the rules, their codes and their order": "scj_base/another_text scj_base/another_rule_code "
-    "scj_base/order_turned",
+    "the places of the lexemes": "scj_lexer/line_ended_by_carriage_return",
+    "the texts of the rules, their codes and their order": "scj_base/another_rule_code scj_base/order_turned",
 }
 
 HEAD = """# Where each rule stands

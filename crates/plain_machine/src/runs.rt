@@ -127,6 +127,5 @@ pub fn run<K: Sink>(
         (sink_run (K.taken out.old) (K.taken out.new) (K.faults out.old) (K.faults out.new)) stop) }
 {
     let table = ClassTable::of(alloc, checked.program())?;
-    let end = run_by_table(alloc, checked, &table, files, plan, out)?;
-    Ok(end)
+    run_by_table(alloc, checked, &table, files, plan, out)
 }
