@@ -1,4 +1,3 @@
 pub mod ArrayLemmas
 pub mod CallLemmas
-pub mod CountLemmas
 pub mod KindLemmas

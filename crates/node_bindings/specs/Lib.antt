@@ -1,4 +1,3 @@
 pub mod Arrays
 pub mod Kinds
-pub mod Numbers
 pub mod Programs

@@ -1,24 +1,24 @@
 //! What a node stands for, by its kind.
 
-ghost use Rattle.std.specs.Prelude.{◌≡◌, IfOk, None, Option, Some, if◌then◌else◌, option_and_then, slice_get};
+ghost use Rattle.std.specs.Prelude.{◌≡◌, IfOk, None, Option, Some, if◌then◌else◌, option_and_then, option_map, slice_get};
+ghost use Rattle.scj_tree.specs.Kinds.{kind_of};
 ghost use Rattle.scj_tree.specs.Recursion.{lookup};
 ghost use Rattle.scj_tree.specs.declared.nodes.Node.TheVariants.{SimpleName};
 ghost use Rattle.scj_rules.specs.Classes.{class_number, superclass_in};
 ghost use Rattle.scj_rules.specs.declared.typing.Binding.TheVariants.{Plain};
 ghost use Rattle.scj_rules.specs.declared.typing.FoundField.{FoundField};
 ghost use Rattle.scj_rules.specs.declared.typing.Receiver.TheVariants.{Class as the_class};
-ghost use Rattle.scj_rules.specs.Contexts.{declarations_of, contexts_in, context};
+ghost use Rattle.scj_rules.specs.Contexts.{declarations_of, context};
 ghost use Rattle.scj_rules.specs.Types.{array_of, meaning, receiver, accessed_field, is_form_part};
 ghost use Rattle.scj_rules.specs.TypeRules.{written_type};
 ghost use Rattle.scj_rules.specs.Bindings.{array_class, plain_or, class_binding, field_binding, access_binding, meaning_binding, binding_of, binding_at};
 ghost use Rattle.type_rules.specs.Meanings.{meant};
-ghost use Rattle.node_bindings.specs.Numbers.{numbers_before};
+ghost use Rattle.node_contexts.specs.Numbers.{numbers_before};
 ghost use Rattle.node_bindings.specs.Kinds.{can_stand};
 
 use crate::calls::call_binding;
 use crate::fields::{access_binding, array_class, class_binding, field_binding};
 use crate::numbers::variable_binding;
-use node_contexts::Contexts;
 use scj_base::{ClassId, Memory, Name, NodeId, Pos};
 use scj_rules::{Binding, Receiver, Ty};
 use scj_tree::{Node, NodeKind};
@@ -31,20 +31,16 @@ use type_words::array_of;
 #[tactic(auto, unfolding(type_rules::specs::Meanings::meant, scj_rules::specs::Bindings::meaning_binding))]
 fn meaning_binding(
     known: &Known<'_>,
-    contexts: &Contexts,
     numbers: &[u32],
     id: NodeId,
     meaning: &NameMeaning,
 ) -> Result<Binding, Memory>
-    requires contexts { contexts.now ≡ contexts_in known.now }
     requires numbers { numbers.now ≡ numbers_before (declarations_of known.now) }
     ensures { IfOk result
         (λ b. b ≡ meaning_binding (declarations_of known.now) id (meant known.now.nodes meaning.now)) }
 {
     match meaning {
-        NameMeaning::Variable(variable) => {
-            variable_binding(known.program(), contexts, numbers, id, *variable)
-        }
+        NameMeaning::Variable(variable) => { variable_binding(known, numbers, id, *variable) }
         NameMeaning::Field(field) => Ok(field_binding(known.classes(), field)),
         NameMeaning::Class(class) => Ok(Binding::Class(*class)),
         NameMeaning::Nothing => Ok(Binding::Plain),
@@ -54,20 +50,18 @@ fn meaning_binding(
 /// A simple name.
 fn name_binding(
     known: &Known<'_>,
-    contexts: &Contexts,
     numbers: &[u32],
     id: NodeId,
     place: Pos,
     name: &Name,
 ) -> Result<Binding, Memory>
-    requires contexts { contexts.now ≡ contexts_in known.now }
     requires numbers { numbers.now ≡ numbers_before (declarations_of known.now) }
     requires there { slice_get known.now.nodes id ≡ Some (SimpleName place name.now) }
     ensures { IfOk result
         (λ b. b ≡ meaning_binding (declarations_of known.now) id (meaning (declarations_of known.now) id name.now)) }
 {
     let stands_for = meaning_there(known, id, place, name);
-    meaning_binding(known, contexts, numbers, id, &stands_for)
+    meaning_binding(known, numbers, id, &stands_for)
 }
 
 /// The superclass of a class.
@@ -151,29 +145,25 @@ fn new_array(known: &Known<'_>, element: NodeId) -> Result<Binding, Memory>
 #[tactic(auto, unfolding(scj_rules::specs::Bindings::binding_of))]
 fn binding_of(
     known: &Known<'_>,
-    contexts: &Contexts,
     numbers: &[u32],
     types: &[Option<Ty>],
     id: NodeId,
     node: &Node,
 ) -> Result<Binding, Memory>
-    requires contexts { contexts.now ≡ contexts_in known.now }
     requires numbers { numbers.now ≡ numbers_before (declarations_of known.now) }
     requires there { slice_get known.now.nodes id ≡ Some node.now }
     ensures { IfOk result (λ b. b ≡ binding_of (declarations_of known.now) (lookup None types.now) id node.now) }
 {
     match node {
         Node::Parameter { .. } | Node::Local { .. } | Node::LocalWithValue { .. } => {
-            variable_binding(known.program(), contexts, numbers, id, id)
+            variable_binding(known, numbers, id, id)
         }
         Node::Field { name, .. } => Ok(field_here(known, id, name.get())),
         Node::Class { name, .. } => Ok(superclass_binding(known, known.class_of(name.get()))),
         Node::Constructor { .. } | Node::SuperCall { .. } => {
             Ok(superclass_binding(known, known.context(id).class))
         }
-        Node::SimpleName { place, name } => {
-            name_binding(known, contexts, numbers, id, *place, name.get())
-        }
+        Node::SimpleName { place, name } => { name_binding(known, numbers, id, *place, name.get()) }
         Node::FieldAccess { name, object, .. } => {
             Ok(access_at(known, types, id, *object, name.get()))
         },
@@ -214,24 +204,29 @@ fn can_stand(kind: &Option<NodeKind>) -> bool
     )
 }
 
+/// Whether a node can stand for something, by its kind.
+fn can_stand_there(known: &Known<'_>, id: NodeId) -> bool
+    ensures { result ≡ can_stand (option_map kind_of (slice_get known.now.nodes id)) }
+{
+    can_stand(&known.program().kind(id))
+}
+
 /// What a node stands for. Those that stand for nothing by their kinds aren't looked at.
 #[tactic(auto, unfolding(scj_rules::specs::Bindings::binding_at, scj_rules::specs::Contexts::declarations_of))]
 pub fn binding_at(
     known: &Known<'_>,
-    contexts: &Contexts,
     numbers: &[u32],
     types: &[Option<Ty>],
     id: NodeId,
 ) -> Result<Binding, Memory>
-    requires contexts { contexts.now ≡ contexts_in known.now }
     requires numbers { numbers.now ≡ numbers_before (declarations_of known.now) }
     ensures { IfOk result (λ b. b ≡ binding_at (declarations_of known.now) (lookup None types.now) id) }
 {
-    if !can_stand(&known.program().kind(id)) {
+    if !can_stand_there(known, id) {
         return Ok(Binding::Plain);
     }
     match known.program().get(id) {
-        Some(node) => binding_of(known, contexts, numbers, types, id, node),
+        Some(node) => binding_of(known, numbers, types, id, node),
         None => Ok(Binding::Plain),
     }
 }

@@ -5,12 +5,12 @@ ghost use Rattle.scj_tree.specs.Recursion.{lookup};
 ghost use Rattle.scj_rules.specs.Contexts.{declarations_of, contexts_in};
 ghost use Rattle.scj_rules.specs.TypeRules.{types_in};
 ghost use Rattle.scj_rules.specs.Bindings.{bindings_in};
-ghost use Rattle.node_bindings.specs.Numbers.{numbers_before};
+ghost use Rattle.node_contexts.specs.Numbers.{numbers_before};
 ghost use Rattle.node_bindings.specs.Programs.{bound_by};
 
 use crate::kinds::binding_at;
-use crate::numbers::number_variables;
 use node_contexts::Contexts;
+use node_contexts::numbers::number_variables;
 use scj_base::{Memory, NodeId};
 use scj_rules::{Bindings, Ty};
 use std::alloc::Global;
@@ -19,12 +19,10 @@ use type_rules::Known;
 /// Tells of each node in turn what it stands for.
 fn bind_all(
     known: &Known<'_>,
-    contexts: &Contexts,
     numbers: &[u32],
     types: &[Option<Ty>],
     bindings: &mut Bindings,
 ) -> Result<(), Memory>
-    requires contexts { contexts.now ≡ contexts_in known.now }
     requires numbers { numbers.now ≡ numbers_before (declarations_of known.now) }
     requires none { bindings.old ≡ [] }
     ensures { OnOk result (bindings.new ≡ bound_by (declarations_of known.now) (lookup None types.now)) }
@@ -32,7 +30,7 @@ fn bind_all(
     let program = known.program();
     for place in 0..program.len() {
         let id = NodeId::at(place as u32);
-        let b = binding_at(known, contexts, numbers, types, id)?;
+        let b = binding_at(known, numbers, types, id)?;
         bindings.add(b)?;
     }
     Ok(())
@@ -54,6 +52,6 @@ pub fn bindings_of(
 {
     let numbers = number_variables(alloc, known.program(), contexts)?;
     let mut bindings = Bindings::with_capacity(alloc, known.program().len())?;
-    bind_all(known, contexts, &numbers, types, &mut bindings)?;
+    bind_all(known, &numbers, types, &mut bindings)?;
     Ok(bindings)
 }

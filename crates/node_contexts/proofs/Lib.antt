@@ -1,4 +1,4 @@
-pub mod LeafLemmas
+pub mod CountLemmas
 pub mod ListLemmas
 pub mod StepLemmas
 pub mod VariableLemmas

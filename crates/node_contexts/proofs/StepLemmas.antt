@@ -1,19 +1,40 @@
--- The contexts of the nodes of a forest, parent after parent from the last one down.
-use Rattle.std.proofs.Common.{◌≡◌, ℕ, ◌<◌, suc, List, [], ◌∷◌, length, refl, sym, ap, ◌∙◌, arith, Option, Some, None, true, false, if◌then◌else◌, nat_lt, slice_get, replicate, ⊎_elim}
-use Rattle.std.proofs.lemmas.Bool.{cases_Bool, lt-ltb, le-ltb, true≢false}
+-- The contexts of the nodes of a forest, parent after parent from the last one down, and child after child.
+use Rattle.std.proofs.Common.{◌≡◌, ◌≢◌, ℕ, ◌+◌, ◌<◌, ◌≤◌, ◌==◌, List, [], ◌∷◌, ◌++◌, length, set, take, refl, sym, ap, ◌∙◌, subst, arith, Option, Some, None, Bool, true, false, not, ◌||◌, if◌then◌else◌, slice_get, replicate, is_some, append_assoc, ◌⊎◌, ⊎_elim}
+use Rattle.std.specs.List.{prefix_len}
+use Rattle.std.proofs.Math.Seq.{take-append_seam}
+use Rattle.std.proofs.lemmas.Bool.{cases_Bool, cases_eq, cases_lt, eq-eqb, ne_eqb, true≢false}
 use Rattle.std.proofs.lemmas.Bool.Decides.{nat_tests}
-use Rattle.std.proofs.lemmas.List.{get_or-replicate, ext_get_or}
+use Rattle.std.proofs.lemmas.List.{get_or-replicate, get_or-set_same, get_or-set_other, length-replicate, length-set, ext_get_or}
 use Rattle.std.proofs.lemmas.Option.{slice_get_within, same_Some}
 use Rattle.scj_tree.specs.declared.nodes.Node.{Node}
+use Rattle.scj_tree.specs.declared.nodes.Node.TheVariants.{ScopeName}
+use Rattle.scj_tree.specs.Counts.{times}
 use Rattle.scj_tree.specs.Forest.{Forest, IsForest, joined}
+use Rattle.scj_tree.specs.Kinds.{kind_of}
 use Rattle.scj_tree.specs.Shape.{children}
-use Rattle.scj_tree.specs.Recursion.{lookup, above}
+use Rattle.scj_tree.specs.Recursion.{lookup}
 use Rattle.scj_tree.proofs.RecursionLemmas.{length-top_down}
+use Rattle.scj_rules.specs.Definitions.{read}
 use Rattle.scj_rules.specs.Words.{is_among}
-use Rattle.scj_rules.specs.Contexts.{outermost, parent_in, child_context, context_of, contexts_in, object_of, last_variable, declared_before}
+use Rattle.scj_rules.specs.Views.{variable_at}
+use Rattle.scj_rules.specs.Contexts.{outermost, parent_in, child_context, context_of, contexts_in, object_of, last_variable, declared_before, those_before, parameter_nodes}
 use Rattle.scj_rules.specs.declared.contexts.Context.{Context}
-use Rattle.scj_rules.proofs.ParentLemmas.{child-is, child-less, no-parent, parent-is, parent-of}
-use Rattle.node_contexts.specs.Steps.{told_from, of_child, shared}
+use Rattle.scj_rules.proofs.ParentLemmas.{child-is, child-less, children_apart, no-parent, parent-is, times-among}
+use Rattle.node_contexts.specs.declared.kinds.Knows.{Knows}
+use Rattle.node_contexts.specs.declared.kinds.Knows.TheVariants.{InTurn, Parameters}
+use Rattle.node_contexts.specs.declared.rows.Family.{Family}
+use Rattle.node_contexts.specs.Steps.{is_leaf_kind, declared_by, declared_behind, last_at, last_behind, of_child, shared, IsFamily, AreTold, AreSpread}
+
+-- the kind of a node tells whether it has children
+shown : (node : Node) → (if is_leaf_kind (Some (kind_of node)) then [] else children node) ≡ children node
+unfolding is_leaf_kind kind_of children
+shown (ScopeName place name) = refl
+shown _ = refl
+
+pub leaf : (node : Node) → is_leaf_kind (Some (kind_of node)) ≡ true → children node ≡ []
+leaf node h = sym (shown node) ∙ ap (λ b. if b then [] else children node) h
+
+-- ---- parent after parent
 
 first-node : (nodes : List Node) (j : ℕ) → j < length nodes → Node
 first-node [] j l = absurd (omega (arith, l))
@@ -26,92 +47,127 @@ module _ (forest : Forest) (whole : IsForest forest) where
   abbrev all : List Context
   all = contexts_in forest
 
-  own : (k : ℕ) (node : Node) → slice_get nodes k ≡ Some node → told_from forest (suc k) k ≡ lookup outermost all k
-  unfolding told_from
-  own k node here = go (parent_in nodes k) refl
+  -- the context of a node whose parents are done
+  pub own : (k : ℕ) (node : Node) (rows : List Context) → slice_get nodes k ≡ Some node → AreTold forest (k + 1) [] rows
+      → lookup outermost rows k ≡ lookup outermost all k
+  own k node rows there t =
+      t.exact k (slice_get_within nodes k node there)
+      (λ q e. let is = parent-is forest whole k q e node in
+      omega (arith, child-less forest whole q k is.node is.there is.among)) refl
+
+  -- a parent more, before its children
+  pub begun : (k : ℕ) (node : Node) (rows : List Context) → slice_get nodes k ≡ Some node →
+      AreTold forest (k + 1) [] rows → AreTold forest k (children node) rows
+  begun k node rows there t =
+      record { whole = t.whole; exact = λ id l above other. t.exact id l (λ q e. later id q other e (above q e)) refl }
     where
-      go : (o : Option ℕ) → parent_in nodes k ≡ o →
-          elim o as (λ _. Context)
-          [ None ↦ outermost | Some parent ↦ if nat_lt parent (suc k) then outermost else lookup outermost all k ]
-          ≡ lookup outermost all k
-      go None e = sym (no-parent forest whole k (slice_get_within nodes k node here) e)
-      go (Some q) e =
-          let is = parent-is forest whole k q e node in
-          rw (le-ltb q (suc k) (omega (arith, child-less forest whole q k is.node is.there is.among))) refl
+      later : (id q : ℕ) → is_among id (children node) ≡ false → parent_in nodes id ≡ Some q → k ≤ q → k + 1 ≤ q
+      later id q other e up =
+          let is = parent-is forest whole id q e node in
+          let apart : q ≡ k → ⊥ = λ same. (
+          let one : is.node ≡ node = same_Some is.node node (sym is.there ∙ ap (slice_get nodes) same ∙ there) in
+          true≢false (sym (ap (λ n. is_among id (children n)) (sym one) ∙ is.among) ∙ other)) in
+          ⊎_elim (λ (l : k < q). omega (arith, l)) (λ (l : q ≤ k). absurd (apart (omega (arith, l, up)))) (cases_lt k q)
 
-  from-parent : (k x q : ℕ) → parent_in nodes x ≡ Some q →
-      told_from forest k x ≡ (if nat_lt q k then outermost else lookup outermost all x)
-  unfolding told_from
-  from-parent k x q e =
-      ap
-      (λ (o : Option ℕ). elim o as (λ _. Context)
-      [ None ↦ outermost | Some parent ↦ if nat_lt parent k then outermost else lookup outermost all x ]) e
-
-  -- the parents from k on, where those from k + 1 on are done
-  pub step : (k : ℕ) (node : Node) (rows new : List Context) → slice_get nodes k ≡ Some node →
-      ((j : ℕ) → j < length nodes → lookup outermost rows j ≡ told_from forest (suc k) j)
-      → ((j : ℕ) →
-      lookup outermost new j ≡ (if is_among j (children node) then child_context nodes (joined forest.files) k node
-      (lookup outermost rows k) j else lookup outermost rows j))
-      → (j : ℕ) → j < length nodes → lookup outermost new j ≡ told_from forest k j
-  unfolding told_from
-  step k node rows new e before after j l =
-      ⊎_elim (λ (h : is_among j (children node) ≡ true).
-      let row : lookup outermost rows k ≡ lookup outermost all k = before k (slice_get_within nodes k node e)
-      ∙ own k node e in
-      let value : lookup outermost new j ≡ child_context nodes (joined forest.files) k node
-      (lookup outermost rows k) j = rw h at (after j) in
-      value ∙ ap (λ a. child_context nodes (joined forest.files) k node a j) row ∙ sym (child-is forest whole k j node e h)
-      ∙ sym (from-parent k j k (parent-of forest whole k j node e h) ∙ ap (λ t. if t then outermost else lookup outermost all j)
-      (le-ltb k k (omega arith))))
-      (λ (h : is_among j (children node) ≡ false).
-      let value : lookup outermost new j ≡ lookup outermost rows j = rw h at (after j) in
-      value ∙ before j l ∙ same h (parent_in nodes j) refl)
-      (cases_Bool (is_among j (children node)))
+  pub started : (rows : List Context) → rows ≡ replicate (length nodes) outermost →
+      AreTold forest (length nodes) [] rows
+  started rows e =
+      record {
+        whole = ap length e ∙ length-replicate (length nodes) outermost;
+        exact = λ id l above h. ap (λ rs. lookup outermost rs id) e
+            ∙ get_or-replicate (length nodes) id outermost outermost l
+            ∙ sym (none id l above (parent_in nodes id) refl);
+      }
     where
-      same : is_among j (children node) ≡ false → (o : Option ℕ) → parent_in nodes j ≡ o
-          → elim o as (λ _. Context)
-          [ None ↦ outermost | Some parent ↦ if nat_lt parent (suc k) then outermost else lookup outermost all j ]
-          ≡ elim o as (λ _. Context)
-          [ None ↦ outermost | Some parent ↦ if nat_lt parent k then outermost else lookup outermost all j ]
-      same h None f = refl
-      same h (Some q) f =
-          let is = parent-is forest whole j q f node in
-          let other : q ≡ k → ⊥ = λ s. (
-          let one : is.node ≡ node = same_Some is.node node (sym is.there ∙ ap (slice_get nodes) s ∙ e) in
-          true≢false (sym (ap (λ n. is_among j (children n)) (sym one) ∙ is.among) ∙ h)) in
-          let t : nat_lt q (suc k) ≡ nat_lt q k = grind (arith, nat_tests) in
-          rw t refl
+      none : (id : ℕ) → id < length nodes → ((q : ℕ) → parent_in nodes id ≡ Some q → length nodes ≤ q) → (o : Option ℕ)
+          → parent_in nodes id ≡ o → lookup outermost all id ≡ outermost
+      none id l above None f = no-parent forest whole id l f
+      none id l above (Some q) f =
+          let is = parent-is forest whole id q f (first-node nodes id l) in
+          absurd (omega (arith, above q f, slice_get_within nodes q is.node is.there))
 
-  pub init : (rows : List Context) → rows ≡ replicate (length nodes) outermost → (j : ℕ) → j < length nodes →
-      lookup outermost rows j ≡ told_from forest (length nodes) j
-  unfolding told_from
-  init rows e j l = rw e (get_or-replicate (length nodes) j outermost outermost l) ∙ go (parent_in nodes j) refl
-    where
-      go : (o : Option ℕ) → parent_in nodes j ≡ o →
-          outermost ≡ elim o as (λ _. Context) [
-            | None ↦ outermost
-            | Some parent ↦ if nat_lt parent (length nodes) then outermost else lookup outermost all j
-          ]
-      go None f = refl
-      go (Some q) f =
-          let is = parent-is forest whole j q f (first-node nodes j l) in
-          rw (lt-ltb q (length nodes) (slice_get_within nodes q is.node is.there)) refl
-
-  pub done : (rows : List Context) → length rows ≡ length nodes →
-      ((j : ℕ) → j < length nodes → lookup outermost rows j ≡ told_from forest 0 j) → rows ≡ contexts_in forest
-  unfolding told_from contexts_in
-  done rows same h =
+  pub ended : (rows : List Context) → AreTold forest 0 [] rows → rows ≡ contexts_in forest
+  unfolding contexts_in
+  ended rows t =
       ext_get_or outermost rows all
-      (same ∙ sym (length-top_down outermost (context_of nodes (joined forest.files)) 0 (length nodes)))
-      (λ j l. h j (omega (arith, l, same)) ∙ last j (omega (arith, l, same)) (parent_in nodes j) refl)
-    where
-      last : (j : ℕ) → j < length nodes → (o : Option ℕ) → parent_in nodes j ≡ o →
-          elim o as (λ _. Context)
-          [ None ↦ outermost | Some parent ↦ if nat_lt parent 0 then outermost else lookup outermost all j ]
-          ≡ lookup outermost all j
-      last j l None f = sym (no-parent forest whole j l f)
-      last j l (Some q) f = rw (le-ltb q 0 (omega arith)) refl
+      (t.whole ∙ sym (length-top_down outermost (context_of nodes (joined forest.files)) 0 (length nodes)))
+      (λ j l. t.exact j (omega (arith, l, t.whole)) (λ q e. omega arith) refl)
+
+-- ---- child after child
+
+-- before the first child
+pub spread_first : (forest : Forest) (parent : ℕ) (node : Node) (family : Family) (rest : List ℕ) (known : Option ℕ)
+    (rows : List Context) → IsFamily forest parent node family → rest ≡ children node
+    → known ≡ last_variable forest.nodes family.base.last (declared_behind forest.nodes family.knows [])
+    → AreTold forest (parent + 1) [] rows → AreSpread forest parent node family rest known rows
+spread_first forest parent node family rest known rows f e k t =
+    record {
+      shared = f;
+      done = [];
+      parts = e;
+      is_last = k;
+      told = subst (λ ids. AreTold forest parent ids rows) (sym e)
+          (begun forest f.whole parent node rows f.there t);
+    }
+
+among-middle : (done rest : List ℕ) (c : ℕ) → is_among c (done ++ c ∷ rest) ≡ true
+among-middle [] rest c = rw (eq-eqb c c refl) refl
+among-middle (x ∷ done) rest c = ap (λ b. (c == x) || b) (among-middle done rest c) ∙ go (c == x)
+  where
+    go : (b : Bool) → (b || true) ≡ true
+    go true = refl
+    go false = refl
+
+prefix-at : (done rest : List ℕ) (c : ℕ) → times c (done ++ c ∷ rest) ≤ 1 →
+    prefix_len (λ other. not (other == c)) (done ++ c ∷ rest) ≡ length done
+unfolding times
+prefix-at [] rest c once = rw (eq-eqb c c refl) refl
+prefix-at (x ∷ done) rest c once =
+    let inside : 1 ≤ times c (done ++ c ∷ rest) = times-among c (done ++ c ∷ rest) (among-middle done rest c) in
+    ⊎_elim (λ (same : (c == x) ≡ true). let once' = rw same at once in absurd (omega (arith, once', inside)))
+    (λ (other : (c == x) ≡ false).
+    let apart : (x == c) ≡ false = grind (arith, nat_tests) in
+    let later : times c (done ++ c ∷ rest) ≤ 1 = omega (arith, once) in
+    rw apart (omega (arith, prefix-at done rest c later)))
+    (cases_Bool (c == x))
+
+-- the children before one
+those_before-at : (done rest : List ℕ) (c : ℕ) → times c (done ++ c ∷ rest) ≤ 1 →
+    those_before c (done ++ c ∷ rest) ≡ done
+those_before-at done rest c once = ap (λ n. take n (done ++ c ∷ rest)) (prefix-at done rest c once)
+    ∙ take-append_seam done (c ∷ rest)
+
+last_variable-push : (arena : List Node) (known : Option ℕ) (ids : List ℕ) (x : ℕ) →
+    last_variable arena known
+    (ids ++ x ∷ []) ≡ (if is_some (variable_at arena x) then Some x else last_variable arena known ids)
+unfolding last_variable
+last_variable-push arena known [] x = refl
+last_variable-push arena known (y ∷ ids) x =
+    last_variable-push arena (if is_some (variable_at arena y) then Some y else known) ids x
+
+-- the last variable behind a child, and at it
+behind-is : (arena : List Node) (knows : Knows) (done : List ℕ) (before known : Option ℕ) (child : ℕ) →
+    known ≡ last_variable arena before (declared_behind arena knows done)
+    → last_behind arena knows known child ≡ last_variable arena before
+    (declared_behind arena knows (done ++ child ∷ []))
+behind-is arena InTurn done before known child k =
+    ap (λ (o : Option ℕ). if is_some (variable_at arena child) then Some child else o) k
+    ∙ sym (last_variable-push arena before done child)
+behind-is arena (Parameters None) done before known child k = k
+behind-is arena (Parameters (Some list)) done before known child k = k
+
+at-is : (arena : List Node) (knows : Knows) (ids done : List ℕ) (before known : Option ℕ) (child : ℕ) →
+    known ≡ last_variable arena before (declared_behind arena knows done) → those_before child ids ≡ done
+    → last_at knows before known child ≡ last_variable arena before (declared_by arena ids knows child)
+unfolding last_variable
+at-is arena InTurn ids done before known child k b = k ∙ ap (last_variable arena before) (sym b)
+at-is arena (Parameters None) ids done before known child k b = k
+at-is arena (Parameters (Some list)) ids done before known child k b = go (child == list)
+  where
+    go : (b : Bool) → (if b then before else known) ≡ last_variable arena before (if b then [] else
+        (elim (read arena parameter_nodes list) as (λ _. List ℕ) [ None ↦ [] | Some parameters ↦ parameters ]))
+    go true = refl
+    go false = k
 
 -- the context of a child, from what all children share
 child-parts : (arena : List Node) (classes : List ℕ) (parent : ℕ) (node : Node) (above : Context) (child : ℕ)
@@ -121,7 +177,7 @@ child-parts : (arena : List Node) (classes : List ℕ) (parent : ℕ) (node : No
 unfolding child_context shared
 child-parts arena classes parent node above child = refl
 
-pub child-from : (arena : List Node) (classes : List ℕ) (parent : ℕ) (node : Node) (above base : Context)
+child-from : (arena : List Node) (classes : List ℕ) (parent : ℕ) (node : Node) (above base : Context)
     (object : Option ℕ) (known : List ℕ) (child : ℕ)
     → base ≡ shared classes parent node above → object ≡ object_of node → known ≡ declared_before arena node child
     → of_child base object (last_variable arena base.last known) child ≡ child_context arena classes parent node above
@@ -133,3 +189,50 @@ child-from arena classes parent node above base object known child e f g =
     ∙ ap (λ (k : List ℕ). of_child (shared classes parent node above) (object_of node)
     (last_variable arena (shared classes parent node above).last k) child) g
     ∙ child-parts arena classes parent node above child
+
+-- a child more
+pub spread_next : (forest : Forest) (parent : ℕ) (node : Node) (family : Family) (rest : List ℕ)
+    (known next : Option ℕ) (rows : List Context) (child : ℕ) (row : Context)
+    → row ≡ of_child family.base family.object (last_at family.knows family.base.last known child) child
+    → next ≡ last_behind forest.nodes family.knows known child → child < length rows
+    → AreSpread forest parent node family (child ∷ rest) known rows
+    → AreSpread forest parent node family rest next (set rows child row)
+spread_next forest parent node family rest known next rows child row e f l s =
+    record {
+      shared = s.shared;
+      done = s.done ++ child ∷ [];
+      parts = append_assoc s.done (child ∷ []) rest ∙ s.parts;
+      is_last = f ∙ behind-is forest.nodes family.knows s.done family.base.last known child s.is_last;
+      told = record {
+        whole = length-set rows child row ∙ s.told.whole;
+        exact = λ id m above other. at id m above other (cases_eq id child);
+      };
+    }
+  where
+    once : times child (s.done ++ child ∷ rest) ≤ 1
+    once = subst (λ ids. times child ids ≤ 1) (sym s.parts)
+        (children_apart forest s.shared.whole parent node s.shared.there child)
+
+    among : is_among child (children node) ≡ true
+    among = ap (is_among child) (sym s.parts) ∙ among-middle s.done rest child
+
+    value : row ≡ lookup outermost (contexts_in forest) child
+    value = e ∙ ap (λ (o : Option ℕ). of_child family.base family.object o child)
+        (at-is forest.nodes family.knows (children node) s.done family.base.last known child s.is_last
+        (ap (those_before child) (sym s.parts) ∙ those_before-at s.done rest child once))
+        ∙ child-from forest.nodes (joined forest.files) parent node (lookup outermost (contexts_in forest) parent)
+        family.base
+        family.object (declared_by forest.nodes (children node) family.knows child) child s.shared.base s.shared.object
+        (sym (s.shared.knows child))
+        ∙ sym (child-is forest s.shared.whole parent child node s.shared.there among)
+
+    at : (id : ℕ) → id < length forest.nodes
+        → ((q : ℕ) → parent_in forest.nodes id ≡ Some q → parent ≤ q) → is_among id rest ≡ false
+        → (id ≡ child) ⊎ (id ≢ child) → lookup outermost (set rows child row) id ≡ lookup outermost
+        (contexts_in forest) id
+    at id m above other =
+        ⊎_elim
+        (λ (same : id ≡ child). ap (lookup outermost (set rows child row)) same
+        ∙ get_or-set_same rows child row outermost l ∙ value ∙ ap (lookup outermost (contexts_in forest)) (sym same))
+        (λ (apart : id ≢ child). get_or-set_other rows child id row outermost apart
+        ∙ s.told.exact id m above (ap (λ b. b || is_among id rest) (ne_eqb id child apart) ∙ other))

@@ -1,23 +1,44 @@
--- What the kind of a node says of the contexts of its children, and the contexts as far as some parents tell them.
-use Rattle.std.specs.Prelude.{ℕ, nat_lt, Bool, true, false, ◌||◌, ◌==◌, List, [], Option, Some, None, if◌then◌else◌}
+-- What the kind of a node says of the contexts of its children, and the contexts as far as they are told: parent after
+-- parent from the last one down, and child after child.
+use Rattle.std.specs.Prelude.{◌≡◌, ℕ, ◌<◌, ◌≤◌, Bool, true, false, ◌||◌, ◌==◌, List, [], ◌++◌, length, slice_get, Option, Some, None, if◌then◌else◌, is_some}
 use Rattle.scj_tree.specs.declared.nodes.Node.{Node}
 use Rattle.scj_tree.specs.declared.kinds.NodeKind.{NodeKind}
 use Rattle.scj_tree.specs.declared.kinds.NodeKind.TheVariants.{ScopeName, TypeArgument, IntType, BooleanType, VoidType, LongType, Empty, SimpleName, Text, Number, True, False, Null, This}
-use Rattle.scj_tree.specs.Forest.{Forest}
+use Rattle.scj_tree.specs.Forest.{Forest, IsForest, joined}
 use Rattle.scj_tree.specs.Recursion.{lookup}
+use Rattle.scj_tree.specs.Shape.{children}
 use Rattle.scj_base.specs.Bytes.{is_same}
-use Rattle.scj_rules.specs.Words.{holds, or_else, chain}
+use Rattle.scj_rules.specs.Definitions.{read}
+use Rattle.scj_rules.specs.Words.{holds, or_else, is_among, chain}
 use Rattle.scj_rules.specs.Views.{variable_at}
 use Rattle.scj_rules.specs.declared.views.Declared.{Declared}
 use Rattle.scj_rules.specs.declared.contexts.Context.{Context}
-use Rattle.scj_rules.specs.Contexts.{outermost, number_of_class, is_member, is_super_call, those_before, parameters_before, parent_in, contexts_in, Declarations, context}
+use Rattle.scj_rules.specs.Contexts.{outermost, number_of_class, is_member, is_super_call, object_of, last_variable, parameter_nodes, those_before, parameters_before, declared_before, parent_in, contexts_in, Declarations, variable_before}
 use Rattle.node_contexts.specs.declared.kinds.Knows.{Knows}
 use Rattle.node_contexts.specs.declared.kinds.Knows.TheVariants.{InTurn, Parameters}
+use Rattle.node_contexts.specs.declared.rows.Family.{Family}
 
 -- the children whose declarations are known at a child
 abbrev pub declared_by : List Node → List ℕ → Knows → ℕ → List ℕ
 declared_by nodes ids InTurn child = those_before child ids
 declared_by nodes ids (Parameters parameters) child = parameters_before nodes parameters child
+
+-- the declarations that are known behind some children
+abbrev pub declared_behind : List Node → Knows → List ℕ → List ℕ
+declared_behind nodes InTurn done = done
+declared_behind nodes (Parameters None) done = []
+declared_behind nodes (Parameters (Some list)) done =
+    elim (read nodes parameter_nodes list) [ None ↦ [] | Some ids ↦ ids ]
+
+-- the last variable that is known at a child, from that before all children and that behind those before it
+abbrev pub last_at : Knows → Option ℕ → Option ℕ → ℕ → Option ℕ
+last_at InTurn before known child = known
+last_at (Parameters parameters) before known child = if holds parameters (λ list. child == list) then before else known
+
+-- the last variable that is known behind a child
+abbrev pub last_behind : List Node → Knows → Option ℕ → ℕ → Option ℕ
+last_behind nodes InTurn known child = if is_some (variable_at nodes child) then Some child else known
+last_behind nodes (Parameters parameters) known child = known
 
 -- what is the same for all children of a node
 unfoldable pub shared : List ℕ → ℕ → Node → Context → Context
@@ -34,13 +55,30 @@ shared classes parent node above =
 abbrev pub of_child : Context → Option ℕ → Option ℕ → ℕ → Context
 of_child base object last child = record base { last = last; before_dot = holds object (λ o. o == child) }
 
--- the context of a node, where its parent has this number or a larger one
-unfoldable pub told_from : Forest → ℕ → ℕ → Context
-told_from forest first id =
-    elim (parent_in forest.nodes id) [
-      | None ↦ outermost
-      | Some parent ↦ if nat_lt parent first then outermost else lookup outermost (contexts_in forest) id
-    ]
+-- this is what the children of a node share
+pub record IsFamily (forest : Forest) (parent : ℕ) (node : Node) (family : Family) : Type 0 where
+  pub whole : IsForest forest
+  pub there : slice_get forest.nodes parent ≡ Some node
+  pub base : family.base ≡ shared (joined forest.files) parent node (lookup outermost (contexts_in forest) parent)
+  pub object : family.object ≡ object_of node
+  pub knows : (child : ℕ) → declared_before forest.nodes node child ≡ declared_by forest.nodes (children node)
+      family.knows child
+
+-- the contexts of the nodes without a parent below k are there, but for those of some nodes
+pub record AreTold (forest : Forest) (k : ℕ) (rest : List ℕ) (rows : List Context) : Type 0 where
+  pub whole : length rows ≡ length forest.nodes
+  pub exact : (id : ℕ) → id < length forest.nodes
+      → ((parent : ℕ) → parent_in forest.nodes id ≡ Some parent → k ≤ parent) → is_among id rest ≡ false
+      → lookup outermost rows id ≡ lookup outermost (contexts_in forest) id
+
+-- the children of a node have their contexts, but for the rest of them; `known` is the last variable behind the others
+pub record AreSpread (forest : Forest) (parent : ℕ) (node : Node) (family : Family) (rest : List ℕ) (known : Option ℕ)
+    (rows : List Context) : Type 0 where
+  pub shared : IsFamily forest parent node family
+  pub done : List ℕ
+  pub parts : done ++ rest ≡ children node
+  pub is_last : known ≡ last_variable forest.nodes family.base.last (declared_behind forest.nodes family.knows done)
+  pub told : AreTold forest parent rest rows
 
 -- the node declares a variable of the name
 abbrev pub declares : List Node → List ℕ → ℕ → Bool
@@ -49,22 +87,22 @@ declares nodes name id = holds (variable_at nodes id) (λ (d : Declared). is_sam
 -- the variables from one on, the last first: at most so many
 abbrev pub on_from : Declarations → ℕ → Option ℕ → List ℕ
 on_from p bound None = []
-on_from p bound (Some last) = chain (λ v. (context p v).last) bound last
+on_from p bound (Some last) = chain (variable_before p) bound last
 
 -- nodes of the kind have no children
-unfoldable pub is_leaf_kind : NodeKind → Bool
-is_leaf_kind ScopeName = true
-is_leaf_kind TypeArgument = true
-is_leaf_kind IntType = true
-is_leaf_kind BooleanType = true
-is_leaf_kind VoidType = true
-is_leaf_kind LongType = true
-is_leaf_kind Empty = true
-is_leaf_kind SimpleName = true
-is_leaf_kind Text = true
-is_leaf_kind Number = true
-is_leaf_kind True = true
-is_leaf_kind False = true
-is_leaf_kind Null = true
-is_leaf_kind This = true
+unfoldable pub is_leaf_kind : Option NodeKind → Bool
+is_leaf_kind (Some ScopeName) = true
+is_leaf_kind (Some TypeArgument) = true
+is_leaf_kind (Some IntType) = true
+is_leaf_kind (Some BooleanType) = true
+is_leaf_kind (Some VoidType) = true
+is_leaf_kind (Some LongType) = true
+is_leaf_kind (Some Empty) = true
+is_leaf_kind (Some SimpleName) = true
+is_leaf_kind (Some Text) = true
+is_leaf_kind (Some Number) = true
+is_leaf_kind (Some True) = true
+is_leaf_kind (Some False) = true
+is_leaf_kind (Some Null) = true
+is_leaf_kind (Some This) = true
 is_leaf_kind _ = false

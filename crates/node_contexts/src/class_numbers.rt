@@ -1,6 +1,6 @@
 //! The numbers of the classes of a program, by their nodes.
 
-ghost use Rattle.std.specs.Prelude.{◌≡◌, ◌++◌, ℕ, None, IfOk, length};
+ghost use Rattle.std.specs.Prelude.{◌≡◌, ◌<◌, ◌++◌, ℕ, None, Some, IfOk, OnOk, length, replicate, set};
 ghost use Rattle.scj_tree.specs.Forest.{joined};
 ghost use Rattle.scj_tree.specs.Recursion.{lookup};
 ghost use Rattle.scj_rules.specs.Contexts.{number_of_class};
@@ -21,6 +21,26 @@ fn class_nodes(alloc: Global, program: &Program) -> Result<Vec<NodeId>, Memory>
     Ok(all)
 }
 
+/// So many nodes without numbers.
+fn unnumbered(alloc: Global, count: usize) -> Result<Vec<Option<ClassId>>, Memory>
+    ensures { IfOk result (λ numbers. numbers.items ≡ replicate count None) }
+{
+    Ok(vec![in alloc; None; count]?)
+}
+
+/// Writes the number of a class.
+fn put(numbers: &mut Vec<Option<ClassId>>, node: NodeId, class: ClassId) -> Result<(), Memory>
+    ensures within { OnOk result (node < length numbers.old.items) }
+    ensures new { OnOk result (numbers.new.items ≡ set numbers.old.items node (Some class)) }
+{
+    let place = node.place();
+    if place >= numbers.len() {
+        return Err(Memory);
+    }
+    numbers[place] = Some(class);
+    Ok(())
+}
+
 /// The number of the class of each node, if it is one.
 pub fn class_numbers(alloc: Global, program: &Program) -> Result<Vec<Option<ClassId>>, Memory>
     ensures whole { IfOk result (λ numbers. length numbers.items ≡ length program.now.nodes) }
@@ -31,12 +51,12 @@ pub fn class_numbers(alloc: Global, program: &Program) -> Result<Vec<Option<Clas
     if all.len() > (u32::MAX - FRAMEWORK_CLASS_COUNT) as usize {
         return Err(Memory);
     }
-    let mut numbers = vec![in alloc; None; program.len()]?;
-    let mut place = all.len();
-    while place > 0 {
-        place -= 1;
-        let node = all[place];
-        numbers[node.place()] = Some(ClassId::at(FRAMEWORK_CLASS_COUNT + place as u32));
+    let mut numbers = unnumbered(alloc, program.len())?;
+    let mut rest = all.as_slice();
+    while let [others @ .., node] = rest {
+        let class = ClassId::at(FRAMEWORK_CLASS_COUNT + others.len() as u32);
+        put(&mut numbers, *node, class)?;
+        rest = others;
     }
     Ok(numbers)
 }

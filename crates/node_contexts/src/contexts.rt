@@ -5,7 +5,8 @@ ghost use Rattle.scj_tree.specs.Recursion.{lookup};
 ghost use Rattle.scj_rules.specs.Contexts.{outermost, contexts_in};
 
 use crate::class_numbers::class_numbers;
-use crate::rows::spread_children;
+use crate::packed::PackedContext;
+use crate::rows::{row_at, spread_children};
 use scj_base::{Memory, NodeId};
 use scj_rules::Context;
 use scj_tree::Program;
@@ -15,7 +16,7 @@ use std::marker::Model;
 /// The context of each node of a program.
 #[derive(Drop)]
 pub struct Contexts {
-    rows: Vec<Context>,
+    rows: Vec<PackedContext>,
 }
 
 impl Model for Contexts {
@@ -27,20 +28,11 @@ impl Model for Contexts {
     ghost view = { λ a. a.rows.items };
 }
 
-/// The context of a node that has no parent.
-const OUTERMOST: Context = Context {
-    class: None,
-    member: None,
-    last: None,
-    in_super_call: false,
-    before_dot: false,
-};
-
 /// Contexts of so many nodes without parents.
-fn outermost(alloc: Global, count: usize) -> Result<Vec<Context>, Memory>
+fn outermost(alloc: Global, count: usize) -> Result<Vec<PackedContext>, Memory>
     ensures { IfOk result (λ rows. rows.items ≡ replicate count outermost) }
 {
-    Ok(vec![in alloc; OUTERMOST; count]?)
+    Ok(vec![in alloc; PackedContext::outermost(); count]?)
 }
 
 impl Contexts {
@@ -50,13 +42,12 @@ impl Contexts {
     {
         let numbers = class_numbers(alloc, program)?;
         let mut rows = outermost(alloc, program.len())?;
-        let mut ids = Vec::new(alloc);
         let mut place = program.len();
         while place > 0 {
             place -= 1;
             let parent = NodeId::at(place as u32);
             let node = program.node(parent);
-            spread_children(program, &mut ids, numbers[place], parent, node, &mut rows)?;
+            spread_children(program, numbers[place], parent, node, &mut rows)?;
         }
         Ok(Contexts { rows })
     }
@@ -65,9 +56,6 @@ impl Contexts {
     pub fn get(&self, id: NodeId) -> Context
         ensures { result ≡ lookup outermost self.now id }
     {
-        match self.rows.get(id.place()) {
-            Some(row) => *row,
-            None => OUTERMOST,
-        }
+        row_at(&self.rows, id).context()
     }
 }

@@ -1,7 +1,6 @@
 //! What the kind of a node says of the contexts of its children.
 
-ghost use Rattle.std.specs.Prelude.{◌≡◌, ◌++◌, ℕ, List, [], Some, slice_get};
-ghost use Rattle.std.specs.Bool.{OnTrue};
+ghost use Rattle.std.specs.Prelude.{◌≡◌, ◌++◌, ℕ, List, slice_get, option_map};
 ghost use Rattle.scj_tree.specs.declared.nodes.Node.{Node as Tree};
 ghost use Rattle.scj_tree.specs.Kinds.{kind_of};
 ghost use Rattle.scj_tree.specs.Shape.{children, optional};
@@ -30,15 +29,21 @@ pub enum Knows {
     Parameters(Option<NodeId>),
 }
 
-/// No children, but those of the list.
-fn listed<'a>(list: &'a [NodeId]) -> Parts<'a>
-    ensures { result ≡ record { first = None; second = None; third = None; fourth = None; list = list.entry } }
+/// Children that stand singly, and those of a list.
+fn made_of<'a>(
+    first: Option<NodeId>,
+    second: Option<NodeId>,
+    third: Option<NodeId>,
+    fourth: Option<NodeId>,
+    list: &'a [NodeId],
+) -> Parts<'a>
+    ensures { result ≡ record { first = first; second = second; third = third; fourth = fourth; list = list.entry } }
 {
     Parts {
-        first: None,
-        second: None,
-        third: None,
-        fourth: None,
+        first,
+        second,
+        third,
+        fourth,
         list,
     }
 }
@@ -56,254 +61,143 @@ pub fn parts_of(node: &Node) -> Parts<'_>
             header,
             members,
             ..
-        } => Parts {
-            first: *flags,
-            second: *header,
-            ..listed(members.items())
-        },
+        } => made_of(*flags, *header, None, None, members.items()),
         Node::Flags {
             define_scope,
             scope,
             runs_in,
             ..
-        } => Parts {
-            first: *define_scope,
-            second: *scope,
-            third: *runs_in,
-            ..listed(&[])
-        },
-        Node::DefineScope { first, second, .. } => Parts {
-            first: Some(*first),
-            second: Some(*second),
-            ..listed(&[])
-        },
+        } => made_of(*define_scope, *scope, *runs_in, None, &[]),
+        Node::DefineScope { first, second, .. } => {
+            made_of(Some(*first), Some(*second), None, None, &[])
+        }
         Node::Supers {
             superclass,
             interfaces,
             ..
-        } => Parts {
-            first: *superclass,
-            ..listed(interfaces.items())
-        },
-        Node::SuperType { argument, .. } => Parts {
-            first: *argument,
-            ..listed(&[])
-        },
-        Node::ClassType { argument, .. } => Parts {
-            first: *argument,
-            ..listed(&[])
-        },
+        } => made_of(*superclass, None, None, None, interfaces.items()),
+        Node::SuperType { argument, .. } => made_of(*argument, None, None, None, &[]),
+        Node::ClassType { argument, .. } => made_of(*argument, None, None, None, &[]),
         Node::Field {
             flags,
             declared_type,
             value,
             ..
-        } => Parts {
-            first: *flags,
-            second: Some(*declared_type),
-            third: *value,
-            ..listed(&[])
-        },
+        } => made_of(*flags, Some(*declared_type), *value, None, &[]),
         Node::Method {
             flags,
             result_type,
             parameters,
             body,
             ..
-        } => Parts {
-            first: *flags,
-            second: Some(*result_type),
-            third: *parameters,
-            fourth: *body,
-            list: &[],
-        },
+        } => made_of(*flags, Some(*result_type), *parameters, *body, &[]),
         Node::Constructor {
             flags,
             parameters,
             super_call,
             body,
             ..
-        } => Parts {
-            first: *flags,
-            second: *parameters,
-            third: *super_call,
-            fourth: Some(*body),
-            list: &[],
-        },
-        Node::Parameters { list, .. } => listed(list.items()),
+        } => made_of(*flags, *parameters, *super_call, Some(*body), &[]),
+        Node::Parameters { list, .. } => made_of(None, None, None, None, list.items()),
         Node::Parameter {
             flags,
             declared_type,
             ..
-        } => Parts {
-            first: *flags,
-            second: Some(*declared_type),
-            ..listed(&[])
-        },
-        Node::SuperCall { arguments, .. } => listed(arguments.items()),
-        Node::Block { statements, .. } => listed(statements.items()),
+        } => made_of(*flags, Some(*declared_type), None, None, &[]),
+        Node::SuperCall { arguments, .. } => made_of(None, None, None, None, arguments.items()),
+        Node::Block { statements, .. } => made_of(None, None, None, None, statements.items()),
         Node::Local {
             flags,
             declared_type,
             ..
-        } => Parts {
-            first: *flags,
-            second: Some(*declared_type),
-            ..listed(&[])
-        },
+        } => made_of(*flags, Some(*declared_type), None, None, &[]),
         Node::LocalWithValue {
             flags,
             declared_type,
             value,
             ..
-        } => Parts {
-            first: *flags,
-            second: Some(*declared_type),
-            third: Some(*value),
-            ..listed(&[])
-        },
-        Node::Assign { target, value, .. } => Parts {
-            first: Some(*target),
-            second: Some(*value),
-            ..listed(&[])
-        },
-        Node::ExpressionStatement { expression, .. } => Parts {
-            first: Some(*expression),
-            ..listed(&[])
-        },
+        } => made_of(*flags, Some(*declared_type), Some(*value), None, &[]),
+        Node::Assign { target, value, .. } => made_of(Some(*target), Some(*value), None, None, &[]),
+        Node::ExpressionStatement { expression, .. } => {
+            made_of(Some(*expression), None, None, None, &[])
+        }
         Node::If {
             condition,
             then_part,
             else_part,
             ..
-        } => Parts {
-            first: Some(*condition),
-            second: Some(*then_part),
-            third: *else_part,
-            ..listed(&[])
-        },
+        } => made_of(Some(*condition), Some(*then_part), *else_part, None, &[]),
         Node::While {
             condition,
             body,
             ..
-        } => Parts {
-            first: Some(*condition),
-            second: Some(*body),
-            ..listed(&[])
-        },
+        } => made_of(Some(*condition), Some(*body), None, None, &[]),
         Node::For {
             first,
             condition,
             step,
             body,
             ..
-        } => Parts {
-            first: Some(*first),
-            second: Some(*condition),
-            third: Some(*step),
-            fourth: Some(*body),
-            list: &[],
-        },
-        Node::Return { value, .. } => Parts {
-            first: *value,
-            ..listed(&[])
-        },
-        Node::Binary { left, right, .. } => Parts {
-            first: Some(*left),
-            second: Some(*right),
-            ..listed(&[])
-        },
-        Node::Unary { operand, .. } => Parts {
-            first: Some(*operand),
-            ..listed(&[])
-        },
-        Node::Cast { operand, .. } => Parts {
-            first: Some(*operand),
-            ..listed(&[])
-        },
-        Node::Parenthesized { inner, .. } => Parts {
-            first: Some(*inner),
-            ..listed(&[])
-        },
-        Node::FieldAccess { object, .. } => Parts {
-            first: Some(*object),
-            ..listed(&[])
-        },
+        } => made_of(
+            Some(*first),
+            Some(*condition),
+            Some(*step),
+            Some(*body),
+            &[],
+        ),
+        Node::Return { value, .. } => made_of(*value, None, None, None, &[]),
+        Node::Binary { left, right, .. } => made_of(Some(*left), Some(*right), None, None, &[]),
+        Node::Unary { operand, .. } => made_of(Some(*operand), None, None, None, &[]),
+        Node::Cast { operand, .. } => made_of(Some(*operand), None, None, None, &[]),
+        Node::Parenthesized { inner, .. } => made_of(Some(*inner), None, None, None, &[]),
+        Node::FieldAccess { object, .. } => made_of(Some(*object), None, None, None, &[]),
         Node::Call {
             object,
             arguments,
             ..
-        } => Parts {
-            first: *object,
-            ..listed(arguments.items())
-        },
-        Node::Element { array, index, .. } => Parts {
-            first: Some(*array),
-            second: Some(*index),
-            ..listed(&[])
-        },
-        Node::New { arguments, .. } => listed(arguments.items()),
+        } => made_of(*object, None, None, None, arguments.items()),
+        Node::Element { array, index, .. } => made_of(Some(*array), Some(*index), None, None, &[]),
+        Node::New { arguments, .. } => made_of(None, None, None, None, arguments.items()),
         Node::NewArray {
             element,
             length,
             ..
-        } => Parts {
-            first: Some(*element),
-            second: Some(*length),
-            ..listed(&[])
-        },
-        Node::ScopeName { .. } => listed(&[]),
-        Node::TypeArgument { .. } => listed(&[]),
-        Node::IntType { .. } => listed(&[]),
-        Node::BooleanType { .. } => listed(&[]),
-        Node::VoidType { .. } => listed(&[]),
-        Node::LongType { .. } => listed(&[]),
-        Node::Empty { .. } => listed(&[]),
-        Node::SimpleName { .. } => listed(&[]),
-        Node::Text { .. } => listed(&[]),
-        Node::Number { .. } => listed(&[]),
-        Node::True { .. } => listed(&[]),
-        Node::False { .. } => listed(&[]),
-        Node::Null { .. } => listed(&[]),
-        Node::This { .. } => listed(&[]),
+        } => made_of(Some(*element), Some(*length), None, None, &[]),
+        _ => made_of(None, None, None, None, &[]),
     }
 }
 
 /// Whether nodes of this kind have no children.
 #[tactic(auto, unfolding(crate::specs::Steps::is_leaf_kind))]
-fn is_leaf_kind(kind: &NodeKind) -> bool
+fn is_leaf_kind(kind: &Option<NodeKind>) -> bool
     ensures { result ≡ is_leaf_kind kind.now }
 {
-    match kind {
-        NodeKind::ScopeName => true,
-        NodeKind::TypeArgument => true,
-        NodeKind::IntType => true,
-        NodeKind::BooleanType => true,
-        NodeKind::VoidType => true,
-        NodeKind::LongType => true,
-        NodeKind::Empty => true,
-        NodeKind::SimpleName => true,
-        NodeKind::Text => true,
-        NodeKind::Number => true,
-        NodeKind::True => true,
-        NodeKind::False => true,
-        NodeKind::Null => true,
-        NodeKind::This => true,
-        _ => false,
-    }
+    matches!(
+        kind,
+        Some(
+            NodeKind::ScopeName
+                | NodeKind::TypeArgument
+                | NodeKind::IntType
+                | NodeKind::BooleanType
+                | NodeKind::VoidType
+                | NodeKind::LongType
+                | NodeKind::Empty
+                | NodeKind::SimpleName
+                | NodeKind::Text
+                | NodeKind::Number
+                | NodeKind::True
+                | NodeKind::False
+                | NodeKind::Null
+                | NodeKind::This
+        )
+    )
 }
 
 /// Whether a node has no children, where its kind tells that, without a look at the node.
-pub fn is_leaf(program: &Program, id: NodeId, node: &Node) -> bool
-    requires { slice_get program.now.nodes id ≡ Some node.now }
-    ensures kind { result ≡ is_leaf_kind (kind_of node.now) }
-    ensures leaf { OnTrue result (children node.now ≡ []) }
+pub fn is_leaf(program: &Program, id: NodeId) -> bool
+    ensures { result ≡ is_leaf_kind (option_map kind_of (slice_get program.now.nodes id)) }
 {
-    let _ = node;
-    match &program.kind(id) {
-        Some(kind) => is_leaf_kind(kind),
-        None => false,
-    }
+    is_leaf_kind(&program.kind(id))
 }
 
 /// Which variables are known at the children of a node.

@@ -1,9 +1,11 @@
-//! The contexts of the nodes of a program: where each stands, and what is known there.
+//! The contexts of the nodes of a program: where each stands, what is known there, and the numbers of its variables.
 #![tactic(auto)]
 
 pub mod class_numbers;
 pub mod contexts;
 mod kinds;
+pub mod numbers;
+mod packed;
 mod rows;
 pub mod variables;
 

@@ -1,228 +1,223 @@
 //! The contexts of the children of a node.
 
-ghost use Rattle.std.specs.Prelude.{◌≡◌, ◌<◌, ◌≤◌, ◌++◌, ℕ, List, [], OnOk, Option, Some, None, length, slice_get, if◌then◌else◌};
-ghost use Rattle.scj_tree.specs.Counts.{times};
-ghost use Rattle.scj_tree.specs.Forest.{AllBelow, joined};
+ghost use Rattle.std.specs.Prelude.{◌≡◌, ◌+◌, ◌++◌, ◌∷◌, ℕ, List, [], IfOk, OnOk, Some, slice_get};
+ghost use Rattle.scj_tree.specs.declared.nodes.Node.{Node as Tree};
+ghost use Rattle.scj_tree.specs.Forest.{IsForest, joined};
 ghost use Rattle.scj_tree.specs.Recursion.{lookup};
-ghost use Rattle.scj_tree.specs.Shape.{children, optional};
-ghost use Rattle.scj_rules.specs.Definitions.{read};
-ghost use Rattle.scj_rules.specs.Words.{is_among};
-ghost use Rattle.scj_rules.specs.Contexts.{outermost, last_variable, parameter_nodes, parameters_before, those_before, number_of_class, child_context};
-ghost use Rattle.node_contexts.specs.Steps.{of_child, shared, declared_by};
+ghost use Rattle.scj_tree.specs.Shape.{optional};
+ghost use Rattle.scj_rules.specs.Contexts.{outermost, last_variable, number_of_class};
+ghost use Rattle.node_contexts.specs.Packed.{told};
+ghost use Rattle.node_contexts.specs.Steps.{of_child, declared_behind, last_at, last_behind, AreTold, AreSpread};
 
-use crate::kinds::{Knows, is_leaf, is_member, is_super_call, known_to, object_of, parts_of};
+use crate::kinds::{Knows, Parts, is_leaf, known_to, object_of, parts_of};
+use crate::packed::{PackedContext, kept_node};
 use node_views::is_variable;
 use scj_base::{ClassId, Memory, NodeId};
-use scj_rules::Context;
 use scj_tree::{Node, Program};
 
-/// Puts a child last, if it is there.
-fn add(ids: &mut Vec<NodeId>, child: Option<NodeId>) -> Result<(), Memory>
-    ensures { OnOk result (ids.new.items ≡ ids.old.items ++ optional child) }
-{
-    if let Some(child) = child {
-        ids.push(child)?;
-    }
-    Ok(())
+/// What the children of a node share.
+#[derive(Clone, Copy)]
+pub struct Family {
+    pub base: PackedContext,
+    pub object: Option<NodeId>,
+    pub knows: Knows,
 }
 
-/// Makes a list that of the children of a node.
-fn list_children(ids: &mut Vec<NodeId>, node: &Node) -> Result<(), Memory>
-    ensures { OnOk result (ids.new.items ≡ children node.now) }
+/// The row of a node.
+pub fn row_at(rows: &[PackedContext], id: NodeId) -> PackedContext
+    ensures { result ≡ lookup outermost rows.now id }
 {
-    let parts = parts_of(node);
-    ids.clear();
-    add(ids, parts.first)?;
-    add(ids, parts.second)?;
-    add(ids, parts.third)?;
-    add(ids, parts.fourth)?;
-    ids.extend_from_slice(parts.list)?;
-    Ok(())
+    match rows.get(id.place()) {
+        Some(row) => *row,
+        None => PackedContext::outermost(),
+    }
 }
 
 /// The last of these nodes that declares a variable, if one does, and else the one that is known before them.
-fn last_among(program: &Program, ids: &[NodeId], before: Option<NodeId>) -> Option<NodeId>
-    ensures { result ≡ last_variable program.now.nodes before ids.now }
+#[tactic(auto, unfolding(scj_rules::specs::Contexts::last_variable))]
+fn last_among(program: &Program, ids: &[NodeId], before: u32) -> Result<u32, Memory>
+    ensures { IfOk result (λ last. told last ≡ last_variable program.now.nodes (told before) ids.now) }
 {
     let mut known = before;
-    for id in ids {
+    let mut rest = ids;
+    while let [id, others @ ..] = rest {
         if is_variable(program, *id) {
-            known = Some(*id);
+            known = kept_node(*id)?;
         }
+        rest = others;
     }
-    known
+    Ok(known)
 }
 
-/// The last variable that is known at a child of a declaration, among its parameters and what is known before.
+/// The last variable that is known behind no child yet.
 #[tactic(auto, unfolding(scj_rules::specs::Contexts::parameter_nodes, scj_rules::specs::Contexts::last_variable))]
-fn last_at(
-    program: &Program,
-    parameters: &Option<NodeId>,
-    before: Option<NodeId>,
-    child: NodeId,
-) -> Option<NodeId>
-    ensures { result ≡ last_variable program.now.nodes before
-        (parameters_before program.now.nodes parameters.now child) }
+fn first_known(program: &Program, knows: &Knows, before: u32) -> Result<u32, Memory>
+    ensures { IfOk result (λ known. told known ≡ last_variable program.now.nodes (told before)
+        (declared_behind program.now.nodes knows.now [])) }
 {
-    let Some(parameters) = *parameters else {
-        return before;
-    };
-    if child == parameters {
-        return before;
-    }
-    match program.get(parameters) {
-        Some(Node::Parameters { list, .. }) => last_among(program, list.items(), before),
-        _ => before,
+    match knows {
+        Knows::Parameters(Some(parameters)) => match program.get(*parameters) {
+            Some(Node::Parameters { list, .. }) => last_among(program, list.items(), before),
+            _ => Ok(before),
+        },
+        Knows::Parameters(None) => Ok(before),
+        Knows::InTurn => Ok(before),
     }
 }
 
-/// The context of a child, from what all children share.
-fn of_child(
-    base: &Context,
-    object: &Option<NodeId>,
-    last: &Option<NodeId>,
-    child: NodeId,
-) -> Context
-    ensures { result ≡ of_child base.now object.now last.now child }
+/// The last variable that is known at a child.
+fn last_at(family: &Family, known: u32, child: NodeId) -> u32
+    ensures { told result ≡ last_at family.now.knows family.now.base.last (told known) child }
 {
-    let before_dot = match object {
-        Some(object) => *object == child,
+    match &family.knows {
+        Knows::Parameters(Some(parameters)) => {
+            if child == *parameters {
+                family.base.last()
+            } else {
+                known
+            }
+        }
+        Knows::Parameters(None) => known,
+        Knows::InTurn => known,
+    }
+}
+
+/// The last variable that is known behind a child.
+fn last_behind(program: &Program, family: &Family, known: u32, child: NodeId) -> Result<u32, Memory>
+    ensures { IfOk result (λ last. told last ≡ last_behind program.now.nodes family.now.knows (told known) child) }
+{
+    match &family.knows {
+        Knows::InTurn => {
+            if is_variable(program, child) {
+                kept_node(child)
+            } else {
+                Ok(known)
+            }
+        }
+        Knows::Parameters(_) => Ok(known),
+    }
+}
+
+/// The row of a child.
+fn row_of(family: &Family, known: u32, child: NodeId) -> PackedContext
+    ensures { result ≡ of_child family.now.base family.now.object
+        (last_at family.now.knows family.now.base.last (told known) child) child }
+{
+    let before_dot = match family.object {
+        Some(object) => object == child,
         None => false,
     };
-    Context {
-        last: *last,
-        before_dot,
-        ..*base
-    }
+    family
+        .base
+        .of_child(last_at(family, known, child), before_dot)
 }
 
-/// Writes the contexts of children of which each sees the variables that those before it declare.
-fn spread_in_turn(
+/// Writes the row of a child, and tells the last variable that is known behind it.
+fn put(
     program: &Program,
-    ids: &[NodeId],
-    base: &Context,
-    object: &Option<NodeId>,
-    rows: &mut Vec<Context>,
-)
-    requires within { AllBelow (length rows.old.items) ids.now }
-    requires apart { (x : ℕ) → times x ids.now ≤ 1 }
-    ensures whole { length rows.new.items ≡ length rows.old.items }
-    ensures exact { (id : ℕ) →
-        lookup outermost rows.new.items id
-        ≡ (if is_among id ids.now then of_child base.now object.now
-        (last_variable program.now.nodes base.now.last (those_before id ids.now)) id else lookup outermost
-        rows.old.items id) }
+    rows: &mut Vec<PackedContext>,
+    family: &Family,
+    known: u32,
+    child: NodeId,
+) -> Result<u32, Memory>
+    ensures { IfOk result (λ next. (parent : ℕ) (node : Tree) (rest : List ℕ) →
+        AreSpread program.now parent node family.now (child ∷ rest) (told known) rows.old.items →
+        AreSpread program.now parent node family.now rest (told next) rows.new.items) }
 {
-    let mut known = base.last;
-    for i in 0..ids.len() {
-        let child = ids[i];
-        rows[child.place()] = of_child(base, object, &known, child);
-        if is_variable(program, child) {
-            known = Some(child);
-        }
+    let place = child.place();
+    if place >= rows.len() {
+        return Err(Memory);
     }
+    rows[place] = row_of(family, known, child);
+    let next = last_behind(program, family, known, child)?;
+    Ok(next)
 }
 
-/// Writes the contexts of children that see the variables of a list of parameters, if there is one.
-fn spread_apart(
+/// The same for a child that may be missing.
+fn put_optional(
     program: &Program,
-    ids: &[NodeId],
-    base: &Context,
-    object: &Option<NodeId>,
-    parameters: &Option<NodeId>,
-    rows: &mut Vec<Context>,
-)
-    requires { AllBelow (length rows.old.items) ids.now }
-    ensures whole { length rows.new.items ≡ length rows.old.items }
-    ensures exact { (id : ℕ) →
-        lookup outermost rows.new.items id
-        ≡ (if is_among id ids.now then of_child base.now object.now
-        (last_variable program.now.nodes base.now.last (parameters_before program.now.nodes parameters.now id)) id
-        else lookup outermost rows.old.items id) }
+    rows: &mut Vec<PackedContext>,
+    family: &Family,
+    known: u32,
+    child: Option<NodeId>,
+) -> Result<u32, Memory>
+    ensures { IfOk result (λ next. (parent : ℕ) (node : Tree) (rest : List ℕ) →
+        AreSpread program.now parent node family.now (optional child ++ rest) (told known) rows.old.items →
+        AreSpread program.now parent node family.now rest (told next) rows.new.items) }
 {
-    for i in 0..ids.len() {
-        let child = ids[i];
-        let last = last_at(program, parameters, base.last, child);
-        rows[child.place()] = of_child(base, object, &last, child);
+    match child {
+        Some(child) => put(program, rows, family, known, child),
+        None => Ok(known),
     }
 }
 
-/// What is the same for all children of a node.
-#[tactic(auto, unfolding(crate::specs::Steps::shared))]
-fn shared(class: Option<ClassId>, parent: NodeId, node: &Node, above: &Context) -> Context
-    ensures { (classes : List ℕ) → class ≡ number_of_class classes parent →
-        result ≡ shared classes parent node.now above.now }
-{
-    Context {
-        class: class.or(above.class),
-        member: if is_member(node) {
-            Some(parent)
-        } else {
-            above.member
-        },
-        last: above.last,
-        in_super_call: is_super_call(node) || above.in_super_call,
-        before_dot: false,
-    }
-}
-
-/// Writes the contexts of the children of a node, from its own one. `class` is its number, if it is a class.
-fn spread(
+/// The same for all children of a list.
+fn put_all(
     program: &Program,
-    ids: &[NodeId],
-    class: Option<ClassId>,
-    parent: NodeId,
-    node: &Node,
-    rows: &mut Vec<Context>,
-)
-    requires children { ids.now ≡ children node.now }
-    requires number { class ≡ number_of_class (joined program.now.files) parent }
-    requires inside { parent < length rows.old.items }
-    requires within { AllBelow (length rows.old.items) ids.now }
-    requires apart { (x : ℕ) → times x ids.now ≤ 1 }
-    ensures whole { length rows.new.items ≡ length rows.old.items }
-    ensures exact { (id : ℕ) →
-        lookup outermost rows.new.items id ≡ (if is_among id (children node.now) then child_context program.now.nodes
-        (joined program.now.files) parent node.now (lookup outermost rows.old.items parent) id else lookup outermost
-        rows.old.items id) }
+    rows: &mut Vec<PackedContext>,
+    family: &Family,
+    known: u32,
+    list: &[NodeId],
+) -> Result<u32, Memory>
+    ensures { IfOk result (λ next. (parent : ℕ) (node : Tree) →
+        AreSpread program.now parent node family.now list.now (told known) rows.old.items →
+        AreSpread program.now parent node family.now [] (told next) rows.new.items) }
 {
-    let above = rows[parent.place()];
-    let base = shared(class, parent, node, &above);
-    let object = object_of(node);
-    match known_to(node) {
-        Knows::InTurn => spread_in_turn(program, ids, &base, &object, rows),
-        Knows::Parameters(parameters) => {
-            spread_apart(program, ids, &base, &object, &parameters, rows)
-        }
+    let mut known = known;
+    let mut rest = list;
+    while let [child, others @ ..] = rest {
+        known = put(program, rows, family, known, *child)?;
+        rest = others;
     }
+    Ok(known)
 }
 
-/// Writes the contexts of the children of a node, from its own one. `class` is its number, if it is a class; `ids` is
-/// room for a list of the children.
+/// The same for all children of a node.
+fn put_parts(
+    program: &Program,
+    rows: &mut Vec<PackedContext>,
+    family: &Family,
+    known: u32,
+    parts: &Parts<'_>,
+) -> Result<u32, Memory>
+    ensures { IfOk result (λ next. (parent : ℕ) (node : Tree) →
+        AreSpread program.now parent node family.now (optional parts.now.first ++ (optional parts.now.second
+        ++ (optional parts.now.third ++ (optional parts.now.fourth ++ parts.now.list.now))))
+        (told known) rows.old.items →
+        AreSpread program.now parent node family.now [] (told next) rows.new.items) }
+{
+    let first = put_optional(program, rows, family, known, parts.first)?;
+    let second = put_optional(program, rows, family, first, parts.second)?;
+    let third = put_optional(program, rows, family, second, parts.third)?;
+    let fourth = put_optional(program, rows, family, third, parts.fourth)?;
+    let last = put_all(program, rows, family, fourth, parts.list)?;
+    Ok(last)
+}
+
+/// Writes the rows of the children of a node. `class` is its number, if it is a class.
 pub fn spread_children(
     program: &Program,
-    ids: &mut Vec<NodeId>,
     class: Option<ClassId>,
     parent: NodeId,
     node: &Node,
-    rows: &mut Vec<Context>,
+    rows: &mut Vec<PackedContext>,
 ) -> Result<(), Memory>
+    requires whole { IsForest program.now }
     requires there { slice_get program.now.nodes parent ≡ Some node.now }
     requires number { class ≡ number_of_class (joined program.now.files) parent }
-    requires inside { parent < length rows.old.items }
-    requires within { AllBelow (length rows.old.items) (children node.now) }
-    requires apart { (x : ℕ) → times x (children node.now) ≤ 1 }
-    ensures whole { OnOk result (length rows.new.items ≡ length rows.old.items) }
-    ensures exact { OnOk result
-        ((id : ℕ) →
-        lookup outermost rows.new.items id ≡ (if is_among id (children node.now) then child_context program.now.nodes
-        (joined program.now.files) parent node.now (lookup outermost rows.old.items parent) id else lookup outermost
-        rows.old.items id)) }
+    requires told { AreTold program.now (parent + 1) [] rows.old.items }
+    ensures { OnOk result (AreTold program.now parent [] rows.new.items) }
 {
-    if is_leaf(program, parent, node) {
+    if is_leaf(program, parent) {
         return Ok(());
     }
-    list_children(ids, node)?;
-    spread(program, ids, class, parent, node, rows);
+    let base = row_at(rows, parent).shared(class, parent, node)?;
+    let family = Family {
+        base,
+        object: object_of(node),
+        knows: known_to(node),
+    };
+    let known = first_known(program, &family.knows, base.last())?;
+    put_parts(program, rows, &family, known, &parts_of(node))?;
     Ok(())
 }

@@ -37,7 +37,9 @@ pub fn variable_named(
     ensures { result ≡ variable_named (declarations_of program.now) id name.now }
 {
     let mut next = contexts.get(id).last;
-    for _ in 0..program.len() {
+    let mut left = program.len();
+    while left > 0 {
+        left -= 1;
         let variable = next?;
         if declares(program, variable, name) {
             return Some(variable);

@@ -1,8 +1,8 @@
 -- Lists of findings that are joined from others.
-use Rattle.std.proofs.Common.{◌≡◌, ◌≢◌, ℕ, zero, suc, ◌+◌, ◌<◌, ◌≤◌, List, [], ◌++◌, refl, sym, ap, ◌∙◌, subst, arith, ⊎_elim, append_assoc}
+use Rattle.std.proofs.Common.{◌≡◌, ℕ, zero, suc, ◌+◌, ◌<◌, ◌≤◌, List, ◌++◌, sym, ap, ◌∙◌, subst, arith, ⊎_elim, append_assoc}
 use Rattle.std.specs.List.{Contains}
 use Rattle.std.proofs.lemmas.List.Elements.{Contains-append_left, Contains-append_right, Contains-append_cases}
-use Rattle.std.proofs.lemmas.Bool.{cases_lt, cases_eq}
+use Rattle.std.proofs.lemmas.Bool.{cases_lt}
 use Rattle.scj_base.specs.declared.findings.Found.{Found}
 use Rattle.scj_tree.specs.Recursion.{joined_below}
 use Rattle.scj_rules.proofs.ReportLemmas.{none_contained}
@@ -87,27 +87,6 @@ joined_parts all first second n parts = record { exact = λ f. (there f, back f)
         (λ (k : Contains (joined_below second n) f). let a = from_joined second n f k in
         to_joined all n a.0 f a.1 (((parts a.0).exact f).1 (Contains-append_right (first a.0) (second a.0) f a.2)))
         (Contains-append_cases (joined_below first n) (joined_below second n) f h)
-
-pub joined_none : (f : ℕ → List Found) (n : ℕ) → ((k : ℕ) → f k ≡ []) → joined_below f n ≡ []
-unfolding joined_below
-joined_none f zero h = refl
-joined_none f (suc n) h = ap (λ xs. xs ++ f n) (joined_none f n h) ∙ h n
-
--- lists of which one alone holds anything
-pub joined_once : (f : ℕ → List Found) (n at : ℕ) → ((k : ℕ) → k ≢ at → f k ≡ []) → (n ≤ at → f at ≡ []) →
-    FindSame (joined_below f n) (f at)
-joined_once f n at others late = record { exact = λ x. (there x, back x) }
-  where
-    there : (x : Found) → Contains (joined_below f n) x → Contains (f at) x
-    there x h =
-        let a = from_joined f n x h in
-        ⊎_elim (λ (e : a.0 ≡ at). subst (λ k. Contains (f k) x) e a.2)
-        (λ (e : a.0 ≢ at). absurd (none_contained x (subst (λ l. Contains l x) (others a.0 e) a.2)))
-        (cases_eq a.0 at)
-
-    back : (x : Found) → Contains (f at) x → Contains (joined_below f n) x
-    back x h = ⊎_elim (λ (l : at < n). to_joined f n at x l h)
-        (λ (l : n ≤ at). absurd (none_contained x (subst (λ l. Contains l x) (late l) h))) (cases_lt at n)
 
 -- one list more
 pub joined_next : {A : Type 0} (f : ℕ → List A) (n at : ℕ) (found after first : List A) → at ≡ n → found ≡ first

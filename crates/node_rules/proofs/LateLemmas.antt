@@ -1,61 +1,29 @@
--- The variables that come late, told in one pass.
-use Rattle.std.proofs.Common.{append_assoc, ◌++◌, append-nil, replicate, ◌≡◌, ◌≢◌, ⊎_elim, nat_lt, min, set, option_map, if◌then◌else◌, ℕ, zero, suc, ◌+◌, ◌<◌, ◌≤◌, nat_le, Bool, true, false, ◌&&◌, ◌==◌, List, [], ◌∷◌, length, drop, filter, filter_map, Option, Some, None, refl, sym, ap, ◌∙◌, subst, arith, is_some, length-append}
-use Rattle.std.proofs.lemmas.Bool.{true≢false, cases_lt, ne_eqb, eq-eqb}
-use Rattle.std.proofs.lemmas.List.{get_or-set_same, get_or-set_other, length-set, length-replicate, map-append}
+-- The variables that come late: K2 at all members is what one pass over the nodes notes.
+use Rattle.std.proofs.Common.{◌≡◌, ◌<◌, ◌≤◌, ℕ, zero, suc, nat_le, Bool, true, false, ◌&&◌, List, [], ◌∷◌, ◌++◌, length, drop, filter_map, Option, Some, None, option_map, if◌then◌else◌, refl, sym, ap, ◌∙◌, subst, arith, append-nil, ⊎_elim}
+use Rattle.std.specs.List.{Contains, cons_option}
+use Rattle.std.proofs.lemmas.Bool.{true≢false, cases_lt, eq-eqb}
+use Rattle.std.proofs.lemmas.Bool.Decides.{nat_tests}
+use Rattle.std.proofs.lemmas.List.{drop_all, map-append}
 use Rattle.std.proofs.lemmas.List.Elements.{filter_map-append}
 use Rattle.std.proofs.lemmas.Option.{slice_get_past}
-use Rattle.std.proofs.lemmas.Bool.Decides.{nat_tests}
 use Rattle.scj_base.specs.declared.findings.Found.{Found}
 use Rattle.scj_base.specs.declared.findings.Rule.TheVariants.{K2}
+use Rattle.scj_tree.specs.Recursion.{joined_below}
 use Rattle.scj_rules.specs.declared.views.Declared.{Declared}
-use Rattle.scj_rules.specs.declared.scopes.Written.{Written}
-use Rattle.scj_tree.specs.Recursion.{lookup, joined_below}
-use Rattle.scj_tree.specs.Forest.{Forest}
-use Rattle.node_views.specs.Parts.{naming}
-use Rattle.scj_rules.specs.Words.{broken, holds}
+use Rattle.scj_rules.specs.Words.{found_at, broken, holds}
 use Rattle.scj_rules.specs.Views.{variable_at}
 use Rattle.scj_rules.specs.Classes.{is_callable}
-use Rattle.scj_rules.specs.Contexts.{Declarations, context, declarations_of}
-use Rattle.scj_rules.specs.ClassRules.{numbers_from}
-use Rattle.scj_rules.specs.LimitRules.{most_locals, variables_of, is_variable_of, broken_at_declared, k2}
+use Rattle.scj_rules.specs.Contexts.{Declarations}
+use Rattle.scj_rules.specs.LimitRules.{most_locals, is_variable_of, broken_at_declared, k2}
+use Rattle.scj_rules.proofs.ReportLemmas.{none_contained}
+use Rattle.node_views.specs.Parts.{naming}
+use Rattle.node_contexts.specs.Numbers.{owner_of, count_below, number_before}
+use Rattle.node_contexts.proofs.CountLemmas.{one, variables_are, counted, tested, owned, number_is}
 use Rattle.node_rules.specs.Findings.{FindSame}
-use Rattle.node_rules.specs.Counting.{AreCounted, variables_below, late_below, all_late, raised}
-use Rattle.node_rules.proofs.FindingLemmas.{same_lists, same_then, both_same, same_back, joined_none, joined_parts, joined_once}
+use Rattle.node_rules.specs.Counting.{is_late_at, too_late, late_at}
+use Rattle.node_rules.proofs.FindingLemmas.{from_joined, to_joined}
 
--- ---- the variables of a member, one node after the other
-
-abbrev one : (ℕ → Bool) → ℕ → List ℕ
-one test id = if test id then id ∷ [] else []
-
-filtered_from : {A : Type 0} (test : ℕ → Bool) (first : ℕ) (xs : List A)
-    → joined_below (one test) first ++ filter test (numbers_from first xs) ≡ joined_below (one test) (first + length xs)
-unfolding joined_below numbers_from
-filtered_from test first [] = append-nil (joined_below (one test) first)
-    ∙ (let e : first ≡ first + 0 = omega arith in ap (joined_below (one test)) e)
-filtered_from test first (x ∷ xs) =
-    let e : (first + 1) + length xs ≡ first + suc (length xs) = omega arith in
-    let next : first + 1 ≡ suc first = omega arith in
-    ap (λ ys. joined_below (one test) first ++ ys) (front (test first))
-    ∙ sym (append_assoc (joined_below (one test) first) (one test first) (filter test (numbers_from (first + 1) xs)))
-    ∙ ap (λ n. joined_below (one test) n ++ filter test (numbers_from (first + 1) xs)) (sym next)
-    ∙ filtered_from test (first + 1) xs ∙ ap (joined_below (one test)) e
-  where
-    front : (b : Bool) →
-        (if b then first ∷ filter test (numbers_from (first + 1) xs) else filter test (numbers_from (first + 1) xs))
-        ≡ (if b then first ∷ [] else []) ++ filter test (numbers_from (first + 1) xs)
-    front true = refl
-    front false = refl
-
--- K2 at a member, by all nodes
-pub late_is : (p : Declarations) (member : ℕ) →
-    (if is_callable p.nodes member then k2 p member else []) ≡ late_below p (length p.nodes) member
-unfolding k2 variables_of late_below variables_below joined_below
-late_is p member =
-    ap (λ vs. if is_callable p.nodes member
-    then broken_at_declared K2 (filter_map (variable_at p.nodes) (drop most_locals vs)) else [])
-    (filtered_from (is_variable_of p member) 0 p.nodes
-    ∙ (let e : 0 + length p.nodes ≡ length p.nodes = omega arith in
-    ap (joined_below (one (is_variable_of p member))) e))
+-- ---- K2 at a member, node after node
 
 drop_push : {A : Type 0} (k : ℕ) (xs : List A) (y : A) →
     drop k (xs ++ y ∷ []) ≡ drop k xs ++ (if nat_le k (length xs) then y ∷ [] else [])
@@ -71,248 +39,170 @@ drop_push {A} (suc k) (x ∷ xs) y = drop_push k xs y
     shift : (k n : ℕ) → nat_le k n ≡ nat_le (suc k) (suc n)
     shift k n = grind (arith, nat_tests)
 
-variables_next : (p : Declarations) (n member : ℕ) →
-    variables_below p (n + 1) member ≡ variables_below p n member ++ one (is_variable_of p member) n
-unfolding variables_below joined_below
-variables_next p n member = let e : n + 1 ≡ suc n = omega arith in ap (joined_below (one (is_variable_of p member))) e
+-- a number that passes behind k others
+abbrev one_behind : (ℕ → Bool) → ℕ → ℕ → List ℕ
+one_behind test k id = if test id then (if nat_le k (count_below test id) then id ∷ [] else []) else []
 
-abbrev late_among : Declarations → List ℕ → List Found
-late_among p ids = broken_at_declared K2 (filter_map (variable_at p.nodes) ids)
+drop_next : (test : ℕ → Bool) (k n : ℕ) → drop k (joined_below (one test) n) ≡ joined_below (one_behind test k) n →
+    drop k (joined_below (one test) (suc n)) ≡ joined_below (one_behind test k) (suc n)
+unfolding joined_below
+drop_next test k n before = go (test n)
+  where
+    go : (b : Bool) → drop k ((joined_below (one test) n) ++ (if b then n ∷ [] else [])) ≡ joined_below
+        (one_behind test k) n
+        ++ (if b then (if nat_le k (count_below test n) then n ∷ [] else []) else [])
+    go false = ap (drop k) (append-nil (joined_below (one test) n)) ∙ before
+        ∙ sym (append-nil (joined_below (one_behind test k) n))
+    go true = drop_push k (joined_below (one test) n) n
+        ∙ ap (λ ys. ys ++ (if nat_le k (length (joined_below (one test) n)) then n ∷ [] else [])) before
+        ∙ ap (λ c. joined_below (one_behind test k) n ++ (if nat_le k c then n ∷ [] else [])) (counted test n)
 
--- the variable at a node is behind the 32nd of a member
+drop_joined : (test : ℕ → Bool) (k n : ℕ) → drop k (joined_below (one test) n) ≡ joined_below (one_behind test k) n
+unfolding joined_below
+drop_joined test k zero = drop_all k [] (omega arith)
+drop_joined test k (suc n) = drop_next test k n (drop_joined test k n)
+
+abbrev broken_at_all : Declarations → List ℕ → List Found
+broken_at_all p ids = broken_at_declared K2 (filter_map (variable_at p.nodes) ids)
+
+all_joined : (p : Declarations) (f : ℕ → List ℕ) (n : ℕ) →
+    broken_at_all p (joined_below f n) ≡ joined_below (λ id. broken_at_all p (f id)) n
+unfolding joined_below
+all_joined p f zero = refl
+all_joined p f (suc n) =
+    ap (broken_at_declared K2) (filter_map-append (variable_at p.nodes) (joined_below f n) (f n))
+    ∙ map-append (λ (d : Declared). record { pos = d.place; rule = K2 })
+    (filter_map (variable_at p.nodes) (joined_below f n)) (filter_map (variable_at p.nodes) (f n))
+    ∙ ap (λ xs. xs ++ broken_at_all p (f n)) (all_joined p f n)
+
+-- K2 of a member at a node
 abbrev late_here : Declarations → ℕ → ℕ → List Found
-late_here p n member =
-    if is_callable p.nodes member
-    then (if is_variable_of p member n then (if nat_le most_locals (length (variables_below p n member))
-    then late_among p (n ∷ []) else []) else []) else []
+late_here p member id = broken_at_all p (one_behind (is_variable_of p member) most_locals id)
 
-late_next : (p : Declarations) (n member : ℕ) →
-    late_below p (n + 1) member ≡ late_below p n member ++ late_here p n member
-unfolding late_below
-late_next p n member =
-    ap (λ vs. if is_callable p.nodes member
-    then broken_at_declared K2 (filter_map (variable_at p.nodes) (drop most_locals vs)) else [])
-    (variables_next p n member)
-    ∙ go (is_callable p.nodes member) (is_variable_of p member n)
+k2_is : (p : Declarations) (member : ℕ) → k2 p member ≡ joined_below (late_here p member) (length p.nodes)
+unfolding k2
+k2_is p member = ap (λ vs. broken_at_all p (drop most_locals vs)) (variables_are p member)
+    ∙ ap (broken_at_all p) (drop_joined (is_variable_of p member) most_locals (length p.nodes))
+    ∙ all_joined p (one_behind (is_variable_of p member) most_locals) (length p.nodes)
+
+-- ---- whether a variable is late, by its number
+
+pub early : (p : Declarations) (id number : ℕ) → number ≡ number_before p id → number < 32 → false ≡ is_late_at p id
+unfolding is_late_at
+early p id number e l = go (owner_of p id) refl
   where
-    split : (xs ys : List ℕ) → late_among p (xs ++ ys) ≡ late_among p xs ++ late_among p ys
-    split xs ys = ap (broken_at_declared K2) (filter_map-append (variable_at p.nodes) xs ys)
-        ∙ map-append (λ (d : Declared). record { pos = d.place; rule = K2 }) (filter_map (variable_at p.nodes) xs)
-        (filter_map (variable_at p.nodes) ys)
-
-    last : (b : Bool) → late_among p (if b then n ∷ [] else []) ≡ (if b then late_among p (n ∷ []) else [])
-    last true = refl
-    last false = refl
-
-    go : (c v : Bool)
-        → (if c then late_among p (drop most_locals ((variables_below p n member) ++ (if v then n ∷ [] else [])))
-        else []) ≡ (if c then late_among p (drop most_locals (variables_below p n member)) else [])
-        ++ (if c
-        then (if v then (if nat_le most_locals (length (variables_below p n member)) then late_among p
-        (n ∷ []) else []) else []) else [])
-    go false v = refl
-    go true false = ap (λ xs. late_among p (drop most_locals xs)) (append-nil (variables_below p n member))
-        ∙ sym (append-nil (late_among p (drop most_locals (variables_below p n member))))
-    go true true = ap (late_among p) (drop_push most_locals (variables_below p n member) n)
-        ∙ split (drop most_locals (variables_below p n member))
-        (if nat_le most_locals (length (variables_below p n member)) then n ∷ [] else [])
-        ∙ ap (λ xs. late_among p (drop most_locals (variables_below p n member)) ++ xs)
-        (last (nat_le most_locals (length (variables_below p n member))))
-
--- what is noted at a node more
-noted_next : (p : Declarations) (n : ℕ) (before found after : List Found) → FindSame found (before ++ all_late p n)
-    → FindSame after (found ++ joined_below (late_here p n) (length p.nodes))
-    → FindSame after (before ++ all_late p (n + 1))
-unfolding all_late
-noted_next p n before found after h k =
-    same_then k (same_then (both_same h (same_lists refl))
-    (same_then
-    (same_lists
-    (append_assoc before (joined_below (late_below p n) (length p.nodes))
-    (joined_below (late_here p n) (length p.nodes))))
-    (both_same (same_lists refl) (same_back (joined_parts (late_below p (n + 1)) (late_below p n) (late_here p n)
-    (length p.nodes) (λ m. same_lists (late_next p n m)))))))
-
-counted_next : (p : Declarations) (n m : ℕ) (b : Bool) → is_variable_of p m n ≡ b →
-    length (variables_below p (n + 1) m) ≡ length (variables_below p n m) + (if b then 1 else 0)
-counted_next p n m b e = ap length (variables_next p n m)
-    ∙ length-append (variables_below p n m) (one (is_variable_of p m) n)
-    ∙ ap (λ k. length (variables_below p n m) + k) (go (is_variable_of p m n) ∙ ap (λ b. if b then 1 else 0) e)
-  where
-    go : (b : Bool) → length (if b then n ∷ [] else []) ≡ (if b then 1 else 0)
-    go true = refl
-    go false = refl
-
--- where no variable of a member is declared, all stays
-none_late : (p : Declarations) (n : ℕ) (counts : List ℕ) (before found : List Found) →
-    ((member : ℕ) → is_variable_of p member n ≡ false) → AreCounted p n counts before found →
-    AreCounted p (n + 1) counts before found
-none_late p n counts before found none a =
-    record {
-      whole = a.whole;
-      exact = λ m l. a.exact m l ∙ ap (min most_locals)
-          (let e : length (variables_below p n m) + 0 ≡ length (variables_below p n m) = omega arith in
-          sym (counted_next p n m false (none m) ∙ e));
-      noted = noted_next p n before found found a.noted
-          (same_lists
-          (sym
-          (ap (λ xs. found ++ xs) (joined_none (late_here p n) (length p.nodes) nothing) ∙ append-nil found)));
-    }
-  where
-    nothing : (m : ℕ) → late_here p n m ≡ []
-    nothing m = let e = none m in rw e (go (is_callable p.nodes m))
+    go : (o : Option ℕ) → owner_of p id ≡ o
+        → false ≡ holds o (λ m. is_callable p.nodes m && nat_le most_locals (count_below (is_variable_of p m) id))
+    go None f = refl
+    go (Some m) f =
+        let same : number ≡ count_below (is_variable_of p m) id = e ∙ number_is p id (Some m) f in
+        let no : nat_le 32 (count_below (is_variable_of p m) id) ≡ false = grind (arith, nat_tests) in
+        rw no (none (is_callable p.nodes m))
       where
-        go : (b : Bool) → ◌≡◌ {A = List Found} (if b then [] else []) []
-        go true = refl
-        go false = refl
+        none : (b : Bool) → false ≡ (b && false)
+        none true = refl
+        none false = refl
 
-pub undeclared : (p : Declarations) (n : ℕ) (counts : List ℕ) (before found : List Found) →
-    is_some (variable_at p.nodes n) ≡ false → AreCounted p n counts before found →
-    AreCounted p (n + 1) counts before found
-undeclared p n counts before found h =
-    none_late p n counts before found (λ m. ap (λ b. b && holds (context p n).member (λ k. k == m)) h)
-
-pub unnamed : (p : Declarations) (n : ℕ) (counts : List ℕ) (before found : List Found) →
-    None ≡ option_map naming (variable_at p.nodes n) → AreCounted p n counts before found →
-    AreCounted p (n + 1) counts before found
-unnamed p n counts before found h = undeclared p n counts before found (go (variable_at p.nodes n) h)
+pub late_where : (p : Declarations) (id member number : ℕ) (is : Bool) → owner_of p id ≡ Some member →
+    number ≡ number_before p id → 32 ≤ number → is ≡ is_callable p.nodes member → is ≡ is_late_at p id
+unfolding is_late_at
+late_where p id member number is f e l c =
+    let same : number ≡ count_below (is_variable_of p member) id = e ∙ number_is p id (Some member) f in
+    let late : nat_le 32 (count_below (is_variable_of p member) id) ≡ true = grind (arith, nat_tests) in
+    c ∙ sym
+    (ap (λ o. holds o (λ m. is_callable p.nodes m && nat_le most_locals (count_below (is_variable_of p m) id))) f
+    ∙ ap (λ b. is_callable p.nodes member && b) late ∙ whole (is_callable p.nodes member))
   where
-    go : (o : Option Declared) → None ≡ option_map naming o → is_some o ≡ false
-    go None h = refl
-    go (Some d) h = cc
+    whole : (b : Bool) → (b && true) ≡ b
+    whole true = refl
+    whole false = refl
 
-pub memberless : (p : Declarations) (n : ℕ) (counts : List ℕ) (before found : List Found) →
-    (context p n).member ≡ None → AreCounted p n counts before found → AreCounted p (n + 1) counts before found
-memberless p n counts before found h =
-    none_late p n counts before found (λ m. rw h (go (is_some (variable_at p.nodes n))))
+-- ---- K2 at all members, node after node
+
+-- what is noted at a node is K2 of a member there
+record IsOfMember (p : Declarations) (id : ℕ) (f : Found) : Type 0 where
+  member : ℕ
+  callable : is_callable p.nodes member ≡ true
+  found : Contains (late_here p member id) f
+
+same_here : (p : Declarations) (id : ℕ) → broken_at_all p (id ∷ []) ≡ too_late p.nodes id
+same_here p id = go (variable_at p.nodes id)
   where
-    go : (b : Bool) → (b && false) ≡ false
-    go true = refl
-    go false = refl
+    go : (o : Option Declared) → broken_at_declared K2 (cons_option o [])
+        ≡ found_at (option_map naming o) (λ w. broken true K2 w.place)
+    go None = refl
+    go (Some d) = refl
 
--- ---- a variable of a member
-
-raised_same : (counts : List ℕ) (m : ℕ) → m < length counts →
-    lookup 0 (raised counts m) m ≡ min most_locals (lookup 0 counts m + 1)
-unfolding raised
-raised_same counts m l = let yes : nat_lt m (length counts) ≡ true = grind (arith, nat_tests) in
-    rw yes (get_or-set_same counts m (min most_locals (lookup 0 counts m + 1)) 0 l)
-
-raised_other : (counts : List ℕ) (m other : ℕ) → other ≢ m → lookup 0 (raised counts m) other ≡ lookup 0 counts other
-unfolding raised
-raised_other counts m other n = go (nat_lt m (length counts))
+of_member : (p : Declarations) (id : ℕ) (f : Found) → Contains (late_at p id) f → IsOfMember p id f
+unfolding late_at is_late_at
+of_member p id f = go (owner_of p id) refl
   where
-    go : (b : Bool) → lookup 0 (if b then set counts m (min most_locals (lookup 0 counts m + 1)) else counts) other
-        ≡ lookup 0 counts other
-    go true = get_or-set_other counts m other (min most_locals (lookup 0 counts m + 1)) 0 n
-    go false = refl
-
-raised_length : (counts : List ℕ) (m : ℕ) → length (raised counts m) ≡ length counts
-unfolding raised
-raised_length counts m = go (nat_lt m (length counts))
-  where
-    go : (b : Bool) → length (if b then set counts m (min most_locals (lookup 0 counts m + 1)) else counts)
-        ≡ length counts
-    go true = length-set counts m (min most_locals (lookup 0 counts m + 1))
-    go false = refl
-
-capped : (x y z : ℕ) → x ≡ min 32 y → z ≡ y + 1 → min 32 (x + 1) ≡ min 32 z
-capped x y z e f = omega (arith, e, f)
-
-late_capped : (x y : ℕ) → x ≡ min 32 y → nat_le 32 x ≡ nat_le 32 y
-late_capped x y e = ⊎_elim (λ (l : y < 32). (let m : x < 32 = omega (arith, e, l) in grind (arith, nat_tests)))
-    (λ (l : 32 ≤ y). (let m : 32 ≤ x = omega (arith, e, l) in grind (arith, nat_tests))) (cases_lt y 32)
-
-pub variable_late : (p : Declarations) (n member : ℕ) (counts : List ℕ) (before found : List Found) (w : Written) →
-    Some w ≡ option_map naming (variable_at p.nodes n) → (context p n).member ≡ Some member →
-    AreCounted p n counts before found
-    → AreCounted p (n + 1) (raised counts member) before
-    (found ++ broken (is_callable p.nodes member && nat_le 32 (lookup 0 counts member)) K2 w.place)
-variable_late p n member counts before found w h c a = go (variable_at p.nodes n) refl h
-  where
-    go : (o : Option Declared) → variable_at p.nodes n ≡ o → Some w ≡ option_map naming o →
-        AreCounted p (n + 1) (raised counts member) before
-        (found ++ broken (is_callable p.nodes member && nat_le 32 (lookup 0 counts member)) K2 w.place)
-    go None e s = cc
-    go (Some d) e s =
-        record {
-          whole = raised_length counts member ∙ a.whole;
-          exact = λ m l. counted m l (member == m) refl;
-          noted = noted_next p n before found _ a.noted
-              (both_same (same_lists refl)
-              (same_then (same_lists (sym (here (is_callable p.nodes member) refl)))
-              (same_back
-              (joined_once (late_here p n) (length p.nodes) member
-              (λ m apart. rw (tested m, ne_eqb member m (λ same. apart (sym same))) (nothing (is_callable p.nodes m)))
-              (λ l. rw (slice_get_past p.nodes member l) refl)))));
-        }
+    go : (o : Option ℕ) → owner_of p id ≡ o
+        → Contains (if holds o (λ m. is_callable p.nodes m && nat_le most_locals (count_below (is_variable_of p m) id))
+        then too_late p.nodes id else []) f → IsOfMember p id f
+    go None e h = absurd (none_contained f h)
+    go (Some m) e h = at (is_callable p.nodes m) (nat_le most_locals (count_below (is_variable_of p m) id)) refl refl h
       where
-        tested : (m : ℕ) → is_variable_of p m n ≡ (member == m)
-        tested m = ap (λ (o : Option Declared). is_some o && holds (context p n).member (λ k. k == m)) e
-            ∙ ap (λ (o : Option ℕ). holds o (λ k. k == m)) c
+        at : (b c : Bool) → is_callable p.nodes m ≡ b → nat_le most_locals (count_below (is_variable_of p m) id) ≡ c →
+            Contains (if b && c then too_late p.nodes id else []) f → IsOfMember p id f
+        at false c s t h = absurd (none_contained f h)
+        at true false s t h = absurd (none_contained f h)
+        at true true s t h =
+            let own : is_variable_of p m id ≡ true = tested p id m (Some m) e ∙ eq-eqb m m refl in
+            record {
+              member = m;
+              callable = s;
+              found = subst (λ xs. Contains xs f) (sym ((rw (own, t) refl) ∙ same_here p id)) h;
+            }
 
-        nothing : (b : Bool) → ◌≡◌ {A = List Found} (if b then [] else []) []
-        nothing true = refl
-        nothing false = refl
-
-        place : d.place ≡ w.place
-        place = let same : w ≡ naming d = cc in ap (λ (v : Written). v.place) (sym same)
-
-        within : is_callable p.nodes member ≡ true → member < length p.nodes
-        within t = ⊎_elim (λ (l : member < length p.nodes). l)
-            (λ (l : length p.nodes ≤ member). absurd (true≢false (sym t ∙ rw (slice_get_past p.nodes member l) refl)))
-            (cases_lt member (length p.nodes))
-
-        here : (b : Bool) → is_callable p.nodes member ≡ b → late_here p n member
-            ≡ broken (is_callable p.nodes member && nat_le 32 (lookup 0 counts member)) K2 w.place
-        here false b = rw b refl
-        here true b =
-            let late = late_capped (lookup 0 counts member) (length (variables_below p n member))
-            (a.exact member (within b)) in
-            let own : is_variable_of p member n ≡ true = tested member ∙ eq-eqb member member refl in
-            rw (b, own, e, late, place) refl
-
-        counted : (m : ℕ) → m < length p.nodes → (b : Bool) → (member == m) ≡ b →
-            lookup 0 (raised counts member) m ≡ min most_locals (length (variables_below p (n + 1) m))
-        counted m l true same =
-            let equal : member ≡ m = grind (arith, nat_tests) in
-            let there : m < length counts = omega (arith, l, a.whole) in
-            ap (λ k. lookup 0 (raised counts k) m) equal ∙ raised_same counts m there
-            ∙ capped (lookup 0 counts m) (length (variables_below p n m)) (length (variables_below p (n + 1) m))
-            (a.exact m l) (counted_next p n m true (tested m ∙ same))
-        counted m l false other =
-            let apart : m ≢ member = λ same. true≢false (sym (eq-eqb member m (sym same)) ∙ other) in
-            raised_other counts member m apart ∙ a.exact m l
-            ∙ ap (min most_locals)
-            (let z : length (variables_below p n m) + 0 ≡ length (variables_below p n m) = omega arith in
-            sym (counted_next p n m false (tested m ∙ other) ∙ z))
-
--- ---- the counts at the start
-
-zero_told : (n m : ℕ) → ◌≡◌ {A = ℕ} (lookup 0 (replicate n 0) m) 0
-zero_told zero zero = refl
-zero_told zero (suc m) = refl
-zero_told (suc n) zero = refl
-zero_told (suc n) (suc m) = zero_told n m
-
-pub first_counts : (forest : Forest) (n : ℕ) (counts : List ℕ) (before : List Found) → counts ≡ replicate n 0 →
-    n ≡ length forest.nodes → AreCounted (declarations_of forest) 0 counts before before
-unfolding variables_below all_late late_below joined_below declarations_of
-first_counts forest n counts before e l =
-    record {
-      whole = ap length e ∙ length-replicate n 0 ∙ l;
-      exact = λ m w. ap (λ cs. lookup 0 cs m) e ∙ zero_told n m;
-      noted = same_lists
-          (sym (ap (λ xs. before ++ xs) (joined_none (late_below (declarations_of forest) 0) (length forest.nodes)
-          (λ m. nothing (is_callable forest.nodes m))) ∙ append-nil before));
-    }
+at_node : (p : Declarations) (id member : ℕ) (f : Found) → is_callable p.nodes member ≡ true →
+    Contains (late_here p member id) f → Contains (late_at p id) f
+unfolding late_at is_late_at
+at_node p id member f s =
+    go (is_variable_of p member id) (nat_le most_locals (count_below (is_variable_of p member) id)) refl refl
   where
-    nothing : (b : Bool) → ◌≡◌ {A = List Found} (if b then [] else []) []
-    nothing true = refl
-    nothing false = refl
+    go : (b c : Bool) → is_variable_of p member id ≡ b
+        → nat_le most_locals (count_below (is_variable_of p member) id) ≡ c
+        → Contains (broken_at_all p (if b then (if c then id ∷ [] else []) else [])) f → Contains (late_at p id) f
+    go false c v t h = absurd (none_contained f h)
+    go true false v t h = absurd (none_contained f h)
+    go true true v t h =
+        let owner = owned p id member v in
+        let late : is_late_at p id ≡ true =
+        ap (λ o. holds o (λ m. is_callable p.nodes m && nat_le most_locals (count_below (is_variable_of p m) id))) owner
+        ∙ (rw (s, t) refl) in
+        subst (λ xs. Contains xs f) (same_here p id ∙ sym (ap (λ b. if b then too_late p.nodes id else []) late)) h
 
-pub all_counted : (forest : Forest) (n : ℕ) (counts : List ℕ) (before found : List Found) → n ≡ length forest.nodes
-    → AreCounted (declarations_of forest) n counts before found
-    → FindSame found (before ++ all_late (declarations_of forest) (length forest.nodes))
-all_counted forest n counts before found e a =
-    subst (λ k. FindSame found (before ++ all_late (declarations_of forest) k)) e a.noted
+-- K2 at a node, where it is a method or a constructor
+abbrev pub late_of : Declarations → ℕ → List Found
+late_of p member = if is_callable p.nodes member then k2 p member else []
+
+pub all_late : (p : Declarations) →
+    FindSame (joined_below (late_at p) (length p.nodes)) (joined_below (late_of p) (length p.nodes))
+all_late p = record { exact = λ f. (there f, back f) }
+  where
+    within : (m : ℕ) → is_callable p.nodes m ≡ true → m < length p.nodes
+    within m t = ⊎_elim (λ (l : m < length p.nodes). l)
+        (λ (l : length p.nodes ≤ m). absurd (true≢false (sym t ∙ rw (slice_get_past p.nodes m l) refl)))
+        (cases_lt m (length p.nodes))
+
+    there : (f : Found) → Contains (joined_below (late_at p) (length p.nodes)) f →
+        Contains (joined_below (late_of p) (length p.nodes)) f
+    there f h =
+        let r = from_joined (late_at p) (length p.nodes) f h in
+        let is = of_member p r.0 f r.2 in
+        let all : Contains (k2 p is.member) f = subst (λ xs. Contains xs f) (sym (k2_is p is.member))
+        (to_joined (late_here p is.member) (length p.nodes) r.0 f r.1 is.found) in
+        to_joined (late_of p) (length p.nodes) is.member f (within is.member is.callable)
+        (subst (λ b. Contains (if b then k2 p is.member else []) f) (sym is.callable) all)
+
+    back : (f : Found) → Contains (joined_below (late_of p) (length p.nodes)) f →
+        Contains (joined_below (late_at p) (length p.nodes)) f
+    back f h = let r = from_joined (late_of p) (length p.nodes) f h in go r.0 (is_callable p.nodes r.0) refl r.2
+      where
+        go : (m : ℕ) (b : Bool) → is_callable p.nodes m ≡ b → Contains (if b then k2 p m else []) f
+            → Contains (joined_below (late_at p) (length p.nodes)) f
+        go m false t h = absurd (none_contained f h)
+        go m true t h =
+            let r = from_joined (late_here p m) (length p.nodes) f (subst (λ xs. Contains xs f) (k2_is p m) h) in
+            to_joined (late_at p) (length p.nodes) r.0 f r.1 (at_node p r.0 m f t r.2)

@@ -1,96 +1,90 @@
 //! The limit on the variables of a member.
 
-ghost use Rattle.std.specs.Prelude.{◌≡◌, ◌++◌, ◌+◌, ◌&&◌, List, nat_le, length, OnOk};
-ghost use Rattle.scj_base.specs.declared.findings.Found.{Found as Finding};
-ghost use Rattle.scj_base.specs.declared.findings.Rule.TheVariants.{K2 as too_many_locals};
-ghost use Rattle.scj_tree.specs.Recursion.{lookup};
-ghost use Rattle.scj_rules.specs.Words.{broken};
+ghost use Rattle.std.specs.Prelude.{◌≡◌, ◌+◌, ◌++◌, OnOk};
 ghost use Rattle.scj_rules.specs.Classes.{is_callable};
 ghost use Rattle.scj_rules.specs.Contexts.{contexts_in, declarations_of};
-ghost use Rattle.node_rules.specs.Findings.{FindSame};
-ghost use Rattle.node_rules.specs.Counting.{AreCounted, all_late, raised};
+ghost use Rattle.node_contexts.specs.Numbers.{number_before, AreCounted};
+ghost use Rattle.node_rules.specs.Counting.{is_late_at, too_late, late_at};
 
+use class_rows::Classes;
 use node_contexts::Contexts;
-use node_views::{is_constructor, is_method, is_variable, variable_written};
-use scj_base::{Found, Memory, NodeId, Pos, Rule};
+use node_contexts::numbers::{count, owner_of};
+use node_views::{is_constructor, is_method, variable_written};
+use scj_base::{Found, Memory, NodeId, Rule};
 use scj_rules::report_if;
 use scj_tree::Program;
-use std::alloc::Global;
 
-/// Counts a variable of a member, and notes it where there are 32 already.
-#[tactic(auto, unfolding(crate::specs::Counting::raised))]
-fn count_variable(
-    found: &mut Vec<Found>,
-    program: &Program,
-    counts: &mut Vec<u8>,
-    member: NodeId,
-    place: Pos,
-) -> Result<(), Memory>
-    requires { length counts.old.items ≡ length program.now.nodes }
-    ensures found { OnOk result (found.new.items ≡ found.old.items
-        ++ broken (is_callable program.now.nodes member && nat_le 32 (lookup 0 counts.old.items member))
-        too_many_locals place) }
-    ensures counts { OnOk result (counts.new.items ≡ raised counts.old.items member) }
+/// How many variables a method or a constructor may have.
+const MOST_LOCALS: u32 = 32;
+
+/// Whether a member is a method or a constructor.
+fn is_callable(program: &Program, member: NodeId) -> bool
+    ensures { result ≡ is_callable program.now.nodes member }
 {
-    let at = member.place();
-    if at >= counts.len() {
-        return Ok(());
-    }
-    let count = counts[at];
-    let is_callable = is_method(program, member) || is_constructor(program, member);
-    counts[at] = if count < 32 { count + 1 } else { 32 };
-    report_if(found, is_callable && count >= 32, Rule::K2, place)
+    is_method(program, member) || is_constructor(program, member)
 }
 
-/// Counts the variable at a node, if there is one, and notes it where its member has 32 already.
-fn count_node(
+/// Whether a node declares a variable of a method or a constructor behind 32 others of it.
+#[tactic(auto, unfolding(crate::specs::Counting::is_late_at, scj_rules::specs::Contexts::declarations_of))]
+fn is_late(program: &Program, contexts: &Contexts, id: NodeId, number: u32) -> bool
+    requires contexts { contexts.now ≡ contexts_in program.now }
+    requires number { number ≡ number_before (declarations_of program.now) id }
+    ensures { result ≡ is_late_at (declarations_of program.now) id }
+{
+    if number < MOST_LOCALS {
+        return false;
+    }
+    match owner_of(program, contexts, id) {
+        Some(member) => is_callable(program, member),
+        None => false,
+    }
+}
+
+/// Notes the variable that a node declares.
+fn note_variable(found: &mut Vec<Found>, program: &Program, id: NodeId) -> Result<(), Memory>
+    ensures { OnOk result (found.new.items ≡ found.old.items ++ too_late program.now.nodes id) }
+{
+    match variable_written(program, id) {
+        Some(variable) => report_if(found, true, Rule::K2, variable.place),
+        None => Ok(()),
+    }
+}
+
+/// Notes the variable of a number that a node declares, where it comes late.
+#[tactic(auto, unfolding(crate::specs::Counting::late_at, scj_rules::specs::Contexts::declarations_of))]
+fn note_where_late(
     found: &mut Vec<Found>,
     program: &Program,
     contexts: &Contexts,
-    counts: &mut Vec<u8>,
     id: NodeId,
+    number: u32,
 ) -> Result<(), Memory>
     requires contexts { contexts.now ≡ contexts_in program.now }
-    requires counts { length counts.old.items ≡ length program.now.nodes }
-    ensures { OnOk result ((before : List Finding) →
-        AreCounted (declarations_of program.now) id counts.old.items before found.old.items →
-        AreCounted (declarations_of program.now) (id + 1) counts.new.items before found.new.items) }
+    requires number { number ≡ number_before (declarations_of program.now) id }
+    ensures { OnOk result (found.new.items ≡ found.old.items ++ late_at (declarations_of program.now) id) }
 {
-    if !is_variable(program, id) {
+    if !is_late(program, contexts, id, number) {
         return Ok(());
     }
-    let Some(variable) = variable_written(program, id) else {
-        return Ok(());
-    };
-    let context = contexts.get(id);
-    let Some(member) = context.member else {
-        return Ok(());
-    };
-    count_variable(found, program, counts, member, variable.place)?;
+    note_variable(found, program, id)?;
     Ok(())
 }
 
-/// Notes the 33rd and each later variable of a method or a constructor.
-pub fn note_late(
-    alloc: Global,
+/// Counts the variable that a node declares, if it does, and notes it where it comes late.
+pub fn count_node(
     found: &mut Vec<Found>,
-    program: &Program,
+    classes: &Classes<'_>,
     contexts: &Contexts,
+    counts: &mut Vec<u32>,
+    id: NodeId,
 ) -> Result<(), Memory>
-    requires { contexts.now ≡ contexts_in program.now }
-    ensures { OnOk result (FindSame found.new.items (found.old.items
-        ++ all_late (declarations_of program.now) (length program.now.nodes))) }
+    requires contexts { contexts.now ≡ contexts_in classes.now }
+    requires counted { AreCounted (declarations_of classes.now) id counts.old.items }
+    ensures found { OnOk result (found.new.items ≡ found.old.items ++ late_at (declarations_of classes.now) id) }
+    ensures counted { OnOk result (AreCounted (declarations_of classes.now) (id + 1) counts.new.items) }
 {
-    let count = program.len();
-    let mut counts = vec![in alloc; 0u8; count]?;
-    for place in 0..count {
-        count_node(
-            found,
-            program,
-            contexts,
-            &mut counts,
-            NodeId::at(place as u32),
-        )?;
-    }
+    let program = classes.program();
+    let number = count(program, contexts, counts, id)?;
+    note_where_late(found, program, contexts, id, number)?;
     Ok(())
 }

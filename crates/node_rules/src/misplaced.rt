@@ -25,9 +25,6 @@ fn has_method_words(m: &Modifiers) -> bool
 fn is_off_class(program: &Program, flags: Option<NodeId>) -> bool
     ensures { result ≡ is_misplaced_on_class (modifiers_at program.now.nodes flags) }
 {
-    if flags.is_none() {
-        return false;
-    }
     let m = modifiers_at(program, flags);
     has_method_words(&m) || m.is_static
 }
@@ -36,9 +33,6 @@ fn is_off_class(program: &Program, flags: Option<NodeId>) -> bool
 fn is_off_field(program: &Program, flags: Option<NodeId>) -> bool
     ensures { result ≡ is_misplaced_on_field (modifiers_at program.now.nodes flags) }
 {
-    if flags.is_none() {
-        return false;
-    }
     let m = modifiers_at(program, flags);
     m.defines_scope || has_method_words(&m) || m.is_abstract
 }
@@ -124,12 +118,10 @@ pub fn note_c11(
     let program = classes.program();
     match node {
         Node::Class { place, flags, .. } => {
-            let is_wrong = is_off_class(program, *flags);
-            report_if(found, is_wrong, Rule::C11, *place)
+            report_if(found, is_off_class(program, *flags), Rule::C11, *place)
         }
         Node::Field { place, flags, .. } => {
-            let is_wrong = is_off_field(program, *flags);
-            report_if(found, is_wrong, Rule::C11, *place)
+            report_if(found, is_off_field(program, *flags), Rule::C11, *place)
         }
         Node::Method {
             place,
@@ -149,22 +141,13 @@ pub fn note_c11(
             let is_wrong = is_off_constructor(classes, contexts, id, name.get(), *flags);
             report_if(found, is_wrong, Rule::C11, *place)
         }
-        Node::Parameter { place, flags, .. } => {
-            let is_wrong = is_off_variable(program, *flags);
-            report_if(found, is_wrong, Rule::C11, *place)
-        }
-        Node::Local { place, flags, .. } => {
-            let is_wrong = is_off_variable(program, *flags);
-            report_if(found, is_wrong, Rule::C11, *place)
-        }
-        Node::LocalWithValue {
-            name_place,
+        Node::Parameter { place, flags, .. }
+        | Node::Local { place, flags, .. }
+        | Node::LocalWithValue {
+            name_place: place,
             flags,
             ..
-        } => {
-            let is_wrong = is_off_variable(program, *flags);
-            report_if(found, is_wrong, Rule::C11, *name_place)
-        }
+        } => report_if(found, is_off_variable(program, *flags), Rule::C11, *place),
         _ => Ok(()),
     }
 }

@@ -1,18 +1,19 @@
 //! What is broken at the nodes of a program.
 
-ghost use Rattle.std.specs.Prelude.{◌≡◌, ◌++◌, [], slice_get, OnOk};
+ghost use Rattle.std.specs.Prelude.{◌≡◌, ◌++◌, slice_get, option_map, OnOk};
+ghost use Rattle.scj_tree.specs.Kinds.{kind_of};
 ghost use Rattle.scj_rules.specs.Words.{found_at};
 ghost use Rattle.scj_rules.specs.Contexts.{contexts_in, declarations_of};
-ghost use Rattle.scj_rules.specs.Phases.{over_nodes};
 ghost use Rattle.node_rules.specs.Findings.{FindSame};
 ghost use Rattle.node_rules.specs.Nodes.{node_found, nodes_broken, is_asked_kind};
 
-use crate::late::note_late;
+use crate::late::count_node;
 use crate::limits::note_parameters;
 use crate::misplaced::note_c11;
 use crate::types::note_c9;
 use class_rows::Classes;
 use node_contexts::Contexts;
+use node_contexts::numbers::none_counted;
 use scj_base::{Found, Memory, NodeId};
 use scj_tree::NodeKind;
 use std::alloc::Global;
@@ -36,6 +37,13 @@ fn is_asked_kind(kind: &Option<NodeKind>) -> bool
         Some(NodeKind::NewArray) => true,
         _ => false,
     }
+}
+
+/// Whether the rules on single nodes ask a node of its kind.
+fn is_asked(classes: &Classes<'_>, id: NodeId) -> bool
+    ensures { result ≡ is_asked_kind (option_map kind_of (slice_get classes.now.nodes id)) }
+{
+    is_asked_kind(&classes.program().kind(id))
 }
 
 /// Notes what is broken at a node of a kind that is asked, but for the limit on variables.
@@ -72,27 +80,10 @@ fn note_node(
     ensures { OnOk result (found.new.items ≡ found.old.items
         ++ found_at (slice_get classes.now.nodes id) (node_found (declarations_of classes.now) id)) }
 {
-    let kind = classes.program().kind(id);
-    if !is_asked_kind(&kind) {
+    if !is_asked(classes, id) {
         return Ok(());
     }
     note_asked(found, classes, contexts, id)?;
-    Ok(())
-}
-
-/// Notes what is broken at each node, but for the limit on variables.
-fn note_each(
-    found: &mut Vec<Found>,
-    classes: &Classes<'_>,
-    contexts: &Contexts,
-) -> Result<(), Memory>
-    requires { contexts.now ≡ contexts_in classes.now }
-    ensures { OnOk result (found.new.items ≡ found.old.items
-        ++ over_nodes (declarations_of classes.now) (node_found (declarations_of classes.now))) }
-{
-    for place in 0..classes.program().len() {
-        note_node(found, classes, contexts, NodeId::at(place as u32))?;
-    }
     Ok(())
 }
 
@@ -106,7 +97,11 @@ pub fn note_nodes(
     requires { contexts.now ≡ contexts_in classes.now }
     ensures { OnOk result (FindSame found.new.items (found.old.items ++ nodes_broken (declarations_of classes.now))) }
 {
-    note_each(found, classes, contexts)?;
-    note_late(alloc, found, classes.program(), contexts)?;
+    let mut counts = none_counted(alloc, classes.program())?;
+    for place in 0..classes.program().len() {
+        let id = NodeId::at(place as u32);
+        note_node(found, classes, contexts, id)?;
+        count_node(found, classes, contexts, &mut counts, id)?;
+    }
     Ok(())
 }

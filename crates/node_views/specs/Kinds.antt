@@ -1,5 +1,5 @@
 -- What the kind of a node tells of what it declares.
-use Rattle.std.specs.Prelude.{Bool, true, false, Option, Some, None}
+use Rattle.std.specs.Prelude.{Bool, true, false, Option, Some}
 use Rattle.scj_tree.specs.declared.kinds.NodeKind.{NodeKind}
 use Rattle.scj_tree.specs.declared.kinds.NodeKind.TheVariants.{Parameter, Local, LocalWithValue, Field, Method}
 

@@ -4,9 +4,7 @@ ghost use Rattle.std.specs.Prelude.{◌≡◌, [], is_some, option_map, option_c
 ghost use Rattle.scj_rules.specs.Definitions.{read};
 ghost use Rattle.scj_rules.specs.Views.{constructor_at, constructor_of, super_arguments, parameters_at, DeclaredConstructor};
 
-use crate::words::modifiers_at;
-use scj_base::{Name, NodeId, Pos};
-use scj_rules::Modifiers;
+use scj_base::NodeId;
 use scj_tree::{Node, Program};
 
 /// Whether a node declares a constructor.
@@ -20,39 +18,6 @@ pub fn is_constructor(program: &Program, id: NodeId) -> bool
     }
 }
 
-/// Where the constructor at a node is named.
-#[tactic(auto, unfolding(scj_rules::specs::Views::constructor_of))]
-pub fn constructor_place(program: &Program, id: NodeId) -> Option<Pos>
-    ensures { result ≡ option_map (λ (c : DeclaredConstructor). c.place) (constructor_at program.now.nodes id) }
-{
-    match program.get(id)? {
-        Node::Constructor { place, .. } => Some(*place),
-        _ => None,
-    }
-}
-
-/// The name of the constructor at a node.
-#[tactic(auto, unfolding(scj_rules::specs::Views::constructor_of))]
-pub fn constructor_name(program: &Program, id: NodeId) -> Option<Name>
-    ensures { result ≡ option_map (λ (c : DeclaredConstructor). c.name) (constructor_at program.now.nodes id) }
-{
-    match program.get(id)? {
-        Node::Constructor { name, .. } => Some(*name.get()),
-        _ => None,
-    }
-}
-
-/// The annotations and modifiers of the constructor at a node.
-#[tactic(auto, unfolding(scj_rules::specs::Views::constructor_of))]
-pub fn constructor_modifiers(program: &Program, id: NodeId) -> Option<Modifiers>
-    ensures { result ≡ option_map (λ (c : DeclaredConstructor). c.modifiers) (constructor_at program.now.nodes id) }
-{
-    match program.get(id)? {
-        Node::Constructor { flags, .. } => Some(modifiers_at(program, *flags)),
-        _ => None,
-    }
-}
-
 /// The node of the parameters of the constructor at a node, if it has any.
 #[tactic(auto, unfolding(scj_rules::specs::Views::constructor_of))]
 pub fn constructor_parameters(program: &Program, id: NodeId) -> Option<NodeId>
@@ -61,17 +26,6 @@ pub fn constructor_parameters(program: &Program, id: NodeId) -> Option<NodeId>
 {
     match program.get(id)? {
         Node::Constructor { parameters, .. } => *parameters,
-        _ => None,
-    }
-}
-
-/// The body of the constructor at a node.
-#[tactic(auto, unfolding(scj_rules::specs::Views::constructor_of))]
-pub fn constructor_body(program: &Program, id: NodeId) -> Option<NodeId>
-    ensures { result ≡ option_map (λ (c : DeclaredConstructor). c.body) (constructor_at program.now.nodes id) }
-{
-    match program.get(id)? {
-        Node::Constructor { body, .. } => Some(*body),
         _ => None,
     }
 }

@@ -41,28 +41,20 @@ pub fn variable_at(program: &Program, id: NodeId) -> Option<Declared>
             name,
             flags,
             declared_type,
-        } => Some(declared(program, id, *place, *name.get(), *flags, *declared_type)),
-        Node::Local {
+        }
+        | Node::Local {
             place,
             name,
             flags,
             declared_type,
-        } => Some(declared(program, id, *place, *name.get(), *flags, *declared_type)),
-        Node::LocalWithValue {
-            place: _,
-            name_place,
+        }
+        | Node::LocalWithValue {
+            name_place: place,
             name,
             flags,
             declared_type,
-            value: _,
-        } => Some(declared(
-            program,
-            id,
-            *name_place,
-            *name.get(),
-            *flags,
-            *declared_type,
-        )),
+            ..
+        } => Some(declared(program, id, *place, *name.get(), *flags, *declared_type)),
         _ => None,
     }
 }
@@ -78,8 +70,7 @@ pub fn field_at(program: &Program, id: NodeId) -> Option<Declared>
             name,
             flags,
             declared_type,
-            equals: _,
-            value: _,
+            ..
         } => Some(declared(program, id, *place, *name.get(), *flags, *declared_type)),
         _ => None,
     }

@@ -12,12 +12,10 @@ use scj_tree::{NodeKind, Program};
 fn is_variable_kind(kind: &Option<NodeKind>) -> bool
     ensures { result ≡ is_variable_kind kind.now }
 {
-    match kind {
-        Some(NodeKind::Parameter) => true,
-        Some(NodeKind::Local) => true,
-        Some(NodeKind::LocalWithValue) => true,
-        _ => false,
-    }
+    matches!(
+        kind,
+        Some(NodeKind::Parameter | NodeKind::Local | NodeKind::LocalWithValue)
+    )
 }
 
 /// Whether nodes of this kind declare a field.
@@ -37,6 +35,7 @@ fn is_method_kind(kind: &Option<NodeKind>) -> bool
 }
 
 /// Whether a node declares a parameter or a local.
+#[tactic(auto, using(crate::proofs::KindLemmas::variable_kind))]
 pub fn is_variable(program: &Program, id: NodeId) -> bool
     ensures { result ≡ is_some (variable_at program.now.nodes id) }
 {
@@ -44,6 +43,7 @@ pub fn is_variable(program: &Program, id: NodeId) -> bool
 }
 
 /// Whether a node declares a field.
+#[tactic(auto, using(crate::proofs::KindLemmas::field_kind))]
 pub fn is_field(program: &Program, id: NodeId) -> bool
     ensures { result ≡ is_some (field_at program.now.nodes id) }
 {
@@ -51,6 +51,7 @@ pub fn is_field(program: &Program, id: NodeId) -> bool
 }
 
 /// Whether a node declares a method.
+#[tactic(auto, using(crate::proofs::KindLemmas::method_kind))]
 pub fn is_method(program: &Program, id: NodeId) -> bool
     ensures { result ≡ is_some (method_at program.now.nodes id) }
 {

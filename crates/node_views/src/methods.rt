@@ -20,8 +20,7 @@ pub fn method_declared(program: &Program, id: NodeId) -> Option<Declared>
             name,
             flags,
             result_type,
-            parameters: _,
-            body: _,
+            ..
         } => Some(declared(program, id, *place, *name.get(), *flags, *result_type)),
         _ => None,
     }
@@ -67,11 +66,7 @@ pub fn callable_name(program: &Program, id: NodeId) -> Option<Written>
     ensures { result ≡ read program.now.nodes callable_name id }
 {
     match program.get(id)? {
-        Node::Method { place, name, .. } => Some(Written {
-            name: *name.get(),
-            place: *place,
-        }),
-        Node::Constructor { place, name, .. } => Some(Written {
+        Node::Method { place, name, .. } | Node::Constructor { place, name, .. } => Some(Written {
             name: *name.get(),
             place: *place,
         }),

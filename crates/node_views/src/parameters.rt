@@ -42,7 +42,7 @@ pub fn parameter_count(program: &Program, parameters: Option<NodeId>) -> usize
 }
 
 /// The node of the parameter of a number.
-pub fn parameter_node(program: &Program, parameters: Option<NodeId>, i: usize) -> Option<NodeId>
+fn parameter_node(program: &Program, parameters: Option<NodeId>, i: usize) -> Option<NodeId>
     ensures { option_and_then (variable_at program.now.nodes) result ≡ slice_get
         (parameters_at program.now.nodes parameters) i }
 {

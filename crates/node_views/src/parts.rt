@@ -28,7 +28,7 @@ pub fn is_static_at(program: &Program, flags: Option<NodeId>) -> bool
 
 /// Whether `abstract` stands before a declaration.
 #[tactic(auto, unfolding(scj_rules::specs::Views::modifiers_of))]
-pub fn is_abstract_at(program: &Program, flags: Option<NodeId>) -> bool
+fn is_abstract_at(program: &Program, flags: Option<NodeId>) -> bool
     ensures { result ≡ (modifiers_at program.now.nodes flags).is_abstract }
 {
     let node = match flags {
@@ -92,9 +92,9 @@ pub fn variable_type(program: &Program, id: NodeId) -> Option<WrittenType>
     ensures { result ≡ option_map (λ (d : Declaration). d.declared_type) (variable_at program.now.nodes id) }
 {
     match program.get(id)? {
-        Node::Parameter { declared_type, .. } => Some(type_at(program, *declared_type)),
-        Node::Local { declared_type, .. } => Some(type_at(program, *declared_type)),
-        Node::LocalWithValue { declared_type, .. } => Some(type_at(program, *declared_type)),
+        Node::Parameter { declared_type, .. }
+        | Node::Local { declared_type, .. }
+        | Node::LocalWithValue { declared_type, .. } => Some(type_at(program, *declared_type)),
         _ => None,
     }
 }
@@ -127,21 +127,15 @@ pub fn variable_written(program: &Program, id: NodeId) -> Option<Written>
     ensures { result ≡ option_map naming (variable_at program.now.nodes id) }
 {
     match program.get(id)? {
-        Node::Parameter { place, name, .. } => Some(Written {
-            name: *name.get(),
-            place: *place,
-        }),
-        Node::Local { place, name, .. } => Some(Written {
-            name: *name.get(),
-            place: *place,
-        }),
-        Node::LocalWithValue {
-            name_place,
+        Node::Parameter { place, name, .. }
+        | Node::Local { place, name, .. }
+        | Node::LocalWithValue {
+            name_place: place,
             name,
             ..
         } => Some(Written {
             name: *name.get(),
-            place: *name_place,
+            place: *place,
         }),
         _ => None,
     }

@@ -4,7 +4,7 @@ use Rattle.scj_tree.specs.Recursion.{lookup, listed}
 use Rattle.scj_rules.specs.Contexts.{declarations_of}
 use Rattle.scj_rules.specs.Bindings.{binding_at}
 use Rattle.node_bindings.specs.Programs.{bound_by}
-use Rattle.node_bindings.proofs.CountLemmas.{listed_more}
+use Rattle.node_contexts.proofs.CountLemmas.{listed_more}
 use Rattle.node_bindings.proofs.programs.bind_all.Goals as goal
 
 pub loop-place-init : goal.loop-place-init

@@ -1,7 +1,12 @@
-use Rattle.std.proofs.Common.{◌≡◌, take}
+use Rattle.std.proofs.Common.{◌≡◌, length}
 use Rattle.scj_rules.specs.Contexts.{last_variable}
+use Rattle.node_contexts.specs.Packed.{told}
 use Rattle.node_contexts.proofs.rows.last_among.Given as goal
 
--- the last of the nodes so far
-abbrev pub invariant-loop-id : goal.invariant-loop-id
-invariant-loop-id l = l.known ≡ last_variable l.program.nodes l.fn.before (take l.id-index l.ids)
+-- the rest is still to be asked
+abbrev pub invariant-loop-rest : goal.invariant-loop-rest
+invariant-loop-rest l = last_variable l.program.nodes (told l.known) l.rest ≡ last_variable l.program.nodes
+    (told l.fn.before) l.initial.rest
+
+abbrev pub decreases-loop-rest : goal.decreases-loop-rest
+decreases-loop-rest l = length l.rest

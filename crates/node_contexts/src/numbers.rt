@@ -1,0 +1,98 @@
+//! The numbers of variables within their members.
+
+ghost use Rattle.std.specs.Prelude.{◌≡◌, ◌+◌, ◌<◌, IfOk, OnOk, length, set, replicate};
+ghost use Rattle.scj_tree.specs.Recursion.{lookup};
+ghost use Rattle.scj_rules.specs.Contexts.{declarations_of, contexts_in};
+ghost use Rattle.node_contexts.specs.Numbers.{owner_of, number_before, numbers_before, AreCounted};
+
+use crate::contexts::Contexts;
+use node_views::is_variable;
+use scj_base::{Memory, NodeId};
+use scj_tree::Program;
+use std::alloc::Global;
+
+/// The member whose parameter or local a node declares.
+#[tactic(auto, unfolding(scj_rules::specs::Contexts::declarations_of))]
+pub fn owner_of(program: &Program, contexts: &Contexts, id: NodeId) -> Option<NodeId>
+    requires { contexts.now ≡ contexts_in program.now }
+    ensures { result ≡ owner_of (declarations_of program.now) id }
+{
+    if is_variable(program, id) {
+        return contexts.get(id).member;
+    }
+    None
+}
+
+/// No variable is counted yet.
+#[tactic(auto, using(crate::proofs::CountLemmas::none_counted))]
+pub fn none_counted(alloc: Global, program: &Program) -> Result<Vec<u32>, Memory>
+    ensures { IfOk result (λ counts. AreCounted (declarations_of program.now) 0 counts.items) }
+{
+    let counts = zeros(alloc, program.len())?;
+    Ok(counts)
+}
+
+/// So many zeros.
+fn zeros(alloc: Global, count: usize) -> Result<Vec<u32>, Memory>
+    ensures { IfOk result (λ counts. counts.items ≡ replicate count 0) }
+{
+    Ok(vec![in alloc; 0; count]?)
+}
+
+/// Counts a variable of a member, and tells how many were counted before.
+fn count_one(counts: &mut Vec<u32>, member: NodeId) -> Result<u32, Memory>
+    ensures within { OnOk result (member < length counts.old.items) }
+    ensures value { IfOk result (λ number. number ≡ lookup 0 counts.old.items member) }
+    ensures counts { OnOk result
+        (counts.new.items ≡ set counts.old.items member (lookup 0 counts.old.items member + 1)) }
+{
+    let place = member.place();
+    if place >= counts.len() {
+        return Err(Memory);
+    }
+    let number = counts[place];
+    if number == u32::MAX {
+        return Err(Memory);
+    }
+    counts[place] = number + 1;
+    Ok(number)
+}
+
+/// Counts a node, and tells how many variables of its member stand before it, if it declares one.
+pub fn count(
+    program: &Program,
+    contexts: &Contexts,
+    counts: &mut Vec<u32>,
+    id: NodeId,
+) -> Result<u32, Memory>
+    requires contexts { contexts.now ≡ contexts_in program.now }
+    requires counted { AreCounted (declarations_of program.now) id counts.old.items }
+    ensures value { IfOk result (λ number. number ≡ number_before (declarations_of program.now) id) }
+    ensures counted { OnOk result (AreCounted (declarations_of program.now) (id + 1) counts.new.items) }
+{
+    match owner_of(program, contexts, id) {
+        Some(member) => {
+            let number = count_one(counts, member)?;
+            Ok(number)
+        }
+        None => Ok(0),
+    }
+}
+
+/// The number of each variable within its member.
+pub fn number_variables(
+    alloc: Global,
+    program: &Program,
+    contexts: &Contexts,
+) -> Result<Vec<u32>, Memory>
+    requires { contexts.now ≡ contexts_in program.now }
+    ensures { IfOk result (λ numbers. numbers.items ≡ numbers_before (declarations_of program.now)) }
+{
+    let mut counts = none_counted(alloc, program)?;
+    let mut numbers = Vec::with_capacity(alloc, program.len())?;
+    for place in 0..program.len() {
+        let number = count(program, contexts, &mut counts, NodeId::at(place as u32))?;
+        numbers.push(number)?;
+    }
+    Ok(numbers)
+}
