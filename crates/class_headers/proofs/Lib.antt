@@ -1,11 +1,5 @@
-pub mod AlikeLemmas
-pub mod AssemblyLemmas
-pub mod ColumnLemmas
-pub mod HeaderLemmas
-pub mod IndexLemmas
-pub mod JumpLemmas
-pub mod MapLemmas
-pub mod MarkLemmas
+pub mod PartLemmas
 pub mod SoundLemmas
 pub mod SuperLemmas
+pub mod TableLemmas
 pub mod WayLemmas

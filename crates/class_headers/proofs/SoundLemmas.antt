@@ -1,5 +1,5 @@
 -- The rows of the classes, and the nodes of which they tell.
-use Rattle.std.proofs.Common.{◌≡◌, ℕ, zero, suc, ◌+◌, ◌<◌, ◌≤◌, List, [], ◌∷◌, ◌++◌, length, map, refl, sym, ap, ◌∙◌, subst, arith, add-zero, Option, Some, None, slice_get, option_map, option_and_then, unwrap_or, nat_lt, if◌then◌else◌}
+use Rattle.std.proofs.Common.{◌≡◌, ℕ, zero, suc, ◌+◌, ◌<◌, ◌≤◌, List, [], ◌∷◌, ◌++◌, length, map, refl, sym, ap, ◌∙◌, subst, arith, Option, Some, None, slice_get, option_map, option_and_then, unwrap_or, nat_lt, if◌then◌else◌}
 use Rattle.std.proofs.lemmas.Bool.Decides.{nat_tests}
 use Rattle.std.specs.List.{filter_map, cons_option}
 use Rattle.scj_builtins.specs.declared.classes.FrameworkClass.{FrameworkClass}
@@ -27,32 +27,6 @@ pub record IsSound (nodes : List Node) (class : ℕ) (row : ClassRow) : Type 0 w
   pub constructors : row.constructors ≡ filter_map (constructor_at nodes) (members_of row.written)
   pub framework : class < first_user_class → row.written ≡ None
 
--- so do the rows from this number on
-AreSound : List Node → ℕ → List ClassRow → Type 0
-AreSound nodes class [] = Unit {0}
-AreSound nodes class (row ∷ rows) = IsSound nodes class row × AreSound nodes (class + 1) rows
-
-sound_at : (nodes : List Node) (class : ℕ) (rows : List ClassRow) (i : ℕ) (row : ClassRow) → AreSound nodes class rows →
-    slice_get rows i ≡ Some row → IsSound nodes (class + i) row
-unfolding AreSound
-sound_at nodes class [] i row s e = cc
-sound_at nodes class (r ∷ rows) zero row s e =
-    let same : r ≡ row = cc in
-    let here : IsSound nodes (class + 0) r = rw (add-zero class) s.0 in
-    subst (IsSound nodes (class + 0)) same here
-sound_at nodes class (r ∷ rows) (suc i) row s e =
-    let later : IsSound nodes (class + 1 + i) row = sound_at nodes (class + 1) rows i row s.1 e in
-    let same : class + 1 + i ≡ class + suc i = omega arith in
-    (let P : ℕ → Type 0 = λ n. IsSound nodes n row in subst P same later)
-
-sound_append : (nodes : List Node) (class : ℕ) (xs ys : List ClassRow) → AreSound nodes class xs →
-    AreSound nodes (class + length xs) ys → AreSound nodes class (xs ++ ys)
-unfolding AreSound
-sound_append nodes class [] ys s t = (let P : ℕ → Type 0 = λ n. AreSound nodes n ys in subst P (add-zero class) t)
-sound_append nodes class (x ∷ xs) ys s t =
-    let same : class + suc (length xs) ≡ class + 1 + length xs = omega arith in
-    (s.0, sound_append nodes (class + 1) xs ys s.1 (let P : ℕ → Type 0 = λ n. AreSound nodes n ys in subst P same t))
-
 pub first_methods : (nodes : List Node) (class : ℕ) (written : Option WrittenClass) → class < first_user_class →
     framework_methods_on class ≡ methods_of nodes class written
 first_methods nodes class written h = grind (arith, nat_tests)
@@ -60,21 +34,6 @@ first_methods nodes class written h = grind (arith, nat_tests)
 pub other_methods : (nodes : List Node) (class : ℕ) (written : Option WrittenClass) → first_user_class ≤ class →
     filter_map (method_at nodes) (members_of written) ≡ methods_of nodes class written
 other_methods nodes class written h = grind (arith, nat_tests)
-
-framework_sound : (nodes : List Node) (class : ℕ) (cs : List FrameworkClass) → class + length cs ≤ first_user_class →
-    AreSound nodes class (framework_rows_from class cs)
-unfolding AreSound framework_rows_from framework_row
-framework_sound nodes class [] h = tt
-framework_sound nodes class (c ∷ cs) h = (
-  record {
-    node = refl;
-    fields = refl;
-    methods = first_methods nodes class None (omega arith);
-    constructors = refl;
-    framework = λ l. refl;
-  },
-  framework_sound nodes (class + 1) cs (omega arith),
-)
 
 -- a class that is read at a node is that node's
 pub node_of_class : (nodes : List Node) (id : ℕ) (o : Option Node) (c : WrittenClass) →
@@ -85,67 +44,70 @@ node_of_class nodes id (Some (Class place name flags header members)) c h =
     ap (λ (w : Option WrittenClass). elim w [ None ↦ id | Some d ↦ d.node ]) (sym h)
 node_of_class nodes id (Some _) c h = cc
 
-read_again : (nodes : List Node) (id : ℕ) (c : WrittenClass) → class_at nodes id ≡ Some c →
+pub read_again : (nodes : List Node) (id : ℕ) (c : WrittenClass) → class_at nodes id ≡ Some c →
     class_at nodes c.node ≡ Some c
 read_again nodes id c h = let same : c.node ≡ id = node_of_class nodes id (slice_get nodes id) c h in
     ap (class_at nodes) same ∙ h
 
-AreRead : List Node → List WrittenClass → Type 0
-AreRead nodes [] = Unit {0}
-AreRead nodes (c ∷ cs) = (class_at nodes c.node ≡ Some c) × AreRead nodes cs
+module _ (nodes : List Node) (class : ℕ) (row : ClassRow) where
+  first_user : (names : List (List ℕ)) (id : ℕ) (o : Option WrittenClass) (cs : List WrittenClass) →
+      first_user_class ≤ class → class_at nodes id ≡ o
+      → ((j : ℕ) → slice_get (map (user_row nodes names) cs) j ≡ Some row → IsSound nodes class row) → (j : ℕ) →
+      slice_get (map (user_row nodes names) (cons_option o cs)) j ≡ Some row → IsSound nodes class row
+  unfolding user_row
+  first_user names id None cs h f later j e = later j e
+  first_user names id (Some c) cs h f later zero e =
+      let same : user_row nodes names c ≡ row = cc in
+      let here : IsSound nodes class (user_row nodes names c) =
+      record {
+        node = read_again nodes id c f;
+        fields = refl;
+        methods = other_methods nodes class (Some c) h;
+        constructors = refl;
+        framework = λ l. absurd (omega (arith, l, h));
+      } in
+      subst (IsSound nodes class) same here
+  first_user names id (Some c) cs h f later (suc j) e = later j e
 
-read_first : (nodes : List Node) (id : ℕ) (o : Option WrittenClass) (cs : List WrittenClass) → class_at nodes id ≡ o →
-    AreRead nodes cs → AreRead nodes (cons_option o cs)
-unfolding AreRead
-read_first nodes id None cs e r = r
-read_first nodes id (Some c) cs e r = (read_again nodes id c e, r)
+  user_at : (names : List (List ℕ)) (ids : List ℕ) → first_user_class ≤ class → (j : ℕ) →
+      slice_get (map (user_row nodes names) (filter_map (class_at nodes) ids)) j ≡ Some row → IsSound nodes class row
+  user_at names [] h j e = cc
+  user_at names (id ∷ ids) h j e =
+      first_user names id (class_at nodes id) (filter_map (class_at nodes) ids) h refl (user_at names ids h) j e
 
-read_classes : (nodes : List Node) (ids : List ℕ) → AreRead nodes (filter_map (class_at nodes) ids)
-unfolding AreRead
-read_classes nodes [] = tt
-read_classes nodes (id ∷ ids) = read_first nodes id (class_at nodes id) (filter_map (class_at nodes) ids) refl
-    (read_classes nodes ids)
-
-users_sound : (nodes : List Node) (names : List (List ℕ)) (class : ℕ) (users : List WrittenClass) →
-    first_user_class ≤ class → AreRead nodes users → AreSound nodes class (map (user_row nodes names) users)
-unfolding AreSound AreRead user_row
-users_sound nodes names class [] h r = tt
-users_sound nodes names class (c ∷ users) h r = (
-  record {
-    node = r.0;
-    fields = refl;
-    methods = other_methods nodes class
-        (Some c) h;
-    constructors = refl;
-    framework = λ l. absurd (omega arith);
-  },
-  users_sound nodes names (class + 1) users (omega arith) r.1,
-)
+  row_at : (users : List ClassRow)
+      → (first_user_class ≤ class → (j : ℕ) → slice_get users j ≡ Some row → IsSound nodes class row) →
+      (cs : List FrameworkClass) (number i : ℕ) → number + length cs ≡ first_user_class → number + i ≡ class →
+      slice_get (framework_rows_from number cs ++ users) i ≡ Some row → IsSound nodes class row
+  unfolding framework_rows_from framework_row
+  row_at users later [] number i h k e = later (omega (arith, h, k)) i e
+  row_at users later (c ∷ cs) number zero h k e =
+      let same : framework_row number c ≡ row = cc in
+      let place : number ≡ class = omega (arith, k) in
+      let here : IsSound nodes class (framework_row number c) =
+      record {
+        node = refl;
+        fields = refl;
+        methods = ap framework_methods_on place ∙ first_methods nodes class None (omega (arith, h, k));
+        constructors = refl;
+        framework = λ l. refl;
+      } in
+      subst (IsSound nodes class) same here
+  row_at users later (c ∷ cs) number (suc i) h k e =
+      row_at users later cs (number + 1) i (omega (arith, h)) (omega (arith, k)) e
 
 framework_length : (class : ℕ) (cs : List FrameworkClass) → length (framework_rows_from class cs) ≡ length cs
 unfolding framework_rows_from
 framework_length class [] = refl
 framework_length class (c ∷ cs) = ap suc (framework_length (class + 1) cs)
 
-rows_sound : (forest : Forest) → AreSound forest.nodes 0 (declarations_of forest).written
-unfolding declarations_of written_rows user_classes framework_classes
-rows_sound forest =
-    let users = user_classes forest in
-    let names = class_names users in
-    let more : first_user_class ≤ 0 + length (framework_rows_from 0 framework_classes) =
-    omega (arith, framework_length 0 framework_classes) in
-    sound_append forest.nodes 0 (framework_rows_from 0 framework_classes) (map (user_row forest.nodes names) users)
-    (framework_sound forest.nodes 0 framework_classes (omega arith))
-    (users_sound forest.nodes names (0 + length (framework_rows_from 0 framework_classes)) users more
-    (read_classes forest.nodes (class_nodes forest)))
-
 pub row_sound : (forest : Forest) (class : ℕ) (row : ClassRow) →
     slice_get (declarations_of forest).written class ≡ Some row → IsSound forest.nodes class row
+unfolding declarations_of written_rows user_classes framework_classes
 row_sound forest class row e =
-    let same : 0 + class ≡ class = omega arith in
-    let here : IsSound forest.nodes (0 + class) row = sound_at forest.nodes 0 (declarations_of forest).written class row
-    (rows_sound forest) e in
-    (let P : ℕ → Type 0 = λ n. IsSound forest.nodes n row in subst P same here)
+    let names = class_names (user_classes forest) in
+    row_at forest.nodes class row (map (user_row forest.nodes names) (user_classes forest))
+    (user_at forest.nodes class row names (class_nodes forest)) framework_classes 0 class refl (omega arith) e
 
 pub class_at_node : (forest : Forest) (class : ℕ)
     → option_and_then (class_at forest.nodes)

@@ -1,13 +1,28 @@
--- The table of the headers of classes.
-use Rattle.std.specs.Prelude.{◌≡◌, ℕ, List, map}
+-- The table of the headers of classes, and the marks for what is asked along their chains.
+use Rattle.std.specs.Prelude.{◌≡◌, ℕ, ◌<◌, false, List, map, slice_index_or}
+use Rattle.scj_tree.specs.Recursion.{lookup}
+use Rattle.scj_rules.specs.Words.{is_among}
+use Rattle.scj_rules.specs.Classes.{ClassRow, superclasses, all_interfaces, is_cyclic, class_number}
+use Rattle.class_headers.specs.declared.ways.Marks.{Marks}
+use Rattle.class_headers.specs.Rows.{header_of}
+use Rattle.class_headers.specs.Ways.{no_way, has_bit}
 use Rattle.indexmap.specs.IndexMap.{get}
 use Rattle.scj_tree.specs.Forest.{Forest}
 use Rattle.scj_base.specs.Bytes.{is_same}
-use Rattle.scj_rules.specs.Classes.{ClassRow, class_number}
 use Rattle.scj_rules.specs.Contexts.{declarations_of}
-use Rattle.class_headers.specs.declared.headers.Headers.{Headers}
-use Rattle.class_headers.specs.Rows.{header_of}
-use Rattle.class_headers.specs.Marks.{AreMarksOf}
+use Rattle.class_headers.specs.declared.filling.Headers.{Headers}
+
+-- the kinds of classes are below this number
+abbrev pub kind_count : ℕ
+kind_count = 7
+
+-- the marks are those of the classes
+pub record AreMarksOf (all : List ClassRow) (marks : Marks) : Type 0 where
+  pub cyclic : (class : ℕ) → slice_index_or marks.cyclic.items class false ≡ is_cyclic all class
+  pub above : (kind class : ℕ) → kind < kind_count →
+      has_bit (lookup no_way marks.ways.items class).above kind ≡ is_among kind (superclasses all class)
+  pub implemented : (kind class : ℕ) → kind < kind_count →
+      has_bit (lookup no_way marks.ways.items class).implemented kind ≡ is_among kind (all_interfaces all class)
 
 -- the table is that of the program
 pub record IsHeadersOf (forest : Forest) (headers : Headers) : Type 0 where

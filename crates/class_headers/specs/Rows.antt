@@ -1,17 +1,16 @@
 -- The headers of classes, part by part.
-use Rattle.std.specs.Prelude.{ℕ, List, [], ◌∷◌, map, filter_map, Option, Some, None, option_map, if◌then◌else◌}
+use Rattle.std.specs.Prelude.{ℕ, List, [], ◌∷◌, filter_map, Option, Some, None, option_map, option_and_then, unwrap_or, if◌then◌else◌}
 use Rattle.scj_builtins.specs.declared.kinds.ClassKind.TheVariants.{Abstract as abstract_class, Concrete as concrete_class}
 use Rattle.scj_builtins.specs.declared.classes.FrameworkClass.{FrameworkClass}
-use Rattle.scj_builtins.specs.Framework.{object, framework_classes}
+use Rattle.scj_builtins.specs.Framework.{object}
 use Rattle.scj_tree.specs.declared.nodes.Node.{Node}
 use Rattle.scj_rules.specs.declared.scopes.Written.{Written}
-use Rattle.scj_rules.specs.Views.{DeclaredConstructor, WrittenClass, constructor_at}
-use Rattle.scj_rules.specs.Classes.{ClassRow, framework_row, framework_rows_from}
-use Rattle.class_headers.specs.declared.headers.Header.{Header}
+use Rattle.scj_rules.specs.Views.{DeclaredConstructor, WrittenClass, class_at, constructor_at}
+use Rattle.scj_rules.specs.Classes.{ClassRow, framework_row}
+use Rattle.class_headers.specs.declared.filling.Header.{Header}
 
 abbrev pub first_node : List DeclaredConstructor → Option ℕ
-first_node [] = None
-first_node (c ∷ cs) = Some c.node
+first_node cs = option_map (λ (c : DeclaredConstructor). c.node) (elim cs [ [] ↦ None | c ∷ more ↦ Some c ])
 
 -- the header in a row
 unfoldable pub header_of : ClassRow → Header
@@ -31,6 +30,12 @@ superclass_by find (Some extends) = find extends.name
 abbrev pub interfaces_by : (List ℕ → Option ℕ) → List Written → List ℕ
 interfaces_by find ws = filter_map (λ (w : Written). find w.name) ws
 
+-- the interfaces of the class at a node, and none of no class
+unfoldable pub interfaces_at : List Node → (List ℕ → Option ℕ) → Option ℕ → List ℕ
+interfaces_at nodes find node =
+    interfaces_by find
+    (unwrap_or (option_map (λ (c : WrittenClass). c.implements) (option_and_then (class_at nodes) node)) [])
+
 unfoldable pub header_by : List Node → (List ℕ → Option ℕ) → WrittenClass → Header
 header_by nodes find c =
     record {
@@ -43,7 +48,3 @@ header_by nodes find c =
 -- the header of a framework class
 abbrev pub framework_header : FrameworkClass → Header
 framework_header c = header_of (framework_row c.number c)
-
--- the headers of the framework's classes
-unfoldable pub framework_headers : List Header
-framework_headers = map header_of (framework_rows_from 0 framework_classes)

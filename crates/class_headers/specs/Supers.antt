@@ -1,11 +1,19 @@
 -- What is forbidden in the header of a class, where there is one.
-use Rattle.std.specs.Prelude.{ℕ, Bool, true, false, not, ◌&&◌, ◌||◌, is_some, List, [], ◌∷◌, filter, slice_get, Option, Some, None, if◌then◌else◌}
+use Rattle.std.specs.Prelude.{◌≡◌, ℕ, List, [], ◌∷◌, Bool, true, not, ◌&&◌, ◌||◌, is_some, slice_get, Option, Some, None, if◌then◌else◌}
+use Rattle.scj_builtins.specs.Framework.{mission, mission_sequencer, periodic_handler, aperiodic_handler, runnable, safelet}
+use Rattle.scj_rules.specs.Words.{is_among, holds}
 use Rattle.scj_builtins.specs.declared.kinds.ClassKind.{ClassKind}
 use Rattle.scj_rules.specs.declared.scopes.Written.{Written}
-use Rattle.scj_rules.specs.Words.{holds}
 use Rattle.scj_rules.specs.Views.{WrittenClass}
 use Rattle.scj_rules.specs.Classes.{ClassRow, class_number, kinds_of, brings_too_many, is_extended, is_implemented, unknown_supers, forbidden_supers, is_cyclic, is_empty}
 use Rattle.scj_rules.specs.Contexts.{Declarations}
+
+abbrev pub kinds : List ℕ
+kinds = mission ∷ mission_sequencer ∷ periodic_handler ∷ aperiodic_handler ∷ runnable ∷ safelet ∷ []
+
+-- two lists have the same numbers
+pub record AreAlike (xs ys : List ℕ) : Type 0 where
+  pub same : (k : ℕ) → is_among k xs ≡ is_among k ys
 
 abbrev pub is_known : List (List ℕ) → Written → Bool
 is_known names w = is_some (class_number names w.name)
@@ -14,10 +22,6 @@ is_known names w = is_some (class_number names w.name)
 abbrev pub is_known_if_there : List (List ℕ) → Option Written → Bool
 is_known_if_there names None = true
 is_known_if_there names (Some w) = is_known names w
-
--- all these names are known
-abbrev pub are_known : List (List ℕ) → List Written → Bool
-are_known names ws = is_empty (filter (λ (w : Written). not (is_known names w)) ws)
 
 -- none of the names in the header is unknown
 unfoldable pub knows_supers : Declarations → Option WrittenClass → Bool
@@ -56,10 +60,3 @@ forbidden_name p as_interface before w =
 -- the kinds of the class of a name
 unfoldable pub kinds_named : Declarations → Written → List ℕ
 kinds_named p w = elim (class_number p.names w.name) [ None ↦ [] | Some class ↦ kinds_of p.written class ]
-
--- the same of the name after `extends`, where there is one
-abbrev pub forbidden_extends : Declarations → List ℕ → Option Written → List Written
-forbidden_extends p before o = elim o [ None ↦ [] | Some e ↦ forbidden_name p false before e ]
-
-abbrev pub kinds_above : Declarations → Option Written → List ℕ
-kinds_above p o = elim o [ None ↦ [] | Some e ↦ kinds_named p e ]

@@ -1,31 +1,78 @@
--- Steps from each element of a list to the one of which it tells.
-use Rattle.std.specs.Prelude.{◌≡◌, ℕ, ◌<◌, Bool, List, [], ◌∷◌, ◌++◌, map, length, take, slice_get, Option, unwrap_or, option_and_then}
-use Rattle.class_headers.specs.Jumps.{mark, AreFound, AreMarks}
+-- Ways of some steps from class to superclass, and which of the framework's first classes are met on them, told by the
+-- bits of a number.
+use Rattle.std.specs.Prelude.{◌≡◌, ℕ, zero, suc, ◌^◌, ◌<◌, ◌≤◌, nat_lt, Bool, false, ◌&&◌, ◌==◌, List, [], ◌∷◌, map, length, slice_get, slice_index_or, bit_or, Option, Some, None, option_and_then, unwrap_or, if◌then◌else◌}
+use Rattle.std.specs.Int.{bit_at}
+use Rattle.std.specs.List.{list_any}
+use Rattle.scj_tree.specs.Recursion.{listed, lookup}
+use Rattle.scj_rules.specs.Words.{holds}
+use Rattle.class_headers.specs.declared.filling.Header.{Header}
+use Rattle.class_headers.specs.declared.ways.Way.{Way}
+use Rattle.class_headers.specs.declared.ways.Marks.{Marks}
 
-abbrev pub next_by : {X : Type 0} → (X → Option ℕ) → List X → ℕ → Option ℕ
-next_by f xs i = option_and_then f (slice_get xs i)
+-- the bit of a class, where it is one of the first eight
+unfoldable pub bit_of : ℕ → ℕ
+bit_of class = if nat_lt class 8 then 2 ^ class else 0
 
--- what tells of none steps behind the list, and from there nothing leads on
-unfoldable pub steps_by : {X : Type 0} → (X → Option ℕ) → List X → List ℕ
-steps_by f xs = map (λ x. unwrap_or (f x) (length xs)) xs ++ length xs ∷ []
+-- the bits of these classes
+unfoldable pub bits_of : List ℕ → ℕ
+bits_of [] = 0
+bits_of (class ∷ classes) = bit_or (bit_of class) (bits_of classes)
 
--- the marks tell of each number whether the test holds on the way from it
-pub record Shows (next : List ℕ) (test : ℕ → Bool) (marks : List Bool) : Type 0 where
-  pub own : List Bool
-  pub own_is : (x : ℕ) → mark own x ≡ test x
-  pub found : AreFound next own marks
+-- the class has a bit, and it is set
+unfoldable pub has_bit : ℕ → ℕ → Bool
+has_bit bits class = nat_lt class 8 && (bit_at bits class == 1)
 
--- the marks tell of each of the first numbers whether steps lead back to it
-pub record ShowsReturns (next : List ℕ) (count : ℕ) (marks : List Bool) : Type 0 where
-  pub whole : List Bool
-  pub exact : AreMarks next whole
-  pub first : marks ≡ take count whole
+abbrev pub no_way : Way
+no_way = record { end = None; above = 0; implemented = 0 }
 
--- a column of many
-abbrev pub column : List (List Bool) → ℕ → List Bool
-column columns kind = unwrap_or (slice_get columns kind) []
+-- the way from a class, where there is one
+unfoldable pub way_from : List Way → Option ℕ → Way
+way_from ways None = no_way
+way_from ways (Some class) = lookup no_way ways class
 
--- so many columns show a test each
-pub record ColumnsShow (next : List ℕ) (test : ℕ → ℕ → Bool) (count : ℕ) (columns : List (List Bool)) : Type 0 where
-  pub whole : length columns ≡ count
-  pub show : (kind : ℕ) → kind < count → Shows next (test kind) (column columns kind)
+-- a way, and then the one from its end
+unfoldable pub twice : List Way → Way → Way
+twice ways way =
+    let more = way_from ways way.end in
+    record {
+      end = more.end;
+      above = bit_or way.above more.above;
+      implemented = bit_or way.implemented more.implemented;
+    }
+
+-- so often each way has gone on by the one from its end
+unfoldable pub doubled : ℕ → List Way → List Way
+doubled zero ways = ways
+doubled (suc rounds) ways = let before = doubled rounds ways in map (twice before) before
+
+-- ways of so many steps or more from ways of one step
+pub record AreDoubled (first : List Way) (steps : ℕ) (ways : List Way) : Type 0 where
+  pub rounds : ℕ
+  pub far : steps ≤ 2 ^ rounds
+  pub are : ways ≡ doubled rounds first
+
+-- the superclass and the interfaces by headers and lists of interfaces
+abbrev pub above_in : List Header → ℕ → Option ℕ
+above_in rows class = option_and_then (λ (h : Header). h.superclass) (slice_get rows class)
+
+abbrev pub named_in : List (List ℕ) → ℕ → List ℕ
+named_in lists class = unwrap_or (slice_get lists class) []
+
+-- the way of one step
+unfoldable pub first_way : List Header → List (List ℕ) → ℕ → Way
+first_way rows lists class =
+    record { end = above_in rows class; above = bit_of class; implemented = bits_of (named_in lists class) }
+
+-- the same of each class
+abbrev pub first_ways : List Header → List (List ℕ) → List Way
+first_ways rows lists = listed (first_way rows lists) (length rows)
+
+abbrev pub ends_at : ℕ → Way → Bool
+ends_at class way = holds way.end (λ end. class == end)
+
+-- far ways by these headers and interfaces, and at which classes one of them ends
+pub record AreMarksBy (rows : List Header) (lists : List (List ℕ)) (marks : Marks) : Type 0 where
+  pub ways : AreDoubled (first_ways rows lists) (length marks.ways.items) marks.ways.items
+  pub whole : length marks.cyclic.items ≡ length marks.ways.items
+  pub cyclic : (class : ℕ) → class < length marks.ways.items →
+      slice_index_or marks.cyclic.items class false ≡ list_any (ends_at class) marks.ways.items

@@ -1,17 +1,18 @@
 //! The classes of a program as they are written.
 
-ghost use Rattle.std.specs.Prelude.{◌≡◌, ◌<◌, length, slice_get, option_copied, option_map, option_and_then};
+ghost use Rattle.std.specs.Prelude.{◌≡◌, ◌<◌, ◌++◌, ℕ, length, slice_get, option_copied, option_map, option_and_then};
 ghost use Rattle.scj_rules.specs.Words.{is_among};
 ghost use Rattle.scj_rules.specs.Views.{DeclaredConstructor, WrittenClass, class_at};
 ghost use Rattle.scj_rules.specs.Classes.{ClassRow, class_number, superclass_in, interfaces_in, superclasses, all_interfaces, is_cyclic};
 ghost use Rattle.scj_rules.specs.Types.{constructor_in};
 ghost use Rattle.scj_rules.specs.Contexts.{declarations_of};
 ghost use Rattle.class_headers.specs.Rows.{header_of};
-ghost use Rattle.class_headers.specs.Marks.{kind_count};
+ghost use Rattle.class_headers.specs.Columns.{kind_count};
+ghost use Rattle.class_headers.specs.Ways.{has_bit};
 
-use crate::headers::{Header, Headers};
+use crate::filling::{Header, Headers};
 use crate::keys::NameKey;
-use crate::marks::{is_marked, is_marked_in};
+use crate::ways::{has_bit, interfaces_at, is_marked, superclass_at, way_at};
 use node_views::class_members;
 use scj_base::{ClassId, Name, NodeId};
 use scj_builtins::ClassKind;
@@ -49,16 +50,6 @@ impl<'a> WrittenClasses<'a> {
         WrittenClasses { program, headers }
     }
 
-    /// The same classes once more.
-    pub fn again(&self) -> WrittenClasses<'a>
-        ensures { result ≡ self.now }
-    {
-        WrittenClasses {
-            program: self.program,
-            headers: self.headers,
-        }
-    }
-
     /// The program.
     pub fn program(&self) -> &'a Program
         ensures { result.now ≡ self.now }
@@ -67,7 +58,7 @@ impl<'a> WrittenClasses<'a> {
     }
 
     /// How many classes there are, the framework's among them.
-    #[tactic(auto, using(crate::proofs::ColumnLemmas::count_is))]
+    #[tactic(auto, using(crate::proofs::TableLemmas::count_is))]
     pub fn count(&self) -> usize
         ensures { result ≡ length (declarations_of self.now).written }
     {
@@ -83,7 +74,7 @@ impl<'a> WrittenClasses<'a> {
     }
 
     /// The header of a class.
-    #[tactic(auto, using(crate::proofs::ColumnLemmas::header_is))]
+    #[tactic(auto, using(crate::proofs::TableLemmas::header_is))]
     pub fn header(&self, class: ClassId) -> Option<&'a Header>
         ensures { option_copied result ≡ option_map header_of (slice_get (declarations_of self.now).written class) }
     {
@@ -91,7 +82,7 @@ impl<'a> WrittenClasses<'a> {
     }
 
     /// What a class may be used for.
-    #[tactic(auto, using(crate::proofs::ColumnLemmas::kind_of))]
+    #[tactic(auto, using(crate::proofs::TableLemmas::kind_of))]
     pub fn kind(&self, class: ClassId) -> Option<ClassKind>
         ensures { result ≡ option_map (λ (row : ClassRow). row.kind)
             (slice_get (declarations_of self.now).written class) }
@@ -101,28 +92,23 @@ impl<'a> WrittenClasses<'a> {
     }
 
     /// The superclass.
-    #[tactic(auto, using(crate::proofs::ColumnLemmas::superclass_is))]
+    #[tactic(auto, using(crate::proofs::TableLemmas::superclass_is))]
     pub fn superclass(&self, class: ClassId) -> Option<ClassId>
         ensures { result ≡ superclass_in (declarations_of self.now).written class }
     {
-        let header = self.header(class)?;
-        header.superclass
+        superclass_at(&self.headers.rows, class.number() as usize)
     }
 
     /// The interfaces.
+    #[tactic(auto, using(crate::proofs::TableLemmas::interfaces_is))]
     pub fn interfaces(&self, class: ClassId) -> &'a [ClassId]
         ensures { result.now ≡ interfaces_in (declarations_of self.now).written class }
     {
-        let at = class.number() as usize;
-        if at >= self.headers.interfaces.len() {
-            return &[];
-        }
-        let interfaces = &self.headers.interfaces[at];
-        interfaces.as_slice()
+        interfaces_at(&self.headers.interfaces, class.number() as usize)
     }
 
     /// The node that the table has of a class.
-    #[tactic(auto, using(crate::proofs::ColumnLemmas::node_is))]
+    #[tactic(auto, using(crate::proofs::TableLemmas::node_is))]
     fn node(&self, class: ClassId) -> Option<NodeId>
         ensures { result ≡ option_map (λ (c : WrittenClass). c.node) (class_written (declarations_of self.now) class) }
     {
@@ -153,7 +139,7 @@ impl<'a> WrittenClasses<'a> {
     }
 
     /// The first constructor of a class.
-    #[tactic(auto, using(crate::proofs::ColumnLemmas::constructor_is))]
+    #[tactic(auto, using(crate::proofs::TableLemmas::constructor_is))]
     pub fn constructor(&self, class: ClassId) -> Option<NodeId>
         ensures { result ≡ option_map (λ (c : DeclaredConstructor). c.node)
             (constructor_in (declarations_of self.now).written class) }
@@ -163,7 +149,6 @@ impl<'a> WrittenClasses<'a> {
     }
 
     /// Whether the superclasses come back to the class.
-    #[tactic(auto, using(crate::proofs::ColumnLemmas::cyclic_is))]
     pub fn is_cyclic(&self, class: ClassId) -> bool
         ensures { result ≡ is_cyclic (declarations_of self.now).written class }
     {
@@ -171,20 +156,29 @@ impl<'a> WrittenClasses<'a> {
     }
 
     /// Whether a class is the kind or stands under it by superclasses.
-    #[tactic(auto, using(crate::proofs::ColumnLemmas::above_is))]
     pub fn is_under(&self, class: ClassId, kind: ClassId) -> bool
         requires { kind < kind_count }
         ensures { result ≡ is_among kind (superclasses (declarations_of self.now).written class) }
     {
-        is_marked_in(&self.headers.marks.above, kind, class)
+        has_bit(way_at(&self.headers.marks.ways, class).above, kind)
     }
 
     /// Whether a class of the chain implements the kind.
-    #[tactic(auto, using(crate::proofs::ColumnLemmas::implemented_is))]
     pub fn implements(&self, class: ClassId, kind: ClassId) -> bool
         requires { kind < kind_count }
         ensures { result ≡ is_among kind (all_interfaces (declarations_of self.now).written class) }
     {
-        is_marked_in(&self.headers.marks.implemented, kind, class)
+        has_bit(way_at(&self.headers.marks.ways, class).implemented, kind)
+    }
+
+    /// The bits of the classes of a chain and of their interfaces.
+    #[tactic(auto, using(crate::proofs::TableLemmas::bits_are))]
+    pub(crate) fn bits(&self, class: ClassId) -> u8
+        ensures { (kind : ℕ) → kind < kind_count → has_bit result kind ≡ is_among kind
+            (superclasses (declarations_of self.now).written class
+            ++ all_interfaces (declarations_of self.now).written class) }
+    {
+        let way = way_at(&self.headers.marks.ways, class);
+        way.above | way.implemented
     }
 }

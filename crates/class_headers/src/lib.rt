@@ -4,17 +4,14 @@
 
 pub mod classes;
 pub mod filling;
-pub mod headers;
-pub mod ids;
-pub mod jumps;
 pub mod keys;
 pub mod kinds;
 pub mod marks;
 pub mod names;
 pub mod parts;
 pub mod supers;
+pub mod ways;
 
 pub use classes::WrittenClasses;
-pub use filling::headers_in;
-pub use headers::{Header, Headers};
+pub use filling::{Header, Headers, headers_in};
 pub use keys::{MemberKey, NameKey};

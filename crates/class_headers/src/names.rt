@@ -1,84 +1,76 @@
-//! The classes by their names.
+//! The classes of a program in their order, and by their names.
 
-ghost use Rattle.std.specs.Prelude.{◌≡◌, ◌++◌, List, ℕ, map, filter_map, position, IfOk, OnOk, if◌then◌else◌, Some, None};
-ghost use Rattle.std.specs.Option.{option_or};
+ghost use Rattle.std.specs.Prelude.{◌≡◌, ◌++◌, List, ℕ, map, filter_map, option_map, position, IfOk};
 ghost use Rattle.indexmap.specs.IndexMap.{get};
 ghost use Rattle.scj_builtins.specs.declared.classes.FrameworkClass.{FrameworkClass};
 ghost use Rattle.scj_builtins.specs.Framework.{framework_classes};
 ghost use Rattle.scj_base.specs.Bytes.{is_same};
 ghost use Rattle.scj_rules.specs.Views.{WrittenClass, class_at};
+ghost use Rattle.scj_rules.specs.Classes.{class_nodes};
 
 use crate::keys::NameKey;
 use indexmap::IndexMap;
 use node_views::class_name;
 use scj_base::{ClassId, Memory, Name, NodeId};
-use scj_builtins::{FrameworkClass, framework_classes};
+use scj_builtins::framework_classes;
 use scj_tree::Program;
-use std::alloc::Global;
+use std::alloc::{AllocError, Global};
 
-/// Puts the names of these framework classes last.
-fn add_framework_names(classes: &[FrameworkClass], names: &mut Vec<Name>) -> Result<(), Memory>
-    ensures { OnOk result (names.new.items ≡ names.old.items ++ map (λ (c : FrameworkClass). c.name) classes.now) }
+/// The nodes of the classes in the order of the sources.
+#[tactic(auto, using(crate::proofs::PartLemmas::joined_more), unfolding(scj_tree::specs::Forest::joined))]
+pub fn class_ids(alloc: Global, program: &Program) -> Result<Vec<NodeId>, Memory>
+    ensures { IfOk result (λ ids. ids.items ≡ class_nodes program.now) }
 {
-    let mut others = classes;
-    while let [class, rest @ ..] = others {
-        names.push(class.name)?;
-        others = rest;
+    let mut ids = Vec::new(alloc);
+    for file in 0..program.file_count() {
+        ids.extend_from_slice(program.classes(file as u8))?;
     }
-    Ok(())
+    Ok(ids)
 }
 
-/// Puts the names of the classes at these nodes last.
-#[tactic(auto, using(crate::proofs::MapLemmas::one_more, crate::proofs::MapLemmas::none_more))]
-fn add_names(program: &Program, ids: &[NodeId], names: &mut Vec<Name>) -> Result<(), Memory>
-    ensures { OnOk result (names.new.items ≡ names.old.items
-        ++ map (λ (c : WrittenClass). c.name) (filter_map (class_at program.now.nodes) ids.now)) }
+/// The names of the framework's classes.
+fn framework_names(alloc: Global) -> Result<Vec<Name>, AllocError>
+    ensures { IfOk result (λ names. names.items ≡ map (λ (c : FrameworkClass). c.name) framework_classes) }
 {
-    let mut others = ids;
-    while let [id, rest @ ..] = others {
-        if let Some(name) = class_name(program, *id) {
-            names.push(name)?;
-        }
-        others = rest;
-    }
-    Ok(())
+    framework_classes()
+        .iter()
+        .map(|class| class.name)
+        .collect(alloc)
+}
+
+/// The names of the classes at these nodes.
+fn user_names(alloc: Global, program: &Program, ids: &[NodeId]) -> Result<Vec<Name>, AllocError>
+    ensures { IfOk result (λ names. names.items ≡ filter_map
+        (λ id. option_map (λ (c : WrittenClass). c.name) (class_at program.now.nodes id)) ids.now) }
+{
+    ids.iter()
+        .filter_map(|id| class_name(program, *id))
+        .collect(alloc)
 }
 
 /// The names of the framework's classes and of the classes at these nodes.
 pub fn names_of(alloc: Global, program: &Program, ids: &[NodeId]) -> Result<Vec<Name>, Memory>
     ensures { IfOk result (λ names. names.items ≡ map (λ (c : FrameworkClass). c.name) framework_classes
-        ++ map (λ (c : WrittenClass). c.name) (filter_map (class_at program.now.nodes) ids.now)) }
+        ++ filter_map (λ id. option_map (λ (c : WrittenClass). c.name) (class_at program.now.nodes id)) ids.now) }
 {
-    let mut names = Vec::new(alloc);
-    add_framework_names(&framework_classes(), &mut names)?;
-    add_names(program, ids, &mut names)?;
+    let mut names = framework_names(alloc)?;
+    let users = user_names(alloc, program, ids)?;
+    names.extend_from_slice(&users)?;
     Ok(names)
-}
-
-/// Enters a number under a name, unless the name has one.
-#[tactic(auto, using(crate::proofs::IndexLemmas::entered_known, crate::proofs::IndexLemmas::entered_new))]
-fn enter(index: &mut IndexMap<NameKey, ClassId>, name: Name, number: usize) -> Result<(), Memory>
-    ensures { OnOk result ((other : List ℕ) → get is_same index.new other ≡ option_or (get is_same index.old other)
-        (if is_same other name then Some number else None)) }
-{
-    let key = NameKey::of(name);
-    if index.contains_key(&key) {
-        return Ok(());
-    }
-    if number > u32::MAX as usize {
-        return Err(Memory);
-    }
-    index.insert(key, ClassId::at(number as u32))?;
-    Ok(())
 }
 
 /// The first place of each name.
 pub fn index_of(alloc: Global, names: &[Name]) -> Result<IndexMap<NameKey, ClassId>, Memory>
     ensures { IfOk result (λ index. (name : List ℕ) → get is_same index name ≡ position (is_same name) names.now) }
 {
+    let mut number = names.len();
+    if number > u32::MAX as usize {
+        return Err(Memory);
+    }
     let mut index = IndexMap::new(alloc);
-    for number in 0..names.len() {
-        enter(&mut index, names[number], number)?;
+    while number > 0 {
+        number -= 1;
+        index.insert(NameKey::of(names[number]), ClassId::at(number as u32))?;
     }
     Ok(index)
 }

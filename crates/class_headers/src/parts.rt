@@ -1,15 +1,16 @@
 //! The parts of a class's header.
 
-ghost use Rattle.std.specs.Prelude.{◌≡◌, [], filter_map, IfOk, option_map, option_and_then, unwrap_or, if◌then◌else◌};
+ghost use Rattle.std.specs.Prelude.{◌≡◌, [], filter_map, is_some, IfOk, option_map, option_and_then, unwrap_or, if◌then◌else◌};
 ghost use Rattle.indexmap.specs.IndexMap.{get};
 ghost use Rattle.scj_base.specs.Bytes.{is_same};
 ghost use Rattle.scj_rules.specs.Views.{WrittenClass, class_at, constructor_at, named_super};
-ghost use Rattle.class_headers.specs.Rows.{superclass_by, interfaces_by, header_by, first_node};
+ghost use Rattle.class_headers.specs.Rows.{superclass_by, interfaces_by, header_by};
+ghost use Rattle.std.specs.List.{find};
 ghost use Rattle.scj_builtins.specs.declared.kinds.ClassKind.TheVariants.{Abstract as abstract_class, Concrete as concrete_class};
-ghost use Rattle.scj_rules.specs.declared.scopes.Written.{Written};
+ghost use Rattle.scj_rules.specs.declared.scopes.Written.{Written as Named};
 ghost use Rattle.scj_rules.specs.Definitions.{read};
 
-use crate::headers::Header;
+use crate::filling::Header;
 use crate::keys::NameKey;
 use indexmap::IndexMap;
 use node_views::{
@@ -20,7 +21,7 @@ use scj_base::{ClassId, Memory, NodeId};
 use scj_builtins::ClassKind;
 use scj_rules::Written;
 use scj_tree::Program;
-use std::alloc::Global;
+use std::alloc::{AllocError, Global};
 
 /// The superclass that a class names, and `Object` where it names none.
 #[tactic(auto, unfolding(crate::specs::Rows::superclass_by))]
@@ -37,18 +38,13 @@ fn superclass(names: &IndexMap<NameKey, ClassId>, extends: Option<Written>) -> O
 }
 
 /// The first constructor among members.
-#[tactic(auto, using(crate::proofs::MapLemmas::constructor_first, crate::proofs::MapLemmas::constructor_later))]
 fn first_constructor(program: &Program, members: &[NodeId]) -> Option<NodeId>
-    ensures { result ≡ first_node (filter_map (constructor_at program.now.nodes) members.now) }
+    ensures { result ≡ find (λ id. is_some (constructor_at program.now.nodes id)) members.now }
 {
-    let mut others = members;
-    while let [id, rest @ ..] = others {
-        if is_constructor(program, *id) {
-            return Some(*id);
-        }
-        others = rest;
-    }
-    None
+    members
+        .iter()
+        .copied()
+        .find(|id| is_constructor(program, *id))
 }
 
 /// The kind of a user class.
@@ -63,6 +59,7 @@ fn kind(is_abstract: bool) -> ClassKind
 }
 
 /// The header of the class at a node.
+#[tactic(auto, using(crate::proofs::PartLemmas::parts_are))]
 pub fn user_header(
     program: &Program,
     names: &IndexMap<NameKey, ClassId>,
@@ -71,24 +68,33 @@ pub fn user_header(
     ensures { result ≡ option_map (header_by program.now.nodes (get is_same names.now))
         (class_at program.now.nodes id) }
 {
-    match class_modifiers(program, id) {
-        Some(modifiers) => {
-            let kind = kind(modifiers.is_abstract);
-            let superclass = superclass(names, class_extends(program, id));
-            let constructor = first_constructor(program, class_members(program, id));
-            Some(Header {
-                node: Some(id),
-                kind,
-                superclass,
-                constructor,
-            })
-        }
-        None => None,
-    }
+    let modifiers = class_modifiers(program, id)?;
+    Some(Header {
+        node: Some(id),
+        kind: kind(modifiers.is_abstract),
+        superclass: superclass(names, class_extends(program, id)),
+        constructor: first_constructor(program, class_members(program, id)),
+    })
+}
+
+/// The classes that these nodes name.
+fn named_classes(
+    alloc: Global,
+    program: &Program,
+    names: &IndexMap<NameKey, ClassId>,
+    nodes: &[NodeId],
+) -> Result<Vec<ClassId>, AllocError>
+    ensures { IfOk result (λ found. found.items ≡ filter_map
+        (λ id. option_and_then (λ (w : Named). get is_same names.now w.name) (read program.now.nodes named_super id))
+        nodes.now) }
+{
+    nodes
+        .iter()
+        .filter_map(|node| interface(program, names, *node))
+        .collect(alloc)
 }
 
 /// The interfaces that the class at a node names.
-#[tactic(auto, using(crate::proofs::MapLemmas::one_interface, crate::proofs::MapLemmas::no_interface))]
 pub fn user_interfaces(
     alloc: Global,
     program: &Program,
@@ -99,20 +105,13 @@ pub fn user_interfaces(
         (λ found. found.items ≡ interfaces_by (get is_same names.now)
         (unwrap_or (option_map (λ (c : WrittenClass). c.implements) (class_at program.now.nodes id)) [])) }
 {
-    let mut found = Vec::new(alloc);
-    let mut others = interface_nodes(program, id);
-    while let [node, rest @ ..] = others {
-        if let Some(class) = interface(program, names, *node) {
-            found.push(class)?;
-        }
-        others = rest;
-    }
+    let found = named_classes(alloc, program, names, interface_nodes(program, id))?;
     Ok(found)
 }
 
 /// The class that a node names.
 fn interface(program: &Program, names: &IndexMap<NameKey, ClassId>, node: NodeId) -> Option<ClassId>
-    ensures { result ≡ option_and_then (λ (w : Written). get is_same names.now w.name)
+    ensures { result ≡ option_and_then (λ (w : Named). get is_same names.now w.name)
         (read program.now.nodes named_super node) }
 {
     let written = named_super(program, node)?;

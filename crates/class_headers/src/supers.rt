@@ -1,12 +1,12 @@
 //! Names after `extends` and `implements` that aren't known, or are forbidden.
 
-ghost use Rattle.std.specs.Prelude.{◌≡◌, ◌++◌, ◌∷◌, [], filter_map, option_and_then, if◌then◌else◌, IfOk, OnOk};
+ghost use Rattle.std.specs.Prelude.{◌≡◌, ◌++◌, ◌∷◌, ◌&&◌, [], filter_map, if◌then◌else◌, IfOk, OnOk};
+ghost use Rattle.std.specs.List.{list_all};
 ghost use Rattle.scj_rules.specs.Definitions.{read};
-ghost use Rattle.scj_rules.specs.Views.{WrittenClass, class_at, named_super};
+ghost use Rattle.scj_rules.specs.Views.{class_at, named_super};
 ghost use Rattle.scj_rules.specs.Classes.{kinds_of, with_kinds, forbidden_interfaces};
 ghost use Rattle.scj_rules.specs.Contexts.{declarations_of};
-ghost use Rattle.class_headers.specs.Kinds.{AreAlike};
-ghost use Rattle.class_headers.specs.Supers.{is_known, is_known_if_there, are_known, knows_supers, is_nameable, may_be_named, is_forbidden, forbidden_name, kinds_named, forbidden_extends, kinds_above, forbidden_in, is_well_headed_in};
+ghost use Rattle.class_headers.specs.Supers.{AreAlike, is_known_if_there, knows_supers, is_nameable, may_be_named, is_forbidden, forbidden_name, kinds_named, forbidden_in, is_well_headed_in};
 
 use crate::classes::WrittenClasses;
 use crate::kinds::{add_kinds, brings_too_many};
@@ -40,48 +40,38 @@ fn note_if(is_forbidden: bool, name: Written, found: &mut Vec<Written>) -> Resul
 }
 
 impl<'a> WrittenClasses<'a> {
-    /// Whether the class is there that is named.
-    fn is_known(&self, written: &Written) -> bool
-        ensures { result ≡ is_known (declarations_of self.now).names written.now }
+    /// Whether the class is there that is named, where one is.
+    fn is_known_if_there(&self, written: Option<Written>) -> bool
+        ensures { result ≡ is_known_if_there (declarations_of self.now).names written }
     {
-        self.class_of(&written.name).is_some()
-    }
-
-    /// Whether each of these nodes names a class that is there.
-    #[tactic(auto, unfolding(scj_rules::specs::Classes::is_empty))]
-    fn knows_all(&self, nodes: &[NodeId]) -> bool
-        ensures { result ≡ are_known (declarations_of self.now).names
-            (filter_map (read self.now.nodes named_super) nodes.now) }
-    {
-        let mut others = nodes;
-        while let [node, rest @ ..] = others {
-            if let Some(written) = named_super(self.program(), *node) {
-                if !self.is_known(&written) {
-                    return false;
-                }
-            }
-            others = rest;
-        }
-        true
-    }
-
-    /// Whether the class after `extends` is there, or none is named.
-    fn knows_extends(&self, node: NodeId) -> bool
-        ensures { result ≡ is_known_if_there (declarations_of self.now).names
-            (option_and_then (λ (c : WrittenClass). c.extends) (class_at self.now.nodes node)) }
-    {
-        match class_extends(self.program(), node) {
-            Some(written) => self.is_known(&written),
+        match written {
+            Some(written) => self.class_of(&written.name).is_some(),
             None => true,
         }
     }
 
+    /// Whether the classes are there that these nodes name.
+    fn knows_nodes(&self, nodes: &[NodeId]) -> bool
+        ensures { result ≡ list_all
+            (λ id. is_known_if_there (declarations_of self.now).names (read self.now.nodes named_super id)) nodes.now }
+    {
+        nodes.iter().all(|node| self.is_known_if_there(named_super(self.program(), *node)))
+    }
+
+    /// Whether the classes are there that are named, after `extends` and by these nodes.
+    fn knows_all(&self, extends: Option<Written>, nodes: &[NodeId]) -> bool
+        ensures { result ≡ (is_known_if_there (declarations_of self.now).names extends && list_all
+            (λ id. is_known_if_there (declarations_of self.now).names (read self.now.nodes named_super id)) nodes.now) }
+    {
+        self.is_known_if_there(extends) && self.knows_nodes(nodes)
+    }
+
     /// Whether all names in the header of the class at a node are known.
-    #[tactic(auto, using(crate::proofs::SuperLemmas::knows_both))]
     pub fn knows_supers(&self, node: NodeId) -> bool
         ensures { result ≡ knows_supers (declarations_of self.now) (class_at self.now.nodes node) }
     {
-        self.knows_extends(node) && self.knows_all(interface_nodes(self.program(), node))
+        let extends = class_extends(self.program(), node);
+        self.knows_all(extends, interface_nodes(self.program(), node))
     }
 
     /// Whether a class may be named so.
@@ -95,7 +85,7 @@ impl<'a> WrittenClasses<'a> {
     }
 
     /// Whether a class of these kinds may not be named so behind names of the kinds `there`.
-    #[tactic(auto, using(crate::proofs::AlikeLemmas::brings_there))]
+    #[tactic(auto, using(crate::proofs::SuperLemmas::alike, crate::proofs::SuperLemmas::brings_alike))]
     fn is_forbidden(
         &self,
         class: ClassId,
@@ -110,7 +100,7 @@ impl<'a> WrittenClasses<'a> {
     }
 
     /// Puts a name last, where it is forbidden behind names of the kinds `there`, to which those of its class come.
-    #[tactic(auto, using(crate::proofs::SuperLemmas::none_with, crate::proofs::AlikeLemmas::with_there), unfolding(crate::specs::Supers::forbidden_name, crate::specs::Supers::kinds_named))]
+    #[tactic(auto, using(crate::proofs::SuperLemmas::alike, crate::proofs::SuperLemmas::with_alike), unfolding(crate::specs::Supers::forbidden_name, crate::specs::Supers::kinds_named, scj_rules::specs::Classes::with_kinds))]
     fn note_name(
         &self,
         alloc: Global,
@@ -159,28 +149,6 @@ impl<'a> WrittenClasses<'a> {
         Ok(())
     }
 
-    /// Puts the name after `extends` last, where it is forbidden.
-    #[tactic(auto, using(crate::proofs::SuperLemmas::none_with))]
-    fn note_extends(
-        &self,
-        alloc: Global,
-        node: NodeId,
-        there: &mut Vec<ClassId>,
-        found: &mut Vec<Written>,
-    ) -> Result<(), Memory>
-        ensures found { OnOk result (found.new.items ≡ found.old.items
-            ++ forbidden_extends (declarations_of self.now) there.old.items
-            (option_and_then (λ (c : WrittenClass). c.extends) (class_at self.now.nodes node))) }
-        ensures there { OnOk result (AreAlike there.new.items (with_kinds there.old.items
-            (kinds_above (declarations_of self.now)
-            (option_and_then (λ (c : WrittenClass). c.extends) (class_at self.now.nodes node))))) }
-    {
-        match class_extends(self.program(), node) {
-            Some(name) => self.note_name(alloc, name, false, there, found),
-            None => Ok(()),
-        }
-    }
-
     /// What is forbidden in the header of the class at a node.
     pub fn forbidden_supers(&self, alloc: Global, node: NodeId) -> Result<Vec<Written>, Memory>
         ensures { IfOk result
@@ -188,8 +156,12 @@ impl<'a> WrittenClasses<'a> {
     {
         let mut there = Vec::new(alloc);
         let mut found = Vec::new(alloc);
-        self.note_extends(alloc, node, &mut there, &mut found)?;
         let interfaces = interface_nodes(self.program(), node);
+        let Some(name) = class_extends(self.program(), node) else {
+            self.note_interfaces(alloc, interfaces, &mut there, &mut found)?;
+            return Ok(found);
+        };
+        self.note_name(alloc, name, false, &mut there, &mut found)?;
         self.note_interfaces(alloc, interfaces, &mut there, &mut found)?;
         Ok(found)
     }

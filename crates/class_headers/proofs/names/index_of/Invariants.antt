@@ -1,9 +1,15 @@
-use Rattle.std.proofs.Common.{◌≡◌, ℕ, List, take}
-use Rattle.std.specs.List.{position}
+use Rattle.std.proofs.Common.{◌≡◌, ◌≤◌, ℕ, List, length, drop}
+use Rattle.std.specs.List.{position_from}
 use Rattle.indexmap.specs.IndexMap.{get}
 use Rattle.scj_base.specs.Bytes.{is_same}
 use Rattle.class_headers.proofs.names.index_of.Given as goal
 
--- the names so far have their places
+-- the names from the number on have their places
 abbrev pub invariant-loop-number : goal.invariant-loop-number
-invariant-loop-number l = (name : List ℕ) → get is_same l.index name ≡ position (is_same name) (take l.number l.names)
+invariant-loop-number l = record {
+  within : l.number ≤ length l.names;
+  numbered : (name : List ℕ) → get is_same l.index name ≡ position_from (is_same name) l.number (drop l.number l.names);
+}
+
+abbrev pub decreases-loop-number : goal.decreases-loop-number
+decreases-loop-number l = l.number

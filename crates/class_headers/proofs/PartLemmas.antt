@@ -1,0 +1,117 @@
+-- The parts of a header, the index of names, and what is read of a list element by element.
+use Rattle.std.proofs.Common.{◌≡◌, ◌∙◌, ℕ, cond, List, [], ◌∷◌, map, refl, ap, Option, Some, None, is_some, option_map, option_and_then, ◌+◌, ◌++◌, length, drop, sym, append-nil, slice_get, unwrap_or, if◌then◌else◌, ◌<◌, get_or, take}
+use Rattle.std.specs.List.{filter_map, cons_option, find as first_that, slice_get, position, position_from}
+use Rattle.scj_tree.specs.declared.nodes.Node.{Node}
+use Rattle.scj_tree.specs.declared.nodes.Node.TheVariants.{Constructor}
+use Rattle.scj_rules.specs.declared.scopes.Written.{Written}
+use Rattle.scj_rules.specs.Views.{DeclaredConstructor, constructor_at, constructor_of, WrittenClass, class_at}
+use Rattle.class_headers.specs.Rows.{first_node, interfaces_by, superclass_by, header_by}
+use Rattle.std.proofs.lemmas.List.{at_drop_more, take_more}
+use Rattle.scj_tree.proofs.ForestLemmas.{joined-append}
+use Rattle.std.proofs.lemmas.Option.{slice_get_within, get_or_from_slice_get}
+use Rattle.scj_builtins.specs.declared.kinds.ClassKind.TheVariants.{Abstract as abstract_class, Concrete as concrete_class}
+use Rattle.scj_tree.specs.Forest.{joined}
+use Rattle.scj_rules.specs.declared.views.Modifiers.{Modifiers}
+use Rattle.class_headers.specs.declared.filling.Header.{Header}
+use Rattle.class_headers.proofs.SoundLemmas.{node_of_class}
+use Rattle.std.proofs.lemmas.Cmp.{nat_list_eq_equiv}
+use Rattle.std.proofs.lemmas.Iterator.Adapters.{position_from-zero}
+use Rattle.scj_base.specs.Bytes.{is_same}
+
+pub map_filter_map : {X A B : Type 0} (f : A → B) (g : X → Option A) (xs : List X) →
+    filter_map (λ x. option_map f (g x)) xs ≡ map f (filter_map g xs)
+map_filter_map f g [] = refl
+map_filter_map f g (x ∷ xs) = more (g x) (map_filter_map f g xs)
+  where
+    more : (o : Option _) → filter_map (λ y. option_map f (g y)) xs ≡ map f (filter_map g xs) →
+        cons_option (option_map f o) (filter_map (λ y. option_map f (g y)) xs) ≡ map f (cons_option o (filter_map g xs))
+    more None e = e
+    more (Some a) e = ap (λ ys. f a ∷ ys) e
+
+filter_map_then : {X A B : Type 0} (f : A → Option B) (g : X → Option A) (xs : List X) →
+    filter_map (λ x. option_and_then f (g x)) xs ≡ filter_map f (filter_map g xs)
+filter_map_then f g [] = refl
+filter_map_then f g (x ∷ xs) = more (g x) (filter_map_then f g xs)
+  where
+    more : (o : Option _) → filter_map (λ y. option_and_then f (g y)) xs ≡ filter_map f (filter_map g xs) →
+        cons_option (option_and_then f o) (filter_map (λ y. option_and_then f (g y)) xs)
+        ≡ filter_map f (cons_option o (filter_map g xs))
+    more None e = e
+    more (Some a) e = ap (cons_option (f a)) e
+
+pub interfaces_are : (find : List ℕ → Option ℕ) (written : ℕ → Option Written) (ids found : List ℕ) (ws : List Written)
+    → found ≡ filter_map (λ id. option_and_then (λ (w : Written). find w.name) (written id)) ids →
+    filter_map written ids ≡ ws → found ≡ interfaces_by find ws
+interfaces_are find written ids found ws e h =
+    e ∙ filter_map_then (λ (w : Written). find w.name) written ids ∙ ap (interfaces_by find) h
+
+first_more : (nodes : List Node) (id : ℕ) (o : Option Node) (cs : List DeclaredConstructor) (later : Option ℕ) →
+    later ≡ first_node cs
+    → cond (is_some (option_and_then (constructor_of nodes id) o)) (Some id) later
+    ≡ first_node (cons_option (option_and_then (constructor_of nodes id) o) cs)
+unfolding constructor_of
+first_more nodes id None cs later e = e
+first_more nodes id (Some (Constructor place name flags parameters super_call body)) cs later e = refl
+first_more nodes id (Some _) cs later e = e
+
+pub first_is : (nodes : List Node) (ids : List ℕ) →
+    first_that (λ id. is_some (constructor_at nodes id)) ids ≡ first_node (filter_map (constructor_at nodes) ids)
+first_is nodes [] = refl
+first_is nodes (id ∷ ids) =
+    first_more nodes id (slice_get nodes id) (filter_map (constructor_at nodes) ids)
+    (first_that (λ i. is_some (constructor_at nodes i)) ids) (first_is nodes ids)
+
+-- one file's classes more
+pub joined_more : (files : List (List ℕ)) (i : ℕ) (classes ids : List ℕ) → slice_get files i ≡ Some classes →
+    ids ≡ joined (take i files) → ids ++ classes ≡ joined (take (i + 1) files)
+unfolding joined
+joined_more files i classes ids h e =
+    rw e (sym (ap joined (take_more files i classes (slice_get_within files i classes h)
+    ∙ ap (λ t. take i files ++ t ∷ []) (get_or_from_slice_get files i classes classes h))
+    ∙ joined-append (take i files) (classes ∷ []) ∙ ap (λ t. joined (take i files) ++ t) (append-nil classes)))
+
+-- the header of a class from what is read at its node
+abbrev pub parts : List Node → (List ℕ → Option ℕ) → ℕ → Option WrittenClass → Modifiers → Header
+parts nodes find id o m =
+    record {
+      node = Some id;
+      kind = if m.is_abstract then abstract_class else concrete_class;
+      superclass = superclass_by find (option_and_then (λ (c : WrittenClass). c.extends) o);
+      constructor =
+          first_that
+          (λ i. is_some (constructor_at nodes i))
+          (unwrap_or (option_map (λ (c : WrittenClass). c.members) o) []);
+    }
+
+from_parts : (nodes : List Node) (find : List ℕ → Option ℕ) (id : ℕ) (o : Option WrittenClass) → class_at nodes id ≡ o
+    → option_map (parts nodes find id o) (option_map (λ (c : WrittenClass). c.modifiers) o)
+    ≡ option_map (header_by nodes find) o
+unfolding header_by
+from_parts nodes find id None e = refl
+from_parts nodes find id (Some c) e =
+    let place : id ≡ c.node = sym (node_of_class nodes id (slice_get nodes id) c e) in
+    rw (place, first_is nodes c.members) refl
+
+pub parts_are : (nodes : List Node) (find : List ℕ → Option ℕ) (id : ℕ)
+    → option_map (parts nodes find id (class_at nodes id))
+    (option_map (λ (c : WrittenClass). c.modifiers) (class_at nodes id))
+    ≡ option_map (header_by nodes find) (class_at nodes id)
+parts_are nodes find id = from_parts nodes find id (class_at nodes id) refl
+
+-- where those behind a name are numbered, and it gets its number
+pub one_more_numbered : (names : List (List ℕ)) (number next : ℕ) (name other : List ℕ) (before after : Option ℕ) →
+    number < length names → next ≡ number + 1 → name ≡ get_or names number name
+    → before ≡ position_from (is_same other) next (drop next names) →
+    after ≡ cond (is_same name other) (Some number) before
+    → after ≡ position_from (is_same other) number (drop number names)
+one_more_numbered names number next name other before after h same e numbered put =
+    put ∙ ap (λ t. cond t (Some number) before) (nat_list_eq_equiv.symm name other)
+    ∙ ap (cond (is_same other name) (Some number))
+    (numbered ∙ ap (λ n. position_from (is_same other) n (drop n names)) same)
+    ∙ ap (λ (x : List ℕ). position_from (is_same other) number (x ∷ drop (number + 1) names)) e
+    ∙ sym (at_drop_more (position_from (is_same other) number) names number name h)
+
+pub all_numbered : (names : List (List ℕ)) (number : ℕ) (other : List ℕ) (found : Option ℕ) → number ≡ 0 →
+    found ≡ position_from (is_same other) number (drop number names) → found ≡ position (is_same other) names
+all_numbered names number other found same e =
+    e ∙ ap (λ n. position_from (is_same other) n (drop n names)) same ∙ sym (position_from-zero (is_same other) names)
