@@ -1,5 +1,7 @@
+pub mod AboveLemmas
 pub mod BuildingLemmas
 pub mod FieldLemmas
+pub mod InterfaceLemmas
 pub mod MemberLemmas
 pub mod OwnLemmas
 pub mod RowLemmas

@@ -1,12 +1,14 @@
 -- The members of all classes in one list, and what is entered under their names and nodes.
 use Rattle.std.proofs.Common.{◌≡◌, ℕ, zero, suc, ◌+◌, ◌-◌, ◌<◌, ◌≤◌, ◌==◌, ◌&&◌, nat_lt, Bool, true, false, cond, get_or, List, [], ◌∷◌, ◌++◌, length, drop, map, filter, flat_map, slice_get, Option, Some, None, is_some, option_map, option_and_then, refl, sym, ap, ◌∙◌, arith, append_assoc, if◌then◌else◌}
-use Rattle.std.specs.List.{filter_map, cons_option, position, position_from}
+use Rattle.std.specs.List.{find, filter_map, cons_option, position, position_from}
 use Rattle.std.specs.Option.{option_or}
+use Rattle.std.proofs.lemmas.Bool.{true≢false, false_from_ne_true}
 use Rattle.std.proofs.lemmas.Bool.Decides.{nat_tests}
 use Rattle.std.proofs.lemmas.Grind.{common_steps}
 use Rattle.std.proofs.lemmas.Cmp.{nat_list_eq_equiv}
+use Rattle.std.proofs.lemmas.Slice.Eq.{bytes_eq-Decides}
 use Rattle.std.proofs.lemmas.Iterator.Adapters.{position_from-zero}
-use Rattle.std.proofs.lemmas.List.{drop_more, at_drop_all, get_or_default}
+use Rattle.std.proofs.lemmas.List.{drop_more, at_drop_all}
 use Rattle.std.proofs.lemmas.List.Concat.{flat_map-append}
 use Rattle.std.proofs.lemmas.List.Folds.{flat_map-map}
 use Rattle.std.proofs.lemmas.Option.{slice_get_past, get_or_from_slice_get}
@@ -17,13 +19,15 @@ use Rattle.scj_tree.specs.declared.nodes.Node.{Node}
 use Rattle.scj_tree.specs.Forest.{Forest}
 use Rattle.scj_rules.specs.declared.views.Declared.{Declared}
 use Rattle.scj_rules.specs.Words.{holds}
-use Rattle.scj_rules.specs.Views.{WrittenClass, field_at}
+use Rattle.scj_rules.specs.Views.{WrittenClass, DeclaredMethod, constructor_at, field_at, method_at}
 use Rattle.scj_rules.specs.Classes.{ClassRow, field_nodes, field_number, method_nodes, method_number, counted_from, user_classes, class_names, written_rows, user_row, framework_row, framework_rows_from}
 use Rattle.scj_rules.specs.Contexts.{Declarations, declarations_of}
-use Rattle.class_headers.specs.declared.keys.MemberKey.{MemberKey}
+use Rattle.scj_rules.proofs.ChainLemmas.{same_number, is_same_number, or_first_false}
+use Rattle.class_headers.proofs.SuperLemmas.{bools}
+use Rattle.class_rows.specs.declared.members.OwnKey.{OwnKey}
 use Rattle.class_rows.specs.declared.members.MemberKind.{MemberKind}
 use Rattle.class_rows.specs.declared.members.MemberKind.TheVariants.{Field, Method}
-use Rattle.class_rows.specs.Members.{is_member, name_at, first_named, member_nodes, number_at, first_number, member_key, is_same_member, in_class}
+use Rattle.class_rows.specs.Members.{is_member, name_at, first_named, first_declared, is_like, member_nodes, number_at, first_number, own_key, is_same_own, in_class}
 use Rattle.class_rows.specs.Tables.{members_in, class_written}
 use Rattle.class_rows.proofs.FieldLemmas.{field_there}
 use Rattle.class_rows.proofs.RowLemmas.{keeps}
@@ -138,59 +142,66 @@ nodes_all Method forest =
 -- ---- names
 
 -- one member more before those that are entered
-pub name_entered : (kind : MemberKind) (nodes : List Node) (class : ℕ) (key : MemberKey) (name members : List ℕ)
-    (at first id : ℕ) (old found : Option ℕ) → 0 < at → at ≤ length members → Some name ≡ name_at kind nodes first →
-    first ≡ get_or members (at - 1) first → id ≡ get_or members (at - 1) id
-    → found ≡ option_or (in_class class key (first_named kind nodes key.name (drop at members))) old
-    → cond (is_same_member (member_key class name) key) (Some id) found ≡ option_or
-    (in_class class key (first_named kind nodes key.name (drop (at - 1) members))) old
-name_entered kind nodes class key name members at first id old found some within named is_first is_id before =
+pub find_back : (test : ℕ → Bool) (members : List ℕ) (at id : ℕ) → 0 < at → at ≤ length members →
+    id ≡ get_or members (at - 1) id →
+    cond (test id) (Some id) (find test (drop at members)) ≡ find test (drop (at - 1) members)
+find_back test members at id some within is_id =
     let back : at - 1 + 1 ≡ at = omega arith in
     let here : drop (at - 1) members ≡ id ∷ drop at members = drop_more members (at - 1) id (omega arith)
     ∙ ap (λ (x : ℕ). x ∷ drop (at - 1 + 1) members) (sym is_id) ∙ ap (λ (n : ℕ). id ∷ drop n members) back in
-    let same : first ≡ id = is_first ∙ get_or_default members (at - 1) first id (omega arith) ∙ sym is_id in
-    let of_id : name_at kind nodes id ≡ Some name = ap (name_at kind nodes) (sym same) ∙ sym named in
-    ap (cond (is_same_member (member_key class name) key) (Some id)) before
-    ∙ go (class == key.class) (is_same name key.name) (is_same key.name name)
-    (nat_list_eq_equiv.symm name key.name) (first_named kind nodes key.name (drop at members))
-    ∙ ap (λ (o : Option (List ℕ)). option_or (in_class class key (cond (holds o (is_same key.name)) (Some id)
-    (first_named kind nodes key.name (drop at members)))) old) (sym of_id)
-    ∙ ap (λ (xs : List ℕ). option_or (in_class class key (first_named kind nodes key.name xs)) old) (sym here)
+    sym (ap (find test) here)
+
+-- a member with the name or without one, before those that are entered
+pub first_entered : (kind : MemberKind) (nodes : List Node) (key name ids : List ℕ) (at id : ℕ) → 0 < at →
+    at ≤ length ids → id ≡ get_or ids (at - 1) id → Some name ≡ name_at kind nodes id
+    → cond (is_same name key) (Some id) (first_named kind nodes key (drop at ids))
+    ≡ first_named kind nodes key (drop (at - 1) ids)
+first_entered kind nodes key name ids at id some within is_id named =
+    ap (λ (t : Bool). cond t (Some id) (first_named kind nodes key (drop at ids)))
+    (nat_list_eq_equiv.symm name key ∙ ap (λ (o : Option (List ℕ)). holds o (is_same key)) named)
+    ∙ find_back (λ i. holds (name_at kind nodes i) (is_same key)) ids at id some within is_id
+
+-- the same under a class and the first of the name
+pub own_entered : (test : ℕ → Bool) (class : ℕ) (key : OwnKey) (members : List ℕ) (at id first : ℕ)
+    (old found : Option ℕ) → 0 < at → at ≤ length members → id ≡ get_or members (at - 1) id →
+    (first == key.first) ≡ test id → found ≡ option_or (in_class class key (find test (drop at members))) old
+    → cond (is_same_own (own_key class first) key) (Some id) found
+    ≡ option_or (in_class class key (find test (drop (at - 1) members))) old
+own_entered test class key members at id first old found some within is_id same before =
+    ap (cond (is_same_own (own_key class first) key) (Some id)) before
+    ∙ go (class == key.class) (first == key.first) (find test (drop at members))
+    ∙ ap (λ (t : Bool). option_or (in_class class key (cond t (Some id) (find test (drop at members)))) old) same
+    ∙ ap (λ (o : Option ℕ). option_or (in_class class key o) old) (find_back test members at id some within is_id)
   where
-    go : (in_it same also : Bool) → same ≡ also → (later : Option ℕ)
-        → cond (in_it && same) (Some id) (option_or (if in_it then later else None) old) ≡ option_or
-        (if in_it then cond also (Some id) later else None) old
-    go false same also h later = refl
-    go true true also h later = rw (← h) refl
-    go true false also h later = rw (← h) refl
+    go : (in_it like : Bool) (later : Option ℕ)
+        → cond (in_it && like) (Some id) (option_or (if in_it then later else None) old) ≡ option_or
+        (if in_it then cond like (Some id) later else None) old
+    go false like later = refl
+    go true true later = refl
+    go true false later = refl
 
 -- what is found for a key after the classes below a number
-abbrev pub named_below : MemberKind → Forest → MemberKey → ℕ → Option ℕ
-named_below kind forest key n =
-    if nat_lt key.class n
-    then first_named kind forest.nodes key.name (members_in (declarations_of forest) key.class)
-    else None
+abbrev pub named_below : Forest → (ℕ → Bool) → ℕ → ℕ → Option ℕ
+named_below forest test class n = if nat_lt class n then find test (members_in (declarations_of forest) class) else None
 
-pub names_none : (kind : MemberKind) (forest : Forest) (key : MemberKey) (found : Option ℕ) → found ≡ None →
-    found ≡ named_below kind forest key 0
-names_none kind forest key found e = (let t : nat_lt key.class 0 ≡ false = grind (arith, nat_tests) in rw t e)
+pub names_none : (forest : Forest) (test : ℕ → Bool) (class : ℕ) (found : Option ℕ) → found ≡ None →
+    found ≡ named_below forest test class 0
+names_none forest test class found e = (let t : nat_lt class 0 ≡ false = grind (arith, nat_tests) in rw t e)
 
-pub names_more : (kind : MemberKind) (forest : Forest) (key : MemberKey) (n : ℕ) (old new : Option ℕ) →
-    old ≡ named_below kind forest key n
-    → new ≡ option_or
-    (in_class n key (first_named kind forest.nodes key.name (members_in (declarations_of forest) n))) old
-    → new ≡ named_below kind forest key (n + 1)
-names_more kind forest key n old new h k = grind (arith, common_steps, nat_tests)
+pub names_more : (forest : Forest) (test : ℕ → Bool) (key : OwnKey) (n : ℕ) (old new : Option ℕ) →
+    old ≡ named_below forest test key.class n →
+    new ≡ option_or (in_class n key (find test (members_in (declarations_of forest) n))) old →
+    new ≡ named_below forest test key.class (n + 1)
+names_more forest test key n old new h k = grind (arith, common_steps, nat_tests)
 
 -- all classes are entered
-pub names_all : (kind : MemberKind) (forest : Forest) (class n : ℕ) (name : List ℕ) →
-    length (declarations_of forest).written ≤ n → named_below kind forest (member_key class name) n
-    ≡ first_named kind forest.nodes name (members_in (declarations_of forest) class)
+pub names_all : (forest : Forest) (test : ℕ → Bool) (class n : ℕ) → length (declarations_of forest).written ≤ n →
+    named_below forest test class n ≡ find test (members_in (declarations_of forest) class)
 unfolding members_in class_written
-names_all kind forest class n name h = go (nat_lt class n) refl
+names_all forest test class n h = go (nat_lt class n) refl
   where
     found : Option ClassRow → Option ℕ
-    found o = first_named kind forest.nodes name (members_of (option_and_then (λ (row : ClassRow). row.written) o))
+    found o = find test (members_of (option_and_then (λ (row : ClassRow). row.written) o))
 
     go : (t : Bool) → nat_lt class n ≡ t → (if t then found (slice_get (declarations_of forest).written class)
         else None) ≡ found (slice_get (declarations_of forest).written class)
@@ -198,6 +209,127 @@ names_all kind forest class n name h = go (nat_lt class n) refl
     go false e =
         let past : n ≤ class = grind (arith, nat_tests) in
         sym (ap found (slice_get_past (declarations_of forest).written class (omega (arith, h, past))))
+
+-- ---- the first of a name stands for it
+
+find_passes : (test : ℕ → Bool) (xs : List ℕ) (x : ℕ) → find test xs ≡ Some x → test x ≡ true
+find_passes test [] x h = cc
+find_passes test (y ∷ xs) x h = go (find_passes test xs x) (test y) refl h
+  where
+    go : (find test xs ≡ Some x → test x ≡ true) → (t : Bool) → test y ≡ t →
+        cond t (Some y) (find test xs) ≡ Some x → test x ≡ true
+    go later true e h = let same : y ≡ x = cc in ap test (sym same) ∙ e
+    go later false e h = later h
+
+find_same : (test other : ℕ → Bool) → ((x : ℕ) → test x ≡ other x) → (xs : List ℕ) → find test xs ≡ find other xs
+find_same test other h [] = refl
+find_same test other h (x ∷ xs) =
+    ap (λ (t : Bool). cond t (Some x) (find test xs)) (h x) ∙ ap (cond (other x) (Some x)) (find_same test other h xs)
+
+both_names : (name also : List ℕ) (o : Option (List ℕ)) → holds o (is_same name) ≡ true →
+    holds o (is_same also) ≡ true → is_same name also ≡ true
+both_names name also None h k = absurd (true≢false (sym h))
+both_names name also (Some own) h k = ap (is_same name) ((bytes_eq-Decides also own).0 k) ∙ h
+
+find_parts : (test : ℕ → Bool) (xs ys : List ℕ) → find test (xs ++ ys) ≡ None →
+    (find test xs ≡ None) × (find test ys ≡ None)
+find_parts test [] ys h = (refl, h)
+find_parts test (x ∷ xs) ys h = go (test x) (find_parts test xs ys) h
+  where
+    go : (t : Bool) → (find test (xs ++ ys) ≡ None → (find test xs ≡ None) × (find test ys ≡ None)) →
+        cond t (Some x) (find test (xs ++ ys)) ≡ None →
+        (cond t (Some x) (find test xs) ≡ None) × (find test ys ≡ None)
+    go true later h = cc
+    go false later h = later h
+
+nothing_holds : {A B : Type 0} (o : Option A) (f : A → B) (test : B → Bool) → is_some o ≡ false →
+    holds (option_map f o) test ≡ false
+nothing_holds None f test e = refl
+nothing_holds (Some x) f test e = absurd (true≢false e)
+
+unnamed : (kind : MemberKind) (nodes : List Node) (name : List ℕ) (id : ℕ) → is_member kind nodes id ≡ false →
+    holds (name_at kind nodes id) (is_same name) ≡ false
+unfolding is_member name_at
+unnamed Field nodes name id e = nothing_holds (field_at nodes id) (λ (f : Declared). f.name) (is_same name) e
+unnamed Method nodes name id e =
+    nothing_holds (method_at nodes id) (λ (m : DeclaredMethod). m.declared.name) (is_same name)
+    (or_first_false (is_some (method_at nodes id)) (is_some (constructor_at nodes id)) e)
+
+module _ (kind : MemberKind) (forest : Forest) (name : List ℕ) where
+  abbrev named : List ℕ → ℕ → Bool
+  named also id = holds (name_at kind forest.nodes id) (is_same also)
+
+  like_name : (first : ℕ) (also : List ℕ) (o : Option ℕ) → Some first ≡ first_declared kind forest name →
+      first_declared kind forest also ≡ o → holds o (λ other. other == first) ≡ is_same name also
+  like_name first also None h k =
+      sym (false_from_ne_true (is_same name also)
+      (λ t. let e : Some first ≡ None =
+      h ∙ ap (first_declared kind forest) ((bytes_eq-Decides name also).0 t) ∙ k in cc))
+  like_name first also (Some other) h k =
+      bools (other == first) (is_same name also)
+      (λ e. both_names name also (name_at kind forest.nodes other)
+      (ap (named name) (same_number other first e)
+      ∙ find_passes (named name) (member_nodes kind forest) first (sym h))
+      (find_passes (named also) (member_nodes kind forest) other k))
+      (λ t. is_same_number other first
+      (let e : Some first ≡ Some other = h ∙ ap (first_declared kind forest) ((bytes_eq-Decides name also).0 t) ∙ k in
+      cc))
+
+  pub like_named : (firsts : List ℕ → Option ℕ) → ((also : List ℕ) → firsts also ≡ first_declared kind forest also) →
+      (first : ℕ) → Some first ≡ first_declared kind forest name → (members : List ℕ)
+      → find (is_like kind forest.nodes firsts first) members ≡ first_named kind forest.nodes name members
+  like_named firsts are first h members =
+      find_same (is_like kind forest.nodes firsts first) (named name) (λ id. go (name_at kind forest.nodes id)) members
+    where
+      go : (o : Option (List ℕ))
+          → holds (option_and_then firsts o) (λ other. other == first) ≡ holds o (is_same name)
+      go None = refl
+      go (Some also) = like_name first also (firsts also) h (sym (are also))
+
+  -- where no class has a member of the name, none of a class has
+  none_filtered : (xs : List ℕ) → find (named name) (filter (is_member kind forest.nodes) xs) ≡ None →
+      find (named name) xs ≡ None
+  none_filtered [] h = refl
+  none_filtered (x ∷ xs) h = go (is_member kind forest.nodes x) (named name x) refl refl (none_filtered xs) h
+    where
+      go : (m t : Bool) → is_member kind forest.nodes x ≡ m → named name x ≡ t →
+          (find (named name) (filter (is_member kind forest.nodes) xs) ≡ None → find (named name) xs ≡ None)
+          → find (named name)
+          (cond m (x ∷ filter (is_member kind forest.nodes) xs) (filter (is_member kind forest.nodes) xs)) ≡ None →
+          cond t (Some x) (find (named name) xs) ≡ None
+      go true true e f later h =
+          let k = ap (λ (t : Bool).
+          cond t (Some x) (find (named name) (filter (is_member kind forest.nodes) xs))) (sym f) ∙ h in cc
+      go true false e f later h =
+          later (ap (λ (t : Bool). cond t (Some x) (find (named name) (filter (is_member kind forest.nodes) xs)))
+          (sym f) ∙ h)
+      go false true e f later h = absurd (true≢false (sym f ∙ unnamed kind forest.nodes name x e))
+      go false false e f later h = later h
+
+  none_in : (rows : List ClassRow) (i : ℕ) (row : ClassRow) →
+      find (named name) (flat_map (own_nodes kind forest.nodes) rows) ≡ None → slice_get rows i ≡ Some row →
+      find (named name) (members_of row.written) ≡ None
+  none_in [] i row h e = cc
+  none_in (r ∷ rows) zero row h e =
+      let same : r ≡ row = cc in
+      ap (λ (q : ClassRow). find (named name) (members_of q.written)) (sym same)
+      ∙ none_filtered (members_of r.written)
+      (find_parts (named name) (own_nodes kind forest.nodes r) (flat_map (own_nodes kind forest.nodes) rows) h).0
+  none_in (r ∷ rows) (suc i) row h e =
+      none_in rows i row
+      (find_parts (named name) (own_nodes kind forest.nodes r) (flat_map (own_nodes kind forest.nodes) rows) h).1 e
+
+  pub none_declared : (class : ℕ) → None ≡ first_declared kind forest name →
+      None ≡ first_named kind forest.nodes name (members_in (declarations_of forest) class)
+  unfolding members_in class_written
+  none_declared class h = go (slice_get (declarations_of forest).written class) refl
+    where
+      go : (o : Option ClassRow) → slice_get (declarations_of forest).written class ≡ o →
+          None ≡ find (named name) (members_of (option_and_then (λ (row : ClassRow). row.written) o))
+      go None e = refl
+      go (Some row) e =
+          sym (none_in (declarations_of forest).written class row
+          (ap (find (named name)) (nodes_all kind forest) ∙ sym h) e)
 
 -- ---- numbers
 

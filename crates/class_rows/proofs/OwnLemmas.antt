@@ -118,7 +118,7 @@ own_field_row forest class name o e =
 
 -- ---- methods
 
-abbrev on_method : ℕ → DeclaredMethod → FoundMethod
+abbrev pub on_method : ℕ → DeclaredMethod → FoundMethod
 on_method class method = record { on = class; method = method }
 
 abbrev method_in : List ℕ → List DeclaredMethod → Option DeclaredMethod
@@ -157,6 +157,19 @@ declared_row_is forest class name o h e =
     methods = list_read (λ (row : ClassRow). row.methods) (method_at forest.nodes) (λ row. refl) forest class
         (λ row e. (row_sound forest class row e).methods ∙ sym (other_methods forest.nodes class row.written h))
 
+pub framework_own : (forest : Forest) (class : ℕ) (name : List ℕ) → class < first_user_class →
+    own_method (declarations_of forest).classes name class ≡ option_map (on_method class)
+    (framework_method_on class name)
+unfolding framework_method_on
+framework_own forest class name h =
+    let there = framework_there forest class h in
+    let methods : methods_in (slice_get (declarations_of forest).classes class) ≡ framework_methods_on class =
+    as_written methods_in (λ row. refl) forest class ∙ ap methods_in there.1
+    ∙ (row_sound forest class there.0 there.1).methods
+    ∙ sym (first_methods forest.nodes class there.0.written h) in
+    sym (own_method_in (declarations_of forest).classes class name)
+    ∙ ap (λ ms. option_map (on_method class) (method_in name ms)) methods
+
 abbrev framework_row : ℕ → ℕ → MethodRef
 framework_row class number = record { on = class; source = framework_source number }
 
@@ -164,19 +177,11 @@ pub framework_row_is : (forest : Forest) (class : ℕ) (name : List ℕ) (o : Op
     option_map (λ number. unwrap_or (framework_numbered number) no_method) o ≡ framework_method_on class name
     → option_map (found_method forest.nodes) (option_map (framework_row class) o) ≡ own_method
     (declarations_of forest).classes name class
-unfolding found_method method_from framework_method_on
+unfolding found_method method_from
 framework_row_is forest class name o h e =
     mapped (found_method forest.nodes) (framework_row class) (on_method class)
     (λ number. unwrap_or (framework_numbered number) no_method) (λ number. refl) o
-    ∙ ap (option_map (on_method class)) (e ∙ ap (method_in name) (sym methods))
-    ∙ own_method_in (declarations_of forest).classes class name
-  where
-    methods : methods_in (slice_get (declarations_of forest).classes class) ≡ framework_methods_on class
-    methods =
-        let there = framework_there forest class h in
-        as_written methods_in (λ row. refl) forest class ∙ ap methods_in there.1
-        ∙ (row_sound forest class there.0 there.1).methods
-        ∙ sym (first_methods forest.nodes class there.0.written h)
+    ∙ ap (option_map (on_method class)) e ∙ sym (framework_own forest class name h)
 
 -- ---- constructors
 

@@ -1,11 +1,15 @@
 -- The rows of the table and the rows of the classes.
-use Rattle.std.proofs.Common.{◌≡◌, ℕ, zero, suc, ◌+◌, List, [], ◌∷◌, length, refl, sym, ap, ◌∙◌, arith, add-zero, Option, Some, None, Bool, true, false, slice_get, option_map, option_and_then, if◌then◌else◌}
+use Rattle.std.proofs.Common.{◌≡◌, ℕ, zero, suc, ◌+◌, List, [], ◌∷◌, length, map, refl, ap, ◌∙◌, arith, add-zero, Option, Some, None, Bool, true, false, slice_get, option_map, option_and_then, unwrap_or, if◌then◌else◌}
+use Rattle.std.proofs.lemmas.Option.{slice_get-map}
 use Rattle.scj_builtins.specs.Framework.{object}
 use Rattle.scj_tree.specs.Forest.{Forest}
 use Rattle.scj_rules.specs.Views.{WrittenClass}
 use Rattle.scj_rules.specs.Classes.{ClassRow, counted_from, counted_row, is_well_headed, superclass_in, interfaces_in, user_classes, class_names, written_rows}
 use Rattle.scj_rules.specs.Contexts.{Declarations, declarations_of}
-use Rattle.class_rows.specs.Tables.{class_written, has_good_header, is_good_header}
+use Rattle.class_headers.specs.declared.filling.Header.{Header}
+use Rattle.class_headers.specs.Rows.{header_of}
+use Rattle.class_rows.specs.declared.tables.ClassTable.{ClassTable}
+use Rattle.class_rows.specs.Tables.{IsTableOf, has_good_header, is_good_header}
 
 -- a class as it counts
 counted_get : (names : List (List ℕ)) (rows : List ClassRow) (k : ℕ) (xs : List ClassRow) (i : ℕ)
@@ -80,48 +84,34 @@ as_written f same forest class = ap f (class_get forest class)
     go None = refl
     go (Some row) = keeps (λ (r : ClassRow). f (Some r)) same (declarations_of forest) class row
 
-pub kind_is : (forest : Forest) (class : ℕ)
-    → option_map (λ (row : ClassRow). row.kind) (slice_get (declarations_of forest).written class) ≡ option_map
-    (λ (row : ClassRow). row.kind) (slice_get (declarations_of forest).classes class)
-kind_is forest class = sym (as_written (option_map (λ (row : ClassRow). row.kind)) (λ row. refl) forest class)
+-- what the table has of a class
+pub row_is : (forest : Forest) (table : ClassTable) (class : ℕ) → IsTableOf forest table →
+    slice_get table.columns.rows.items class ≡ option_map header_of (slice_get (declarations_of forest).classes class)
+row_is forest table class t = ap (λ (hs : List Header). slice_get hs class) t.columns.rows_are
+    ∙ slice_get-map header_of (declarations_of forest).classes class
 
--- what is read of a row as it counts, by whether its header is good
-counts : {A : Type 0} (f : Option ClassRow → A) (bare : A) → ((row : ClassRow) → f (Some (under_object row)) ≡ bare) →
-    (forest : Forest) (class : ℕ)
-    → (if is_good_header (declarations_of forest) class (class_written (declarations_of forest) class)
-    then f (slice_get (declarations_of forest).written class) else bare) ≡ f
-    (slice_get (declarations_of forest).classes class)
-unfolding class_written is_good_header
-counts {A} f bare is_bare forest class = go (slice_get (declarations_of forest).written class)
-    ∙ sym (ap f (class_get forest class))
-  where
-    p : Declarations
-    p = declarations_of forest
+superclass_of : (o : Option ClassRow) → option_and_then (λ (h : Header). h.superclass) (option_map header_of o)
+    ≡ option_and_then (λ (row : ClassRow). row.superclass) o
+unfolding header_of
+superclass_of None = refl
+superclass_of (Some row) = refl
 
-    pick : (row : ClassRow) (t : Bool) → (if t then f (Some row) else bare) ≡ f
-        (Some (if t then row else under_object row))
-    pick row true = refl
-    pick row false = sym (is_bare row)
+pub superclass_is : (forest : Forest) (class : ℕ)
+    → option_and_then (λ (h : Header). h.superclass)
+    (option_map header_of (slice_get (declarations_of forest).classes class))
+    ≡ superclass_in (declarations_of forest).classes class
+superclass_is forest class = superclass_of (slice_get (declarations_of forest).classes class)
 
-    go : (o : Option ClassRow)
-        → (if is_good_header p class (option_and_then (λ (row : ClassRow). row.written) o) then f o else bare) ≡ f
-        (option_map (counted p class) o)
-    go None = refl
-    go (Some row) = pick row (has_good_header p class row)
-        ∙ ap (λ (r : ClassRow). f (Some r)) (sym (counted_is p class row))
+interfaces_of : (o : Option ClassRow) → unwrap_or (option_map (λ (row : ClassRow). row.interfaces) o) [] ≡ elim o
+    [ None ↦ [] | Some row ↦ row.interfaces ]
+interfaces_of None = refl
+interfaces_of (Some row) = refl
 
-pub superclass_by : (forest : Forest) (class : ℕ) (good : Bool) →
-    good ≡ is_good_header (declarations_of forest) class (class_written (declarations_of forest) class)
-    → (if good then superclass_in (declarations_of forest).written class else Some object) ≡ superclass_in
-    (declarations_of forest).classes class
-superclass_by forest class good e =
-    ap (λ (t : Bool). if t then superclass_in (declarations_of forest).written class else Some object) e
-    ∙ counts (option_and_then (λ (row : ClassRow). row.superclass)) (Some object) (λ row. refl) forest class
-
-pub interfaces_by : (forest : Forest) (class : ℕ) (good : Bool) →
-    good ≡ is_good_header (declarations_of forest) class (class_written (declarations_of forest) class)
-    → (if good then interfaces_in (declarations_of forest).written class else []) ≡ interfaces_in
-    (declarations_of forest).classes class
-interfaces_by forest class good e =
-    ap (λ (t : Bool). if t then interfaces_in (declarations_of forest).written class else []) e
-    ∙ counts (λ (o : Option ClassRow). elim o [ None ↦ [] | Some row ↦ row.interfaces ]) [] (λ row. refl) forest class
+pub interfaces_are : (forest : Forest) (table : ClassTable) (class : ℕ) → IsTableOf forest table
+    → unwrap_or (slice_get (map (λ v. v.items) table.columns.interfaces.items) class) []
+    ≡ interfaces_in (declarations_of forest).classes class
+interfaces_are forest table class t =
+    ap (λ (o : Option (List ℕ)). unwrap_or o [])
+    (ap (λ (xs : List (List ℕ)). slice_get xs class) t.columns.lists_are
+    ∙ slice_get-map (λ (row : ClassRow). row.interfaces) (declarations_of forest).classes class)
+    ∙ interfaces_of (slice_get (declarations_of forest).classes class)

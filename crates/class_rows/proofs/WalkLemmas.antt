@@ -1,7 +1,7 @@
 -- What a walk along a chain of classes has left after a step.
-use Rattle.std.proofs.Common.{◌≡◌, ℕ, zero, suc, ◌+◌, List, [], ◌∷◌, length, refl, sym, ap, ◌∙◌, arith, Option, Some, None}
+use Rattle.std.proofs.Common.{◌≡◌, ℕ, zero, suc, ◌+◌, List, [], ◌∷◌, ◌++◌, length, refl, sym, ap, ◌∙◌, arith, Option, Some, None}
 use Rattle.scj_tree.specs.Forest.{Forest}
-use Rattle.scj_rules.specs.Words.{chain, chain_behind, along}
+use Rattle.scj_rules.specs.Words.{chain, chain_behind, along, or_else}
 use Rattle.scj_rules.specs.Classes.{superclass_in, classes_above}
 use Rattle.scj_rules.specs.Contexts.{declarations_of}
 use Rattle.class_rows.specs.Walks.{chain_from}
@@ -62,3 +62,15 @@ along_next f x xs e = along_at f x xs None e
 pub along_end : {A B : Type 0} (f : A → Option B) → along f [] ≡ None
 unfolding along
 along_end f = refl
+
+pub along_append : {A B : Type 0} (f : A → Option B) (xs ys : List A) →
+    or_else (along f xs) (along f ys) ≡ along f (xs ++ ys)
+unfolding along
+along_append f [] ys = refl
+along_append {A} {B} f (x ∷ xs) ys = go (along_append f xs ys) (f x)
+  where
+    go : or_else (along f xs) (along f ys) ≡ along f (xs ++ ys) → (o : Option B)
+        → or_else (elim o as (λ _. Option B) [ None ↦ along f xs | Some y ↦ Some y ]) (along f ys)
+        ≡ elim o as (λ _. Option B) [ None ↦ along f (xs ++ ys) | Some y ↦ Some y ]
+    go later None = later
+    go later (Some y) = refl

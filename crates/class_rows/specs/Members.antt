@@ -1,5 +1,5 @@
 -- The members of classes: which have numbers, and the first of each name in a class.
-use Rattle.std.specs.Prelude.{◌≡◌, ℕ, Bool, ◌&&◌, ◌==◌, List, find, is_some, Option, None, option_map, if◌then◌else◌}
+use Rattle.std.specs.Prelude.{◌≡◌, ℕ, Bool, ◌&&◌, ◌==◌, List, find, is_some, Option, None, Some, option_map, option_and_then, if◌then◌else◌}
 use Rattle.indexmap.specs.IndexMap.{get}
 use Rattle.scj_base.specs.Bytes.{is_same}
 use Rattle.scj_builtins.specs.Framework.{framework_method_count}
@@ -10,11 +10,11 @@ use Rattle.scj_rules.specs.Words.{holds}
 use Rattle.scj_rules.specs.Views.{DeclaredMethod, field_at, method_at}
 use Rattle.scj_rules.specs.Classes.{field_nodes, field_number, method_nodes, method_number, is_callable}
 use Rattle.scj_rules.specs.Contexts.{declarations_of}
-use Rattle.class_headers.specs.declared.keys.MemberKey.{MemberKey}
 use Rattle.class_headers.specs.Members.{members_in}
 use Rattle.class_rows.specs.declared.members.MemberKind.{MemberKind}
 use Rattle.class_rows.specs.declared.members.MemberKind.TheVariants.{Field, Method}
 use Rattle.class_rows.specs.declared.members.Members.{Members}
+use Rattle.class_rows.specs.declared.members.OwnKey.{OwnKey}
 
 -- a member of the kind is declared at a node
 unfoldable pub is_member : MemberKind → List Node → ℕ → Bool
@@ -44,20 +44,29 @@ abbrev pub first_number : MemberKind → ℕ
 first_number Field = 0
 first_number Method = framework_method_count
 
-abbrev pub member_key : ℕ → List ℕ → MemberKey
-member_key class name = record { class = class; name = name }
+-- the first member of all classes with the name
+abbrev pub first_declared : MemberKind → Forest → List ℕ → Option ℕ
+first_declared kind forest name = first_named kind forest.nodes name (member_nodes kind forest)
 
-abbrev pub is_same_member : MemberKey → MemberKey → Bool
-is_same_member a b = (a.class == b.class) && is_same a.name b.name
+-- the name of a node's member has this first, by what `find` tells of names
+abbrev pub is_like : MemberKind → List Node → (List ℕ → Option ℕ) → ℕ → ℕ → Bool
+is_like kind nodes find first id = holds (option_and_then find (name_at kind nodes id)) (λ other. other == first)
+
+abbrev pub own_key : ℕ → ℕ → OwnKey
+own_key class first = record { class = class; first = first }
+
+abbrev pub is_same_own : OwnKey → OwnKey → Bool
+is_same_own a b = (a.class == b.class) && (a.first == b.first)
 
 -- what a class's members give for a key, where the key is of that class
-abbrev pub in_class : ℕ → MemberKey → Option ℕ → Option ℕ
+abbrev pub in_class : ℕ → OwnKey → Option ℕ → Option ℕ
 in_class class key found = if class == key.class then found else None
 
 -- the table is that of the members of the kind
 pub record IsMembersOf (kind : MemberKind) (forest : Forest) (members : Members) : Type 0 where
   pub nodes : members.nodes.items ≡ member_nodes kind forest
-  pub named : (class : ℕ) (name : List ℕ) →
-      get is_same_member members.named (member_key class name) ≡ first_named kind forest.nodes name
+  pub firsts : (name : List ℕ) → get is_same members.firsts name ≡ first_declared kind forest name
+  pub named : (class first : ℕ) (name : List ℕ) → Some first ≡ first_declared kind forest name →
+      get is_same_own members.named (own_key class first) ≡ first_named kind forest.nodes name
       (members_in (declarations_of forest) class)
   pub numbers : (id : ℕ) → get ◌==◌ members.numbers id ≡ number_at kind forest id

@@ -1,18 +1,17 @@
 -- What the table of the classes of a program holds.
 unfoldable pub use Rattle.class_headers.specs.Members.{class_written, members_in}
-pub use Rattle.class_headers.specs.Columns.{IsHeadersOf}
-use Rattle.std.specs.Prelude.{◌≡◌, ℕ, Bool, true, false, length, Option, Some, None}
-use Rattle.scj_builtins.specs.Framework.{mission}
+pub use Rattle.class_headers.specs.Columns.{IsHeadersOf, AreMarksOf}
+use Rattle.std.specs.Prelude.{◌≡◌, ℕ, Bool, true, List, map, Option, Some, None}
 use Rattle.scj_tree.specs.Forest.{Forest}
-use Rattle.scj_tree.specs.Recursion.{listed}
-use Rattle.scj_rules.specs.Words.{is_among}
 use Rattle.scj_rules.specs.Views.{WrittenClass}
-use Rattle.scj_rules.specs.Classes.{ClassRow, superclasses, is_well_headed}
+use Rattle.scj_rules.specs.Classes.{ClassRow, is_well_headed}
 use Rattle.scj_rules.specs.Contexts.{Declarations, declarations_of}
+use Rattle.class_headers.specs.declared.filling.Header.{Header}
+use Rattle.class_headers.specs.Rows.{header_of}
 use Rattle.class_rows.specs.declared.members.MemberKind.TheVariants.{Field, Method}
-use Rattle.class_rows.specs.declared.tables.Marks.{Marks}
 use Rattle.class_rows.specs.declared.tables.ClassTable.{ClassTable}
 use Rattle.class_rows.specs.Members.{IsMembersOf}
+use Rattle.class_rows.specs.Walks.{AreAbove}
 
 -- nothing in the header is forbidden, where there is one
 unfoldable pub is_good_header : Declarations → ℕ → Option WrittenClass → Bool
@@ -22,20 +21,17 @@ is_good_header p class (Some c) = is_well_headed p.names p.written class c
 abbrev pub has_good_header : Declarations → ℕ → ClassRow → Bool
 has_good_header p class row = is_good_header p class row.written
 
--- what is found of a class, and of none
-unfoldable pub marks_of : Declarations → ℕ → Marks
-marks_of p class =
-    record {
-      is_mission = is_among mission (superclasses p.written class);
-      is_well_headed = is_good_header p class (class_written p class);
-    }
-
-abbrev pub no_marks : Marks
-no_marks = record { is_mission = false; is_well_headed = true }
+-- the headers and the interfaces are those of the classes
+pub record AreColumns (all : List ClassRow) (rows : List Header) (lists : List (List ℕ)) : Type 0 where
+  pub rows_are : rows ≡ map header_of all
+  pub lists_are : lists ≡ map (λ (row : ClassRow). row.interfaces) all
 
 -- the table is that of the program
 pub record IsTableOf (forest : Forest) (table : ClassTable) : Type 0 where
   pub headers : IsHeadersOf forest table.headers
-  pub marks : table.marks.items ≡ listed (marks_of (declarations_of forest)) (length (declarations_of forest).written)
+  pub columns : AreColumns (declarations_of forest).classes table.columns.rows.items
+      (map (λ v. v.items) table.columns.interfaces.items)
+  pub marks : AreMarksOf (declarations_of forest).classes table.marks
+  pub above : AreAbove (declarations_of forest).classes (map (λ v. v.items) table.above.items)
   pub fields : IsMembersOf Field forest table.fields
   pub methods : IsMembersOf Method forest table.methods

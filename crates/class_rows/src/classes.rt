@@ -1,6 +1,6 @@
 //! The classes of a program with their look-ups.
 
-ghost use Rattle.std.specs.Prelude.{◌≡◌, ◌<◌, length, slice_get, option_map, option_and_then};
+ghost use Rattle.std.specs.Prelude.{◌≡◌, ◌<◌, length, slice_get, option_copied, option_map, option_and_then};
 ghost use Rattle.scj_rules.specs.Views.{DeclaredConstructor, WrittenClass, class_at, constructor_at};
 ghost use Rattle.scj_rules.specs.Classes.{ClassRow, class_number, superclass_in, superclasses, interfaces_in, all_interfaces, is_cyclic};
 ghost use Rattle.scj_rules.specs.Words.{is_among};
@@ -8,11 +8,12 @@ ghost use Rattle.scj_builtins.specs.Framework.{mission, safelet};
 ghost use Rattle.scj_rules.specs.Contexts.{declarations_of};
 ghost use Rattle.scj_rules.specs.Types.{constructor_in};
 ghost use Rattle.scj_tree.specs.Recursion.{lookup};
-ghost use Rattle.class_rows.specs.Tables.{no_marks};
+ghost use Rattle.class_headers.specs.Rows.{header_of};
 
-use crate::tables::{ClassTable, Marks};
-use class_headers::WrittenClasses;
-use scj_base::ids::{OBJECT, SAFELET};
+use crate::tables::ClassTable;
+use class_headers::ways::interfaces_at;
+use class_headers::{Header, WrittenClasses};
+use scj_base::ids::{MISSION, SAFELET};
 use scj_base::{ClassId, Name, NodeId};
 use scj_builtins::ClassKind;
 use scj_tree::Program;
@@ -37,21 +38,8 @@ impl<'a> Model for Classes<'a> {
     ghost invariant = { λ a. IsTableOf a.program.now a.table.now };
 }
 
-/// What is found of a class among what is found of each.
-fn marks_at(all: &[Marks], class: ClassId) -> Marks
-    ensures { result ≡ lookup no_marks all.now class }
-{
-    match all.get(class.number() as usize) {
-        Some(marks) => *marks,
-        None => Marks {
-            is_mission: false,
-            is_well_headed: true,
-        },
-    }
-}
-
 impl<'a> Classes<'a> {
-    ghost use Rattle.class_rows.specs.Tables.{IsTableOf, class_written, is_good_header, members_in};
+    ghost use Rattle.class_rows.specs.Tables.{IsTableOf, class_written, members_in};
 
     /// The classes of a program, from its table.
     pub fn new(program: &'a Program, table: &'a ClassTable) -> Classes<'a>
@@ -90,22 +78,22 @@ impl<'a> Classes<'a> {
         self.written().class_of(name)
     }
 
-    /// Whether nothing in the header of a class is forbidden.
-    #[tactic(auto, using(crate::proofs::BuildingLemmas::well_headed_is))]
-    fn is_well_headed(&self, class: ClassId) -> bool
-        ensures { result ≡ is_good_header (declarations_of self.now) class
-            (class_written (declarations_of self.now) class) }
+    /// The header of a class as it counts.
+    #[tactic(auto, using(crate::proofs::RowLemmas::row_is))]
+    fn row(&self, class: ClassId) -> Option<&'a Header>
+        ensures { option_copied result ≡ option_map header_of (slice_get (declarations_of self.now).classes class) }
     {
-        marks_at(&self.table.marks, class).is_well_headed
+        self.table.columns.rows.get(class.number() as usize)
     }
 
     /// What a class may be used for.
-    #[tactic(auto, using(crate::proofs::RowLemmas::kind_is))]
+    #[tactic(auto, using(class_headers::proofs::TableLemmas::kind_of))]
     pub fn kind(&self, class: ClassId) -> Option<ClassKind>
         ensures { result ≡ option_map (λ (row : ClassRow). row.kind)
             (slice_get (declarations_of self.now).classes class) }
     {
-        self.written().kind(class)
+        let row = self.row(class)?;
+        Some(row.kind)
     }
 
     /// The node of a user class.
@@ -125,38 +113,21 @@ impl<'a> Classes<'a> {
         self.written().members(class)
     }
 
-    /// The superclass as it is written.
-    pub fn superclass_written(&self, class: ClassId) -> Option<ClassId>
-        ensures { result ≡ superclass_in (declarations_of self.now).written class }
-    {
-        self.written().superclass(class)
-    }
-
     /// The superclass as it counts: a class with a forbidden header stands under `Object`.
+    #[tactic(auto, using(crate::proofs::RowLemmas::superclass_is))]
     pub fn superclass(&self, class: ClassId) -> Option<ClassId>
         ensures { result ≡ superclass_in (declarations_of self.now).classes class }
     {
-        if self.is_well_headed(class) {
-            return self.superclass_written(class);
-        }
-        Some(OBJECT)
-    }
-
-    /// The interfaces as they are written.
-    pub fn interfaces_written(&self, class: ClassId) -> &'a [ClassId]
-        ensures { result.now ≡ interfaces_in (declarations_of self.now).written class }
-    {
-        self.written().interfaces(class)
+        let row = self.row(class)?;
+        row.superclass
     }
 
     /// The interfaces as they count: a class with a forbidden header has none.
+    #[tactic(auto, using(crate::proofs::RowLemmas::interfaces_are))]
     pub fn interfaces(&self, class: ClassId) -> &'a [ClassId]
         ensures { result.now ≡ interfaces_in (declarations_of self.now).classes class }
     {
-        if self.is_well_headed(class) {
-            return self.interfaces_written(class);
-        }
-        &[]
+        interfaces_at(&self.table.columns.interfaces, class.number() as usize)
     }
 
     /// Whether the superclasses as they are written come back to the class.
@@ -168,12 +139,11 @@ impl<'a> Classes<'a> {
     }
 
     /// Whether `Mission` stands among the superclasses as they are written.
-    #[tactic(auto, using(crate::proofs::BuildingLemmas::mission_is))]
     pub fn is_mission_written(&self, class: ClassId) -> bool
         requires { class < length (declarations_of self.now).classes }
         ensures { result ≡ is_among mission (superclasses (declarations_of self.now).written class) }
     {
-        marks_at(&self.table.marks, class).is_mission
+        self.written().is_under(class, MISSION)
     }
 
     /// Whether a class of the chain, as it is written, implements `Safelet`.

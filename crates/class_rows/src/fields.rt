@@ -1,11 +1,12 @@
 //! Fields as rows that are copied.
 
 ghost use Rattle.std.specs.Prelude.{◌≡◌};
-ghost use Rattle.class_rows.specs.Fields.{found_field, no_field};
+ghost use Rattle.class_rows.specs.Fields.{found_field};
 
+use method_rows::nothing;
 use node_views::field_at;
-use scj_base::{ClassId, Name, NodeId, Pos};
-use scj_rules::{Declared, FoundField, Modifiers, WrittenType};
+use scj_base::{ClassId, NodeId};
+use scj_rules::{Declared, FoundField, WrittenType};
 use scj_tree::Program;
 
 /// A field that is found for a class.
@@ -36,30 +37,6 @@ pub fn field_type(program: &Program, field: &FieldRef) -> WrittenType
     }
 }
 
-/// A field that stands for none, at a node.
-fn no_field(node: NodeId) -> Declared
-    ensures { result ≡ no_field node }
-{
-    Declared {
-        node,
-        place: Pos {
-            file: 0,
-            line: 0,
-            col: 0,
-        },
-        name: Name::new(b""),
-        modifiers: Modifiers {
-            defines_scope: false,
-            scope: None,
-            runs_in: None,
-            is_static: false,
-            is_abstract: false,
-            is_synchronized: false,
-        },
-        declared_type: WrittenType::Void,
-    }
-}
-
 /// A field with all that is declared of it.
 #[tactic(auto, unfolding(crate::specs::Fields::found_field))]
 pub fn found_field(program: &Program, field: &FieldRef) -> FoundField
@@ -67,7 +44,10 @@ pub fn found_field(program: &Program, field: &FieldRef) -> FoundField
 {
     let declared = match field_at(program, field.node) {
         Some(declared) => declared,
-        None => no_field(field.node),
+        None => Declared {
+            node: field.node,
+            ..nothing()
+        },
     };
     FoundField {
         on: field.on,

@@ -1,6 +1,7 @@
 //! The classes of a program, and look-ups among them and their members.
 #![tactic(auto)]
 
+pub mod above;
 pub mod building;
 pub mod chains;
 pub mod classes;

@@ -1,26 +1,38 @@
 //! Whether a class stands under another, and look-ups of members by name.
 
-ghost use Rattle.std.specs.Prelude.{◌≡◌, ◌<◌, ◌≤◌, option_map};
-ghost use Rattle.scj_rules.specs.Words.{along, is_among};
-ghost use Rattle.scj_rules.specs.Classes.{superclasses, all_interfaces, is_sub, own_field, field_named, own_method, method_named, method_above, framework_row_named, field_nodes, field_number, method_nodes, method_number, first_user_class};
+ghost use Rattle.std.specs.Prelude.{◌≡◌, ◌<◌, ◌≤◌, ℕ, List, not, filter, option_map};
+ghost use Rattle.scj_rules.specs.Words.{along, is_among, or_else};
+ghost use Rattle.scj_rules.specs.Classes.{superclasses, all_interfaces, is_sub, own_field, field_named, own_method, method_named, method_above, framework_row_named, field_nodes, field_number, method_nodes, method_number, first_user_class, is_user_class};
 ghost use Rattle.scj_rules.specs.Contexts.{declarations_of};
 ghost use Rattle.method_rows.specs.Methods.{found_method};
 ghost use Rattle.class_rows.specs.Fields.{found_field};
-ghost use Rattle.class_rows.specs.Members.{first_named};
+ghost use Rattle.class_rows.specs.declared.members.MemberKind.TheVariants.{Field, Method};
+ghost use Rattle.class_rows.specs.Members.{first_declared, first_named, IsMembersOf};
 ghost use Rattle.class_rows.specs.Tables.{members_in};
+ghost use Rattle.class_rows.specs.Walks.{is_known, implemented_method};
 
-use crate::chains::Ancestors;
+use crate::above::is_marked_in;
+use crate::chains::Chain;
 use crate::classes::Classes;
 use crate::fields::FieldRef;
-use crate::members::MemberKind;
-use class_headers::{MemberKey, NameKey};
+use crate::members::{MemberKind, Members, OwnKey};
+use class_headers::NameKey;
+use class_headers::ways::{has_bit, way_at};
 use method_rows::{MethodRef, MethodSource, framework_method};
+use scj_base::ids::{RUNNABLE, SAFELET};
 use scj_base::{ClassId, FieldId, MethodId, Name, NodeId};
 use scj_builtins::FRAMEWORK_CLASS_COUNT;
 
+/// Whether an interface is one that classes may implement.
+fn is_known(interface: ClassId) -> bool
+    ensures { result ≡ is_known interface }
+{
+    interface == RUNNABLE || interface == SAFELET
+}
+
 impl<'a> Classes<'a> {
-    /// Whether a class is the other one or stands under it by superclasses.
-    pub fn is_under(&self, class: ClassId, above: ClassId) -> bool
+    /// Whether a class stands on the chain of another.
+    fn is_on_chain(&self, class: ClassId, above: ClassId) -> bool
         ensures { result ≡ is_among above (superclasses (declarations_of self.now).classes class) }
     {
         let mut chain = self.superclasses(class);
@@ -32,15 +44,25 @@ impl<'a> Classes<'a> {
         false
     }
 
-    /// Whether a class of the chain implements the interface.
+    /// Whether a class is the other one or stands under it by superclasses.
+    pub fn is_under(&self, class: ClassId, above: ClassId) -> bool
+        ensures { result ≡ is_among above (superclasses (declarations_of self.now).classes class) }
+    {
+        let rows = &self.table.above;
+        if (class.number() as usize) < rows.len() {
+            return is_marked_in(rows, class, above);
+        }
+        self.is_on_chain(class, above)
+    }
+
+    /// Whether a class of the chain implements the interface. None implements another one than `Runnable` and `Safelet`.
+    #[tactic(auto, using(crate::proofs::InterfaceLemmas::known_marked, crate::proofs::InterfaceLemmas::unknown_not_implemented))]
     pub fn implements(&self, class: ClassId, interface: ClassId) -> bool
         ensures { result ≡ is_among interface (all_interfaces (declarations_of self.now).classes class) }
     {
-        let mut interfaces = self.all_interfaces(class);
-        while let Some(at) = interfaces.next() {
-            if at == interface {
-                return true;
-            }
+        if is_known(interface) {
+            let way = way_at(&self.table.marks.ways, class);
+            return has_bit(way.implemented, interface);
         }
         false
     }
@@ -53,17 +75,54 @@ impl<'a> Classes<'a> {
         self.is_under(class, above) || self.implements(class, above)
     }
 
-    /// The node of the first member of a kind and a name that a user class declares itself.
-    fn member(&self, kind: MemberKind, class: ClassId, name: &Name) -> Option<NodeId>
-        ensures { result ≡ first_named kind self.now.nodes name.now (members_in (declarations_of self.now) class) }
+    /// The members of a kind.
+    fn members_like(&self, kind: MemberKind) -> &'a Members
+        ensures { IsMembersOf kind self.now result.now }
     {
-        let key = MemberKey {
-            class: class.number(),
-            name: NameKey::of(*name),
-        };
         match kind {
-            MemberKind::Field => self.table.fields.named.get(&key).copied(),
-            MemberKind::Method => self.table.methods.named.get(&key).copied(),
+            MemberKind::Field => &self.table.fields,
+            MemberKind::Method => &self.table.methods,
+        }
+    }
+
+    /// The first member of all classes with the name, which stands for it.
+    fn first_declared(&self, kind: MemberKind, name: &Name) -> Option<NodeId>
+        ensures { result ≡ first_declared kind self.now name.now }
+    {
+        let key = NameKey::of(*name);
+        self.members_like(kind).firsts.get(&key).copied()
+    }
+
+    /// The node of the first member that a user class declares itself with the name for which one stands.
+    fn member_like(
+        &self,
+        kind: MemberKind,
+        class: ClassId,
+        first: &Option<NodeId>,
+    ) -> Option<NodeId>
+        ensures { (name : List ℕ) → first.now ≡ first_declared kind self.now name →
+            result ≡ first_named kind self.now.nodes name (members_in (declarations_of self.now) class) }
+    {
+        match first {
+            Some(id) => {
+                let key = OwnKey {
+                    class: class.number(),
+                    first: id.place(),
+                };
+                self.members_like(kind).named.get(&key).copied()
+            }
+            None => None,
+        }
+    }
+
+    /// The first field that a class declares itself with the name for which one stands.
+    fn field_like(&self, class: ClassId, first: &Option<NodeId>) -> Option<FieldRef>
+        ensures { (name : List ℕ) → first.now ≡ first_declared Field self.now name →
+            option_map (found_field self.now.nodes) result ≡ own_field (declarations_of self.now).classes name class }
+    {
+        match self.member_like(MemberKind::Field, class, first) {
+            Some(node) => Some(FieldRef { on: class, node }),
+            None => None,
         }
     }
 
@@ -72,22 +131,7 @@ impl<'a> Classes<'a> {
         ensures { option_map (found_field self.now.nodes) result ≡ own_field (declarations_of self.now).classes name.now
             class }
     {
-        match self.member(MemberKind::Field, class, name) {
-            Some(node) => Some(FieldRef { on: class, node }),
-            None => None,
-        }
-    }
-
-    /// The first method of a name that a class declares itself.
-    pub fn own_method(&self, class: ClassId, name: &Name) -> Option<MethodRef>
-        ensures { option_map (found_method self.now.nodes) result ≡ own_method (declarations_of self.now).classes
-            name.now class }
-    {
-        if class.number() < FRAMEWORK_CLASS_COUNT {
-            self.framework_row(class, name)
-        } else {
-            self.declared_row(class, name)
-        }
+        self.field_like(class, &self.first_declared(MemberKind::Field, name))
     }
 
     /// The method of a name that a framework class declares itself.
@@ -105,13 +149,16 @@ impl<'a> Classes<'a> {
         }
     }
 
-    /// The first method of a name that a user class declares itself.
-    fn declared_row(&self, class: ClassId, name: &Name) -> Option<MethodRef>
-        requires { first_user_class ≤ class }
+    /// The first method of a name, for which a member stands, that a class declares itself.
+    fn method_like(&self, class: ClassId, name: &Name, first: &Option<NodeId>) -> Option<MethodRef>
+        requires { first.now ≡ first_declared Method self.now name.now }
         ensures { option_map (found_method self.now.nodes) result ≡ own_method (declarations_of self.now).classes
             name.now class }
     {
-        match self.member(MemberKind::Method, class, name) {
+        if class.number() < FRAMEWORK_CLASS_COUNT {
+            return self.framework_row(class, name);
+        }
+        match self.member_like(MemberKind::Method, class, first) {
             Some(node) => Some(MethodRef {
                 on: class,
                 source: MethodSource::Declared(node),
@@ -120,15 +167,27 @@ impl<'a> Classes<'a> {
         }
     }
 
+    /// The first method of a name that a class declares itself.
+    pub fn own_method(&self, class: ClassId, name: &Name) -> Option<MethodRef>
+        ensures { option_map (found_method self.now.nodes) result ≡ own_method (declarations_of self.now).classes
+            name.now class }
+    {
+        if class.number() < FRAMEWORK_CLASS_COUNT {
+            return self.framework_row(class, name);
+        }
+        self.method_like(class, name, &self.first_declared(MemberKind::Method, name))
+    }
+
     /// The field of a name that a class has, its own or the nearest above.
     #[tactic(auto, using(crate::proofs::WalkLemmas::along_found, crate::proofs::WalkLemmas::along_next, crate::proofs::WalkLemmas::along_end), unfolding(scj_rules::specs::Classes::field_named))]
     pub fn field_named(&self, class: ClassId, name: &Name) -> Option<FieldRef>
         ensures { option_map (found_field self.now.nodes) result ≡ field_named (declarations_of self.now).classes class
             name.now }
     {
+        let first = &self.first_declared(MemberKind::Field, name);
         let mut chain = self.superclasses(class);
         while let Some(at) = chain.next() {
-            if let Some(field) = self.own_field(at, name) {
+            if let Some(field) = self.field_like(at, first) {
                 return Some(field);
             }
         }
@@ -137,45 +196,29 @@ impl<'a> Classes<'a> {
 
     /// The first method of a name that one of these declares itself.
     #[tactic(auto, using(crate::proofs::WalkLemmas::along_found, crate::proofs::WalkLemmas::along_next, crate::proofs::WalkLemmas::along_end))]
-    fn first_method(&self, ancestors: Ancestors<'_>, name: &Name) -> Option<MethodRef>
+    fn first_method(&self, classes: Chain<'_>, name: &Name) -> Option<MethodRef>
         ensures { option_map (found_method self.now.nodes) result ≡ along
-            (own_method (declarations_of self.now).classes name.now) ancestors.entry }
+            (own_method (declarations_of self.now).classes name.now) classes.entry }
     {
-        let mut others = ancestors;
-        while let Some(at) = others.next() {
-            if let Some(method) = self.own_method(at, name) {
+        let first = &self.first_declared(MemberKind::Method, name);
+        let mut chain = classes;
+        while let Some(at) = chain.next() {
+            if let Some(method) = self.method_like(at, name, first) {
                 return Some(method);
             }
         }
         None
     }
 
-    /// The method of a name that a class has: the nearest declaration above, or else an interface's.
-    #[tactic(auto, unfolding(scj_rules::specs::Classes::method_named))]
-    pub fn method_named(&self, class: ClassId, name: &Name) -> Option<MethodRef>
-        ensures { option_map (found_method self.now.nodes) result ≡ method_named (declarations_of self.now).classes
-            class name.now }
+    /// The first method of a name that one of the framework's classes among these declares itself.
+    #[tactic(auto, using(crate::proofs::WalkLemmas::along_found, crate::proofs::WalkLemmas::along_next, crate::proofs::WalkLemmas::along_end))]
+    fn first_of_framework(&self, classes: Chain<'_>, name: &Name) -> Option<MethodRef>
+        ensures { option_map (found_method self.now.nodes) result ≡ along
+            (own_method (declarations_of self.now).classes name.now)
+            (filter (λ c. not (is_user_class c)) classes.entry) }
     {
-        self.first_method(self.ancestors(class), name)
-    }
-
-    /// What a declaration of the name in the class overrides.
-    #[tactic(auto, unfolding(scj_rules::specs::Classes::method_above))]
-    pub fn method_above(&self, class: ClassId, name: &Name) -> Option<MethodRef>
-        ensures { option_map (found_method self.now.nodes) result ≡ method_above (declarations_of self.now).classes
-            class name.now }
-    {
-        self.first_method(self.ancestors_above(class), name)
-    }
-
-    /// The framework's own method of the name, where the class stands under the framework class or implements it.
-    #[tactic(auto, using(crate::proofs::WalkLemmas::along_found, crate::proofs::WalkLemmas::along_next, crate::proofs::WalkLemmas::along_end), unfolding(scj_rules::specs::Classes::framework_row_named))]
-    pub fn framework_row_named(&self, class: ClassId, name: &Name) -> Option<MethodRef>
-        ensures { option_map (found_method self.now.nodes) result ≡ framework_row_named
-            (declarations_of self.now).classes class name.now }
-    {
-        let mut ancestors = self.ancestors(class);
-        while let Some(at) = ancestors.next() {
+        let mut chain = classes;
+        while let Some(at) = chain.next() {
             if at.number() < FRAMEWORK_CLASS_COUNT {
                 if let Some(method) = self.own_method(at, name) {
                     return Some(method);
@@ -183,6 +226,75 @@ impl<'a> Classes<'a> {
             }
         }
         None
+    }
+
+    /// The method of a name that an interface declares itself, where a class of the chain implements it.
+    fn implemented_method(
+        &self,
+        class: ClassId,
+        interface: ClassId,
+        name: &Name,
+    ) -> Option<MethodRef>
+        ensures { option_map (found_method self.now.nodes) result ≡ implemented_method
+            (declarations_of self.now).classes class name.now interface }
+    {
+        if self.implements(class, interface) {
+            self.own_method(interface, name)
+        } else {
+            None
+        }
+    }
+
+    /// A method that is found, or else that of an interface of the chain.
+    #[tactic(auto, using(crate::proofs::InterfaceLemmas::by_runnable, crate::proofs::InterfaceLemmas::by_safelet))]
+    fn or_interface_method(
+        &self,
+        found: Option<MethodRef>,
+        class: ClassId,
+        name: &Name,
+    ) -> Option<MethodRef>
+        ensures { option_map (found_method self.now.nodes) result ≡ or_else
+            (option_map (found_method self.now.nodes) found)
+            (along (own_method (declarations_of self.now).classes name.now)
+            (all_interfaces (declarations_of self.now).classes class)) }
+    {
+        if let Some(method) = found {
+            return Some(method);
+        }
+        match self.implemented_method(class, RUNNABLE, name) {
+            Some(method) => Some(method),
+            None => self.implemented_method(class, SAFELET, name),
+        }
+    }
+
+    /// The method of a name that a class has: the nearest declaration above, or else an interface's.
+    #[tactic(auto, unfolding(scj_rules::specs::Classes::method_named), using(crate::proofs::WalkLemmas::along_append))]
+    pub fn method_named(&self, class: ClassId, name: &Name) -> Option<MethodRef>
+        ensures { option_map (found_method self.now.nodes) result ≡ method_named (declarations_of self.now).classes
+            class name.now }
+    {
+        let found = self.first_method(self.superclasses(class), name);
+        self.or_interface_method(found, class, name)
+    }
+
+    /// What a declaration of the name in the class overrides.
+    #[tactic(auto, unfolding(scj_rules::specs::Classes::method_above), using(crate::proofs::WalkLemmas::along_append))]
+    pub fn method_above(&self, class: ClassId, name: &Name) -> Option<MethodRef>
+        ensures { option_map (found_method self.now.nodes) result ≡ method_above (declarations_of self.now).classes
+            class name.now }
+    {
+        let found = self.first_method(self.classes_above(class), name);
+        self.or_interface_method(found, class, name)
+    }
+
+    /// The framework's own method of the name, where the class stands under the framework class or implements it.
+    #[tactic(auto, unfolding(scj_rules::specs::Classes::framework_row_named), using(crate::proofs::InterfaceLemmas::framework_append))]
+    pub fn framework_row_named(&self, class: ClassId, name: &Name) -> Option<MethodRef>
+        ensures { option_map (found_method self.now.nodes) result ≡ framework_row_named
+            (declarations_of self.now).classes class name.now }
+    {
+        let found = self.first_of_framework(self.superclasses(class), name);
+        self.or_interface_method(found, class, name)
     }
 
     /// The nodes of the fields in the order of their numbers.

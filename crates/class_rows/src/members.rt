@@ -1,14 +1,17 @@
 //! The members of all classes: their nodes in the order of their numbers, and look-ups by name and by node.
 
-ghost use Rattle.std.specs.Prelude.{◌≡◌, ◌==◌, ◌+◌, ◌≤◌, ◌++◌, ℕ, List, filter, position, IfOk, OnOk, option_map};
+ghost use Rattle.std.specs.Prelude.{◌≡◌, ◌==◌, ◌+◌, ◌≤◌, ◌++◌, ℕ, List, filter, find, position, IfOk, OnOk, option_map, option_and_then};
 ghost use Rattle.std.specs.Option.{option_or};
 ghost use Rattle.indexmap.specs.IndexMap.{get};
+ghost use Rattle.scj_base.specs.Bytes.{is_same};
 ghost use Rattle.scj_rules.specs.declared.views.Declared.{Declared};
 ghost use Rattle.scj_rules.specs.Views.{field_at};
-ghost use Rattle.class_headers.specs.declared.keys.MemberKey.{MemberKey as Key};
-ghost use Rattle.class_rows.specs.Members.{is_member, name_at, first_named, first_number, is_same_member, in_class, IsMembersOf};
+ghost use Rattle.scj_rules.specs.Contexts.{declarations_of};
+ghost use Rattle.class_headers.specs.Members.{members_in};
+ghost use Rattle.class_rows.specs.declared.members.OwnKey.{OwnKey as Key};
+ghost use Rattle.class_rows.specs.Members.{is_member, member_nodes, name_at, first_named, first_number, is_like, is_same_own, in_class, IsMembersOf};
 
-use class_headers::{MemberKey, NameKey, WrittenClasses};
+use class_headers::{NameKey, WrittenClasses};
 use indexmap::IndexMap;
 use node_views::{is_constructor, is_field, is_method, method_name};
 use scj_base::{ClassId, Memory, Name, NodeId};
@@ -25,13 +28,24 @@ pub enum MemberKind {
     Method,
 }
 
+/// A class, with the first member of a name, which stands for the name.
+#[derive(Clone, Copy, Debug, PartialEq, Eq, Hash)]
+pub struct OwnKey {
+    /// The class.
+    pub class: u32,
+    /// The place of the first member of the name.
+    pub first: usize,
+}
+
 /// The members of one kind.
 #[derive(Drop)]
 pub struct Members {
     /// Their nodes, each at its number behind the first.
     pub(crate) nodes: Vec<NodeId>,
-    /// The first of each name in each class.
-    pub(crate) named: IndexMap<MemberKey, NodeId>,
+    /// The first of each name.
+    pub(crate) firsts: IndexMap<NameKey, NodeId>,
+    /// The first of each name in each class. A walk along a chain asks for the name once, and then for numbers.
+    pub(crate) named: IndexMap<OwnKey, NodeId>,
     /// The number of each, by its node.
     pub(crate) numbers: IndexMap<usize, u32>,
 }
@@ -88,28 +102,65 @@ fn add_nodes(
     Ok(())
 }
 
-/// Enters those of these nodes that declare members of the kind, under a class and their names. The last is entered
-/// first, so that the first stays.
+/// The first of each name among these nodes. The last is entered first, so that the first stays.
+fn firsts_of(
+    alloc: Global,
+    program: &Program,
+    kind: MemberKind,
+    ids: &[NodeId],
+) -> Result<IndexMap<NameKey, NodeId>, Memory>
+    ensures { IfOk result
+        (λ firsts. (name : List ℕ) → get is_same firsts name ≡ first_named kind program.now.nodes name ids.now) }
+{
+    let mut firsts = IndexMap::new(alloc);
+    let mut at = ids.len();
+    while at > 0 {
+        at -= 1;
+        let id = ids[at];
+        if let Some(name) = name_at(program, kind, id) {
+            firsts.insert(NameKey::of(name), id)?;
+        }
+    }
+    Ok(firsts)
+}
+
+/// The first of the name that a node's member has.
+fn first_like(
+    firsts: &IndexMap<NameKey, NodeId>,
+    program: &Program,
+    kind: MemberKind,
+    id: NodeId,
+) -> Option<NodeId>
+    ensures { result ≡ option_and_then (get is_same firsts.now) (name_at kind program.now.nodes id) }
+{
+    let name = name_at(program, kind, id)?;
+    firsts.get(&NameKey::of(name)).copied()
+}
+
+/// Enters those of these nodes that declare members of the kind, under a class and the firsts of their names. The last
+/// is entered first, so that the first stays.
 fn add_names(
-    map: &mut IndexMap<MemberKey, NodeId>,
+    map: &mut IndexMap<OwnKey, NodeId>,
+    firsts: &IndexMap<NameKey, NodeId>,
     program: &Program,
     kind: MemberKind,
     class: ClassId,
     members: &[NodeId],
 ) -> Result<(), Memory>
-    ensures { OnOk result ((key : Key) → get is_same_member map.new key ≡ option_or
-        (in_class class key (first_named kind program.now.nodes key.name members.now))
-        (get is_same_member map.old key)) }
+    ensures { OnOk result ((key : Key) → get is_same_own map.new key ≡ option_or
+        (in_class class key (find (is_like kind program.now.nodes (get is_same firsts.now) key.first) members.now))
+        (get is_same_own map.old key)) }
 {
     let mut at = members.len();
     while at > 0 {
         at -= 1;
-        if let Some(name) = name_at(program, kind, members[at]) {
-            let key = MemberKey {
+        let id = members[at];
+        if let Some(first) = first_like(firsts, program, kind, id) {
+            let key = OwnKey {
                 class: class.number(),
-                name: NameKey::of(name),
+                first: first.place(),
             };
-            map.insert(key, members[at])?;
+            map.insert(key, id)?;
         }
     }
     Ok(())
@@ -145,6 +196,51 @@ fn first_number(kind: MemberKind) -> u32
     }
 }
 
+/// The nodes of the members of a kind of all classes.
+fn nodes_of(
+    alloc: Global,
+    classes: &WrittenClasses,
+    kind: MemberKind,
+) -> Result<Vec<NodeId>, Memory>
+    ensures { IfOk result (λ nodes. nodes.items ≡ member_nodes kind classes.now) }
+{
+    let count = classes.count();
+    if count > u32::MAX as usize {
+        return Err(Memory);
+    }
+    let mut nodes = Vec::new(alloc);
+    for number in 0..count {
+        let members = classes.members(ClassId::at(number as u32));
+        add_nodes(&mut nodes, classes.program(), kind, members)?;
+    }
+    Ok(nodes)
+}
+
+/// The first of each name in each class.
+fn named_of(
+    alloc: Global,
+    classes: &WrittenClasses,
+    kind: MemberKind,
+    firsts: &IndexMap<NameKey, NodeId>,
+) -> Result<IndexMap<OwnKey, NodeId>, Memory>
+    ensures { IfOk result
+        (λ named. (key : Key) → get is_same_own named key ≡ find
+        (is_like kind classes.now.nodes (get is_same firsts.now) key.first)
+        (members_in (declarations_of classes.now) key.class)) }
+{
+    let count = classes.count();
+    if count > u32::MAX as usize {
+        return Err(Memory);
+    }
+    let mut named = IndexMap::new(alloc);
+    for number in 0..count {
+        let class = ClassId::at(number as u32);
+        let members = classes.members(class);
+        add_names(&mut named, firsts, classes.program(), kind, class, members)?;
+    }
+    Ok(named)
+}
+
 /// The members of a kind of all classes.
 pub fn members_of(
     alloc: Global,
@@ -153,21 +249,13 @@ pub fn members_of(
 ) -> Result<Members, Memory>
     ensures { IfOk result (λ members. IsMembersOf kind classes.now members) }
 {
-    let count = classes.count();
-    if count > u32::MAX as usize {
-        return Err(Memory);
-    }
-    let mut nodes = Vec::new(alloc);
-    let mut named = IndexMap::new(alloc);
-    for number in 0..count {
-        let class = ClassId::at(number as u32);
-        let members = classes.members(class);
-        add_nodes(&mut nodes, classes.program(), kind, members)?;
-        add_names(&mut named, classes.program(), kind, class, members)?;
-    }
+    let nodes = nodes_of(alloc, classes, kind)?;
+    let firsts = firsts_of(alloc, classes.program(), kind, &nodes)?;
+    let named = named_of(alloc, classes, kind, &firsts)?;
     let numbers = places_of(alloc, &nodes, first_number(kind))?;
     Ok(Members {
         nodes,
+        firsts,
         named,
         numbers,
     })

@@ -1,10 +1,11 @@
 -- What is declared of a method that a row names.
-use Rattle.std.proofs.Common.{◌≡◌, ℕ, zero, suc, Bool, true, false, ◌&&◌, ◌==◌, List, [], ◌∷◌, length, map, filter, find, Option, Some, None, if◌then◌else◌, refl, sym, ap, ◌∙◌, is_some, unwrap_or, option_map, option_and_then, slice_get}
+use Rattle.std.proofs.Common.{◌≡◌, ℕ, Bool, true, false, ◌&&◌, ◌==◌, List, [], ◌∷◌, length, map, filter, find, Option, Some, None, if◌then◌else◌, refl, sym, ap, ◌∙◌, is_some, unwrap_or, option_map, option_and_then, slice_get}
+use Rattle.std.proofs.lemmas.List.{length-map}
+use Rattle.std.proofs.lemmas.Option.{slice_get-map}
 use Rattle.scj_base.specs.Bytes.{is_same}
 use Rattle.scj_tree.specs.declared.nodes.Node.{Node}
 use Rattle.scj_tree.specs.declared.nodes.Node.TheVariants.{Method}
 use Rattle.scj_rules.specs.declared.views.Declared.{Declared}
-use Rattle.scj_rules.specs.declared.views.WrittenType.{WrittenType}
 use Rattle.scj_rules.specs.declared.views.WrittenType.TheVariants.{Void as void_type}
 use Rattle.scj_rules.specs.Words.{holds}
 use Rattle.scj_rules.specs.Views.{DeclaredMethod, method_at, method_of}
@@ -25,27 +26,16 @@ pub none_of_none : (o : Option DeclaredMethod) → option_map (λ (m : DeclaredM
 none_of_none None h = refl
 none_of_none (Some m) h = cc
 
-pub name_of_some : (o : Option DeclaredMethod) (name : List ℕ) →
-    option_map (λ (m : DeclaredMethod). m.declared.name) o ≡ Some name → (unwrap_or o no_method).declared.name ≡ name
-name_of_some None name h = cc
-name_of_some (Some m) name h = cc
+pub name_of : (o : Option DeclaredMethod) →
+    unwrap_or (option_map (λ (m : DeclaredMethod). m.declared.name) o) [] ≡ (unwrap_or o no_method).declared.name
+name_of None = refl
+name_of (Some m) = refl
 
-pub name_of_none : (o : Option DeclaredMethod) → option_map (λ (m : DeclaredMethod). m.declared.name) o ≡ None →
-    (unwrap_or o no_method).declared.name ≡ []
-name_of_none None h = refl
-name_of_none (Some m) h = cc
-
-pub type_of_some : (o : Option DeclaredMethod) (t : WrittenType) →
-    option_map (λ (m : DeclaredMethod). m.declared.declared_type) o ≡ Some t →
-    (unwrap_or o no_method).declared.declared_type ≡ t
-type_of_some None t h = cc
-type_of_some (Some m) t h = cc
-
-pub type_of_none : (o : Option DeclaredMethod) →
-    option_map (λ (m : DeclaredMethod). m.declared.declared_type) o ≡ None →
-    (unwrap_or o no_method).declared.declared_type ≡ void_type
-type_of_none None h = refl
-type_of_none (Some m) h = cc
+pub type_of : (o : Option DeclaredMethod) →
+    unwrap_or (option_map (λ (m : DeclaredMethod). m.declared.declared_type) o) void_type
+    ≡ (unwrap_or o no_method).declared.declared_type
+type_of None = refl
+type_of (Some m) = refl
 
 pub is_static_where_declared : (o : Option DeclaredMethod) →
     (unwrap_or o no_method).declared.modifiers.is_static ≡ holds o
@@ -128,15 +118,6 @@ unfolding framework_numbered
 no_body number = no_body_of (slice_get framework_methods number)
 
 -- the parameters of a framework's method
-length_map : {A B : Type 0} (f : A → B) (xs : List A) → length (map f xs) ≡ length xs
-length_map f [] = refl
-length_map f (x ∷ xs) = ap suc (length_map f xs)
-
-get_map : {A B : Type 0} (f : A → B) (xs : List A) (i : ℕ) → slice_get (map f xs) i ≡ option_map f (slice_get xs i)
-get_map f [] i = refl
-get_map f (x ∷ xs) zero = refl
-get_map f (x ∷ xs) (suc i) = get_map f xs i
-
 abbrev as_declared : ParameterKind → Declared
 as_declared kind = of_framework [] false false (parameter_written kind)
 
@@ -154,7 +135,7 @@ row_numbered number o h = rw h (go o)
 pub count_of_row : (number : ℕ) (m : FrameworkMethod) → slice_get framework_methods number ≡ Some m →
     length (unwrap_or (framework_numbered number) no_method).parameters ≡ length (parameter_list m.parameters)
 count_of_row number m h = ap length (row_numbered number (Some m) h)
-    ∙ length_map as_declared (parameter_list m.parameters)
+    ∙ length-map (parameter_list m.parameters) as_declared
 
 pub count_of_none : (number : ℕ) → slice_get framework_methods number ≡ None →
     length (unwrap_or (framework_numbered number) no_method).parameters ≡ 0
@@ -164,7 +145,7 @@ pub parameter_of_row : (number i : ℕ) (m : FrameworkMethod) → slice_get fram
     → slice_get (unwrap_or (framework_numbered number) no_method).parameters i ≡ option_map as_declared
     (slice_get (parameter_list m.parameters) i)
 parameter_of_row number i m h = ap (λ (ds : List Declared). slice_get ds i) (row_numbered number (Some m) h)
-    ∙ get_map as_declared (parameter_list m.parameters) i
+    ∙ slice_get-map as_declared (parameter_list m.parameters) i
 
 pub parameter_of_none : (number i : ℕ) → slice_get framework_methods number ≡ None →
     slice_get (unwrap_or (framework_numbered number) no_method).parameters i ≡ None

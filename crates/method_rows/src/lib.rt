@@ -3,12 +3,11 @@
 
 pub mod facts;
 mod framework;
-pub mod names;
 pub mod refs;
 
 pub use facts::{
     body, builtin, declared, is_callable_row, is_overridable, is_static, name, node, parameter,
     parameter_count, parameter_type, result_type,
 };
-pub use names::framework_method;
+pub use framework::{framework_method, nothing};
 pub use refs::{MethodRef, MethodSource};

@@ -1,48 +1,26 @@
-use Rattle.std.proofs.Common.{◌≡◌, ◌++◌, ◌≤◌, ℕ, List, length, append-nil, ap, sym, ◌∙◌, arith, rules}
+use Rattle.std.proofs.Common.{◌≡◌, ◌∙◌, ℕ, List}
+use Rattle.indexmap.specs.IndexMap.{get}
+use Rattle.scj_base.specs.Bytes.{is_same}
 use Rattle.scj_rules.specs.Contexts.{declarations_of}
-use Rattle.class_rows.specs.Members.{member_key, member_nodes}
-use Rattle.class_rows.proofs.MemberLemmas.{nodes_left, nodes_all, nodes_more, nodes_end, names_none, names_more, names_all, numbers_are}
+use Rattle.class_rows.specs.Members.{first_declared, own_key, member_nodes}
+use Rattle.class_headers.specs.Members.{members_in}
+use Rattle.class_rows.proofs.MemberLemmas.{like_named, numbers_are}
 use Rattle.class_rows.proofs.members.members_of.Goals as goal
-
-pub loop-number-init : goal.loop-number-init
-loop-number-init c =
-    record {
-      nodes = ap (λ (ids : List ℕ). ids ++ nodes_left c.args.kind c.args.classes.now 0) c.new-nodes.ensures.items
-          ∙ nodes_all c.args.kind c.args.classes.now;
-      named = λ key. names_none c.args.kind c.args.classes.now key _ (search rules);
-    }
-
-pub loop-number-preserved : goal.loop-number-preserved
-loop-number-preserved c =
-    record {
-      nodes =
-          rw (
-            c.in_ok-add_nodes.ensures,
-            c.program.ensures,
-            c.members-members.ensures,
-            c.at-class.ensures,
-          ) (nodes_more c.args.kind c.args.classes.now c.loop-number.number c.loop-number.nodes.items
-          (omega (arith, c.loop-number-test.true, c.count-count.ensures)) ∙ c.loop-number.invariant.nodes);
-      named =
-          λ key. names_more c.args.kind c.args.classes.now key c.loop-number.number _ _
-          (c.loop-number.invariant.named key)
-          (rw (c.program-in-loop-number.ensures, c.members-members.ensures, c.at-class.ensures) at
-          (c.in_ok-add_names.ensures key));
-    }
 
 pub returns : goal.returns
 returns c =
-    let past : length (declarations_of c.args.classes.now).written ≤ c.loop-number.number =
-    omega (arith, c.loop-number-test.false, c.count-count.ensures) in
-    let whole : c.loop-number.nodes.items ≡ member_nodes c.args.kind c.args.classes.now =
-    sym (append-nil c.loop-number.nodes.items)
-    ∙ ap (λ (ids : List ℕ). c.loop-number.nodes.items ++ ids)
-    (sym (nodes_end c.args.kind c.args.classes.now c.loop-number.number past)) ∙ c.loop-number.invariant.nodes in
+    let whole : c.deref.result.now ≡ member_nodes c.args.kind c.args.classes.now =
+    c.deref.ensures.value ∙ c.in_ok-nodes.ensures in
+    let firsts : (name : List ℕ) → get is_same c.in_ok-firsts.firsts name
+    ≡ first_declared c.args.kind c.args.classes.now name =
+    λ name. rw (c.program.ensures, whole) at (c.in_ok-firsts.ensures name) in
     record {
-      nodes = whole;
-      named = λ class name. c.loop-number.invariant.named (member_key class name)
-          ∙ names_all c.args.kind c.args.classes.now class c.loop-number.number name past;
+      nodes = c.in_ok-nodes.ensures;
+      firsts = firsts;
+      named = λ class first name h. c.in_ok-named.ensures (own_key class first)
+          ∙ like_named c.args.kind c.args.classes.now name (get is_same c.in_ok-firsts.firsts) firsts first h
+          (members_in (declarations_of c.args.classes.now) class);
       numbers = λ id. c.in_ok-numbers.ensures id
           ∙ numbers_are c.args.kind c.args.classes.now id _ _ c.first_number.ensures.value
-          (c.deref.ensures.value ∙ whole);
+          (c.deref-2.ensures.value ∙ c.in_ok-nodes.ensures);
     }

@@ -6,8 +6,8 @@ use Rattle.class_rows.proofs.classes.Classes.first_method.Given as goal
 
 -- what is left tells it
 abbrev pub invariant-loop-at : goal.invariant-loop-at
-invariant-loop-at l = along (own_method (declarations_of l.self).classes l.name) l.others ≡ along
-    (own_method (declarations_of l.self).classes l.name) l.initial.others
+invariant-loop-at l = along (own_method (declarations_of l.self).classes l.name) l.chain ≡ along
+    (own_method (declarations_of l.self).classes l.name) l.initial.chain
 
 abbrev pub decreases-loop-at : goal.decreases-loop-at
-decreases-loop-at l = length l.others
+decreases-loop-at l = length l.chain

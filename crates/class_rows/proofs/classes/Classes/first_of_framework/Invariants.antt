@@ -1,0 +1,14 @@
+use Rattle.std.proofs.Common.{◌≡◌, length, filter, not}
+use Rattle.scj_rules.specs.Words.{along}
+use Rattle.scj_rules.specs.Classes.{own_method, is_user_class}
+use Rattle.scj_rules.specs.Contexts.{declarations_of}
+use Rattle.class_rows.proofs.classes.Classes.first_of_framework.Given as goal
+
+-- what is left tells it
+abbrev pub invariant-loop-at : goal.invariant-loop-at
+invariant-loop-at l =
+    along (own_method (declarations_of l.self).classes l.name) (filter (λ c. not (is_user_class c)) l.chain)
+    ≡ along (own_method (declarations_of l.self).classes l.name) (filter (λ c. not (is_user_class c)) l.initial.chain)
+
+abbrev pub decreases-loop-at : goal.decreases-loop-at
+decreases-loop-at l = length l.chain

@@ -1,0 +1,15 @@
+use Rattle.std.proofs.Common.{◌≡◌, ◌≤◌, ℕ, List, length, drop}
+use Rattle.indexmap.specs.IndexMap.{get}
+use Rattle.scj_base.specs.Bytes.{is_same}
+use Rattle.class_rows.specs.Members.{first_named}
+use Rattle.class_rows.proofs.members.firsts_of.Given as goal
+
+-- the nodes from this place on are entered
+abbrev pub invariant-loop-at : goal.invariant-loop-at
+invariant-loop-at l = record {
+  within : l.at ≤ length l.ids;
+  entered : (name : List ℕ) → get is_same l.firsts name ≡ first_named l.kind l.program.nodes name (drop l.at l.ids);
+}
+
+abbrev pub decreases-loop-at : goal.decreases-loop-at
+decreases-loop-at l = l.at
