@@ -1,9 +1,8 @@
-pub mod ChainLemmas
+pub mod AlongLemmas
 pub mod InstanceLemmas
+pub mod LevelLemmas
 pub mod LookLemmas
+pub mod NameLemmas
 pub mod OpenLemmas
 pub mod OpeningLemmas
-pub mod PathLemmas
 pub mod ScopeLemmas
-pub mod StackLemmas
-pub mod TurnLemmas

@@ -1,23 +1,27 @@
--- Names whose nearest method is abstract, and abstract methods that are left open.
-use Rattle.std.proofs.Common.{◌≡◌, ℕ, ◌<◌, Bool, true, false, cond, ◌||◌, List, [], ◌∷◌, length, filter, find, flat_map, slice_get, Option, None, Some, refl, sym, ap, ◌∙◌, arith, is_some, option_map, option_and_then}
-use Rattle.std.specs.List.{list_any}
-use Rattle.std.specs.Map.{lookup}
+-- Abstract methods that user classes declare and that stay open.
+use Rattle.std.proofs.Common.{◌≡◌, ℕ, ◌≤◌, Bool, true, false, cond, ◌||◌, List, [], ◌∷◌, filter, filter_map, find, flat_map, slice_get, Option, None, Some, refl, sym, ap, ◌∙◌, arith, is_some, option_map, option_and_then, if◌then◌else◌}
+use Rattle.std.specs.List.{list_any, cons_option}
+use Rattle.std.specs.Map.{lookup, values_of}
 use Rattle.std.proofs.lemmas.Bool.{true≢false}
+use Rattle.std.proofs.lemmas.Bool.Decides.{nat_tests}
 use Rattle.std.proofs.lemmas.Cmp.{nat_list_eq_equiv}
-use Rattle.std.proofs.lemmas.List.Folds.{list_any-append}
-use Rattle.indexmap.specs.IndexMap.{IndexMap, get}
+use Rattle.std.proofs.lemmas.List.Folds.{Any-from_list_any, list_any-append}
 use Rattle.scj_base.specs.Bytes.{is_same}
+use Rattle.scj_tree.specs.declared.nodes.Node.{Node}
 use Rattle.scj_tree.specs.Forest.{Forest}
-use Rattle.scj_rules.specs.Words.{holds, or_else}
-use Rattle.scj_rules.specs.Views.{DeclaredMethod}
-use Rattle.scj_rules.specs.Classes.{ClassRow, FoundMethod, framework_row_named, method_named, own_method}
+use Rattle.scj_rules.specs.Words.{along, holds, or_else}
+use Rattle.scj_rules.specs.Views.{DeclaredMethod, method_at}
+use Rattle.scj_rules.specs.Classes.{ClassRow, FoundMethod, first_user_class, is_user_class, method_named, own_method, superclasses}
 use Rattle.scj_rules.specs.ClassRules.{own_abstract_methods}
+use Rattle.scj_rules.specs.Contexts.{declarations_of}
+use Rattle.class_rows.specs.Tables.{members_in}
 use Rattle.symbol_table.specs.declared.scopes.Scope.{Scope}
 use Rattle.symbol_table.specs.Symbols.{declared_abstract_methods, is_abstract, leaves_declared_open, stays_abstract}
-use Rattle.symbol_table.specs.Scopes.{IsScope, classes_in, declares_method, is_open, rows_of, top_class}
-use Rattle.symbol_table.specs.Stacks.{nearest}
-use Rattle.symbol_table.proofs.ChainLemmas.{along_nearest, named_of_path, nearest_passes, user_classes_are}
-use Rattle.symbol_table.proofs.TurnLemmas.{same_name}
+use Rattle.symbol_table.specs.Names.{is_open, nearest}
+use Rattle.symbol_table.specs.Scopes.{IsScope, abstract_name, is_left, rows_of}
+use Rattle.symbol_table.proofs.LookLemmas.{declared_is, users_first}
+use Rattle.symbol_table.proofs.NameLemmas.{same_name}
+use Rattle.symbol_table.proofs.OpeningLemmas.{user_abstract}
 
 same_itself : (name : List ℕ) → is_same name name ≡ true
 same_itself name = nat_list_eq_equiv.refl name
@@ -26,323 +30,315 @@ or_true : (a b : Bool) → b ≡ true → (a || b) ≡ true
 or_true true b h = refl
 or_true false b h = h
 
--- ---- maps
+-- ---- the name of an abstract method
 
--- a map without entries has no name, and another one has one
-no_entry : {V S : Type 0} (m : IndexMap (List ℕ) V S) → length m.entries ≡ 0 → (name : List ℕ) →
-    is_some (get is_same m name) ≡ false
-no_entry {V} m h name = go m.entries h
+pub abstract_name_is : (o : Option DeclaredMethod) → true ≡ holds o is_abstract →
+    option_map (λ (m : DeclaredMethod). m.declared.name) o ≡ abstract_name o
+abstract_name_is None h = absurd (true≢false h)
+abstract_name_is (Some m) h = rw (← h) refl
+
+pub no_abstract_name : (o : Option DeclaredMethod) → false ≡ holds o is_abstract → None ≡ abstract_name o
+no_abstract_name None h = refl
+no_abstract_name (Some m) h = rw (← h) refl
+
+abbrev by_name : (List ℕ → Bool) → DeclaredMethod → Bool
+by_name test m = test m.declared.name
+
+-- the abstract methods among members, by their names
+named_abstract : (nodes : List Node) (left : List ℕ → Bool) (ids : List ℕ)
+    → list_any (by_name left) (filter is_abstract (filter_map (method_at nodes) ids))
+    ≡ list_any (λ id. holds (abstract_name (method_at nodes id)) left) ids
+named_abstract nodes left [] = refl
+named_abstract nodes left (id ∷ ids) = go (method_at nodes id) (named_abstract nodes left ids)
   where
-    go : (es : List (List ℕ × V)) → length es ≡ 0 →
-        is_some (lookup (is_same name) es) ≡ false
-    go [] e = refl
-    go (x ∷ xs) e = absurd (omega (arith, e))
+    later : List DeclaredMethod
+    later = filter_map (method_at nodes) ids
 
-find_entry : {V S : Type 0} (m : IndexMap (List ℕ) V S) → 0 < length m.entries → (name : List ℕ) ×
-    (is_some (get is_same m name) ≡ true)
-find_entry {V} m h = go m.entries h
+    any : List DeclaredMethod → Bool
+    any ms = list_any (by_name left) (filter is_abstract ms)
+
+    found : Bool
+    found = list_any (λ i. holds (abstract_name (method_at nodes i)) left) ids
+
+    go : (o : Option DeclaredMethod) → any later ≡ found →
+        any (cons_option o later) ≡ (holds (abstract_name o) left || found)
+    go None ih = ih
+    go (Some m) ih = pick (is_abstract m) refl
+      where
+        pick : (t : Bool) → is_abstract m ≡ t → any (m ∷ later) ≡ (holds (abstract_name (Some m)) left || found)
+        pick true e = rw e (ap (λ b. left m.declared.name || b) ih)
+        pick false e = rw e ih
+
+-- ---- an abstract method with a tested name has a name that is there
+
+abbrev named : List ℕ → DeclaredMethod → Bool
+named name m = is_same name m.declared.name
+
+-- a name that fulfills two tests
+abbrev Both : (List ℕ → Bool) → (List ℕ → Bool) → Type 0
+Both test there = (name : List ℕ) × (test name ≡ true) × (there name ≡ true)
+
+weaken : (test t u : List ℕ → Bool) → ((n : List ℕ) → t n ≡ true → u n ≡ true) → Both test t → Both test u
+weaken test t u h w = (w.0, w.1, h w.0 w.2)
+
+module _ (test : List ℕ → Bool) where
+  passing : (ms : List DeclaredMethod) → list_any (by_name test) (filter is_abstract ms) ≡ true →
+      Both test (λ n. is_some (find (named n) ms))
+  passing [] h = absurd (true≢false (sym h))
+  passing (m ∷ ms) h = go (passing ms) (is_abstract m) (test m.declared.name) refl h
+    where
+      either : (t : Bool) (o : Option DeclaredMethod) → is_some o ≡ true → is_some (cond t (Some m) o) ≡ true
+      either true o k = refl
+      either false o k = k
+
+      later : Both test (λ n. is_some (find (named n) ms)) → Both test (λ n. is_some (find (named n) (m ∷ ms)))
+      later =
+          weaken test (λ n. is_some (find (named n) ms)) _ (λ n k. either (named n m) (find (named n) ms) k)
+
+      go : (list_any (by_name test) (filter is_abstract ms) ≡ true → Both test (λ n. is_some (find (named n) ms))) →
+          (t u : Bool) → test m.declared.name ≡ u
+          → list_any (by_name test) (cond t (m ∷ filter is_abstract ms) (filter is_abstract ms)) ≡ true →
+          Both test (λ n. is_some (find (named n) (m ∷ ms)))
+      go ih true true f k = (m.declared.name, f, rw (same_itself m.declared.name) refl)
+      go ih true false f k = later (ih (ap (λ b. b || list_any (by_name test) (filter is_abstract ms)) (sym f) ∙ k))
+      go ih false u f k = later (ih k)
+
+  module _ (rows : List ClassRow) where
+    passing_in : (class : ℕ) → list_any (by_name test) (own_abstract_methods rows class) ≡ true →
+        Both test (λ n. is_some (own_method rows n class))
+    unfolding own_method
+    passing_in class h = go (slice_get rows class) h
+      where
+        there : Option ClassRow → List ℕ → Option FoundMethod
+        there o n = option_map (λ (m : DeclaredMethod). record { on = class; method = m })
+            (option_and_then (λ (row : ClassRow). find (named n) row.methods) o)
+
+        mapped : {A B : Type 0} (f : A → B) (o : Option A) → is_some o ≡ true → is_some (option_map f o) ≡ true
+        mapped f None k = k
+        mapped f (Some a) k = refl
+
+        go : (o : Option ClassRow)
+            → list_any (by_name test)
+            (elim o as (λ _. List DeclaredMethod) [ None ↦ [] | Some row ↦ filter is_abstract row.methods ])
+            ≡ true → Both test (λ n. is_some (there o n))
+        go None k = absurd (true≢false (sym k))
+        go (Some row) k =
+            weaken test (λ n. is_some (find (named n) row.methods)) _
+            (λ n e. mapped _ (find (named n) row.methods) e) (passing row.methods k)
+
+    among : (classes : List ℕ) → list_any (by_name test) (flat_map (own_abstract_methods rows) classes) ≡ true →
+        Both test (λ n. is_some (along (own_method rows n) classes))
+    unfolding along
+    among [] h = absurd (true≢false (sym h))
+    among (c ∷ cs) h =
+        go (among cs) (list_any (by_name test) (own_abstract_methods rows c)) refl
+        (sym (list_any-append (by_name test) (own_abstract_methods rows c) (flat_map (own_abstract_methods rows) cs))
+        ∙ h)
+      where
+        either : Option FoundMethod → Option FoundMethod → Option FoundMethod
+        either o p = elim o as (λ _. Option FoundMethod) [ None ↦ p | Some y ↦ Some y ]
+
+        first : (o p : Option FoundMethod) → is_some o ≡ true → is_some (either o p) ≡ true
+        first None p k = absurd (true≢false (sym k))
+        first (Some y) p k = refl
+
+        second : (o p : Option FoundMethod) → is_some p ≡ true → is_some (either o p) ≡ true
+        second None p k = k
+        second (Some y) p k = refl
+
+        later : Bool
+        later = list_any (by_name test) (flat_map (own_abstract_methods rows) cs)
+
+        go : (later ≡ true → Both test (λ n. is_some (along (own_method rows n) cs))) → (t : Bool) →
+            list_any (by_name test) (own_abstract_methods rows c) ≡ t
+            → (list_any (by_name test) (own_abstract_methods rows c) || later) ≡ true
+            → Both test (λ n. is_some (either (own_method rows n c) (along (own_method rows n) cs)))
+        go ih true e k =
+            weaken test (λ n. is_some (own_method rows n c)) _
+            (λ n i. first (own_method rows n c) (along (own_method rows n) cs) i) (passing_in c e)
+        go ih false e k =
+            weaken test (λ n. is_some (along (own_method rows n) cs)) _
+            (λ n i. second (own_method rows n c) (along (own_method rows n) cs) i)
+            (ih (ap (λ b. b || later) (sym e) ∙ k))
+
+-- ---- and back: the first method of a tested name is among the abstract ones, where it is abstract
+
+first_any : (test : List ℕ → Bool) (name : List ℕ) (ms : List DeclaredMethod) (m : DeclaredMethod) →
+    is_abstract m ≡ true → test name ≡ true → find (named name) ms ≡ Some m →
+    list_any (by_name test) (filter is_abstract ms) ≡ true
+first_any test name [] m a h e = cc
+first_any test name (x ∷ xs) m a h e =
+    go (λ k. first_any test name xs m a h k) (is_same name x.declared.name) refl e
   where
-    go : (es : List (List ℕ × V)) → 0 < length es → (name : List ℕ) × (is_some (lookup (is_same name) es) ≡ true)
-    go [] h = absurd (omega (arith, h))
-    go (e ∷ es) h = (e.0, rw (same_itself e.0) refl)
+    later : Bool → Bool
+    later t = list_any (by_name test) (cond t (x ∷ filter is_abstract xs) (filter is_abstract xs))
 
--- ---- what an abstract method of a class tells of the nearest of its name
+    rest : (t : Bool) → list_any (by_name test) (filter is_abstract xs) ≡ true → later t ≡ true
+    rest true k = or_true (test x.declared.name) (list_any (by_name test) (filter is_abstract xs)) k
+    rest false k = k
 
--- an abstract method among these that fulfills a test; then there is a first one of its name
-record Passing (q : DeclaredMethod → Bool) (ms : List DeclaredMethod) : Type 0 where
-  method : DeclaredMethod
-  passes : q method ≡ true
-  first : is_some (find (λ (m : DeclaredMethod). is_same method.declared.name m.declared.name) ms) ≡ true
-
-passing : (q : DeclaredMethod → Bool) (ms : List DeclaredMethod) → list_any q (filter is_abstract ms) ≡ true →
-    Passing q ms
-passing q [] h = absurd (true≢false (sym h))
-passing q (m ∷ ms) h = go (passing q ms) (is_abstract m) (q m) refl refl h
-  where
-    here : q m ≡ true → Passing q (m ∷ ms)
-    here e = record { method = m; passes = e; first = rw (same_itself m.declared.name) refl }
-
-    either : (t : Bool) (o : Option DeclaredMethod) (x : DeclaredMethod) → is_some o ≡ true →
-        is_some (cond t (Some x) o) ≡ true
-    either true o x h = refl
-    either false o x h = h
-
-    later : Passing q ms → Passing q (m ∷ ms)
-    later p =
-        record {
-          method = p.method;
-          passes = p.passes;
-          first =
-              either (is_same p.method.declared.name m.declared.name)
-              (find (λ (x : DeclaredMethod). is_same p.method.declared.name x.declared.name) ms) m p.first;
-        }
-
-    go : (list_any q (filter is_abstract ms) ≡ true → Passing q ms) → (t u : Bool) → is_abstract m ≡ t → q m ≡ u →
-        list_any q (cond t (m ∷ filter is_abstract ms)
-        (filter is_abstract ms)) ≡ true → Passing q (m ∷ ms)
-    go ih true true e f k = here f
-    go ih true false e f k = later (ih (ap (λ b. b || list_any q (filter is_abstract ms)) (sym f) ∙ k))
-    go ih false u e f k = later (ih k)
-
--- the class declares a method of the name of one of its abstract methods
-record PassingIn (rows : List ClassRow) (q : DeclaredMethod → Bool) (class : ℕ) : Type 0 where
-  method : DeclaredMethod
-  passes : q method ≡ true
-  declared : declares_method rows method.declared.name class ≡ true
-
-some_mapped : {A B : Type 0} (f : A → B) (o : Option A) → is_some (option_map f o) ≡ is_some o
-some_mapped f None = refl
-some_mapped f (Some a) = refl
-
-passing_in : (rows : List ClassRow) (q : DeclaredMethod → Bool) (class : ℕ) →
-    list_any q (own_abstract_methods rows class) ≡ true → PassingIn rows q class
-unfolding own_method
-passing_in rows q class h = go (slice_get rows class) refl h
-  where
-    go : (o : Option ClassRow) → slice_get rows class ≡ o
-        → list_any q (elim o as (λ _. List DeclaredMethod) [ None ↦ [] | Some row ↦ filter is_abstract row.methods ])
-        ≡ true → PassingIn rows q class
-    go None e k = absurd (true≢false (sym k))
-    go (Some row) e k =
-        let p = passing q row.methods k in
-        record {
-          method = p.method;
-          passes = p.passes;
-          declared = rw e (some_mapped _
-              (find (λ (m : DeclaredMethod). is_same p.method.declared.name m.declared.name) row.methods) ∙ p.first);
-        }
-
--- one of these classes has one, and then there is a nearest class of the name
-record PassingAmong (rows : List ClassRow) (q : DeclaredMethod → Bool) (classes : List ℕ) : Type 0 where
-  method : DeclaredMethod
-  passes : q method ≡ true
-  there : is_some (nearest (filter (declares_method rows method.declared.name) classes)) ≡ true
-
-among : (rows : List ClassRow) (q : DeclaredMethod → Bool) (classes : List ℕ) →
-    list_any q (flat_map (own_abstract_methods rows) classes) ≡ true → PassingAmong rows q classes
-among rows q [] h = absurd (true≢false (sym h))
-among rows q (c ∷ cs) h =
-    go (among rows q cs) (list_any q (own_abstract_methods rows c)) refl
-    (sym (list_any-append q (own_abstract_methods rows c) (flat_map (own_abstract_methods rows) cs)) ∙ h)
-  where
-    here : PassingIn rows q c → PassingAmong rows q (c ∷ cs)
-    here p = record { method = p.method; passes = p.passes; there = rw p.declared refl }
-
-    either : (t : Bool) (xs : List ℕ) → is_some (nearest xs) ≡ true → is_some (nearest (cond t (c ∷ xs) xs)) ≡ true
-    either true xs h = refl
-    either false xs h = h
-
-    later : PassingAmong rows q cs → PassingAmong rows q (c ∷ cs)
-    later p =
-        record {
-          method = p.method;
-          passes = p.passes;
-          there =
-              either (declares_method rows p.method.declared.name c)
-              (filter (declares_method rows p.method.declared.name) cs) p.there;
-        }
-
-    go : (list_any q (flat_map (own_abstract_methods rows) cs) ≡ true → PassingAmong rows q cs) → (t : Bool) →
-        list_any q (own_abstract_methods rows c) ≡ t
-        → (list_any q (own_abstract_methods rows c) || list_any q (flat_map (own_abstract_methods rows) cs)) ≡ true
-        → PassingAmong rows q (c ∷ cs)
-    go ih true e k = here (passing_in rows q c e)
-    go ih false e k =
-        later (ih (ap (λ b. b || list_any q (flat_map (own_abstract_methods rows) cs)) (sym e) ∙ k))
-
--- ---- and back
-
--- the first method of a name stands among the abstract ones, where it is abstract
-first_passes : (q : DeclaredMethod → Bool) (name : List ℕ) (ms : List DeclaredMethod) (m : DeclaredMethod) →
-    find (λ (x : DeclaredMethod). is_same name x.declared.name) ms ≡ Some m → is_abstract m ≡ true → q m ≡ true →
-    list_any q (filter is_abstract ms) ≡ true
-first_passes q name [] m e a h = cc
-first_passes q name (x ∷ xs) m e a h =
-    go (λ k. first_passes q name xs m k a h) (is_same name x.declared.name) e
-  where
-    rest : list_any q (filter is_abstract xs) ≡ true → (t : Bool) →
-        list_any q (cond t (x ∷ filter is_abstract xs) (filter is_abstract xs)) ≡ true
-    rest k true = or_true (q x) (list_any q (filter is_abstract xs)) k
-    rest k false = k
-
-    go : (find (λ (y : DeclaredMethod). is_same name y.declared.name) xs ≡ Some m →
-        list_any q (filter is_abstract xs) ≡ true)
-        → (t : Bool) → cond t (Some x) (find (λ (y : DeclaredMethod). is_same name y.declared.name) xs) ≡ Some m →
-        list_any q (filter is_abstract (x ∷ xs)) ≡ true
-    go ih true k =
-        let s : x ≡ m = cc in
-        let b : is_abstract x ≡ true = ap is_abstract s ∙ a in
-        let p : q x ≡ true = ap q s ∙ h in
-        ap (λ t. list_any q (cond t (x ∷ filter is_abstract xs) (filter is_abstract xs))) b
-        ∙ ap (λ t. t || list_any q (filter is_abstract xs)) p
-    go ih false k = rest (ih k) (is_abstract x)
-
-first_name : (name : List ℕ) (ms : List DeclaredMethod) (m : DeclaredMethod) →
-    find (λ (x : DeclaredMethod). is_same name x.declared.name) ms ≡ Some m → name ≡ m.declared.name
-first_name name [] m e = cc
-first_name name (x ∷ xs) m e = go (first_name name xs m) (is_same name x.declared.name) refl e
-  where
-    go : (find (λ (y : DeclaredMethod). is_same name y.declared.name) xs ≡ Some m → name ≡ m.declared.name) →
-        (t : Bool) → is_same name x.declared.name ≡ t
-        → cond t (Some x) (find (λ (y : DeclaredMethod). is_same name y.declared.name) xs) ≡ Some m →
-        name ≡ m.declared.name
+    go : (find (named name) xs ≡ Some m → list_any (by_name test) (filter is_abstract xs) ≡ true) → (t : Bool) →
+        is_same name x.declared.name ≡ t → cond t (Some x) (find (named name) xs) ≡ Some m →
+        later (is_abstract x) ≡ true
     go ih true f k =
-        let s : x ≡ m = cc in same_name name x.declared.name f ∙ ap (λ (y : DeclaredMethod). y.declared.name) s
-    go ih false f k = ih k
+        let s : x ≡ m = cc in
+        ap later (ap is_abstract s ∙ a)
+        ∙ ap (λ t. t || list_any (by_name test) (filter is_abstract xs))
+        (ap test (sym (same_name name x.declared.name f)) ∙ h)
+    go ih false f k = rest (is_abstract x) (ih k)
 
--- a class's own method of a name, where it is abstract, is among its abstract methods, and has the name
-record Own (rows : List ClassRow) (q : DeclaredMethod → Bool) (name : List ℕ) (class : ℕ) (f : FoundMethod) :
-    Type 0 where
-  name_is : name ≡ f.method.declared.name
-  any : is_abstract f.method ≡ true → q f.method ≡ true → list_any q (own_abstract_methods rows class) ≡ true
+module _ (rows : List ClassRow) (test : List ℕ → Bool) (name : List ℕ) (f : FoundMethod)
+    (a : is_abstract f.method ≡ true) (h : test name ≡ true) where
+  own_any : (class : ℕ) → own_method rows name class ≡ Some f →
+      list_any (by_name test) (own_abstract_methods rows class) ≡ true
+  unfolding own_method
+  own_any class e = go (slice_get rows class) e
+    where
+      at : (row : ClassRow) (o : Option DeclaredMethod) → find (named name) row.methods ≡ o →
+          option_map (λ (m : DeclaredMethod). record { on = class; method = m }) o ≡ Some f →
+          list_any (by_name test) (filter is_abstract row.methods) ≡ true
+      at row None i k = cc
+      at row (Some m) i k =
+          let w : Some m ≡ Some f.method =
+          ap (λ (o : Option FoundMethod). option_map (λ (x : FoundMethod). x.method) o) k in
+          first_any test name row.methods f.method a h (i ∙ w)
 
-own_is : (rows : List ClassRow) (q : DeclaredMethod → Bool) (name : List ℕ) (class : ℕ) (f : FoundMethod) →
-    own_method rows name class ≡ Some f → Own rows q name class f
-unfolding own_method
-own_is rows q name class f e = go (slice_get rows class) refl e
-  where
-    on : DeclaredMethod → FoundMethod
-    on m = record { on = class; method = m }
+      go : (o : Option ClassRow) → option_map (λ (m : DeclaredMethod). record { on = class; method = m })
+          (option_and_then (λ (row : ClassRow). find (named name) row.methods) o) ≡ Some f
+          → list_any (by_name test) (elim o as (λ _. List DeclaredMethod) [
+            | None ↦ []
+            | Some row ↦ filter is_abstract row.methods
+          ]) ≡ true
+      go None k = cc
+      go (Some row) k = at row (find (named name) row.methods) refl k
 
-    at : (row : ClassRow) (o : Option DeclaredMethod) → slice_get rows class ≡ Some row →
-        find (λ (m : DeclaredMethod). is_same name m.declared.name) row.methods ≡ o → option_map on o ≡ Some f →
-        Own rows q name class f
-    at row None g h k = cc
-    at row (Some m) g h k =
-        let s : on m ≡ f = cc in
-        let w : m ≡ f.method = ap (λ (x : FoundMethod). x.method) s in
-        record {
-          name_is = first_name name row.methods m h ∙ ap (λ (x : DeclaredMethod). x.declared.name) w;
-          any = λ a p.
-              ap (λ (o : Option ClassRow). list_any q (elim o as (λ _. List DeclaredMethod) [
-                | None ↦ []
-                | Some r ↦ filter is_abstract r.methods
-              ])) g
-              ∙ first_passes q name row.methods m h (ap is_abstract w ∙ a) (ap q w ∙ p);
-        }
+  along_any : (classes : List ℕ) → along (own_method rows name) classes ≡ Some f →
+      list_any (by_name test) (flat_map (own_abstract_methods rows) classes) ≡ true
+  unfolding along
+  along_any [] e = cc
+  along_any (c ∷ cs) e =
+      list_any-append (by_name test) (own_abstract_methods rows c) (flat_map (own_abstract_methods rows) cs)
+      ∙ go (along_any cs) (own_method rows name c) refl e
+    where
+      later : Bool
+      later = list_any (by_name test) (flat_map (own_abstract_methods rows) cs)
 
-    go : (o : Option ClassRow) → slice_get rows class ≡ o
-        → option_map on (option_and_then
-        (λ (row : ClassRow). find (λ (m : DeclaredMethod). is_same name m.declared.name) row.methods) o) ≡ Some f →
-        Own rows q name class f
-    go None g k = cc
-    go (Some row) g k =
-        at row (find (λ (m : DeclaredMethod). is_same name m.declared.name) row.methods) g refl k
-
-any_of_class : (rows : List ClassRow) (q : DeclaredMethod → Bool) (test : ℕ → Bool) (classes : List ℕ) (c : ℕ) →
-    nearest (filter test classes) ≡ Some c → list_any q (own_abstract_methods rows c) ≡ true →
-    list_any q (flat_map (own_abstract_methods rows) classes) ≡ true
-any_of_class rows q test [] c h k = cc
-any_of_class rows q test (x ∷ xs) c h k =
-    list_any-append q (own_abstract_methods rows x) (flat_map (own_abstract_methods rows) xs)
-    ∙ go (λ e. any_of_class rows q test xs c e k) (test x) h
-  where
-    go : (nearest (filter test xs) ≡ Some c → list_any q (flat_map (own_abstract_methods rows) xs) ≡ true) →
-        (t : Bool) → nearest (cond t (x ∷ filter test xs) (filter test xs)) ≡ Some c
-        → (list_any q (own_abstract_methods rows x) || list_any q (flat_map (own_abstract_methods rows) xs)) ≡ true
-    go ih true e =
-        let s : x ≡ c = cc in
-        let p : list_any q (own_abstract_methods rows x) ≡ true =
-        ap (λ n. list_any q (own_abstract_methods rows n)) s ∙ k in
-        ap (λ b. b || list_any q (flat_map (own_abstract_methods rows) xs)) p
-    go ih false e =
-        or_true (list_any q (own_abstract_methods rows x)) (list_any q (flat_map (own_abstract_methods rows) xs)) (ih e)
+      go : (along (own_method rows name) cs ≡ Some f → later ≡ true) → (o : Option FoundMethod) →
+          own_method rows name c ≡ o
+          → elim o as (λ _. Option FoundMethod) [ None ↦ along (own_method rows name) cs | Some y ↦ Some y ] ≡ Some f →
+          (list_any (by_name test) (own_abstract_methods rows c) || later) ≡ true
+      go ih None i k = or_true (list_any (by_name test) (own_abstract_methods rows c)) later (ih k)
+      go ih (Some y) i k = ap (λ b. b || later) (own_any c (i ∙ k))
 
 -- ---- what a scope tells
 
+abbrev is_abstract_found : Option FoundMethod → Bool
+is_abstract_found o = holds o (λ (f : FoundMethod). is_abstract f.method)
+
 module _ (forest : Forest) (scope : Scope) (s : IsScope forest scope) where
-  abbrev at_top : ℕ
-  at_top = top_class scope.root scope.path
+  abbrev rows : List ClassRow
+  rows = rows_of forest
 
-  abbrev left_open : DeclaredMethod → Bool
-  left_open = stays_abstract (rows_of forest) at_top
+  abbrev at : ℕ
+  at = scope.level.class
 
-  declared_here : declared_abstract_methods (rows_of forest) at_top
-      ≡ flat_map (own_abstract_methods (rows_of forest)) (classes_in scope)
-  unfolding declared_abstract_methods
-  declared_here =
-      ap (flat_map (own_abstract_methods (rows_of forest)))
-      (user_classes_are forest scope.root scope.path s.root s.path)
+  abbrev users : List ℕ
+  users = filter is_user_class (superclasses rows at)
 
-  -- where a class of the chain declares the name, the nearest one counts
-  counts : (name : List ℕ) (c : ℕ) → nearest (filter (declares_method (rows_of forest) name) (classes_in scope))
-      ≡ Some c
-      → method_named (rows_of forest) at_top name ≡ own_method (rows_of forest) name c
-  counts name c e =
-      named_of_path forest scope.root scope.path s.root s.path name
-      ∙ ap (λ (o : Option FoundMethod). or_else o (framework_row_named (rows_of forest) at_top name))
-      (along_nearest (own_method (rows_of forest) name) (classes_in scope)
-      ∙ ap (option_and_then (own_method (rows_of forest) name)) e)
-      ∙ first (own_method (rows_of forest) name c)
-      (nearest_passes (declares_method (rows_of forest) name) (classes_in scope) c e)
+  abbrev stays : List ℕ → Bool
+  stays name = is_abstract_found (method_named rows at name)
+
+  abbrev given : List ℕ → Option FoundMethod
+  given name = along (own_method rows name) users
+
+  abbrev left : List ℕ → Bool
+  left = is_left rows at
+
+  -- where the user classes give a method, it counts
+  counts : (name : List ℕ) → is_some (given name) ≡ true → method_named rows at name ≡ given name
+  counts name h = users_first forest scope s name ∙ go (given name) _ h
     where
-      first : (o : Option FoundMethod) → is_some o ≡ true →
-          or_else o (framework_row_named (rows_of forest) at_top name) ≡ o
-      first None h = absurd (true≢false (sym h))
-      first (Some f) h = refl
+      go : (o p : Option FoundMethod) → is_some o ≡ true → or_else o p ≡ o
+      go None p k = absurd (true≢false (sym k))
+      go (Some y) p k = refl
 
-  open_at : (name : List ℕ) (c : ℕ) → nearest (filter (declares_method (rows_of forest) name) (classes_in scope))
-      ≡ Some c
-      → is_some (get is_same scope.methods.open name)
-      ≡ holds (own_method (rows_of forest) name c) (λ (f : FoundMethod). is_abstract f.method)
+  some_left : leaves_declared_open rows at ≡ true → (name : List ℕ) × (left name ≡ true)
+  unfolding leaves_declared_open declared_abstract_methods stays_abstract
+  some_left h =
+      let w = among stays rows users h in (w.0, ap is_abstract_found (sym (counts w.0 w.2)) ∙ w.1)
+
+  left_open : (name : List ℕ) → left name ≡ true → leaves_declared_open rows at ≡ true
+  unfolding leaves_declared_open declared_abstract_methods stays_abstract
+  left_open name h = go (given name) refl h
+    where
+      go : (o : Option FoundMethod) → given name ≡ o → is_abstract_found o ≡ true →
+          list_any (by_name stays) (flat_map (own_abstract_methods rows) users) ≡ true
+      go None e k = absurd (true≢false (sym k))
+      go (Some f) e k =
+          along_any rows stays name f k (ap is_abstract_found (counts name (ap is_some e) ∙ e) ∙ k) users e
+
+  abbrev own_left : Bool
+  own_left =
+      list_any (λ id. holds (abstract_name (method_at forest.nodes id)) left) (members_in (declarations_of forest) at)
+
+  abbrev named_left : Bool
+  named_left = list_any left (values_of scope.methods.open.entries)
+
+  some_passes : {A : Type 0} (p : A → Bool) (xs : List A) → list_any p xs ≡ true → (x : A) × (p x ≡ true)
+  some_passes p xs h = let any = Any-from_list_any p xs h in (any.1, any.4)
+
+  value_passes : (p : List ℕ → Bool) (test : List ℕ → Bool) (es : List (List ℕ × List ℕ)) (v : List ℕ) →
+      lookup test es ≡ Some v → p v ≡ true → list_any p (values_of es) ≡ true
+  value_passes p test [] v e h = cc
+  value_passes p test (x ∷ es) v e h = go (λ k. value_passes p test es v k h) (test x.0) e
+    where
+      go : (lookup test es ≡ Some v → list_any p (values_of es) ≡ true) → (t : Bool) →
+          cond t (Some x.1) (lookup test es) ≡ Some v → (p x.1 || list_any p (values_of es)) ≡ true
+      go ih true k =
+          let same : x.1 ≡ v = cc in ap (λ (n : List ℕ). p n || list_any p (values_of es)) same
+          ∙ ap (λ b. b || list_any p (values_of es)) h
+      go ih false k = or_true (p x.1) (list_any p (values_of es)) (ih k)
+
+  -- a name that is left is one of the class itself, or one that is open above
+  found_left : (name : List ℕ) → left name ≡ true → (own_left || named_left) ≡ true
   unfolding is_open
-  open_at name c e =
-      s.settled name
-      ∙ ap (λ (o : Option ℕ). holds (option_and_then (own_method (rows_of forest) name) o)
-      (λ (f : FoundMethod). is_abstract f.method)) (ap nearest (s.methods name) ∙ e)
-
-  pub none_open : length scope.methods.open.entries ≡ 0 → false ≡ leaves_declared_open (rows_of forest) at_top
-  unfolding leaves_declared_open stays_abstract
-  none_open n = go (leaves_declared_open (rows_of forest) at_top) refl
+  found_left name h = go (is_user_class at) (own_method rows name at) refl refl (sym (ap is_abstract_found
+      (declared_is forest scope s name)) ∙ h)
     where
-      contradiction : (o : Option ℕ) (p : PassingAmong (rows_of forest) left_open (classes_in scope))
-          → nearest (filter (declares_method (rows_of forest) p.method.declared.name) (classes_in scope)) ≡ o →
-          false ≡ true
-      contradiction None p e = sym (ap is_some e) ∙ p.there
-      contradiction (Some c) p e =
-          sym (no_entry scope.methods.open n p.method.declared.name) ∙ open_at p.method.declared.name c e
-          ∙ ap (λ (o : Option FoundMethod). holds o (λ (f : FoundMethod). is_abstract f.method))
-          (sym (counts p.method.declared.name c e))
-          ∙ p.passes
+      above : is_abstract_found (option_and_then (own_method rows name) (nearest scope.methods name)) ≡ true →
+          (own_left || named_left) ≡ true
+      above k =
+          or_true own_left named_left
+          (value_passes left (is_same name) scope.methods.open.entries name
+          (s.settled name ∙ ap (λ (t : Bool). if t then Some name else None) k) h)
 
-      go : (t : Bool) → leaves_declared_open (rows_of forest) at_top ≡ t → false ≡ t
-      go false e = refl
-      go true e =
-          let p = among (rows_of forest) left_open (classes_in scope)
-          (ap (list_any left_open) (sym declared_here) ∙ e) in
-          contradiction (nearest (filter (declares_method (rows_of forest) p.method.declared.name) (classes_in scope)))
-          p refl
+      go : (t : Bool) (o : Option FoundMethod) → is_user_class at ≡ t → own_method rows name at ≡ o
+          → is_abstract_found (or_else (if t then o else None)
+          (option_and_then (own_method rows name) (nearest scope.methods name))) ≡ true →
+          (own_left || named_left) ≡ true
+      go false o e g k = above k
+      go true None e g k = above k
+      go true (Some f) e g k =
+          let user : first_user_class ≤ at = grind (arith, nat_tests, e) in
+          ap (λ b. b || named_left)
+          (sym (named_abstract forest.nodes left (members_in (declarations_of forest) at))
+          ∙ ap (list_any (by_name left)) (sym (user_abstract forest at user)) ∙ own_any rows left name f k h at g)
 
-  pub some_open : 0 < length scope.methods.open.entries → true ≡ leaves_declared_open (rows_of forest) at_top
-  unfolding leaves_declared_open stays_abstract is_open
-  some_open n =
-      let found = find_entry scope.methods.open n in
-      at_name found.0 (nearest (filter (declares_method (rows_of forest) found.0) (classes_in scope))) refl found.1
+  pub leaves_by_own : true ≡ own_left → true ≡ leaves_declared_open rows at
+  leaves_by_own h =
+      let id = some_passes (λ id. holds (abstract_name (method_at forest.nodes id)) left) _ (sym h) in
+      go (abstract_name (method_at forest.nodes id.0)) id.1
     where
-      opened : (name : List ℕ) (c : ℕ) (o : Option FoundMethod) → own_method (rows_of forest) name c ≡ o
-          → nearest (filter (declares_method (rows_of forest) name) (classes_in scope)) ≡ Some c
-          → holds o (λ (f : FoundMethod). is_abstract f.method) ≡ true
-          → true ≡ leaves_declared_open (rows_of forest) at_top
-      opened name c None g e h = absurd (true≢false (sym h))
-      opened name c (Some f) g e h =
-          let own = own_is (rows_of forest) left_open name c f g in
-          let open_f : left_open f.method ≡ true =
-          ap (λ (w : List ℕ). holds (method_named (rows_of forest) at_top w)
-          (λ (x : FoundMethod). is_abstract x.method))
-          (sym own.name_is)
-          ∙ ap (λ (o : Option FoundMethod). holds o (λ (x : FoundMethod). is_abstract x.method)) (counts name c e ∙ g)
-          ∙ h in
-          sym (ap (list_any left_open) declared_here
-          ∙ any_of_class (rows_of forest) left_open (declares_method (rows_of forest) name) (classes_in scope) c e
-          (own.any h open_f))
+      go : (o : Option (List ℕ)) → holds o left ≡ true → true ≡ leaves_declared_open rows at
+      go None k = absurd (true≢false (sym k))
+      go (Some name) k = sym (left_open name k)
 
-      at_name : (name : List ℕ) (o : Option ℕ)
-          → nearest (filter (declares_method (rows_of forest) name) (classes_in scope)) ≡ o
-          → is_some (get is_same scope.methods.open name) ≡ true
-          → true ≡ leaves_declared_open (rows_of forest) at_top
-      at_name name None e h =
-          absurd (true≢false (sym (sym (s.settled name ∙ ap (λ (o : Option ℕ). holds
-          (option_and_then (own_method (rows_of forest) name) o) (λ (f : FoundMethod). is_abstract f.method))
-          (ap nearest (s.methods name) ∙ e)) ∙ h)))
-      at_name name (Some c) e h =
-          opened name c (own_method (rows_of forest) name c) refl e (sym (open_at name c e) ∙ h)
+  pub leaves_by_names : false ≡ own_left → named_left ≡ leaves_declared_open rows at
+  leaves_by_names h = go named_left (leaves_declared_open rows at) refl refl
+    where
+      go : (t u : Bool) → named_left ≡ t → leaves_declared_open rows at ≡ u → t ≡ u
+      go true u e g = let n = some_passes left _ e in sym (left_open n.0 n.1) ∙ g
+      go false false e g = refl
+      go false true e g =
+          let n = some_left g in
+          sym (ap (λ b. b || named_left) (sym h) ∙ e) ∙ found_left n.0 n.1

@@ -1,4 +1,3 @@
-pub mod Instances
+pub mod Names
 pub mod Scopes
-pub mod Stacks
 pub mod Symbols

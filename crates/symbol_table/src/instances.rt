@@ -3,7 +3,7 @@
 ghost use Rattle.std.specs.Prelude.{◌≡◌, length, filter, filter_map};
 ghost use Rattle.scj_rules.specs.Words.{holds};
 ghost use Rattle.scj_rules.specs.Views.{field_at};
-ghost use Rattle.symbol_table.specs.Instances.{is_instance};
+ghost use Rattle.symbol_table.specs.Scopes.{is_instance};
 
 use node_views::{is_field, is_static_field};
 use scj_base::NodeId;
@@ -21,7 +21,7 @@ fn is_instance_field(program: &Program, id: NodeId) -> bool
 }
 
 /// How many instance fields stand among members.
-#[tactic(auto, using(crate::proofs::InstanceLemmas::one_more, crate::proofs::InstanceLemmas::no_more))]
+#[tactic(auto, using(crate::proofs::InstanceLemmas::first_counted))]
 pub fn instance_count(program: &Program, members: &[NodeId]) -> usize
     ensures { result ≡ length (filter is_instance (filter_map (field_at program.now.nodes) members.now)) }
 {

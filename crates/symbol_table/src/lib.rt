@@ -1,13 +1,13 @@
 //! The members in scope at one class after another: what stands above a declaration, without a walk for each.
 #![tactic(auto)]
 
-pub mod entering;
 pub mod instances;
+pub mod levels;
 pub mod looks;
-pub mod moves;
+pub mod names;
+pub mod openings;
 pub mod order;
 pub mod scopes;
-pub mod stacks;
 pub mod table;
 pub mod ways;
 

@@ -1,7 +1,7 @@
 //! An order of the classes in which the table goes quickly: each class behind its superclass, and all that stand under
 //! a class together.
 
-ghost use Rattle.std.specs.Prelude.{◌≡◌, ◌<◌, length, IfOk, All};
+ghost use Rattle.std.specs.Prelude.{◌<◌, length, IfOk, All};
 ghost use Rattle.scj_rules.specs.Contexts.{declarations_of};
 
 use class_rows::Classes;
@@ -16,15 +16,6 @@ struct Families {
     first: Vec<u32>,
     /// The next class under the same superclass.
     next: Vec<u32>,
-}
-
-/// So many zeros.
-fn zeros(alloc: Global, count: u32) -> Result<Vec<u32>, Memory> {
-    let mut numbers = Vec::new(alloc);
-    for _place in 0..count {
-        numbers.push(0)?;
-    }
-    Ok(numbers)
 }
 
 /// The number at the place of a class.
@@ -44,8 +35,8 @@ fn put_at(numbers: &mut [u32], class: ClassId, number: u32) {
 
 /// The classes by their superclasses, those under one in the order of their numbers.
 fn group(alloc: Global, classes: &Classes<'_>, count: u32) -> Result<Families, Memory> {
-    let mut first = zeros(alloc, count)?;
-    let mut next = zeros(alloc, count)?;
+    let mut first = vec![in alloc; 0; count as usize]?;
+    let mut next = vec![in alloc; 0; count as usize]?;
     for passed in 0..count {
         let class = ClassId::at(count - 1 - passed);
         if let Some(above) = classes.superclass(class) {
@@ -81,7 +72,8 @@ fn next_class(
     None
 }
 
-/// All classes, each behind its superclass.
+/// Classes in that order: those that stand under `Object`. The contract says only that they are classes of the program;
+/// the order counts for speed alone, and a caller that needs each class adds those that are missing.
 pub fn tour(alloc: Global, classes: &Classes<'_>) -> Result<Vec<ClassId>, Memory>
     ensures { IfOk result (λ order. All (λ class. class < length (declarations_of classes.now).classes) order.items) }
 {

@@ -1,41 +1,39 @@
 //! What a table keeps of the classes that are in scope.
 
 ghost use Rattle.std.specs.Prelude.{◌≡◌, [], ◌∷◌, length, MatchOption, OnOk};
-ghost use Rattle.symbol_table.specs.Scopes.{nearest_level, top_class, top_count, top_runnable, top_safelet};
+ghost use Rattle.symbol_table.specs.Scopes.{nearest_level, object_level};
 
-use crate::stacks::Stack;
-use class_headers::NameKey;
-use indexmap::IndexMap;
-use scj_base::{ClassId, Memory};
+use crate::levels::Level;
+use crate::names::{Covered, Names};
+use scj_base::Memory;
+use scj_base::ids::OBJECT;
 use std::alloc::Global;
 use std::marker::Model;
 
-/// A user class, with what it has of its own and of those above.
-#[derive(Clone, Copy, Debug)]
-pub struct Level {
+/// A class whose names are entered, with what stood under them before.
+#[derive(Drop)]
+pub struct Entered {
     /// The class.
-    pub class: ClassId,
-    /// Whether it implements `Runnable`.
-    pub is_runnable: bool,
-    /// Whether it implements `Safelet`.
-    pub is_safelet: bool,
-    /// How many instance fields an object has.
-    pub field_count: usize,
+    pub level: Level,
+    /// What stood under the names of its fields.
+    pub fields: Vec<Covered>,
+    /// What stood under the names of its methods.
+    pub methods: Vec<Covered>,
 }
 
-/// The user classes of a chain. A contract sees the nearest first.
+/// The classes of a chain. A contract sees the nearest first.
 #[derive(Drop)]
 pub struct Path {
-    levels: Vec<Level>,
+    classes: Vec<Entered>,
 }
 
 impl Model for Path {
     ghost use Rattle.std.specs.Prelude.{List, reverse};
-    ghost use Rattle.symbol_table.specs.declared.scopes.Level.{Level};
+    ghost use Rattle.symbol_table.specs.declared.scopes.Entered.{Entered};
 
-    ghost Value = { List Level };
+    ghost Value = { List Entered };
 
-    ghost view = { λ a. reverse a.levels.items };
+    ghost view = { λ a. reverse a.classes.items };
 }
 
 impl Path {
@@ -44,119 +42,77 @@ impl Path {
         ensures { result ≡ [] }
     {
         Path {
-            levels: Vec::new(alloc),
+            classes: Vec::new(alloc),
         }
     }
 
     /// Puts a class under the nearest.
-    pub fn push(&mut self, level: Level) -> Result<(), Memory>
-        ensures { OnOk result (self.new ≡ level ∷ self.old) }
+    pub fn push(&mut self, class: Entered) -> Result<(), Memory>
+        ensures { OnOk result (self.new ≡ class ∷ self.old) }
     {
-        self.levels.push(level)?;
+        self.classes.push(class)?;
         Ok(())
     }
 
     /// Takes the nearest class away, if there is one.
-    pub fn pop(&mut self) -> Option<Level>
-        ensures { MatchOption result (self.old ≡ [] × self.new ≡ []) (λ level. self.old ≡ level ∷ self.new) }
+    pub fn pop(&mut self) -> Option<Entered>
+        ensures { MatchOption result (self.old ≡ [] × self.new ≡ []) (λ class. self.old ≡ class ∷ self.new) }
     {
-        self.levels.pop()
+        self.classes.pop()
     }
 
     /// The nearest class.
-    pub fn nearest(&self) -> Option<Level>
+    pub fn nearest_level(&self) -> Option<Level>
         ensures { result ≡ nearest_level self.now }
     {
-        self.levels.last().copied()
+        match self.classes.last() {
+            Some(class) => Some(class.level),
+            None => None,
+        }
     }
 
     /// How many classes there are.
     pub fn len(&self) -> usize
         ensures { result ≡ length self.now }
     {
-        self.levels.len()
+        self.classes.len()
     }
-}
-
-/// The methods of the user classes of a chain.
-#[derive(Drop)]
-pub struct Methods {
-    /// The classes that declare a method of a name.
-    pub stacks: IndexMap<NameKey, Stack>,
-    /// The names whose nearest method is abstract.
-    pub open: IndexMap<NameKey, ()>,
 }
 
 /// The members in scope at a class.
 #[derive(Drop)]
 pub struct Scope {
-    /// The framework class under which the user classes stand.
-    pub root: ClassId,
-    /// The user classes.
+    /// The class.
+    pub level: Level,
+    /// Those above it.
     pub path: Path,
-    /// The classes that declare a field of a name.
-    pub fields: IndexMap<NameKey, Stack>,
-    /// The methods.
-    pub methods: Methods,
+    /// The fields of those.
+    pub fields: Names,
+    /// Their methods.
+    pub methods: Names,
 }
 
 impl Scope {
-    /// The scope at a framework class.
-    pub fn at(alloc: Global, root: ClassId) -> Scope
-        ensures root { result.root ≡ root }
+    /// The scope at `Object`.
+    pub fn new(alloc: Global) -> Scope
+        ensures level { result.level ≡ object_level }
         ensures path { result.path ≡ [] }
-        ensures fields { result.fields.entries ≡ [] }
-        ensures methods { result.methods.stacks.entries ≡ [] }
+        ensures fields { result.fields.classes.entries ≡ [] }
+        ensures no_fields_open { result.fields.open.entries ≡ [] }
+        ensures methods { result.methods.classes.entries ≡ [] }
         ensures open { result.methods.open.entries ≡ [] }
     {
         Scope {
-            root,
-            path: Path::new(alloc),
-            fields: IndexMap::new(alloc),
-            methods: Methods {
-                stacks: IndexMap::new(alloc),
-                open: IndexMap::new(alloc),
+            level: Level {
+                class: OBJECT,
+                root: OBJECT,
+                is_runnable: false,
+                is_safelet: false,
+                field_count: 0,
             },
+            path: Path::new(alloc),
+            fields: Names::new(alloc),
+            methods: Names::new(alloc),
         }
-    }
-}
-
-/// The class that a scope is at.
-pub fn top_class(scope: &Scope) -> ClassId
-    ensures { result ≡ top_class scope.now.root scope.now.path }
-{
-    match scope.path.nearest() {
-        Some(level) => level.class,
-        None => scope.root,
-    }
-}
-
-/// Whether the nearest class implements `Runnable`.
-pub fn top_runnable(path: &Path) -> bool
-    ensures { result ≡ top_runnable path.now }
-{
-    match path.nearest() {
-        Some(level) => level.is_runnable,
-        None => false,
-    }
-}
-
-/// Whether the nearest class implements `Safelet`.
-pub fn top_safelet(path: &Path) -> bool
-    ensures { result ≡ top_safelet path.now }
-{
-    match path.nearest() {
-        Some(level) => level.is_safelet,
-        None => false,
-    }
-}
-
-/// How many instance fields an object of the nearest class has.
-pub fn top_count(path: &Path) -> usize
-    ensures { result ≡ top_count path.now }
-{
-    match path.nearest() {
-        Some(level) => level.field_count,
-        None => 0,
     }
 }

@@ -2,19 +2,17 @@
 
 ghost use Rattle.std.specs.Prelude.{◌≡◌, ◌<◌, length, option_and_then, option_map, IfOk, OnOk};
 ghost use Rattle.scj_builtins.specs.Framework.{object};
-ghost use Rattle.scj_rules.specs.Words.{is_among};
-ghost use Rattle.scj_rules.specs.Classes.{all_interfaces, field_named, first_user_class, framework_row_named, instance_fields, is_sub, method_above, method_named, superclass_in};
+ghost use Rattle.scj_rules.specs.Classes.{field_named, first_user_class, framework_row_named, instance_fields, is_sub, method_above, method_named, superclass_in};
 ghost use Rattle.scj_rules.specs.Contexts.{declarations_of};
 ghost use Rattle.method_rows.specs.Methods.{found_method};
 ghost use Rattle.class_rows.specs.Fields.{found_field};
 ghost use Rattle.symbol_table.specs.Symbols.{at_class, leaves_declared_open};
 
-use crate::looks;
-use crate::scopes::{Scope, top_class};
+use crate::scopes::Scope;
 use crate::ways::go;
+use crate::{looks, openings};
 use class_rows::{Classes, FieldRef};
 use method_rows::MethodRef;
-use scj_base::ids::OBJECT;
 use scj_base::{ClassId, Memory, Name};
 use std::alloc::Global;
 use std::marker::Model;
@@ -29,11 +27,11 @@ pub struct SymbolTable<'a> {
 
 impl<'a> Model for SymbolTable<'a> {
     ghost use Rattle.symbol_table.specs.Symbols.{AtClass, at_class};
-    ghost use Rattle.symbol_table.specs.Scopes.{IsScope, top_class};
+    ghost use Rattle.symbol_table.specs.Scopes.{IsScope};
 
     ghost Value = { AtClass };
 
-    ghost view = { λ a. at_class a.classes (top_class a.scope.root a.scope.path) };
+    ghost view = { λ a. at_class a.classes a.scope.level.class };
 
     ghost invariant = { λ a. IsScope a.classes a.scope };
 }
@@ -46,18 +44,19 @@ impl<'a> SymbolTable<'a> {
         Ok(SymbolTable {
             alloc,
             classes: classes.again(),
-            scope: Scope::at(alloc, OBJECT),
+            scope: Scope::new(alloc),
         })
     }
 
-    /// Goes to a class: it costs the members of the classes that are left and entered, which is little where the
-    /// superclass is in scope. After an `Err` it is at `Object`.
+    /// Goes to a class: it costs the members of the classes above that are left and entered, which is little where the
+    /// superclass is in scope. After an `Err` it is at `Object`. That also tells of headers and of chains longer than
+    /// there are classes, of which no program has any.
     pub fn go_to(&mut self, class: ClassId) -> Result<(), Memory>
         requires { class < length (declarations_of self.old.forest).classes }
         ensures { OnOk result (self.new ≡ at_class self.old.forest class) }
     {
-        if go(self.alloc, &self.classes, &mut self.scope, class).is_err() {
-            self.scope = Scope::at(self.alloc, OBJECT);
+        if go(self.alloc, &mut self.scope, &self.classes, class).is_err() {
+            self.scope = Scope::new(self.alloc);
             return Err(Memory);
         }
         Ok(())
@@ -74,7 +73,7 @@ impl<'a> SymbolTable<'a> {
     pub fn class(&self) -> ClassId
         ensures { result ≡ self.now.class }
     {
-        top_class(&self.scope)
+        self.scope.level.class
     }
 
     /// The field of a name that the superclass has, its own or the nearest above.
@@ -110,14 +109,6 @@ impl<'a> SymbolTable<'a> {
         looks::framework_row_named(&self.classes, &self.scope, name)
     }
 
-    /// Whether a class of the chain implements the interface.
-    pub fn implements(&self, interface: ClassId) -> bool
-        ensures { result ≡ is_among interface
-            (all_interfaces (declarations_of self.now.forest).classes self.now.class) }
-    {
-        looks::implements(&self.classes, &self.scope, interface)
-    }
-
     /// Whether the class is a subclass of a framework class, or implements it.
     pub fn is_sub(&self, above: ClassId) -> bool
         requires { above < first_user_class }
@@ -130,13 +121,13 @@ impl<'a> SymbolTable<'a> {
     pub fn leaves_declared_open(&self) -> bool
         ensures { result ≡ leaves_declared_open (declarations_of self.now.forest).classes self.now.class }
     {
-        looks::leaves_declared_open(&self.classes, &self.scope)
+        openings::leaves_declared_open(&self.classes, &self.scope)
     }
 
     /// How many instance fields an object of the class has.
     pub fn instance_field_count(&self) -> usize
         ensures { result ≡ length (instance_fields (declarations_of self.now.forest).classes self.now.class) }
     {
-        looks::instance_field_count(&self.classes, &self.scope)
+        self.scope.level.field_count
     }
 }

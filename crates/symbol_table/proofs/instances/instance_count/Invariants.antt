@@ -1,6 +1,6 @@
 use Rattle.std.proofs.Common.{◌≡◌, ◌≤◌, ◌+◌, length, filter, filter_map}
 use Rattle.scj_rules.specs.Views.{field_at}
-use Rattle.symbol_table.specs.Instances.{is_instance}
+use Rattle.symbol_table.specs.Scopes.{is_instance}
 use Rattle.symbol_table.proofs.instances.instance_count.Given as goal
 
 -- the other members are still to be counted
