@@ -1,8 +1,5 @@
-pub mod HeaderLemmas
 pub mod InterfaceLemmas
-pub mod JoinLemmas
 pub mod MemberLemmas
-pub mod NameLemmas
 pub mod OpeningLemmas
 pub mod OverrideLemmas
 pub mod SafeletLemmas

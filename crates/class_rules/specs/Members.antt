@@ -1,35 +1,47 @@
--- What is broken at a class, in the order in which it is noted.
-use Rattle.std.specs.Prelude.{ℕ, List, ◌++◌, flat_map, filter_map}
+-- What is broken at the members of a class and at its interfaces, by their nodes; names that are compared with earlier
+-- ones; and the abstract methods of the framework that a class has.
+use Rattle.std.specs.Prelude.{ℕ, List, filter, flat_map, filter_map, Bool, ◌&&◌, ◌≡◌, ◌++◌}
 use Rattle.scj_base.specs.declared.findings.Found.{Found}
-use Rattle.scj_base.specs.declared.findings.Rule.TheVariants.{C4, C6, C7}
+use Rattle.scj_base.specs.declared.findings.Rule.TheVariants.{C2, C4, C6, C7}
+use Rattle.scj_tree.specs.declared.nodes.Node.{Node}
+use Rattle.scj_rules.specs.declared.scopes.Written.{Written}
 use Rattle.scj_rules.specs.declared.views.Declared.{Declared}
-use Rattle.scj_rules.specs.Words.{broken, found_at}
-use Rattle.scj_rules.specs.Views.{DeclaredMethod, WrittenClass, field_at, method_at}
-use Rattle.scj_rules.specs.ClassRules.{c1, c2, c3, c5, c10, hides_field, overrides_wrongly, has_wrong_body, leaves_open}
-use Rattle.scj_rules.specs.LimitRules.{k1, k4}
+use Rattle.scj_rules.specs.Definitions.{read}
+use Rattle.scj_rules.specs.Words.{broken, named_twice}
+use Rattle.scj_rules.specs.Views.{DeclaredMethod, field_at, method_at, named_super}
+use Rattle.scj_rules.specs.ClassRules.{broken_at, hides_field, has_wrong_body, names_no_class, overrides_wrongly, is_left_open}
 use Rattle.scj_rules.specs.Contexts.{Declarations}
-use Rattle.class_rules.specs.Twice.{repeated}
+use Rattle.scj_builtins.specs.declared.methods.FrameworkMethod.{FrameworkMethod}
+use Rattle.scj_rules.specs.Classes.{is_sub, framework_method}
+use Rattle.scj_base.specs.declared.findings.Rule.{Rule}
+use Rattle.scj_base.specs.Bytes.{is_one_of}
 
--- C6 and C7 at a method of a class, and C4 at a field that one above has
-unfoldable pub method_breaks : Declarations → ℕ → DeclaredMethod → List Found
-method_breaks p class m =
-    broken (overrides_wrongly p class m) C6 m.declared.place ++ broken (has_wrong_body m) C7 m.declared.place
+-- fields that are hidden; methods that override wrongly; methods whose body is missing or too much
+abbrev pub hidings : Declarations → ℕ → List Node → List ℕ → List Found
+hidings p class nodes ids =
+    flat_map (λ (f : Declared). broken (hides_field p class f) C4 f.place) (filter_map (field_at nodes) ids)
 
-unfoldable pub hiding_break : Declarations → ℕ → Declared → List Found
-hiding_break p class f = broken (hides_field p class f) C4 f.place
+abbrev pub overrides : Declarations → ℕ → List Node → List ℕ → List Found
+overrides p class nodes ids =
+    flat_map (λ (m : DeclaredMethod). broken (overrides_wrongly p class m) C6 m.declared.place)
+    (filter_map (method_at nodes) ids)
 
--- the same at a member
-unfoldable pub member_breaks : Declarations → ℕ → ℕ → List Found
-member_breaks p class id =
-    found_at (method_at p.nodes id) (method_breaks p class) ++ found_at (field_at p.nodes id) (hiding_break p class)
+abbrev pub bodies : List Node → List ℕ → List Found
+bodies nodes ids =
+    flat_map (λ (m : DeclaredMethod). broken (has_wrong_body m) C7 m.declared.place) (filter_map (method_at nodes) ids)
 
--- in the header of a class
-unfoldable pub header_breaks : Declarations → ℕ → WrittenClass → List Found
-header_breaks p class c = c1 p class c ++ (c2 p c ++ (c3 p class c ++ (c10 p c ++ k1 class c)))
+-- interfaces that no class is
+abbrev pub unknown_interfaces : Declarations → List Node → List ℕ → List Found
+unknown_interfaces p nodes ids =
+    broken_at C2 (filter (λ (w : Written). names_no_class p w.name) (filter_map (read nodes named_super) ids))
 
--- among its members
-unfoldable pub body_breaks : Declarations → ℕ → WrittenClass → List Found
-body_breaks p class c =
-    repeated (filter_map (field_at p.nodes) c.members)
-    ++ (c5 p c
-    ++ (flat_map (member_breaks p class) c.members ++ (broken (leaves_open p class c) C7 c.place ++ k4 p class c)))
+-- a test knows the earlier names, and what is found of the others makes the whole
+pub record StillTwice (known : List ℕ → Bool) (found whole : List Found) (rule : Rule)
+    (others : List Written) : Type 0 where
+  pub earlier : List (List ℕ)
+  pub exact : (name : List ℕ) → known name ≡ is_one_of name earlier
+  pub left : found ++ broken_at rule (named_twice (λ (w : Written). w.name) earlier others) ≡ whole
+
+-- a class has an abstract method of the framework left
+abbrev pub is_row_left : Declarations → ℕ → FrameworkMethod → Bool
+is_row_left p class m = m.is_abstract && is_sub p.classes class m.on && is_left_open p class (framework_method m)

@@ -1,10 +1,13 @@
--- A class as its parts write it.
-use Rattle.std.specs.Prelude.{List, filter_map}
+-- A class as its parts write it, and what is broken at it.
+use Rattle.std.specs.Prelude.{ℕ, List, ◌++◌, filter_map}
+use Rattle.scj_base.specs.declared.findings.Found.{Found}
 use Rattle.scj_tree.specs.declared.nodes.Node.{Node}
 use Rattle.scj_tree.specs.Forest.{Forest}
 use Rattle.scj_rules.specs.Definitions.{read}
 use Rattle.scj_rules.specs.Classes.{ClassRow, user_row}
-use Rattle.scj_rules.specs.Contexts.{declarations_of}
+use Rattle.scj_rules.specs.ClassRules.{class_breaks}
+use Rattle.scj_rules.specs.Contexts.{Declarations, declarations_of}
+use Rattle.scj_rules.specs.LimitRules.{class_limits}
 use Rattle.scj_rules.specs.Views.{named_super, WrittenClass}
 use Rattle.class_rules.specs.declared.parts.ClassParts.{ClassParts}
 
@@ -20,6 +23,12 @@ written_class nodes c =
       members = c.members.now;
     }
 
--- the row that a user class has by what it writes
-abbrev pub own_row : Forest → ClassParts → ClassRow
-own_row forest c = user_row forest.nodes (declarations_of forest).names (written_class forest.nodes c)
+-- the row of a user class by what it writes
+abbrev pub own_row : Declarations → WrittenClass → ClassRow
+own_row p c = user_row p.nodes p.names c
+
+abbrev pub row_of : Forest → ClassParts → ClassRow
+row_of forest c = own_row (declarations_of forest) (written_class forest.nodes c)
+
+abbrev pub class_found : Declarations → ℕ → ClassRow → WrittenClass → List Found
+class_found p class row c = class_breaks p class row c ++ class_limits p class c

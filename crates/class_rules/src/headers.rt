@@ -1,14 +1,11 @@
 //! What is wrong with the header of a class.
 
-ghost use Rattle.std.specs.Prelude.{◌≡◌, ◌++◌, ◌<◌, Some, length, filter, filter_map, OnOk};
-ghost use Rattle.scj_rules.specs.declared.scopes.Written.{Written as Named};
-ghost use Rattle.scj_rules.specs.Definitions.{read};
+ghost use Rattle.std.specs.Prelude.{◌≡◌, ◌++◌, ◌<◌, Some, length, OnOk};
 ghost use Rattle.scj_rules.specs.Words.{broken};
-ghost use Rattle.scj_rules.specs.Views.{class_at, named_super};
+ghost use Rattle.scj_rules.specs.Views.{class_at};
 ghost use Rattle.scj_rules.specs.ClassRules.{broken_at, c1, c2, c3, c10, names_no_class};
-ghost use Rattle.scj_rules.specs.LimitRules.{k1};
 ghost use Rattle.scj_rules.specs.Contexts.{declarations_of};
-ghost use Rattle.class_rules.specs.Members.{header_breaks};
+ghost use Rattle.class_rules.specs.Members.{unknown_interfaces};
 ghost use Rattle.class_rules.specs.Parts.{written_class};
 ghost use Rattle.scj_base.specs.declared.findings.Rule.TheVariants.{C2};
 
@@ -16,27 +13,8 @@ use crate::parts::ClassParts;
 use class_rows::Classes;
 use node_views::named_super;
 use scj_base::{ClassId, Found, Memory, NodeId, Rule};
-use scj_builtins::FRAMEWORK_CLASS_COUNT;
 use scj_rules::{Written, report_if};
 use std::alloc::Global;
-
-/// Notes a class that has the name of an earlier one.
-#[tactic(auto, unfolding(scj_rules::specs::ClassRules::c1))]
-fn note_c1(
-    found: &mut Vec<Found>,
-    classes: &Classes<'_>,
-    class: ClassId,
-    c: &ClassParts<'_>,
-) -> Result<(), Memory>
-    ensures { OnOk result (found.new.items ≡ found.old.items
-        ++ c1 (declarations_of classes.now) class (written_class classes.now.nodes c.now)) }
-{
-    let is_taken = match classes.class_of(&c.name) {
-        Some(first) => first.number() < class.number(),
-        None => false,
-    };
-    report_if(found, is_taken, Rule::C1, c.place)
-}
 
 /// Notes a name after `extends` or `implements`, where no class has it.
 fn note_unknown(
@@ -56,16 +34,14 @@ fn note_unknown(
 }
 
 /// Notes the names after `implements` that no class has.
-#[tactic(auto, using(crate::proofs::HeaderLemmas::one_unknown))]
+#[tactic(auto, using(crate::proofs::MemberLemmas::one_unknown))]
 fn note_unknown_interfaces(
     found: &mut Vec<Found>,
     classes: &Classes<'_>,
     interfaces: &[NodeId],
 ) -> Result<(), Memory>
     ensures { OnOk result (found.new.items ≡ found.old.items
-        ++ broken_at C2
-        (filter (λ (w : Named). names_no_class (declarations_of classes.now) w.name)
-        (filter_map (read classes.now.nodes named_super) interfaces.now))) }
+        ++ unknown_interfaces (declarations_of classes.now) classes.now.nodes interfaces.now) }
 {
     let mut others = interfaces;
     while let [id, rest @ ..] = others {
@@ -77,37 +53,9 @@ fn note_unknown_interfaces(
     Ok(())
 }
 
-/// Notes the names after `extends` and `implements` that no class has.
-#[tactic(auto, unfolding(scj_rules::specs::ClassRules::c2), using(crate::proofs::HeaderLemmas::one_unknown))]
-fn note_c2(found: &mut Vec<Found>, classes: &Classes<'_>, c: &ClassParts<'_>) -> Result<(), Memory>
-    ensures { OnOk result (found.new.items ≡ found.old.items
-        ++ c2 (declarations_of classes.now) (written_class classes.now.nodes c.now)) }
-{
-    if let Some(written) = &c.extends {
-        note_unknown(found, classes, written)?;
-    }
-    note_unknown_interfaces(found, classes, c.interfaces)?;
-    Ok(())
-}
-
-/// Notes a class whose superclasses come back to it.
-#[tactic(auto, unfolding(scj_rules::specs::ClassRules::c3))]
-fn note_c3(
-    found: &mut Vec<Found>,
-    classes: &Classes<'_>,
-    class: ClassId,
-    c: &ClassParts<'_>,
-) -> Result<(), Memory>
-    requires { class < length (declarations_of classes.now).classes }
-    ensures { OnOk result (found.new.items ≡ found.old.items
-        ++ c3 (declarations_of classes.now) class (written_class classes.now.nodes c.now)) }
-{
-    report_if(found, classes.is_cyclic(class), Rule::C3, c.place)
-}
-
 /// Notes the names in the header of a class that are forbidden there.
 #[tactic(auto, unfolding(scj_rules::specs::ClassRules::c10, class_headers::specs::Supers::forbidden_in))]
-fn note_c10(
+pub fn note_c10(
     alloc: Global,
     found: &mut Vec<Found>,
     classes: &Classes<'_>,
@@ -138,43 +86,29 @@ fn note_names(found: &mut Vec<Found>, names: &[Written], rule: Rule) -> Result<(
     Ok(())
 }
 
-/// Notes the 257th class and each later one.
-#[tactic(auto, unfolding(scj_rules::specs::LimitRules::k1))]
-fn note_k1(
-    found: &mut Vec<Found>,
-    classes: &Classes<'_>,
-    class: ClassId,
-    c: &ClassParts<'_>,
-) -> Result<(), Memory>
-    ensures { OnOk result (found.new.items ≡ found.old.items ++ k1 class (written_class classes.now.nodes c.now)) }
-{
-    let _ = classes;
-    report_if(
-        found,
-        class.number() >= FRAMEWORK_CLASS_COUNT + 256,
-        Rule::K1,
-        c.place,
-    )
-}
-
-/// Notes what is wrong with the header of a class.
-#[tactic(auto, unfolding(crate::specs::Members::header_breaks))]
+/// Notes a class that has the name of an earlier one, the names in its header that no class has, and a class whose
+/// superclasses come back to it.
+#[tactic(auto, unfolding(scj_rules::specs::ClassRules::c1, scj_rules::specs::ClassRules::c2, scj_rules::specs::ClassRules::c3), using(crate::proofs::MemberLemmas::one_unknown))]
 pub fn note_header(
-    alloc: Global,
     found: &mut Vec<Found>,
     classes: &Classes<'_>,
     class: ClassId,
     c: &ClassParts<'_>,
 ) -> Result<(), Memory>
-    requires within { class < length (declarations_of classes.now).classes }
-    requires there { class_at classes.now.nodes c.now.node ≡ Some (written_class classes.now.nodes c.now) }
+    requires { class < length (declarations_of classes.now).classes }
     ensures { OnOk result (found.new.items ≡ found.old.items
-        ++ header_breaks (declarations_of classes.now) class (written_class classes.now.nodes c.now)) }
+        ++ (c1 (declarations_of classes.now) class (written_class classes.now.nodes c.now)
+        ++ (c2 (declarations_of classes.now) (written_class classes.now.nodes c.now)
+        ++ c3 (declarations_of classes.now) class (written_class classes.now.nodes c.now)))) }
 {
-    note_c1(found, classes, class, c)?;
-    note_c2(found, classes, c)?;
-    note_c3(found, classes, class, c)?;
-    note_c10(alloc, found, classes, c)?;
-    note_k1(found, classes, class, c)?;
-    Ok(())
+    let is_taken = match classes.class_of(&c.name) {
+        Some(first) => first.number() < class.number(),
+        None => false,
+    };
+    report_if(found, is_taken, Rule::C1, c.place)?;
+    if let Some(written) = &c.extends {
+        note_unknown(found, classes, written)?;
+    }
+    note_unknown_interfaces(found, classes, c.interfaces)?;
+    report_if(found, classes.is_cyclic(class), Rule::C3, c.place)
 }

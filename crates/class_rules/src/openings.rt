@@ -7,10 +7,10 @@ ghost use Rattle.scj_rules.specs.Words.{holds};
 ghost use Rattle.scj_rules.specs.ClassRules.{is_left_open, abstract_methods};
 ghost use Rattle.scj_rules.specs.Contexts.{declarations_of};
 ghost use Rattle.method_rows.specs.Methods.{found_method};
-ghost use Rattle.class_rules.specs.Openings.{is_row_left};
+ghost use Rattle.class_rules.specs.Members.{is_row_left};
 
 use crate::overrides::stays_open;
-use method_rows::{MethodRef, MethodSource, declared};
+use method_rows::{MethodRef, MethodSource, name};
 use scj_base::MethodId;
 use scj_builtins::{FRAMEWORK_METHOD_COUNT, framework_method};
 use symbol_table::SymbolTable;
@@ -21,8 +21,7 @@ fn is_left_open(table: &SymbolTable<'_>, m: &MethodRef) -> bool
     ensures { result ≡ is_left_open (declarations_of table.now.forest) table.now.class
         (found_method table.now.forest.nodes m.now).method }
 {
-    let own = declared(table.classes().program(), m);
-    match &table.method_named(&own.name) {
+    match &table.method_named(&name(table.classes().program(), m)) {
         Some(instead) => stays_open(table, m, instead),
         None => false,
     }

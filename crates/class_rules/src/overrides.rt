@@ -8,7 +8,7 @@ ghost use Rattle.class_rules.specs.Types.{kind_of_row};
 
 use crate::types::{class_written, have_same_types, is_same_type};
 use class_rows::Classes;
-use method_rows::{MethodRef, builtin, declared, is_overridable};
+use method_rows::{MethodRef, builtin, declared, is_overridable, is_static, name, result_type};
 use scj_base::ids::{MISSION, MISSION_SEQUENCER};
 use scj_base::{ClassId, Name};
 use scj_builtins::FRAMEWORK_CLASS_COUNT;
@@ -20,8 +20,7 @@ use symbol_table::SymbolTable;
 fn kind_of_row(classes: &Classes<'_>, row: &MethodRef) -> Option<ClassId>
     ensures { result ≡ kind_of_row (declarations_of classes.now) (found_method classes.now.nodes row.now) }
 {
-    let declared = declared(classes.program(), row);
-    let kind = class_written(classes, &declared.declared_type)?;
+    let kind = class_written(classes, &result_type(classes.program(), row))?;
     if kind == MISSION_SEQUENCER {
         return Some(kind);
     }
@@ -90,9 +89,13 @@ fn has_types_of(table: &SymbolTable<'_>, m: &MethodRef, above: &MethodRef) -> bo
     if !have_same_types(program, m, above) {
         return false;
     }
-    let own = declared(program, m);
-    let other = declared(program, above);
-    is_result_of(table, &own.name, &own.declared_type, &other.declared_type)
+    let written = result_type(program, m);
+    is_result_of(
+        table,
+        &name(program, m),
+        &written,
+        &result_type(program, above),
+    )
 }
 
 /// Whether a method of a class may not stand in the place of the one above.
@@ -105,9 +108,7 @@ pub fn is_wrong_override(table: &SymbolTable<'_>, m: &MethodRef, above: &MethodR
     if !is_overridable(program, above) {
         return true;
     }
-    let own = declared(program, m);
-    let other = declared(program, above);
-    if own.modifiers.is_static != other.modifiers.is_static {
+    if is_static(program, m) != is_static(program, above) {
         return true;
     }
     !has_types_of(table, m, above)

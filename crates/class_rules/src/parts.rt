@@ -1,13 +1,16 @@
 //! A class as it is written.
 
-ghost use Rattle.std.specs.Prelude.{◌≡◌, option_map};
+ghost use Rattle.std.specs.Prelude.{◌≡◌, Some, option_map, IfSome};
+ghost use Rattle.scj_rules.specs.Contexts.{declarations_of};
 ghost use Rattle.scj_rules.specs.Views.{class_at, class_of};
+ghost use Rattle.class_rows.specs.Tables.{class_written};
 ghost use Rattle.class_rules.specs.Parts.{written_class};
 
+use class_rows::Classes;
 use node_views::{class_extends, interface_nodes, modifiers_at};
-use scj_base::{Name, NodeId, Pos};
+use scj_base::{ClassId, Name, NodeId, Pos};
 use scj_rules::{Modifiers, Written};
-use scj_tree::{Node, Program};
+use scj_tree::Node;
 
 /// A class as it is written.
 #[derive(Clone, Copy)]
@@ -28,12 +31,17 @@ pub struct ClassParts<'a> {
     pub members: &'a [NodeId],
 }
 
-/// The class at a node.
+/// A user class, by its number.
 #[tactic(auto, unfolding(scj_rules::specs::Views::class_of))]
-pub fn class_parts(program: &Program, id: NodeId) -> Option<ClassParts<'_>>
-    ensures { option_map (written_class program.now.nodes) result ≡ class_at program.now.nodes id }
+pub fn parts_of<'a>(classes: &Classes<'a>, class: ClassId) -> Option<ClassParts<'a>>
+    ensures parts { option_map (written_class classes.now.nodes) result
+        ≡ class_written (declarations_of classes.now) class }
+    ensures there { IfSome result
+        (λ c. class_at classes.now.nodes c.node ≡ Some (written_class classes.now.nodes c)) }
 {
-    match program.get(id)? {
+    let node = classes.class_node(class)?;
+    let program = classes.program();
+    match program.get(node)? {
         Node::Class {
             place,
             name,
@@ -41,12 +49,12 @@ pub fn class_parts(program: &Program, id: NodeId) -> Option<ClassParts<'_>>
             header: _,
             members,
         } => Some(ClassParts {
-            node: id,
+            node,
             place: *place,
             name: *name.get(),
             modifiers: modifiers_at(program, *flags),
-            extends: class_extends(program, id),
-            interfaces: interface_nodes(program, id),
+            extends: class_extends(program, node),
+            interfaces: interface_nodes(program, node),
             members: members.items(),
         }),
         _ => None,

@@ -1,67 +1,109 @@
-//! The rules at the members of one class.
+//! The rules at one class.
 
-ghost use Rattle.std.specs.Prelude.{◌≡◌, ◌++◌, OnOk};
-ghost use Rattle.scj_base.specs.declared.findings.Rule.TheVariants.{C7 as open_class};
-ghost use Rattle.scj_rules.specs.Words.{broken};
-ghost use Rattle.scj_rules.specs.ClassRules.{leaves_open};
-ghost use Rattle.scj_rules.specs.LimitRules.{k4};
+ghost use Rattle.std.specs.Prelude.{◌≡◌, ◌++◌, ◌<◌, Some, length, OnOk};
+ghost use Rattle.scj_rules.specs.Views.{class_at};
+ghost use Rattle.scj_rules.specs.ClassRules.{c1, c2, c3, c4, c5, c6, c7, c10};
+ghost use Rattle.scj_rules.specs.LimitRules.{class_limits};
 ghost use Rattle.scj_rules.specs.Contexts.{declarations_of};
-ghost use Rattle.class_rules.specs.Members.{body_breaks};
-ghost use Rattle.class_rules.specs.Parts.{written_class};
+ghost use Rattle.class_rules.specs.Parts.{class_found, row_of, written_class};
 
-use crate::members::note_members;
+use crate::headers::{note_c10, note_header};
+use crate::members::{note_bodies, note_hidings, note_overrides};
 use crate::openings::leaves_open;
 use crate::parts::ClassParts;
 use crate::repeats::{note_c5, note_repeated_fields};
 use scj_base::{Found, Memory, Rule};
+use scj_builtins::FRAMEWORK_CLASS_COUNT;
 use scj_rules::report_if;
 use std::alloc::Global;
 use symbol_table::SymbolTable;
 
-/// Notes a concrete class that leaves an abstract method open.
-fn note_open(
-    found: &mut Vec<Found>,
-    table: &SymbolTable<'_>,
-    c: &ClassParts<'_>,
-) -> Result<(), Memory>
-    ensures { OnOk result (found.new.items ≡ found.old.items
-        ++ broken (leaves_open (declarations_of table.now.forest) table.now.class
-        (written_class table.now.forest.nodes c.now)) open_class c.now.place) }
-{
-    let is_open = !c.modifiers.is_abstract && leaves_open(table);
-    report_if(found, is_open, Rule::C7, c.place)
-}
-
-/// Notes a class whose objects have too many instance fields.
-#[tactic(auto, unfolding(scj_rules::specs::LimitRules::k4))]
-fn note_k4(
-    found: &mut Vec<Found>,
-    table: &SymbolTable<'_>,
-    c: &ClassParts<'_>,
-) -> Result<(), Memory>
-    ensures { OnOk result (found.new.items ≡ found.old.items ++ k4 (declarations_of table.now.forest) table.now.class
-        (written_class table.now.forest.nodes c.now)) }
-{
-    report_if(found, table.instance_field_count() > 64, Rule::K4, c.place)
-}
-
-/// Notes what is wrong with the members of the class at which the table stands.
-#[tactic(auto, unfolding(crate::specs::Members::body_breaks, scj_rules::specs::Contexts::declarations_of))]
-pub fn note_body(
+/// Notes the fields of which an earlier one of the class or one above has the name.
+#[tactic(auto, unfolding(scj_rules::specs::ClassRules::c4, scj_rules::specs::Classes::user_row, scj_rules::specs::Contexts::declarations_of))]
+fn note_c4(
     alloc: Global,
     found: &mut Vec<Found>,
     table: &SymbolTable<'_>,
     c: &ClassParts<'_>,
 ) -> Result<(), Memory>
-    ensures { OnOk result (found.new.items ≡ found.old.items
-        ++ body_breaks (declarations_of table.now.forest) table.now.class
-        (written_class table.now.forest.nodes c.now)) }
+    ensures { OnOk result (found.new.items ≡ found.old.items ++ c4 (declarations_of table.now.forest) table.now.class
+        (row_of table.now.forest c.now)) }
 {
-    let program = table.classes().program();
-    note_repeated_fields(alloc, found, program, c)?;
-    note_c5(alloc, found, program, c)?;
-    note_members(found, table, c.members)?;
-    note_open(found, table, c)?;
-    note_k4(found, table, c)?;
+    note_repeated_fields(alloc, found, table.classes().program(), c)?;
+    note_hidings(found, table, c.members)?;
+    Ok(())
+}
+
+/// Notes a concrete class that leaves an abstract method open, and the methods whose body is missing or too much.
+#[tactic(auto, unfolding(scj_rules::specs::ClassRules::c7, scj_rules::specs::Classes::user_row, scj_rules::specs::Contexts::declarations_of))]
+fn note_c7(
+    found: &mut Vec<Found>,
+    table: &SymbolTable<'_>,
+    c: &ClassParts<'_>,
+) -> Result<(), Memory>
+    ensures { OnOk result (found.new.items ≡ found.old.items ++ c7 (declarations_of table.now.forest) table.now.class
+        (written_class table.now.forest.nodes c.now) (row_of table.now.forest c.now)) }
+{
+    let is_open = !c.modifiers.is_abstract && leaves_open(table);
+    report_if(found, is_open, Rule::C7, c.place)?;
+    note_bodies(found, table.classes().program(), table.class(), c.members)?;
+    Ok(())
+}
+
+/// Notes what is wrong with the methods of a class, and what is forbidden in its header.
+#[tactic(auto, unfolding(scj_rules::specs::ClassRules::c6, scj_rules::specs::Classes::user_row, scj_rules::specs::Contexts::declarations_of))]
+fn note_methods(
+    alloc: Global,
+    found: &mut Vec<Found>,
+    table: &SymbolTable<'_>,
+    c: &ClassParts<'_>,
+) -> Result<(), Memory>
+    requires { class_at table.now.forest.nodes c.now.node ≡ Some (written_class table.now.forest.nodes c.now) }
+    ensures { OnOk result (found.new.items ≡ found.old.items
+        ++ (c5 (declarations_of table.now.forest) (written_class table.now.forest.nodes c.now)
+        ++ (c6 (declarations_of table.now.forest) table.now.class (row_of table.now.forest c.now)
+        ++ (c7 (declarations_of table.now.forest) table.now.class (written_class table.now.forest.nodes c.now)
+        (row_of table.now.forest c.now)
+        ++ c10 (declarations_of table.now.forest) (written_class table.now.forest.nodes c.now))))) }
+{
+    note_c5(alloc, found, table.classes().program(), c)?;
+    note_overrides(found, table, c.members)?;
+    note_c7(found, table, c)?;
+    note_c10(alloc, found, table.classes(), c)?;
+    Ok(())
+}
+
+/// Notes the 257th class and each later one, and a class whose objects have too many instance fields.
+#[tactic(auto, unfolding(scj_rules::specs::LimitRules::class_limits, scj_rules::specs::LimitRules::k1, scj_rules::specs::LimitRules::k4))]
+fn note_limits(
+    found: &mut Vec<Found>,
+    table: &SymbolTable<'_>,
+    c: &ClassParts<'_>,
+) -> Result<(), Memory>
+    ensures { OnOk result (found.new.items ≡ found.old.items ++ class_limits (declarations_of table.now.forest)
+        table.now.class (written_class table.now.forest.nodes c.now)) }
+{
+    let is_late = table.class().number() >= FRAMEWORK_CLASS_COUNT + 256;
+    report_if(found, is_late, Rule::K1, c.place)?;
+    report_if(found, table.instance_field_count() > 64, Rule::K4, c.place)
+}
+
+/// Notes what is broken at the class at which the table stands.
+#[tactic(auto, unfolding(scj_rules::specs::ClassRules::class_breaks))]
+pub fn note_rules(
+    alloc: Global,
+    found: &mut Vec<Found>,
+    table: &SymbolTable<'_>,
+    c: &ClassParts<'_>,
+) -> Result<(), Memory>
+    requires within { table.now.class < length (declarations_of table.now.forest).classes }
+    requires there { class_at table.now.forest.nodes c.now.node ≡ Some (written_class table.now.forest.nodes c.now) }
+    ensures { OnOk result (found.new.items ≡ found.old.items ++ class_found (declarations_of table.now.forest)
+        table.now.class (row_of table.now.forest c.now) (written_class table.now.forest.nodes c.now)) }
+{
+    note_header(found, table.classes(), table.class(), c)?;
+    note_c4(alloc, found, table, c)?;
+    note_methods(alloc, found, table, c)?;
+    note_limits(found, table, c)?;
     Ok(())
 }

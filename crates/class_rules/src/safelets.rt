@@ -1,13 +1,12 @@
 //! The one safelet of a program.
 
-ghost use Rattle.std.specs.Prelude.{◌≡◌, ◌++◌, ◌+◌, ◌<◌, IfOk, OnOk, length, option_map};
-ghost use Rattle.scj_rules.specs.Views.{WrittenClass};
+ghost use Rattle.std.specs.Prelude.{◌≡◌, ◌++◌, ◌+◌, ◌<◌, IfOk, OnOk, length};
 ghost use Rattle.scj_rules.specs.ClassRules.{c8};
 ghost use Rattle.scj_rules.specs.Contexts.{declarations_of};
-ghost use Rattle.class_rules.specs.Safelets.{safelet_at, safelets_left, left_over, place_of_class};
+ghost use Rattle.class_rules.specs.Safelets.{place_at, places_left, left_over};
 
+use crate::parts::parts_of;
 use class_rows::Classes;
-use node_views::{class_place, is_abstract_class};
 use scj_base::{ClassId, Found, Memory, Pos, Rule};
 use scj_rules::report_if;
 
@@ -22,20 +21,22 @@ pub fn class_count(classes: &Classes<'_>) -> Result<u32, Memory>
 }
 
 /// Where a class is named that is a safelet of the program.
-#[tactic(auto, unfolding(crate::specs::Safelets::safelet_at), using(crate::proofs::SafeletLemmas::no_class_here, crate::proofs::SafeletLemmas::abstract_here, crate::proofs::SafeletLemmas::safelet_here))]
+#[tactic(auto, unfolding(crate::specs::Safelets::place_at))]
 fn safelet_place(classes: &Classes<'_>, class: ClassId) -> Option<Pos>
     requires { class < length (declarations_of classes.now).classes }
-    ensures { result ≡ option_map place_of_class (safelet_at (declarations_of classes.now) class) }
+    ensures { result ≡ place_at (declarations_of classes.now) class }
 {
-    let program = classes.program();
-    let node = classes.class_node(class)?;
-    if is_abstract_class(program, node) {
+    let Some(c) = parts_of(classes, class) else {
+        return None;
+    };
+    if c.modifiers.is_abstract {
         return None;
     }
-    if !classes.is_safelet_written(class) {
-        return None;
+    if classes.is_safelet_written(class) {
+        Some(c.place)
+    } else {
+        None
     }
-    class_place(program, node)
 }
 
 /// Notes a safelet behind the first one, and tells whether there is one so far.
@@ -48,8 +49,8 @@ fn note_safelet(
 ) -> Result<bool, Memory>
     requires { class < length (declarations_of classes.now).classes }
     ensures { IfOk result
-        (λ now. found.new.items ++ left_over now (safelets_left (declarations_of classes.now) (class + 1))
-        ≡ found.old.items ++ left_over is_seen (safelets_left (declarations_of classes.now) class)) }
+        (λ now. found.new.items ++ left_over now (places_left (declarations_of classes.now) (class + 1))
+        ≡ found.old.items ++ left_over is_seen (places_left (declarations_of classes.now) class)) }
 {
     match safelet_place(classes, class) {
         Some(place) => {

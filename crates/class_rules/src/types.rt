@@ -1,15 +1,14 @@
 //! Written types that are compared.
 
-ghost use Rattle.std.specs.Prelude.{◌≡◌, [], ◌∷◌, filter_map, map, drop, IfNone, IfSome};
+ghost use Rattle.std.specs.Prelude.{◌≡◌, [], ◌∷◌, slice_get, IfNone, IfSome};
 ghost use Rattle.std.specs.Cmp.Lexicographic.{pointwise};
-ghost use Rattle.scj_rules.specs.Views.{variable_at};
 ghost use Rattle.scj_rules.specs.ClassRules.{is_same_type, have_same_types, class_written};
 ghost use Rattle.scj_rules.specs.Contexts.{declarations_of};
 ghost use Rattle.method_rows.specs.Methods.{found_method};
-ghost use Rattle.class_rules.specs.Types.{types_among};
+ghost use Rattle.class_rules.specs.Types.{is_same_at, types_among, AreFew};
 
 use class_rows::Classes;
-use method_rows::{MethodRef, MethodSource, parameter, parameter_count};
+use method_rows::{MethodRef, MethodSource, parameter};
 use node_views::{method_parameters, parameter_nodes, variable_type};
 use scj_base::{ClassId, NodeId};
 use scj_rules::WrittenType;
@@ -92,27 +91,40 @@ pub fn have_same_declared(program: &Program, list: &[NodeId], other: &[NodeId]) 
     next_type(program, right).is_none()
 }
 
-/// Whether two methods have parameters of the same types. It is quick where one is the framework's, which has few.
-fn have_same_listed(program: &Program, m: &MethodRef, other: &MethodRef) -> bool
+/// Whether two methods have parameters of the same type at a place, or none there.
+fn is_same_at(program: &Program, m: &MethodRef, other: &MethodRef, i: usize) -> bool
+    ensures { result ≡ is_same_at (slice_get (found_method program.now.nodes m.now).method.parameters i)
+        (slice_get (found_method program.now.nodes other.now).method.parameters i) }
+{
+    match parameter(program, m, i) {
+        Some(a) => match parameter(program, other, i) {
+            Some(b) => is_same_type(&a.declared_type, &b.declared_type),
+            None => false,
+        },
+        None => match parameter(program, other, i) {
+            Some(_) => false,
+            None => true,
+        },
+    }
+}
+
+/// Whether two methods of which one has few parameters have parameters of the same types.
+fn have_same_few(program: &Program, m: &MethodRef, other: &MethodRef) -> bool
+    requires { AreFew (found_method program.now.nodes m.now).method.parameters
+        (found_method program.now.nodes other.now).method.parameters }
     ensures { result ≡ have_same_types (found_method program.now.nodes m.now).method.parameters
         (found_method program.now.nodes other.now).method.parameters }
 {
-    let count = parameter_count(program, m);
-    for i in 0..count {
-        let Some(a) = parameter(program, m, i) else {
-            return false;
-        };
-        let Some(b) = parameter(program, other, i) else {
-            return false;
-        };
-        if !is_same_type(&a.declared_type, &b.declared_type) {
-            return false;
-        }
+    if !is_same_at(program, m, other, 0) {
+        return false;
     }
-    parameter(program, other, count).is_none()
+    if !is_same_at(program, m, other, 1) {
+        return false;
+    }
+    is_same_at(program, m, other, 2)
 }
 
-/// Whether two methods have parameters of the same types.
+/// Whether two methods have parameters of the same types: those of the framework have few.
 #[tactic(auto, unfolding(crate::specs::Types::types_among, method_rows::specs::Methods::found_method, method_rows::specs::Methods::method_from))]
 pub fn have_same_types(program: &Program, m: &MethodRef, other: &MethodRef) -> bool
     ensures { result ≡ have_same_types (found_method program.now.nodes m.now).method.parameters
@@ -124,6 +136,7 @@ pub fn have_same_types(program: &Program, m: &MethodRef, other: &MethodRef) -> b
             parameter_nodes(program, method_parameters(program, *a)),
             parameter_nodes(program, method_parameters(program, *b)),
         ),
-        _ => have_same_listed(program, m, other),
+        (MethodSource::Framework(_), _) => have_same_few(program, m, other),
+        (_, MethodSource::Framework(_)) => have_same_few(program, m, other),
     }
 }

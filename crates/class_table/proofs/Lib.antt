@@ -1,2 +1,2 @@
 pub mod ClassLemmas
-pub mod OrderLemmas
+pub mod NotedLemmas

@@ -33,24 +33,9 @@ pub fn check_classes(
     Ok(found)
 }
 
-/// The breaks of the rules on classes and members and of the limits, by the table of the classes.
-fn report(
-    alloc: Global,
-    program: &Program,
-    contexts: &Contexts,
-    table: &ClassTable,
-) -> Result<Vec<Found>, Memory>
-    requires contexts { contexts.now ≡ contexts_in program.now }
-    requires table { IsTableOf program.now table.now }
-    ensures { IfOk result (λ found. IsReport (BreaksClassRules program.now) found.items) }
-{
-    let classes = Classes::new(program, table);
-    check_classes(alloc, &classes, contexts)
-}
-
 /// The table of the classes of a program, and the breaks of the rules on classes and members and of the limits, in the
 /// order of a report; by the contexts of its nodes, which later phases ask too.
-pub fn build_with_contexts(
+pub fn build(
     alloc: Global,
     program: &Program,
     contexts: &Contexts,
@@ -60,16 +45,7 @@ pub fn build_with_contexts(
     ensures report { IfOk result (λ built. IsReport (BreaksClassRules program.now) built.1.items) }
 {
     let table = ClassTable::of(alloc, program)?;
-    let found = report(alloc, program, contexts, &table)?;
+    let classes = Classes::new(program, &table);
+    let found = check_classes(alloc, &classes, contexts)?;
     Ok((table, found))
-}
-
-/// The table of the classes of a program, and the breaks of the rules on classes and members and of the limits, in the
-/// order of a report.
-pub fn build(alloc: Global, program: &Program) -> Result<(ClassTable, Vec<Found>), Memory>
-    ensures table { IfOk result (λ built. IsTableOf program.now built.0) }
-    ensures report { IfOk result (λ built. IsReport (BreaksClassRules program.now) built.1.items) }
-{
-    let contexts = Contexts::of(alloc, program)?;
-    build_with_contexts(alloc, program, &contexts)
 }

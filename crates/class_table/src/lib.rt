@@ -3,7 +3,6 @@
 
 pub mod checks;
 pub mod classes;
-pub mod order;
 
-pub use checks::{build, build_with_contexts, check_classes};
+pub use checks::{build, check_classes};
 pub use class_rows::{ClassTable, Classes};

@@ -2,7 +2,7 @@ use Rattle.std.proofs.Common.{◌≡◌, drop}
 use Rattle.std.specs.List.{list_any}
 use Rattle.scj_builtins.specs.Framework.{framework_methods}
 use Rattle.scj_rules.specs.Contexts.{declarations_of}
-use Rattle.class_rules.specs.Openings.{is_row_left}
+use Rattle.class_rules.specs.Members.{is_row_left}
 use Rattle.class_rules.proofs.openings.leaves_rows.Given as goal
 
 -- the rows before the number aren't left open
