@@ -1,5 +1,3 @@
-pub mod KindLemmas
-pub mod NameLemmas
 pub mod PassLemmas
-pub mod ValueLemmas
 pub mod TypedLemmas
+pub mod ValueLemmas

@@ -14,10 +14,6 @@ pub joined-more : {A : Type 0} (f : ℕ → List A) (k : ℕ) (xs : List A) → 
 unfolding joined_below
 joined-more f k xs e = ap (λ t. t ++ f k) e ∙ ap (joined_below f) (let g : suc k ≡ k + 1 = omega arith in g)
 
-pub nodes-are : (forest : Forest) → length forest.nodes ≡ length (declarations_of forest).nodes
-unfolding declarations_of
-nodes-are forest = refl
-
 -- a node at which something is noted has no type
 pub broken_type : (p : Declarations) (types : Types) (id : ℕ) (node : Node) (before after : List Found) → after ≡ before
     ++ type_breaks p types id node → length before < length after → None ≡ type_of_right p types id node

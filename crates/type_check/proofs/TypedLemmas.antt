@@ -139,16 +139,6 @@ module _ (p : Declarations) where
   same-so-far id inside c l = bottom_up-at None (type_of_next p) id c l
       ∙ sym (bottom_up-at None (type_of_next p) (length p.nodes) c (omega (arith, inside, l)))
 
-  -- what has a type breaks nothing
-  pub right_typed : (t : Types) (id : ℕ) (node : Node) → is_some (type_of_right p t id node) ≡ true →
-      type_breaks p t id node ≡ []
-  unfolding type_of_right is_empty
-  right_typed t id node h = go (type_breaks p t id node) h
-    where
-      go : (fs : List Found) → is_some (if is_empty fs then type_of p t id node else None) ≡ true → fs ≡ []
-      go [] h = refl
-      go (f ∷ fs) h = absurd (true≢false (sym h))
-
 children-below : (from : ℕ) (nodes : List Node) (k : ℕ) (node : Node) → ChildrenFirst from nodes →
     slice_get nodes k ≡ Some node → AllBelow (from + k) (children node)
 unfolding ChildrenFirst

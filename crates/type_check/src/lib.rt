@@ -2,11 +2,8 @@
 #![tactic(auto)]
 
 mod breaks;
-mod kinds;
-mod names;
 mod notes;
-mod passes;
 mod types;
 mod values;
 
-pub use types::{Types, check_known_types, check_types};
+pub use types::check_types;

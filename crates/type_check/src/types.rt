@@ -1,102 +1,114 @@
-//! The types of the nodes of a program, and what breaks the rules on types.
+//! The types of the nodes of a program, and what breaks the rules on types: the pass over all nodes.
 
-ghost use Rattle.std.specs.Prelude.{◌≡◌, None, IfOk};
+ghost use Rattle.std.specs.Prelude.{◌≡◌, ◌++◌, None, Some, slice_get, IfOk, OnOk};
 ghost use Rattle.scj_tree.specs.Recursion.{lookup};
-ghost use Rattle.scj_rules.specs.Contexts.{declarations_of, contexts_in};
-ghost use Rattle.scj_rules.specs.Bindings.{bindings_in};
+ghost use Rattle.scj_rules.specs.Contexts.{declarations_of};
+ghost use Rattle.scj_rules.specs.TypeRules.{types_in, type_breaks, type_of_right, type_of_next};
+ghost use Rattle.scj_rules.specs.Phases.{type_phase, BreaksTypeRules};
 ghost use Rattle.scj_rules.specs.Report.{IsReport};
-ghost use Rattle.scj_rules.specs.Phases.{BreaksTypeRules};
-ghost use Rattle.scj_rules.specs.TypeRules.{types_in};
-ghost use Rattle.class_rows.specs.Tables.{IsTableOf};
 ghost use Rattle.type_rules.specs.Meanings.{AreMeanings};
+ghost use Rattle.type_rules.specs.Told.{declared, types};
+ghost use Rattle.type_check.specs.Passes.{breaks_at};
 
-use crate::passes::types_and_breaks;
-use class_rows::{ClassTable, Classes};
-use node_bindings::bindings_of;
-use node_contexts::Contexts;
+use crate::breaks::note_breaks;
+use crate::values::type_of;
 use scj_base::{Found, Memory, NodeId};
-use scj_rules::{Bindings, Ty, put_in_order};
-use scj_tree::Program;
+use scj_rules::{Ty, put_in_order};
+use scj_tree::{Node, NodeKind};
 use std::alloc::Global;
-use std::marker::Model;
-use type_rules::names::told;
-use type_rules::{Known, NodeMeaning};
-use type_words::returning;
+use type_rules::rows::add_row;
+use type_rules::{At, Known, NodeMeaning};
 
-/// The types of the nodes of a program, and what these stand for. A contract sees two lists.
-#[derive(Drop)]
-pub struct Types {
-    types: Vec<Option<Ty>>,
-    bindings: Bindings,
+/// Notes what is broken at a node, and tells its type, which it has if there is nothing.
+#[tactic(auto, using(crate::proofs::PassLemmas::broken_type, crate::proofs::PassLemmas::right_type))]
+fn noted_type(found: &mut Vec<Found>, at: &At<'_>, node: &Node) -> Result<Option<Ty>, Memory>
+    requires { slice_get at.now.known.now.nodes at.now.id ≡ Some node.now }
+    ensures type_of { IfOk result (λ t. t ≡ type_of_right (declared at.now) (types at.now) at.now.id node.now) }
+    ensures found { OnOk result (found.new.items ≡ found.old.items
+        ++ type_breaks (declared at.now) (types at.now) at.now.id node.now) }
+{
+    let count = found.len();
+    note_breaks(found, at, node)?;
+    if found.len() > count {
+        return Ok(None);
+    }
+    Ok(type_of(at, node))
 }
 
-impl Model for Types {
-    ghost use Rattle.type_check.specs.Typed.{TypedNodes};
-
-    ghost Value = { TypedNodes };
-
-    ghost view = { λ a. record { types = a.types.items; bindings = a.bindings } };
-}
-
-impl Types {
-    /// The type of a node, if it has one.
-    pub fn of(&self, node: NodeId) -> Option<Ty>
-        ensures { result ≡ lookup None self.now.types node }
-    {
-        told(&self.types, node)
-    }
-
-    /// The types of all nodes.
-    pub fn all(&self) -> &[Option<Ty>]
-        ensures { result.now ≡ self.now.types }
-    {
-        self.types.as_slice()
-    }
-
-    /// What the nodes stand for.
-    pub fn into_bindings(self) -> Bindings
-        ensures { result ≡ self.bindings }
-    {
-        let Types { types: _, bindings } = self;
-        bindings
+/// The type of the node of a number, from those of the nodes before it. Notes what is broken there.
+#[tactic(auto, unfolding(scj_rules::specs::TypeRules::type_of_next, scj_rules::specs::Contexts::declarations_of))]
+fn type_at(found: &mut Vec<Found>, at: &At<'_>) -> Result<Option<Ty>, Memory>
+    ensures type_of { IfOk result (λ t. t ≡ type_of_next (declared at.now) at.now.id (types at.now)) }
+    ensures found { OnOk result (found.new.items ≡ found.old.items
+        ++ breaks_at (declared at.now) (types at.now) at.now.id) }
+{
+    match at.known.program().get(at.id) {
+        Some(node) => noted_type(found, at, node),
+        None => Ok(None),
     }
 }
 
-/// The types of the nodes of a program, what these stand for, and what breaks the rules on types, in the order of a
-/// report; by what is known of the program. Also the rows of what is looked up, which later phases ask too.
-pub fn check_known_types(
+/// The same, where the rows of the nodes up to this one are told, which names, accesses and calls ask.
+fn next_type(
+    found: &mut Vec<Found>,
+    known: &Known<'_>,
+    rows: &[NodeMeaning],
+    types: &[Option<Ty>],
+    id: NodeId,
+) -> Result<Option<Ty>, Memory>
+    requires { AreMeanings known.now rows.now }
+    ensures type_of { IfOk result (λ t. t ≡ type_of_next (declarations_of known.now) id (lookup None types.now)) }
+    ensures found { OnOk result (found.new.items ≡ found.old.items
+        ++ breaks_at (declarations_of known.now) (lookup None types.now) id) }
+{
+    match known.program().kind(id) {
+        Some(NodeKind::SimpleName | NodeKind::FieldAccess | NodeKind::Call) => {
+            let known = known.with_meanings(rows);
+            let at = At {
+                known: &known,
+                types,
+                id,
+            };
+            type_at(found, &at)
+        }
+        _ => type_at(found, &At { known, types, id }),
+    }
+}
+
+/// The types of all nodes, and what breaks the rules on types there. What is broken at a node hangs on the types of
+/// those before it alone, so one pass tells both, and what simple names, accesses and calls stand for.
+fn types_and_breaks(
     alloc: Global,
     known: &Known<'_>,
-    contexts: &Contexts,
-) -> Result<(Types, Vec<Found>, Vec<NodeMeaning>), Memory>
-    requires { contexts.now ≡ contexts_in known.now }
-    ensures types { IfOk result (λ r. r.0.types ≡ types_in (declarations_of known.now)) }
-    ensures bindings { IfOk result (λ r. r.0.bindings ≡ bindings_in (declarations_of known.now)) }
+) -> Result<(Vec<Option<Ty>>, Vec<Found>, Vec<NodeMeaning>), Memory>
+    ensures types { IfOk result (λ r. r.0.items ≡ types_in (declarations_of known.now)) }
+    ensures breaks { IfOk result (λ r. r.1.items ≡ type_phase (declarations_of known.now)) }
+    ensures rows { IfOk result (λ r. AreMeanings known.now r.2.items) }
+{
+    let program = known.program();
+    let mut types = Vec::with_capacity(alloc, program.len())?;
+    let mut rows = Vec::with_capacity(alloc, program.len())?;
+    let mut found = Vec::new(alloc);
+    for place in 0..program.len() {
+        let id = NodeId::at(place as u32);
+        add_row(&mut rows, known, &types, id)?;
+        let t = next_type(&mut found, known, &rows, &types, id)?;
+        types.push(t)?;
+    }
+    Ok((types, found, rows))
+}
+
+/// The types of all nodes, what breaks the rules on types, in the order of a report, and what simple names, accesses and
+/// calls stand for, which later phases ask too.
+pub fn check_types(
+    alloc: Global,
+    known: &Known<'_>,
+) -> Result<(Vec<Option<Ty>>, Vec<Found>, Vec<NodeMeaning>), Memory>
+    ensures types { IfOk result (λ r. r.0.items ≡ types_in (declarations_of known.now)) }
     ensures report { IfOk result (λ r. IsReport (BreaksTypeRules known.now) r.1.items) }
     ensures rows { IfOk result (λ r. AreMeanings known.now r.2.items) }
 {
     let (types, mut found, rows) = types_and_breaks(alloc, known)?;
     put_in_order(&mut found);
-    let bindings = bindings_of(alloc, &known.with_meanings(&rows), contexts, &types)?;
-    Ok((Types { types, bindings }, found, rows))
-}
-
-/// The types of the nodes of a program, what these stand for, and what breaks the rules on types, in the order of a
-/// report. Numbers that fit no more are answered by want of memory: those of the 257th and later variables of a member,
-/// which break a limit, and of 2,147,483,648 classes or methods.
-pub fn check_types(
-    alloc: Global,
-    program: &Program,
-    table: &ClassTable,
-) -> Result<(Types, Vec<Found>), Memory>
-    requires { IsTableOf program.now table.now }
-    ensures types { IfOk result (λ r. r.0.types ≡ types_in (declarations_of program.now)) }
-    ensures bindings { IfOk result (λ r. r.0.bindings ≡ bindings_in (declarations_of program.now)) }
-    ensures report { IfOk result (λ r. IsReport (BreaksTypeRules program.now) r.1.items) }
-{
-    let contexts = Contexts::of(alloc, program)?;
-    let returns = returning(alloc, program)?;
-    let known = Known::new(Classes::new(program, table), &contexts, &returns);
-    let (types, found, _rows) = check_known_types(alloc, &known, &contexts)?;
-    Ok((types, found))
+    Ok((types, found, rows))
 }

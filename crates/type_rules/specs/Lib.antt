@@ -1,4 +1,4 @@
-pub mod Forms
 pub mod KnownFacts
 pub mod Meanings
 pub mod Parameters
+pub mod Told

@@ -1,5 +1,5 @@
 -- What simple names, accesses and calls stand for, by short rows.
-use Rattle.std.specs.Prelude.{ℕ, ◌≡◌, List, Option, Some, slice_get, option_map}
+use Rattle.std.specs.Prelude.{ℕ, ◌≡◌, List, Option, Some, slice_get}
 use Rattle.scj_base.specs.declared.places.Pos.{Pos}
 use Rattle.scj_tree.specs.declared.nodes.Node.{Node}
 use Rattle.scj_tree.specs.declared.nodes.Node.TheVariants.{SimpleName, FieldAccess, Call}
@@ -29,11 +29,11 @@ IsMeaningAt forest id (of_name row) =
     meant forest.nodes row ≡ meaning (declarations_of forest) id name
 IsMeaningAt forest id (of_access class field) =
     (place : Pos) (name : List ℕ) (object : ℕ) → slice_get forest.nodes id ≡ Some (FieldAccess place name object) →
-    option_map (found_field forest.nodes) field ≡ field_named (declarations_of forest).classes class name
+    Some (found_field forest.nodes field) ≡ field_named (declarations_of forest).classes class name
 IsMeaningAt forest id (of_call class method) =
     (place : Pos) (name : List ℕ) (object : Option ℕ) (arguments : List ℕ) →
     slice_get forest.nodes id ≡ Some (Call place name object arguments) →
-    option_map (found_method forest.nodes) method ≡ method_named (declarations_of forest).classes class name
+    Some (found_method forest.nodes method) ≡ method_named (declarations_of forest).classes class name
 IsMeaningAt forest id of_other = Unit
 
 -- the rows that are there tell it of the first nodes

@@ -1,5 +1,5 @@
 -- The parameters that arguments are compared with.
-use Rattle.std.specs.Prelude.{ℕ, Bool, true, false, ◌&&◌, List, [], ◌∷◌}
+use Rattle.std.specs.Prelude.{Bool, List}
 use Rattle.scj_tree.specs.declared.nodes.Node.{Node}
 use Rattle.scj_rules.specs.declared.views.Declared.{Declared}
 use Rattle.scj_rules.specs.declared.typing.Ty.{Ty}
@@ -7,7 +7,6 @@ use Rattle.scj_rules.specs.Words.{holds}
 use Rattle.scj_rules.specs.Views.{parameters_at}
 use Rattle.scj_rules.specs.Contexts.{Declarations}
 use Rattle.scj_rules.specs.Types.{type_written, assigns}
-use Rattle.scj_rules.specs.TypeRules.{Types}
 use Rattle.method_rows.specs.Methods.{found_method}
 use Rattle.type_rules.specs.declared.arguments.Takes.{Takes}
 use Rattle.type_rules.specs.declared.arguments.Takes.TheVariants.{Method, Listed}
@@ -20,10 +19,3 @@ taken nodes (Listed parameters) = parameters_at nodes parameters
 -- a value of the type fits the parameter
 abbrev pub takes_type : Declarations → Ty → Declared → Bool
 takes_type p t d = holds (type_written p.names d.declared_type) (assigns p.classes t)
-
--- the arguments fit the parameters, each to each
-unfoldable pub fit_each : Declarations → Types → List Declared → List ℕ → Bool
-fit_each p types [] [] = true
-fit_each p types [] (id ∷ ids) = false
-fit_each p types (d ∷ ds) [] = false
-fit_each p types (d ∷ ds) (id ∷ ids) = holds (types id) (λ t. takes_type p t d) && fit_each p types ds ids

@@ -1,6 +1,7 @@
 //! Arguments and the parameters that take them.
 
 ghost use Rattle.std.specs.Prelude.{◌≡◌, None, length, is_some, option_map, slice_get};
+ghost use Rattle.std.specs.List.{list_all};
 ghost use Rattle.scj_rules.specs.declared.views.Declared.{Declared as Declaration};
 ghost use Rattle.scj_tree.specs.Recursion.{lookup};
 ghost use Rattle.scj_rules.specs.Words.{holds};
@@ -9,9 +10,11 @@ ghost use Rattle.scj_rules.specs.Contexts.{declarations_of};
 ghost use Rattle.scj_rules.specs.Types.{all_types, constructor_parameters};
 ghost use Rattle.scj_rules.specs.TypeRules.{misfit};
 ghost use Rattle.type_rules.specs.Parameters.{taken, takes_type};
+ghost use Rattle.type_rules.specs.Told.{declared, types};
 
 use crate::known::Known;
 use crate::names::{assigns, told, type_written};
+use crate::nodes::At;
 use method_rows::MethodRef;
 use scj_base::{ClassId, NodeId};
 use scj_rules::{Ty, WrittenType};
@@ -25,16 +28,18 @@ pub enum Takes {
     Listed(Option<NodeId>),
 }
 
+/// The same, node by node.
+fn have_types(types: &[Option<Ty>], ids: &[NodeId]) -> bool
+    ensures { result ≡ list_all (λ id. is_some (lookup None types.now id)) ids.now }
+{
+    ids.iter().all(|id| told(types, *id).is_some())
+}
+
 /// Whether each of these nodes has a type.
 pub fn are_typed(types: &[Option<Ty>], ids: &[NodeId]) -> bool
     ensures { result ≡ is_some (all_types (lookup None types.now) ids.now) }
 {
-    for id in ids {
-        if told(types, *id).is_none() {
-            return false;
-        }
-    }
-    true
+    have_types(types, ids)
 }
 
 /// How many parameters there are.
@@ -76,26 +81,23 @@ fn fits(known: &Known<'_>, takes: &Takes, i: usize, t: &Ty) -> bool
 }
 
 /// Whether the arguments have types, and their number or types don't fit (JLS 15.9.3, 15.12.2, 8.8.7).
-pub fn misfit(known: &Known<'_>, types: &[Option<Ty>], takes: &Takes, ids: &[NodeId]) -> bool
-    ensures { result ≡ misfit (declarations_of known.now) (lookup None types.now) (taken known.now.nodes takes.now)
-        ids.now }
+#[tactic(auto, using(crate::proofs::ArgumentLemmas::misfit_untyped, crate::proofs::ArgumentLemmas::misfit_more, crate::proofs::ArgumentLemmas::misfit_end))]
+pub fn misfit(at: &At<'_>, takes: &Takes, ids: &[NodeId]) -> bool
+    ensures { result ≡ misfit (declared at.now) (types at.now) (taken at.now.known.now.nodes takes.now) ids.now }
 {
-    if !are_typed(types, ids) {
-        return false;
-    }
-    if count(known, takes) != ids.len() {
-        return true;
-    }
-    for i in 0..ids.len() {
-        let id = ids[i];
-        let Some(t) = told(types, id) else {
-            return true;
+    let mut i = 0;
+    let mut others = ids;
+    while let [id, rest @ ..] = others {
+        let Some(t) = at.type_of(*id) else {
+            return false;
         };
-        if !fits(known, takes, i, &t) {
-            return true;
+        if !fits(at.known, takes, i, &t) {
+            return are_typed(at.types, rest);
         }
+        others = rest;
+        i += 1;
     }
-    false
+    i < count(at.known, takes)
 }
 
 /// The parameters of a class's constructor: none where none is written (JLS 8.8.9).

@@ -1,17 +1,17 @@
 //! What is broken at operators, arrays, casts and accesses.
 
-ghost use Rattle.std.specs.Prelude.{◌≡◌, None, option_map};
-ghost use Rattle.scj_tree.specs.Recursion.{lookup};
-ghost use Rattle.scj_rules.specs.declared.typing.Ty.TheVariants.{Class as class_type};
+ghost use Rattle.std.specs.Prelude.{◌≡◌, ℕ, List, option_map};
 ghost use Rattle.scj_rules.specs.Definitions.{read};
 ghost use Rattle.scj_rules.specs.Words.{holds};
 ghost use Rattle.scj_rules.specs.Contexts.{declarations_of};
 ghost use Rattle.scj_rules.specs.Types.{kind_is, is_form, accessed_field};
 ghost use Rattle.scj_rules.specs.TypeRules.{misfits_operands, misfits_operand, misfits_index, misfits_length, misfits_cast, element_class, are_related, lacks_field, lacks_object, lacks_object_of_field};
 ghost use Rattle.class_rows.specs.Fields.{found_field};
+ghost use Rattle.type_rules.specs.Told.{declared, types};
 
 use crate::known::Known;
-use crate::names::{assigns, binary_type, told};
+use crate::names::{assigns, binary_type};
+use crate::nodes::At;
 use class_rows::FieldRef;
 use class_rows::fields::is_static_field;
 use scj_base::{ClassId, Name, NodeId};
@@ -24,46 +24,40 @@ use type_words::{
 };
 
 /// Whether both operands have types that don't fit.
-pub fn misfits_operands(
-    known: &Known<'_>,
-    types: &[Option<Ty>],
-    operator: u8,
-    left: NodeId,
-    right: NodeId,
-) -> bool
-    ensures { result ≡ misfits_operands (declarations_of known.now) (lookup None types.now) operator left right }
+pub fn misfits_operands(at: &At<'_>, operator: u8, left: NodeId, right: NodeId) -> bool
+    ensures { result ≡ misfits_operands (declared at.now) (types at.now) operator left right }
 {
-    match (told(types, left), told(types, right)) {
-        (Some(a), Some(b)) => binary_type(known, operator, &a, &b).is_none(),
+    match (at.type_of(left), at.type_of(right)) {
+        (Some(a), Some(b)) => binary_type(at.known, operator, &a, &b).is_none(),
         _ => false,
     }
 }
 
 /// Whether an operand doesn't fit.
-pub fn misfits_operand(types: &[Option<Ty>], operator: u8, operand: NodeId) -> bool
-    ensures { result ≡ misfits_operand (lookup None types.now) operator operand }
+pub fn misfits_operand(at: &At<'_>, operator: u8, operand: NodeId) -> bool
+    ensures { result ≡ misfits_operand (types at.now) operator operand }
 {
-    match told(types, operand) {
+    match at.type_of(operand) {
         Some(t) => unary_type(operator, &t).is_none(),
         None => false,
     }
 }
 
 /// Whether an array and its index have types that don't fit.
-pub fn misfits_index(types: &[Option<Ty>], array: NodeId, index: NodeId) -> bool
-    ensures { result ≡ misfits_index (lookup None types.now) array index }
+pub fn misfits_index(at: &At<'_>, array: NodeId, index: NodeId) -> bool
+    ensures { result ≡ misfits_index (types at.now) array index }
 {
-    match (told(types, array), told(types, index)) {
+    match (at.type_of(array), at.type_of(index)) {
         (Some(a), Some(i)) => !(is_array(&a) && are_same(&i, &Ty::Int)),
         _ => false,
     }
 }
 
 /// Whether the length of an array has a type that isn't int.
-pub fn misfits_length(types: &[Option<Ty>], length: NodeId) -> bool
-    ensures { result ≡ misfits_length (lookup None types.now) length }
+pub fn misfits_length(at: &At<'_>, length: NodeId) -> bool
+    ensures { result ≡ misfits_length (types at.now) length }
 {
-    match told(types, length) {
+    match at.type_of(length) {
         Some(t) => !are_same(&t, &Ty::Int),
         None => false,
     }
@@ -100,20 +94,19 @@ pub fn has_form_elements(known: &Known<'_>, element: NodeId) -> bool
     }
 }
 
-/// Whether the type is a reference to or from which the class can be cast.
-fn is_cast(known: &Known<'_>, t: &Ty, class: ClassId) -> bool
-    ensures { result ≡ are_related (declarations_of known.now).classes t.now (class_type class) }
+/// Whether the first type is a reference, and a value of one type may be assigned to the other.
+fn are_related(known: &Known<'_>, t: &Ty, u: &Ty) -> bool
+    ensures { result ≡ are_related (declarations_of known.now).classes t.now u.now }
 {
-    let other = Ty::Class(class);
-    is_reference(t) && (assigns(known, t, &other) || assigns(known, &other, t))
+    is_reference(t) && (assigns(known, t, u) || assigns(known, u, t))
 }
 
 /// Whether a cast goes between types that aren't related.
-pub fn misfits_cast(known: &Known<'_>, types: &[Option<Ty>], name: &Name, operand: NodeId) -> bool
-    ensures { result ≡ misfits_cast (declarations_of known.now) (lookup None types.now) name.now operand }
+pub fn misfits_cast(at: &At<'_>, name: &Name, operand: NodeId) -> bool
+    ensures { result ≡ misfits_cast (declared at.now) (types at.now) name.now operand }
 {
-    match (told(types, operand), known.class_of(name)) {
-        (Some(t), Some(class)) => !is_cast(known, &t, class),
+    match (at.type_of(operand), at.known.class_of(name)) {
+        (Some(t), Some(class)) => !are_related(at.known, &t, &Ty::Class(class)),
         _ => false,
     }
 }
@@ -150,23 +143,16 @@ pub fn lacks_field(
 }
 
 /// Whether a receiver has such a field that isn't static, and no object is at hand.
-pub fn lacks_object_of_field(
-    known: &Known<'_>,
-    id: NodeId,
-    receiver: &Receiver,
-    name: &Name,
-    field: &Option<FieldRef>,
-) -> bool
-    requires { option_map (found_field known.now.nodes) field.now ≡ accessed_field (declarations_of known.now)
-        receiver.now name.now }
-    ensures { result ≡ lacks_object_of_field (declarations_of known.now) id name.now receiver.now }
+pub fn lacks_object_of_field(at: &At<'_>, receiver: &Receiver, field: &Option<FieldRef>) -> bool
+    ensures { (name : List ℕ) →
+        option_map (found_field at.now.known.now.nodes) field.now ≡ accessed_field (declared at.now) receiver.now
+        name → result ≡ lacks_object_of_field (declared at.now) at.now.id name receiver.now }
 {
-    let _ = name;
-    if !lacks_object(known, id, receiver) {
+    if !lacks_object(at.known, at.id, receiver) {
         return false;
     }
     match field {
-        Some(field) => !is_static_field(known.program(), field),
+        Some(field) => !is_static_field(at.known.program(), field),
         None => false,
     }
 }

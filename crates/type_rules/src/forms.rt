@@ -1,13 +1,10 @@
 //! The form with which the constructor of a handler or a sequencer begins.
 
-ghost use Rattle.std.specs.Prelude.{◌≡◌, ◌&&◌, option_copied, option_map, option_and_then, is_some};
-ghost use Rattle.scj_builtins.specs.Framework.{priority_parameters, storage_parameters};
+ghost use Rattle.std.specs.Prelude.{◌≡◌, option_copied, option_map, is_some};
 ghost use Rattle.scj_rules.specs.Definitions.{read};
-ghost use Rattle.scj_rules.specs.Views.{DeclaredConstructor};
 ghost use Rattle.scj_rules.specs.Words.{is_among};
 ghost use Rattle.scj_rules.specs.Contexts.{declarations_of};
-ghost use Rattle.scj_rules.specs.Types.{new_of, is_new, periodic_part, release_part, form_parts, has_form, form_in, is_form_part, constructor_in};
-ghost use Rattle.type_rules.specs.Forms.{middle_listed, form_listed, times_listed, more_listed};
+ghost use Rattle.scj_rules.specs.Types.{new_of, is_new, periodic_part, release_part, have_priority_and_storage, form_parts, has_form, super_call_in, form_in, is_form_part};
 
 use crate::known::Known;
 use scj_base::ids::{
@@ -16,21 +13,6 @@ use scj_base::ids::{
 };
 use scj_base::{ClassId, NodeId};
 use scj_tree::Node;
-
-/// The part in the middle of a handler's form: its own node, and of a periodic handler the start and the period.
-#[derive(Clone, Copy)]
-pub struct Middle {
-    pub own: NodeId,
-    pub times: Option<(NodeId, NodeId)>,
-}
-
-/// The parts of a form.
-#[derive(Clone, Copy)]
-pub struct Form {
-    pub priority: NodeId,
-    pub storage: NodeId,
-    pub middle: Option<Middle>,
-}
 
 /// The arguments of `new class(..)` at this node, where they are so many.
 #[tactic(auto, unfolding(scj_rules::specs::Types::new_of, scj_rules::specs::Contexts::declarations_of))]
@@ -61,18 +43,16 @@ fn is_new(known: &Known<'_>, class: ClassId, count: usize, id: NodeId) -> bool
     new_of(known, class, count, id).is_some()
 }
 
-/// The part of a periodic handler, if these arguments of `new PeriodicParameters(..)` are two times.
+/// Of the part of a periodic handler, if these arguments of `new PeriodicParameters(..)` are two times: whether a node is
+/// among them.
 #[tactic(auto, unfolding(scj_rules::specs::Types::periodic_part))]
-fn periodic_part(known: &Known<'_>, id: NodeId, arguments: &[NodeId]) -> Option<Middle>
-    ensures { option_map middle_listed result ≡ periodic_part (declarations_of known.now) id arguments.now }
+fn periodic_part(known: &Known<'_>, id: NodeId, arguments: &[NodeId], asked: NodeId) -> Option<bool>
+    ensures { result ≡ option_map (is_among asked) (periodic_part (declarations_of known.now) id arguments.now) }
 {
     match arguments {
         [start, period] => {
             if is_new(known, RELATIVE_TIME, 2, *start) && is_new(known, RELATIVE_TIME, 2, *period) {
-                Some(Middle {
-                    own: id,
-                    times: Some((*start, *period)),
-                })
+                Some(asked == id || asked == *start || asked == *period)
             } else {
                 None
             }
@@ -81,57 +61,55 @@ fn periodic_part(known: &Known<'_>, id: NodeId, arguments: &[NodeId]) -> Option<
     }
 }
 
-/// The part in the middle of a handler's form.
+/// The same of the release parameters of a handler's form.
 #[tactic(auto, unfolding(scj_rules::specs::Types::release_part))]
-fn release_part(known: &Known<'_>, superclass: ClassId, id: NodeId) -> Option<Middle>
-    ensures { option_map middle_listed result ≡ release_part (declarations_of known.now) superclass id }
+fn release_part(known: &Known<'_>, superclass: ClassId, id: NodeId, asked: NodeId) -> Option<bool>
+    ensures { result ≡ option_map (is_among asked) (release_part (declarations_of known.now) superclass id) }
 {
     if superclass == PERIODIC_EVENT_HANDLER {
         let arguments = new_of(known, PERIODIC_PARAMETERS, 2, id)?;
-        return periodic_part(known, id, arguments);
+        return periodic_part(known, id, arguments, asked);
     }
     if is_new(known, APERIODIC_PARAMETERS, 0, id) {
-        return Some(Middle {
-            own: id,
-            times: None,
-        });
+        return Some(asked == id);
     }
     None
 }
 
 /// Whether the first and the last argument are those of a form.
-fn has_ends(known: &Known<'_>, priority: NodeId, storage: NodeId) -> bool
-    ensures { result ≡ (is_new (declarations_of known.now) priority_parameters 1 priority
-        && is_new (declarations_of known.now) storage_parameters 1 storage) }
+fn have_priority_and_storage(known: &Known<'_>, priority: NodeId, storage: NodeId) -> bool
+    ensures { result ≡ have_priority_and_storage (declarations_of known.now) priority storage }
 {
     is_new(known, PRIORITY_PARAMETERS, 1, priority) && is_new(known, STORAGE_PARAMETERS, 1, storage)
 }
 
-/// The `new` parts of the arguments of a super call, where they are of the form of this framework superclass.
+/// Of the `new` parts of the arguments of a super call, where they are of the form of this framework superclass: whether
+/// a node is among them.
 #[tactic(auto, unfolding(scj_rules::specs::Types::form_parts))]
-fn form_parts(known: &Known<'_>, superclass: ClassId, arguments: &[NodeId]) -> Option<Form>
-    ensures { option_map form_listed result ≡ form_parts (declarations_of known.now) superclass arguments.now }
+fn form_parts(
+    known: &Known<'_>,
+    superclass: ClassId,
+    arguments: &[NodeId],
+    asked: NodeId,
+) -> Option<bool>
+    ensures { result ≡ option_map (is_among asked) (form_parts (declarations_of known.now) superclass arguments.now) }
 {
     match arguments {
         [priority, storage] => {
-            if superclass == MISSION_SEQUENCER && has_ends(known, *priority, *storage) {
-                Some(Form {
-                    priority: *priority,
-                    storage: *storage,
-                    middle: None,
-                })
+            if superclass == MISSION_SEQUENCER
+                && have_priority_and_storage(known, *priority, *storage)
+            {
+                Some(asked == *priority || asked == *storage)
             } else {
                 None
             }
         }
-        [priority, middle, storage] => {
-            if superclass != MISSION_SEQUENCER && has_ends(known, *priority, *storage) {
-                let part = release_part(known, superclass, *middle)?;
-                Some(Form {
-                    priority: *priority,
-                    storage: *storage,
-                    middle: Some(part),
-                })
+        [priority, release, storage] => {
+            if superclass != MISSION_SEQUENCER
+                && have_priority_and_storage(known, *priority, *storage)
+            {
+                let is_released = release_part(known, superclass, *release, asked)?;
+                Some(asked == *priority || asked == *storage || is_released)
             } else {
                 None
             }
@@ -151,51 +129,30 @@ pub fn has_form(class: ClassId) -> bool
 
 /// The arguments of the super call of a class's constructor.
 pub fn super_arguments<'a>(known: &Known<'a>, class: ClassId) -> Option<&'a [NodeId]>
-    ensures { option_copied result ≡ option_and_then (λ (c : DeclaredConstructor). c.super_call)
-        (constructor_in (declarations_of known.now).classes class) }
+    ensures { option_copied result ≡ super_call_in (declarations_of known.now) class }
 {
     let node = known.classes().constructor_in(class)?;
     node_views::super_call_arguments(known.program(), node)
 }
 
-/// The parts of the form in a class's constructor.
+/// Of the parts of the form in a class's constructor, if it has one: whether a node is among them.
 #[tactic(auto, unfolding(scj_rules::specs::Types::form_in))]
-fn form_in(known: &Known<'_>, class: ClassId) -> Option<Form>
-    ensures { option_map form_listed result ≡ form_in (declarations_of known.now) class }
+fn form_in(known: &Known<'_>, class: ClassId, asked: NodeId) -> Option<bool>
+    ensures { result ≡ option_map (is_among asked) (form_in (declarations_of known.now) class) }
 {
     let superclass = known.classes().superclass(class)?;
     if !has_form(superclass) {
         return None;
     }
     let arguments = super_arguments(known, class)?;
-    form_parts(known, superclass, arguments)
+    form_parts(known, superclass, arguments, asked)
 }
 
 /// Whether a class's constructor has the form.
 pub fn has_right_form(known: &Known<'_>, class: ClassId) -> bool
     ensures { result ≡ is_some (form_in (declarations_of known.now) class) }
 {
-    form_in(known, class).is_some()
-}
-
-/// Whether the node is one of the two times.
-fn is_time(times: &Option<(NodeId, NodeId)>, id: NodeId) -> bool
-    ensures { result ≡ is_among id (times_listed times.now) }
-{
-    match times {
-        Some((start, period)) => id == *start || id == *period,
-        None => false,
-    }
-}
-
-/// Whether the node is one of those in the middle.
-fn is_in_middle(middle: &Option<Middle>, id: NodeId) -> bool
-    ensures { result ≡ is_among id (more_listed middle.now) }
-{
-    match middle {
-        Some(middle) => id == middle.own || is_time(&middle.times, id),
-        None => false,
-    }
+    form_in(known, class, NodeId::at(0)).is_some()
 }
 
 /// Whether the node is one of the parts of its class's form.
@@ -210,8 +167,8 @@ pub fn is_form_part(known: &Known<'_>, id: NodeId) -> bool
     let Some(class) = context.class else {
         return false;
     };
-    match form_in(known, class) {
-        Some(form) => id == form.priority || id == form.storage || is_in_middle(&form.middle, id),
+    match form_in(known, class, id) {
+        Some(is_part) => is_part,
         None => false,
     }
 }

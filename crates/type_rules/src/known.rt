@@ -1,24 +1,18 @@
 //! What is told of a program before its types are.
 
-ghost use Rattle.std.specs.Prelude.{◌≡◌, Some, slice_get, option_map, IfSome};
-ghost use Rattle.scj_tree.specs.declared.nodes.Node.TheVariants.{SimpleName};
-ghost use Rattle.scj_rules.specs.Classes.{class_number, field_named, method_named};
+ghost use Rattle.std.specs.Prelude.{◌≡◌};
+ghost use Rattle.scj_rules.specs.Classes.{class_number};
 ghost use Rattle.scj_rules.specs.Contexts.{declarations_of, contexts_in, context, variable_named, has_object};
-ghost use Rattle.scj_rules.specs.Types.{meaning};
 ghost use Rattle.scj_rules.specs.TypeRules.{result_at, always_returns};
-ghost use Rattle.method_rows.specs.Methods.{found_method};
-ghost use Rattle.class_rows.specs.Fields.{found_field};
 ghost use Rattle.type_words.specs.Returns.{all_returns};
-ghost use Rattle.type_rules.specs.Meanings.{meant, AreMeanings};
+ghost use Rattle.type_rules.specs.Meanings.{IsMeaningAt, AreMeanings};
 
-use crate::meanings::{NameMeaning, NodeMeaning, field_told, method_told, name_told};
-use class_rows::{Classes, FieldRef};
-use method_rows::MethodRef;
+use crate::meanings::{NodeMeaning, row_of};
+use class_rows::Classes;
 use node_contexts::Contexts;
-use scj_base::{ClassId, Name, NodeId, Pos};
-use scj_builtins::ClassKind;
+use scj_base::{ClassId, Name, NodeId};
 use scj_rules::{Context, WrittenType};
-use scj_tree::{Node, Program};
+use scj_tree::Program;
 use std::marker::Model;
 
 /// A program with its classes, the contexts of its nodes, those that always return, and what names, accesses and calls
@@ -71,81 +65,14 @@ impl<'a> Known<'a> {
         }
     }
 
-    /// The rows that are told, of the first nodes.
-    fn rows(&self) -> &[NodeMeaning]
-        ensures { AreMeanings self.now result.now }
+    /// What is told of a node.
+    #[tactic(auto, unfolding(crate::specs::Meanings::IsMeaningAt))]
+    pub(crate) fn row(&self, id: NodeId) -> NodeMeaning
+        ensures { IsMeaningAt self.now id result }
     {
-        self.meanings
-    }
-
-    /// What a node that is this name stands for, where that is told.
-    pub(crate) fn told_there(&self, id: NodeId, place: Pos, name: &Name) -> Option<NameMeaning>
-        requires { slice_get self.now.nodes id ≡ Some (SimpleName place name.now) }
-        ensures { IfSome result (λ row. meant self.now.nodes row ≡ meaning (declarations_of self.now) id name.now) }
-    {
-        name_told(self.rows(), id)
-    }
-
-    /// What the name stands for at a node, where that is told.
-    pub(crate) fn told_meaning(&self, id: NodeId, name: &Name) -> Option<NameMeaning>
-        ensures { IfSome result (λ row. meant self.now.nodes row ≡ meaning (declarations_of self.now) id name.now) }
-    {
-        match self.program().get(id)? {
-            Node::SimpleName {
-                place,
-                name: written,
-            } => {
-                if *written.get() == *name {
-                    self.told_there(id, *place, name)
-                } else {
-                    None
-                }
-            }
-            _ => None,
-        }
-    }
-
-    /// The field of a name that a class has, where an access tells it.
-    pub(crate) fn told_field(
-        &self,
-        id: NodeId,
-        class: ClassId,
-        name: &Name,
-    ) -> Option<Option<FieldRef>>
-        ensures { IfSome result (λ field. option_map (found_field self.now.nodes) field ≡ field_named
-            (declarations_of self.now).classes class name.now) }
-    {
-        match self.program().get(id)? {
-            Node::FieldAccess { name: written, .. } => {
-                if *written.get() == *name {
-                    field_told(self.rows(), id, class)
-                } else {
-                    None
-                }
-            }
-            _ => None,
-        }
-    }
-
-    /// The method of a name that a class has, where a call tells it.
-    pub(crate) fn told_method(
-        &self,
-        id: NodeId,
-        class: ClassId,
-        name: &Name,
-    ) -> Option<Option<MethodRef>>
-        ensures { IfSome result (λ method. option_map (found_method self.now.nodes) method ≡ method_named
-            (declarations_of self.now).classes class name.now) }
-    {
-        match self.program().get(id)? {
-            Node::Call { name: written, .. } => {
-                if *written.get() == *name {
-                    method_told(self.rows(), id, class)
-                } else {
-                    None
-                }
-            }
-            _ => None,
+        match row_of(self.meanings, id) {
+            Some(row) => row,
+            None => NodeMeaning::Nothing,
         }
     }
 

@@ -1,11 +1,10 @@
 //! What simple names, accesses and calls stand for, as rows that are copied.
 
-ghost use Rattle.std.specs.Prelude.{◌≡◌, List, Some, slice_get, IfSome};
+ghost use Rattle.std.specs.Prelude.{◌≡◌, List, slice_get};
 ghost use Rattle.scj_tree.specs.declared.nodes.Node.{Node as Row};
 ghost use Rattle.scj_rules.specs.Types.{class_in};
 ghost use Rattle.scj_rules.specs.TypeRules.{denotes_no_declaration, is_instance_field};
 ghost use Rattle.type_rules.specs.Meanings.{meant};
-ghost use Rattle.type_rules.specs.declared.meanings.NodeMeaning.TheVariants.{Name as of_name, Field as of_access, Method as of_call};
 
 use class_rows::FieldRef;
 use class_rows::fields::is_static_field;
@@ -26,58 +25,27 @@ pub enum NameMeaning {
     Nothing,
 }
 
-/// What is looked up at a node, which hangs on no types: of an access and a call it tells the class that was asked.
+/// What is looked up at a node, which hangs on no types: of an access and a call it tells the class that was asked, so
+/// that it says what that class has whatever is asked later.
 #[derive(Clone, Copy, Debug)]
 pub enum NodeMeaning {
     /// What a simple name stands for.
     Name(NameMeaning),
     /// The field of an access's name that the class has.
-    Field(ClassId, Option<FieldRef>),
+    Field(ClassId, FieldRef),
     /// The method of a call's name that the class has.
-    Method(ClassId, Option<MethodRef>),
-    /// Nothing is looked up.
+    Method(ClassId, MethodRef),
+    /// Nothing is looked up, or nothing is found.
     Nothing,
 }
 
-/// What the row of a simple name tells, if it is among these.
-pub(crate) fn name_told(rows: &[NodeMeaning], id: NodeId) -> Option<NameMeaning>
-    ensures { IfSome result (λ meaning. slice_get rows.now id ≡ Some (of_name meaning)) }
+/// The row of a node, if it is among these.
+pub(crate) fn row_of(rows: &[NodeMeaning], id: NodeId) -> Option<NodeMeaning>
+    ensures { result ≡ slice_get rows.now id }
 {
     match rows.get(id.place()) {
-        Some(NodeMeaning::Name(meaning)) => Some(*meaning),
-        _ => None,
-    }
-}
-
-/// What the row of an access tells of a class, if it is among these.
-pub(crate) fn field_told(
-    rows: &[NodeMeaning],
-    id: NodeId,
-    class: ClassId,
-) -> Option<Option<FieldRef>>
-    ensures { IfSome result (λ field. slice_get rows.now id ≡ Some (of_access class field)) }
-{
-    match rows.get(id.place()) {
-        Some(NodeMeaning::Field(asked, field)) => {
-            if *asked == class { Some(*field) } else { None }
-        }
-        _ => None,
-    }
-}
-
-/// What the row of a call tells of a class, if it is among these.
-pub(crate) fn method_told(
-    rows: &[NodeMeaning],
-    id: NodeId,
-    class: ClassId,
-) -> Option<Option<MethodRef>>
-    ensures { IfSome result (λ method. slice_get rows.now id ≡ Some (of_call class method)) }
-{
-    match rows.get(id.place()) {
-        Some(NodeMeaning::Method(asked, method)) => {
-            if *asked == class { Some(*method) } else { None }
-        }
-        _ => None,
+        Some(row) => Some(*row),
+        None => None,
     }
 }
 

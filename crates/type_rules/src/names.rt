@@ -1,30 +1,29 @@
 //! What names, accesses and calls mean, and which types fit.
 
-ghost use Rattle.std.specs.Prelude.{◌≡◌, ◌&&◌, ◌||◌, [], ◌∷◌, None, Some, option_and_then, option_map, slice_get};
-ghost use Rattle.scj_base.specs.Vocabulary.{sign_equal, sign_not_equal, sign_less, sign_greater, sign_less_equal, sign_greater_equal, sign_and_and, sign_or_or};
+ghost use Rattle.std.specs.Prelude.{◌≡◌, ◌&&◌, None, Some, IfSome, if◌then◌else◌, option_and_then, option_map, slice_get};
 ghost use Rattle.scj_tree.specs.Recursion.{lookup};
 ghost use Rattle.scj_tree.specs.declared.nodes.Node.TheVariants.{SimpleName};
 ghost use Rattle.scj_rules.specs.Definitions.{read};
 ghost use Rattle.scj_rules.specs.Words.{is_among};
-ghost use Rattle.scj_rules.specs.Classes.{field_named};
+ghost use Rattle.scj_rules.specs.Classes.{field_named, method_named};
 ghost use Rattle.scj_rules.specs.Contexts.{declarations_of, context};
-ghost use Rattle.scj_rules.specs.Types.{type_written, assigns, binary_type, is_int, is_boolean, is_reference, meaning, class_meaning, class_at_name, receiver, call_receiver, accessed_field, called_method};
+ghost use Rattle.scj_rules.specs.Types.{type_written, assigns, binary_type, conditional_operators, relational_operators, equality_operators, are_comparable, is_int, is_boolean, meaning, class_meaning, class_at_name, receiver, call_receiver, accessed_field, called_method};
 ghost use Rattle.scj_rules.specs.TypeRules.{written_type};
 ghost use Rattle.method_rows.specs.Methods.{found_method};
 ghost use Rattle.class_rows.specs.Fields.{found_field};
 ghost use Rattle.type_rules.specs.Meanings.{meant};
 
 use crate::known::Known;
-use crate::meanings::{NameMeaning, class_in};
+use crate::meanings::{NameMeaning, NodeMeaning, class_in};
 use class_rows::FieldRef;
-use method_rows::{MethodRef, declared, is_callable_row};
+use method_rows::MethodRef;
 use scj_base::vocabulary::{
     AND_AND, EQUAL, GREATER, GREATER_EQUAL, LESS, LESS_EQUAL, NOT_EQUAL, OR_OR,
 };
 use scj_base::{ClassId, Name, NodeId, Pos};
 use scj_rules::{Receiver, Ty, WrittenType};
 use scj_tree::Node;
-use type_words::{are_same, class_of_receiver, is_long, is_reference};
+use type_words::{are_same, class_of_receiver, is_reference};
 
 /// The type of a node, among those that are told.
 pub fn told(types: &[Option<Ty>], id: NodeId) -> Option<Ty>
@@ -124,34 +123,42 @@ fn are_booleans(a: &Ty, b: &Ty) -> bool
     are_same(a, &Ty::Bool) && are_same(b, &Ty::Bool)
 }
 
-/// Whether both types are references of which one may be assigned to the other.
-fn are_related(known: &Known<'_>, a: &Ty, b: &Ty) -> bool
-    ensures { let rows = (declarations_of known.now).classes in
-        result ≡ (is_reference a.now
-        && (is_reference b.now && (assigns rows a.now b.now || assigns rows b.now a.now))) }
+/// Whether values of both types are compared: two ints, two booleans, or two references of which one may be assigned to
+/// the other (JLS 15.21).
+fn are_comparable(known: &Known<'_>, a: &Ty, b: &Ty) -> bool
+    ensures { result ≡ are_comparable (declarations_of known.now).classes a.now b.now }
 {
-    is_reference(a) && is_reference(b) && (assigns(known, a, b) || assigns(known, b, a))
+    are_ints(a, b)
+        || are_booleans(a, b)
+        || (is_reference(a) && is_reference(b) && (assigns(known, a, b) || assigns(known, b, a)))
 }
 
 /// Whether the operator is `&&` or `||`.
-fn is_logical(operator: u8) -> bool
-    ensures { result ≡ is_among operator (sign_and_and ∷ sign_or_or ∷ []) }
+fn is_conditional(operator: u8) -> bool
+    ensures { result ≡ is_among operator conditional_operators }
 {
     operator == AND_AND || operator == OR_OR
 }
 
 /// Whether the operator is `<`, `>`, `<=` or `>=`.
-fn is_order(operator: u8) -> bool
-    ensures { result ≡ is_among operator (sign_less ∷ sign_greater ∷ sign_less_equal ∷ sign_greater_equal ∷ []) }
+fn is_relational(operator: u8) -> bool
+    ensures { result ≡ is_among operator relational_operators }
 {
     operator == LESS || operator == GREATER || operator == LESS_EQUAL || operator == GREATER_EQUAL
 }
 
 /// Whether the operator is `==` or `!=`.
 fn is_equality(operator: u8) -> bool
-    ensures { result ≡ is_among operator (sign_equal ∷ sign_not_equal ∷ []) }
+    ensures { result ≡ is_among operator equality_operators }
 {
     operator == EQUAL || operator == NOT_EQUAL
+}
+
+/// The type, if the operands fit.
+fn if_fitting(fits: bool, t: Ty) -> Option<Ty>
+    ensures { result ≡ (if fits then Some t else None) }
+{
+    if fits { Some(t) } else { None }
 }
 
 /// The type of a binary operator's value, if the operands' types fit (JLS 15.17 to 15.24).
@@ -159,24 +166,16 @@ fn is_equality(operator: u8) -> bool
 pub fn binary_type(known: &Known<'_>, operator: u8, a: &Ty, b: &Ty) -> Option<Ty>
     ensures { result ≡ binary_type (declarations_of known.now).classes operator a.now b.now }
 {
-    if is_logical(operator) {
-        return if are_booleans(a, b) {
-            Some(Ty::Bool)
-        } else {
-            None
-        };
+    if is_conditional(operator) {
+        return if_fitting(are_booleans(a, b), Ty::Bool);
     }
-    if is_order(operator) {
-        return if are_ints(a, b) { Some(Ty::Bool) } else { None };
+    if is_relational(operator) {
+        return if_fitting(are_ints(a, b), Ty::Bool);
     }
     if is_equality(operator) {
-        return if are_ints(a, b) || are_booleans(a, b) || are_related(known, a, b) {
-            Some(Ty::Bool)
-        } else {
-            None
-        };
+        return if_fitting(are_comparable(known, a, b), Ty::Bool);
     }
-    if are_ints(a, b) { Some(Ty::Int) } else { None }
+    if_fitting(are_ints(a, b), Ty::Int)
 }
 
 /// The field of a name that the class has in which a node stands.
@@ -205,7 +204,7 @@ fn class_meaning(known: &Known<'_>, id: NodeId, name: &Name) -> NameMeaning
 
 /// What a name stands for at a node, looked up.
 #[tactic(auto, unfolding(crate::specs::Meanings::meant, scj_rules::specs::Types::meaning))]
-fn looked_up(known: &Known<'_>, id: NodeId, name: &Name) -> NameMeaning
+pub(crate) fn looked_up(known: &Known<'_>, id: NodeId, name: &Name) -> NameMeaning
     ensures { meant known.now.nodes result ≡ meaning (declarations_of known.now) id name.now }
 {
     if let Some(variable) = known.variable_named(id, name) {
@@ -217,24 +216,36 @@ fn looked_up(known: &Known<'_>, id: NodeId, name: &Name) -> NameMeaning
     }
 }
 
-/// What a name stands for at a node (JLS 6.5).
-pub fn meaning(known: &Known<'_>, id: NodeId, name: &Name) -> NameMeaning
-    ensures { meant known.now.nodes result ≡ meaning (declarations_of known.now) id name.now }
-{
-    match known.told_meaning(id, name) {
-        Some(told) => told,
-        None => looked_up(known, id, name),
-    }
-}
-
-/// The same at a node that is this name. Where it is told, no names are compared.
+/// What a node that is this name stands for. Where its row tells it, nothing is looked up.
+#[tactic(auto, unfolding(crate::specs::Meanings::IsMeaningAt))]
 pub fn meaning_there(known: &Known<'_>, id: NodeId, place: Pos, name: &Name) -> NameMeaning
     requires { slice_get known.now.nodes id ≡ Some (SimpleName place name.now) }
     ensures { meant known.now.nodes result ≡ meaning (declarations_of known.now) id name.now }
 {
-    match known.told_there(id, place, name) {
-        Some(told) => told,
-        None => looked_up(known, id, name),
+    match known.row(id) {
+        NodeMeaning::Name(told) => told,
+        _ => looked_up(known, id, name),
+    }
+}
+
+/// What a name stands for at a node (JLS 6.5).
+pub fn meaning(known: &Known<'_>, id: NodeId, name: &Name) -> NameMeaning
+    ensures { meant known.now.nodes result ≡ meaning (declarations_of known.now) id name.now }
+{
+    match known.program().get(id) {
+        Some(
+            Node::SimpleName {
+                place,
+                name: written,
+            },
+        ) => {
+            if *written.get() == *name {
+                meaning_there(known, id, *place, name)
+            } else {
+                looked_up(known, id, name)
+            }
+        }
+        _ => looked_up(known, id, name),
     }
 }
 
@@ -245,7 +256,9 @@ fn class_at_name(known: &Known<'_>, object: NodeId) -> Option<ClassId>
         object }
 {
     match known.program().get(object)? {
-        Node::SimpleName { name, .. } => class_in(&meaning(known, object, name.get())),
+        Node::SimpleName { place, name } => {
+            class_in(&meaning_there(known, object, *place, name.get()))
+        }
         _ => None,
     }
 }
@@ -292,7 +305,28 @@ pub fn accessed_field(known: &Known<'_>, receiver: &Receiver, name: &Name) -> Op
     known.classes.field_named(class, name)
 }
 
-/// The same at the node of an access, whose row may tell it.
+/// The field of a name that a class has, where the row of an access tells it.
+#[tactic(auto, unfolding(crate::specs::Meanings::IsMeaningAt))]
+fn field_told(known: &Known<'_>, id: NodeId, class: ClassId, name: &Name) -> Option<FieldRef>
+    ensures { IfSome result (λ field. Some (found_field known.now.nodes field) ≡ field_named
+        (declarations_of known.now).classes class name.now) }
+{
+    let Some(Node::FieldAccess { name: written, .. }) = known.program().get(id) else {
+        return None;
+    };
+    match known.row(id) {
+        NodeMeaning::Field(asked, field) => {
+            if asked == class && *written.get() == *name {
+                Some(field)
+            } else {
+                None
+            }
+        }
+        _ => None,
+    }
+}
+
+/// The field of a name that a receiver has, at the node of an access, whose row may tell it.
 pub fn field_accessed(
     known: &Known<'_>,
     id: NodeId,
@@ -303,22 +337,34 @@ pub fn field_accessed(
         name.now }
 {
     let class = class_of_receiver(receiver)?;
-    match known.told_field(id, class, name) {
-        Some(told) => told,
+    match field_told(known, id, class, name) {
+        Some(field) => Some(field),
         None => known.classes.field_named(class, name),
     }
 }
 
-/// The method of a name that a receiver has.
-pub fn called_method(known: &Known<'_>, receiver: &Receiver, name: &Name) -> Option<MethodRef>
-    ensures { option_map (found_method known.now.nodes) result ≡ called_method (declarations_of known.now) receiver.now
-        name.now }
+/// The method of a name that a class has, where the row of a call tells it.
+#[tactic(auto, unfolding(crate::specs::Meanings::IsMeaningAt))]
+fn method_told(known: &Known<'_>, id: NodeId, class: ClassId, name: &Name) -> Option<MethodRef>
+    ensures { IfSome result (λ method. Some (found_method known.now.nodes method) ≡ method_named
+        (declarations_of known.now).classes class name.now) }
 {
-    let class = class_of_receiver(receiver)?;
-    known.classes.method_named(class, name)
+    let Some(Node::Call { name: written, .. }) = known.program().get(id) else {
+        return None;
+    };
+    match known.row(id) {
+        NodeMeaning::Method(asked, method) => {
+            if asked == class && *written.get() == *name {
+                Some(method)
+            } else {
+                None
+            }
+        }
+        _ => None,
+    }
 }
 
-/// The same at the node of a call, whose row may tell it.
+/// The method of a name that a receiver has, at the node of a call, whose row may tell it.
 pub fn method_called(
     known: &Known<'_>,
     id: NodeId,
@@ -329,8 +375,8 @@ pub fn method_called(
         name.now }
 {
     let class = class_of_receiver(receiver)?;
-    match known.told_method(id, class, name) {
-        Some(told) => told,
+    match method_told(known, id, class, name) {
+        Some(method) => Some(method),
         None => known.classes.method_named(class, name),
     }
 }

@@ -1,19 +1,16 @@
 //! The types of what names, accesses and calls stand for.
 
-ghost use Rattle.std.specs.Prelude.{◌≡◌, option_and_then, option_map};
-ghost use Rattle.scj_rules.specs.declared.typing.FoundField.{FoundField as Row};
+ghost use Rattle.std.specs.Prelude.{◌≡◌, option_and_then};
 ghost use Rattle.scj_rules.specs.declared.views.Declared.{Declared as Declaration};
 ghost use Rattle.scj_rules.specs.Types.{type_written};
 ghost use Rattle.scj_rules.specs.Views.{variable_at};
 ghost use Rattle.scj_rules.specs.Contexts.{declarations_of};
 ghost use Rattle.scj_rules.specs.TypeRules.{type_of_meaning, access_type, call_type};
-ghost use Rattle.class_rows.specs.Fields.{found_field};
 ghost use Rattle.type_rules.specs.Meanings.{meant};
 
 use crate::known::Known;
 use crate::meanings::NameMeaning;
 use crate::names::{field_accessed, method_called, type_written, written_type};
-use class_rows::FieldRef;
 use class_rows::fields::field_type as written_of;
 use method_rows::result_type;
 use scj_base::{Name, NodeId};
@@ -29,9 +26,9 @@ fn type_of_variable(known: &Known<'_>, variable: NodeId) -> Option<Ty>
         (variable_at known.now.nodes variable) }
 {
     match known.program().get(variable)? {
-        Node::Parameter { declared_type, .. } => written_type(known, *declared_type),
-        Node::Local { declared_type, .. } => written_type(known, *declared_type),
-        Node::LocalWithValue { declared_type, .. } => written_type(known, *declared_type),
+        Node::Parameter { declared_type, .. }
+        | Node::Local { declared_type, .. }
+        | Node::LocalWithValue { declared_type, .. } => written_type(known, *declared_type),
         _ => None,
     }
 }
@@ -48,18 +45,6 @@ pub fn type_of_meaning(known: &Known<'_>, meaning: &NameMeaning) -> Option<Ty>
     }
 }
 
-/// The type of a field, if there is one.
-fn field_type(known: &Known<'_>, found: &Option<FieldRef>) -> Option<Ty>
-    ensures { result ≡ option_and_then
-        (λ (f : Row). type_written (declarations_of known.now).names f.field.declared_type)
-        (option_map (found_field known.now.nodes) found.now) }
-{
-    match found {
-        Some(field) => type_written(known, &written_of(known.program(), field)),
-        None => None,
-    }
-}
-
 /// The type of a field or of an array's length, accessed at a node.
 #[tactic(auto, unfolding(scj_rules::specs::TypeRules::access_type))]
 pub fn access_type(known: &Known<'_>, id: NodeId, receiver: &Receiver, name: &Name) -> Option<Ty>
@@ -68,7 +53,10 @@ pub fn access_type(known: &Known<'_>, id: NodeId, receiver: &Receiver, name: &Na
     if is_array_value(receiver) && is_length(name) {
         return Some(Ty::Int);
     }
-    field_type(known, &field_accessed(known, id, receiver, name))
+    match field_accessed(known, id, receiver, name) {
+        Some(field) => type_written(known, &written_of(known.program(), &field)),
+        None => None,
+    }
 }
 
 /// The type of a call at a node: the method's result.

@@ -1,77 +1,58 @@
 //! What simple names, accesses and calls stand for, looked up once for each node, behind those that it hangs on.
 
-ghost use Rattle.std.specs.Prelude.{◌≡◌, ◌+◌, ℕ, None, Option, Some, List, OnOk, length, option_and_then, slice_get};
+ghost use Rattle.std.specs.Prelude.{◌≡◌, ◌+◌, ℕ, Option, Some, List, OnOk, IfSome, length, slice_get};
 ghost use Rattle.scj_base.specs.declared.places.Pos.{Pos as Place};
-ghost use Rattle.scj_tree.specs.Recursion.{lookup};
 ghost use Rattle.scj_tree.specs.declared.nodes.Node.TheVariants.{FieldAccess, Call};
-ghost use Rattle.scj_rules.specs.Contexts.{declarations_of};
-ghost use Rattle.scj_rules.specs.Types.{call_receiver, class_of_receiver};
 ghost use Rattle.type_rules.specs.Meanings.{IsMeaningAt, AreMeanings};
 
 use crate::known::Known;
 use crate::meanings::NodeMeaning;
-use crate::names::{call_receiver, meaning};
-use scj_base::{ClassId, Memory, Name, NodeId};
-use scj_rules::Ty;
+use crate::names::{self, call_receiver, receiver};
+use scj_base::{Memory, Name, NodeId};
+use scj_rules::{Receiver, Ty};
 use scj_tree::{Node, NodeKind};
 use type_words::class_of_receiver;
 
-/// The class whose members a call or an access asks for.
-fn class_asked(
-    known: &Known<'_>,
-    types: &[Option<Ty>],
-    id: NodeId,
-    object: &Option<NodeId>,
-) -> Option<ClassId>
-    ensures { result ≡ option_and_then class_of_receiver
-        (call_receiver (declarations_of known.now) (lookup None types.now) id object.now) }
-{
-    let receiver = call_receiver(known, types, id, object)?;
-    class_of_receiver(&receiver)
-}
-
-/// The row of an access of a field of this name.
+/// The row of an access of a field of this name, if the receiver has one.
 #[tactic(auto, unfolding(crate::specs::Meanings::IsMeaningAt))]
-fn access_row(known: &Known<'_>, class: Option<ClassId>, name: &Name) -> NodeMeaning
+fn access_row(known: &Known<'_>, receiver: &Receiver, name: &Name) -> Option<NodeMeaning>
     ensures { (id : ℕ) (place : Place) (object : ℕ) →
-        slice_get known.now.nodes id ≡ Some (FieldAccess place name.now object) → IsMeaningAt known.now id result }
+        slice_get known.now.nodes id ≡ Some (FieldAccess place name.now object) →
+        IfSome result (λ row. IsMeaningAt known.now id row) }
 {
-    match class {
-        Some(class) => NodeMeaning::Field(class, known.classes().field_named(class, name)),
-        None => NodeMeaning::Nothing,
-    }
+    let class = class_of_receiver(receiver)?;
+    let field = known.classes().field_named(class, name)?;
+    Some(NodeMeaning::Field(class, field))
 }
 
-/// The row of a call of a method of this name.
+/// The row of a call of a method of this name, if the receiver has one.
 #[tactic(auto, unfolding(crate::specs::Meanings::IsMeaningAt))]
-fn call_row(known: &Known<'_>, class: Option<ClassId>, name: &Name) -> NodeMeaning
+fn call_row(known: &Known<'_>, receiver: &Receiver, name: &Name) -> Option<NodeMeaning>
     ensures { (id : ℕ) (place : Place) (object : Option ℕ) (arguments : List ℕ) →
-        slice_get known.now.nodes id ≡ Some (Call place name.now object arguments) → IsMeaningAt known.now id result }
+        slice_get known.now.nodes id ≡ Some (Call place name.now object arguments) →
+        IfSome result (λ row. IsMeaningAt known.now id row) }
 {
-    match class {
-        Some(class) => NodeMeaning::Method(class, known.classes().method_named(class, name)),
-        None => NodeMeaning::Nothing,
-    }
+    let class = class_of_receiver(receiver)?;
+    let method = known.classes().method_named(class, name)?;
+    Some(NodeMeaning::Method(class, method))
 }
 
 /// The row of a node, looked up.
 #[tactic(auto, unfolding(crate::specs::Meanings::IsMeaningAt))]
-fn looked_up(known: &Known<'_>, types: &[Option<Ty>], id: NodeId) -> NodeMeaning
-    ensures { IsMeaningAt known.now id result }
+fn looked_up(known: &Known<'_>, types: &[Option<Ty>], id: NodeId) -> Option<NodeMeaning>
+    ensures { IfSome result (λ row. IsMeaningAt known.now id row) }
 {
-    match known.program().get(id) {
-        Some(Node::SimpleName { name, .. }) => NodeMeaning::Name(meaning(known, id, name.get())),
-        Some(Node::FieldAccess { name, object, .. }) => {
-            access_row(
-                known,
-                class_asked(known, types, id, &Some(*object)),
-                name.get(),
-            )
+    match known.program().get(id)? {
+        Node::SimpleName { name, .. } => {
+            Some(NodeMeaning::Name(names::looked_up(known, id, name.get())))
         }
-        Some(Node::Call { name, object, .. }) => {
-            call_row(known, class_asked(known, types, id, object), name.get())
+        Node::FieldAccess { name, object, .. } => {
+            access_row(known, &receiver(known, types, *object)?, name.get())
         }
-        _ => NodeMeaning::Nothing,
+        Node::Call { name, object, .. } => {
+            call_row(known, &call_receiver(known, types, id, object)?, name.get())
+        }
+        _ => None,
     }
 }
 
@@ -88,7 +69,10 @@ fn next_row(
 {
     match known.program().kind(id) {
         Some(NodeKind::SimpleName | NodeKind::FieldAccess | NodeKind::Call) => {
-            looked_up(&known.with_meanings(rows), types, id)
+            match looked_up(&known.with_meanings(rows), types, id) {
+                Some(row) => row,
+                None => NodeMeaning::Nothing,
+            }
         }
         _ => NodeMeaning::Nothing,
     }

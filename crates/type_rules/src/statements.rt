@@ -1,16 +1,17 @@
 //! What is broken at declarations and statements.
 
-ghost use Rattle.std.specs.Prelude.{◌≡◌, ◌++◌, None, OnOk};
-ghost use Rattle.scj_tree.specs.Recursion.{lookup};
+ghost use Rattle.std.specs.Prelude.{◌≡◌, ◌++◌, OnOk};
 ghost use Rattle.scj_rules.specs.Definitions.{read};
 ghost use Rattle.scj_rules.specs.Words.{holds};
 ghost use Rattle.scj_rules.specs.Contexts.{declarations_of};
 ghost use Rattle.scj_rules.specs.TypeRules.{superclass_at, misfits_value, misfits_initial_value, misfits_assignment, is_length_target, misfits_condition, fits_result, misfits_result, ends_without_return, has_framework_size, misfits_size, misfits_long, misfits_super_call};
+ghost use Rattle.type_rules.specs.Told.{declared, types};
 
 use crate::arguments::{constructor_parameters, misfit};
 use crate::forms::has_form;
 use crate::known::Known;
-use crate::names::{assigns, receiver, told, type_written, written_type};
+use crate::names::{assigns, receiver, type_written, written_type};
+use crate::nodes::At;
 use method_rows::result_type;
 use node_views::{place_at, type_at};
 use scj_base::{ClassId, Found, Memory, Name, NodeId, Rule};
@@ -29,69 +30,60 @@ fn misfits_value(known: &Known<'_>, target: &Option<Ty>, value: &Option<Ty>) -> 
 }
 
 /// Whether a declared variable doesn't take its value.
-pub fn misfits_initial_value(
-    known: &Known<'_>,
-    types: &[Option<Ty>],
-    declared_type: NodeId,
-    value: NodeId,
-) -> bool
-    ensures { result ≡ misfits_initial_value (declarations_of known.now) (lookup None types.now) declared_type value }
+pub fn misfits_initial_value(at: &At<'_>, declared_type: NodeId, value: NodeId) -> bool
+    ensures { result ≡ misfits_initial_value (declared at.now) (types at.now) declared_type value }
 {
     misfits_value(
-        known,
-        &written_type(known, declared_type),
-        &told(types, value),
+        at.known,
+        &written_type(at.known, declared_type),
+        &at.type_of(value),
     )
 }
 
 /// Whether the target is the length of an array.
 #[tactic(auto, unfolding(scj_rules::specs::TypeRules::is_length_target, scj_rules::specs::Contexts::declarations_of))]
-fn is_length_target(known: &Known<'_>, types: &[Option<Ty>], target: NodeId) -> bool
+fn is_length_target(at: &At<'_>, target: NodeId) -> bool
     ensures { result ≡ holds
-        (read (declarations_of known.now).nodes (is_length_target (declarations_of known.now) (lookup None types.now))
-        target) (λ b. b) }
+        (read (declared at.now).nodes (is_length_target (declared at.now) (types at.now)) target) (λ b. b) }
 {
-    match known.program().get(target) {
-        Some(Node::FieldAccess { name, object, .. }) => match receiver(known, types, *object) {
-            Some(r) => is_array_value(&r) && is_length(name.get()),
-            None => false,
-        },
+    match at.known.program().get(target) {
+        Some(Node::FieldAccess { name, object, .. }) => {
+            match receiver(at.known, at.types, *object) {
+                Some(r) => is_array_value(&r) && is_length(name.get()),
+                None => false,
+            }
+        }
         _ => false,
     }
 }
 
 /// Whether an assigned value doesn't fit, or its target is the length of an array.
-pub fn misfits_assignment(
-    known: &Known<'_>,
-    types: &[Option<Ty>],
-    target: NodeId,
-    value: NodeId,
-) -> bool
-    ensures { result ≡ misfits_assignment (declarations_of known.now) (lookup None types.now) target value }
+pub fn misfits_assignment(at: &At<'_>, target: NodeId, value: NodeId) -> bool
+    ensures { result ≡ misfits_assignment (declared at.now) (types at.now) target value }
 {
-    let old = told(types, target);
-    let new = told(types, value);
+    let old = at.type_of(target);
+    let new = at.type_of(value);
     old.is_some()
         && new.is_some()
-        && (misfits_value(known, &old, &new) || is_length_target(known, types, target))
+        && (misfits_value(at.known, &old, &new) || is_length_target(at, target))
 }
 
 /// Notes a condition that isn't boolean.
 #[tactic(auto, unfolding(scj_rules::specs::Contexts::declarations_of))]
-pub fn note_condition(
-    known: &Known<'_>,
-    types: &[Option<Ty>],
-    condition: NodeId,
-    found: &mut Vec<Found>,
-) -> Result<(), Memory>
+pub fn note_condition(found: &mut Vec<Found>, at: &At<'_>, condition: NodeId) -> Result<(), Memory>
     ensures { OnOk result (found.new.items ≡ found.old.items
-        ++ misfits_condition (declarations_of known.now) (lookup None types.now) condition) }
+        ++ misfits_condition (declared at.now) (types at.now) condition) }
 {
-    let test = match told(types, condition) {
+    let misfits = match at.type_of(condition) {
         Some(t) => !are_same(&t, &Ty::Bool),
         None => false,
     };
-    report_if(found, test, Rule::T8, place_at(known.program(), condition))
+    report_if(
+        found,
+        misfits,
+        Rule::T8,
+        place_at(at.known.program(), condition),
+    )
 }
 
 /// Whether a value of the type fits the result. An int fits a result `long`.
@@ -111,11 +103,11 @@ fn fits_result(known: &Known<'_>, result_type: &WrittenType, t: &Ty) -> bool
 }
 
 /// Whether the value of a `return` doesn't fit the result.
-pub fn misfits_result(known: &Known<'_>, types: &[Option<Ty>], id: NodeId, value: NodeId) -> bool
-    ensures { result ≡ misfits_result (declarations_of known.now) (lookup None types.now) id value }
+pub fn misfits_result(at: &At<'_>, value: NodeId) -> bool
+    ensures { result ≡ misfits_result (declared at.now) (types at.now) at.now.id value }
 {
-    match told(types, value) {
-        Some(t) => !fits_result(known, &known.result_at(id), &t),
+    match at.type_of(value) {
+        Some(t) => !fits_result(at.known, &at.known.result_at(at.id), &t),
         None => false,
     }
 }
@@ -179,23 +171,13 @@ fn superclass_at(known: &Known<'_>, id: NodeId) -> Option<ClassId>
 }
 
 /// Whether the arguments of a super call don't fit, where no form is due.
-pub fn misfits_super_call(
-    known: &Known<'_>,
-    types: &[Option<Ty>],
-    id: NodeId,
-    arguments: &[NodeId],
-) -> bool
-    ensures { result ≡ misfits_super_call (declarations_of known.now) (lookup None types.now) id arguments.now }
+pub fn misfits_super_call(at: &At<'_>, arguments: &[NodeId]) -> bool
+    ensures { result ≡ misfits_super_call (declared at.now) (types at.now) at.now.id arguments.now }
 {
-    match superclass_at(known, id) {
+    match superclass_at(at.known, at.id) {
         Some(superclass) => {
             !has_form(superclass)
-                && misfit(
-                    known,
-                    types,
-                    &constructor_parameters(known, superclass),
-                    arguments,
-                )
+                && misfit(at, &constructor_parameters(at.known, superclass), arguments)
         }
         None => false,
     }

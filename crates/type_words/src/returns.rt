@@ -27,12 +27,7 @@ fn told(returns: &[bool], id: NodeId) -> bool
 fn any_returns(returns: &[bool], ids: &[NodeId]) -> bool
     ensures { result ≡ list_any (lookup false returns.now) ids.now }
 {
-    for id in ids {
-        if told(returns, *id) {
-            return true;
-        }
-    }
-    false
+    ids.iter().any(|id| told(returns, *id))
 }
 
 /// Whether the node is the literal `true`.
@@ -69,13 +64,10 @@ fn returns_of(program: &Program, returns: &[bool], node: &Node) -> bool
 fn is_returning_kind(kind: &Option<NodeKind>) -> bool
     ensures { result ≡ is_returning_kind kind.now }
 {
-    match kind {
-        Some(NodeKind::Return) => true,
-        Some(NodeKind::Block) => true,
-        Some(NodeKind::If) => true,
-        Some(NodeKind::While) => true,
-        _ => false,
-    }
+    matches!(
+        kind,
+        Some(NodeKind::Return | NodeKind::Block | NodeKind::If | NodeKind::While)
+    )
 }
 
 /// Whether the node of a number returns, by what is told of those before it. Its kind is looked at first, since most
@@ -97,7 +89,7 @@ fn returns_at(program: &Program, returns: &[bool], id: NodeId) -> bool
 pub fn returning(alloc: Global, program: &Program) -> Result<Vec<bool>, Memory>
     ensures { IfOk result (λ returns. returns.items ≡ all_returns program.now.nodes) }
 {
-    let mut returns = Vec::new(alloc);
+    let mut returns = Vec::with_capacity(alloc, program.len())?;
     for place in 0..program.len() {
         let value = returns_at(program, &returns, NodeId::at(place as u32));
         returns.push(value)?;

@@ -1,68 +1,54 @@
-use Rattle.std.proofs.Common.{◌≡◌, ◌+◌, ◌&&◌, ℕ, List, None, Some, true, false, not, sym, ap, ◌∙◌, length, drop}
-use Rattle.std.proofs.lemmas.Bool.{true≢false}
-use Rattle.scj_tree.specs.Recursion.{lookup}
-use Rattle.scj_rules.specs.Contexts.{Declarations, declarations_of}
-use Rattle.scj_rules.specs.TypeRules.{Types}
+use Rattle.std.proofs.Common.{◌≡◌, ◌+◌, ◌-◌, ℕ, List, [], ◌∷◌, Bool, sym, ap, ◌∙◌, take, drop, length, is_some, nat_lt, if◌then◌else◌, arith}
+use Rattle.scj_rules.specs.Contexts.{Declarations}
+use Rattle.scj_rules.specs.Types.{all_types}
+use Rattle.scj_rules.specs.TypeRules.{Types, misfit}
 use Rattle.scj_rules.specs.declared.views.Declared.{Declared}
-use Rattle.type_rules.specs.Parameters.{taken, fit_each}
-use Rattle.type_rules.proofs.ArgumentLemmas.{misfit_typed, other_length, typed_next, untyped_here, fit_more, fit_all}
+use Rattle.type_rules.specs.Parameters.{taken}
+use Rattle.type_rules.specs.Told.{declared, types}
+use Rattle.type_rules.proofs.ArgumentLemmas.{first_left, none_left, misfit_more, misfit_end}
 use Rattle.type_rules.proofs.arguments.misfit.Goals as goal
-
-pub returns-then-count-ids : goal.returns-then-count-ids
-returns-then-count-ids c =
-    let p : Declarations = declarations_of c.args.known.now in
-    let types : Types = lookup None c.args.types.now in
-    let ds : List Declared = taken c.args.known.now.nodes c.args.takes.now in
-    sym (other_length p types ds c.args.ids.now (sym c.are_typed.ensures ∙ c.if-not-are_typed.false)
-    (λ e. c.if-count-ids.true (c.count.ensures ∙ e)))
 
 pub returns-then-not-fits : goal.returns-then-not-fits
 returns-then-not-fits c =
-    let p : Declarations = declarations_of c.args.known.now in
-    let types : Types = lookup None c.args.types.now in
-    let ids : List ℕ = c.args.ids.now in
-    let i : ℕ = c.loop-i.i in
-    let ds : List Declared = taken c.args.known.now.nodes c.args.takes.now in
-    let same : length ds ≡ length ids = sym c.count.ensures ∙ c.if-count-ids.false in
-    let step = fit_more p types ds ids i c.index-ids-i.result c.in-Some.t same c.loop-i-test.true c.index-ids-i.is
-    (sym c.told.ensures ∙ c.in-Some.is) in
-    let none : fit_each p types ds ids ≡ false = c.loop-i.invariant.exact ∙ step
-    ∙ ap (λ b. b && fit_each p types (drop (i + 1) ds) (drop (i + 1) ids)) (sym c.fits.ensures ∙ c.if-not-fits.true)
-    in
-    sym (misfit_typed p types ds ids (sym c.are_typed.ensures ∙ c.if-not-are_typed.false) ∙ ap not none)
+    let p : Declarations = declared c.args.at.now in
+    let ts : Types = types c.args.at.now in
+    let ds : List Declared = taken c.args.at.now.known.now.nodes c.args.takes.now in
+    let i : ℕ = c.loop-others.i in
+    let rest : List ℕ = take (length c.loop-others.others.now - 1) (drop 1 c.loop-others.others.now) in
+    let split : c.loop-others.others.now ≡ c.id-item.result ∷ rest =
+    first_left c.id-item.result c.loop-others.others.now c.in-len1-up.len_at_least c.id-item.is in
+    let here = misfit_more p ts ds i c.id-item.result rest c.in-Some.t (sym c.type_of.ensures ∙ c.in-Some.is) in
+    let next : Bool → Bool = λ b. if b then misfit p ts (drop (i + 1) ds) rest else is_some (all_types ts rest) in
+    c.are_typed.ensures
+    ∙ sym (c.loop-others.invariant.left ∙ ap (misfit p ts (drop i ds)) split ∙ here
+    ∙ ap next (sym c.fits.ensures ∙ c.if-not-fits.true))
 
-pub returns-in_default : goal.returns-in_default
-returns-in_default c =
-    let types : Types = lookup None c.args.types.now in
-    let none = untyped_here types c.args.ids.now c.loop-i.i c.index-ids-i.result c.loop-i-test.true c.index-ids-i.is
-    (sym c.told.ensures ∙ c.in_default.is) in
-    absurd (true≢false (sym c.loop-i.invariant.typed ∙ none))
-
-pub loop-i-preserved : goal.loop-i-preserved
-loop-i-preserved c =
-    let p : Declarations = declarations_of c.args.known.now in
-    let types : Types = lookup None c.args.types.now in
-    let ids : List ℕ = c.args.ids.now in
-    let i : ℕ = c.loop-i.i in
-    let ds : List Declared = taken c.args.known.now.nodes c.args.takes.now in
-    let same : length ds ≡ length ids = sym c.count.ensures ∙ c.if-count-ids.false in
-    let has : types c.index-ids-i.result ≡ Some c.in-Some.t = sym c.told.ensures ∙ c.in-Some.is in
-    let step = fit_more p types ds ids i c.index-ids-i.result c.in-Some.t same c.loop-i-test.true c.index-ids-i.is has
-    in
+pub loop-others-preserved : goal.loop-others-preserved
+loop-others-preserved c =
+    let p : Declarations = declared c.args.at.now in
+    let ts : Types = types c.args.at.now in
+    let ds : List Declared = taken c.args.at.now.known.now.nodes c.args.takes.now in
+    let i : ℕ = c.loop-others.i in
+    let rest : List ℕ = take (length c.loop-others.others.now - 1) (drop 1 c.loop-others.others.now) in
+    let split : c.loop-others.others.now ≡ c.id-item.result ∷ rest =
+    first_left c.id-item.result c.loop-others.others.now c.in-len1-up.len_at_least c.id-item.is in
+    let here = misfit_more p ts ds i c.id-item.result rest c.in-Some.t (sym c.type_of.ensures ∙ c.in-Some.is) in
+    let next : Bool → Bool = λ b. if b then misfit p ts (drop (i + 1) ds) rest else is_some (all_types ts rest) in
+    let longer : length c.loop-others.others.now ≡ length (c.id-item.result ∷ rest) = ap length split in
+    let counted : (i + 1) + length rest ≡ length c.args.ids.now =
+    omega (arith, longer, c.loop-others.invariant.counted) in
     record {
-      typed = sym (typed_next types ids i c.index-ids-i.result c.in-Some.t c.loop-i-test.true c.index-ids-i.is has)
-          ∙ c.loop-i.invariant.typed;
-      exact = c.loop-i.invariant.exact ∙ step ∙ ap (λ b. b && fit_each p types (drop (i + 1) ds) (drop (i + 1) ids))
-          (sym c.fits.ensures ∙ c.if-not-fits.false);
+      left = c.loop-others.invariant.left ∙ ap (misfit p ts (drop i ds)) split ∙ here
+          ∙ ap next (sym c.fits.ensures ∙ c.if-not-fits.false);
+      counted = counted;
     }
 
 pub returns : goal.returns
 returns c =
-    let p : Declarations = declarations_of c.args.known.now in
-    let types : Types = lookup None c.args.types.now in
-    let ids : List ℕ = c.args.ids.now in
-    let ds : List Declared = taken c.args.known.now.nodes c.args.takes.now in
-    let same : length ds ≡ length ids = sym c.count.ensures ∙ c.if-count-ids.false in
-    let all : fit_each p types ds ids ≡ true = c.loop-i.invariant.exact
-    ∙ fit_all p types ds ids c.loop-i.i same c.loop-i-test.false in
-    sym (misfit_typed p types ds ids (sym c.are_typed.ensures ∙ c.if-not-are_typed.false) ∙ ap not all)
+    let p : Declarations = declared c.args.at.now in
+    let ts : Types = types c.args.at.now in
+    let ds : List Declared = taken c.args.at.now.known.now.nodes c.args.takes.now in
+    let i : ℕ = c.loop-others.i in
+    ap (nat_lt i) c.count.ensures
+    ∙ sym (c.loop-others.invariant.left
+    ∙ ap (misfit p ts (drop i ds)) (none_left c.loop-others.others.now c.in_default.len_below) ∙ misfit_end p ts ds i)

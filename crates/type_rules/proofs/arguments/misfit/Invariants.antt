@@ -1,14 +1,16 @@
-use Rattle.std.proofs.Common.{◌≡◌, None, true, is_some, drop}
-use Rattle.scj_tree.specs.Recursion.{lookup}
-use Rattle.scj_rules.specs.Contexts.{declarations_of}
-use Rattle.scj_rules.specs.Types.{all_types}
-use Rattle.type_rules.specs.Parameters.{taken, fit_each}
+use Rattle.std.proofs.Common.{◌≡◌, ◌+◌, drop, length}
+use Rattle.scj_rules.specs.TypeRules.{misfit}
+use Rattle.type_rules.specs.Parameters.{taken}
+use Rattle.type_rules.specs.Told.{declared, types}
 use Rattle.type_rules.proofs.arguments.misfit.Given as goal
 
--- the arguments so far fit
-abbrev pub invariant-loop-i : goal.invariant-loop-i
-invariant-loop-i l = record {
-  typed : is_some (all_types (lookup None l.types) (drop l.i l.ids)) ≡ true;
-  exact : fit_each (declarations_of l.known) (lookup None l.types) (taken l.known.nodes l.takes) l.ids ≡ fit_each
-      (declarations_of l.known) (lookup None l.types) (drop l.i (taken l.known.nodes l.takes)) (drop l.i l.ids);
+-- the arguments that are left and the parameters from here on tell it
+abbrev pub invariant-loop-others : goal.invariant-loop-others
+invariant-loop-others l = record {
+  left : misfit (declared l.at) (types l.at) (taken l.at.known.now.nodes l.takes) l.ids ≡ misfit (declared l.at)
+      (types l.at) (drop l.i (taken l.at.known.now.nodes l.takes)) l.others;
+  counted : l.i + length l.others ≡ length l.ids;
 }
+
+abbrev pub decreases-loop-others : goal.decreases-loop-others
+decreases-loop-others l = length l.others

@@ -6,7 +6,7 @@ use Rattle.type_words.proofs.returns.returning.Goals as goal
 
 pub loop-place-init : goal.loop-place-init
 unfolding bottom_up
-loop-place-init c = c.new-returns.ensures.items
+loop-place-init c = c.in_ok-returns.ensures.items
 
 pub loop-place-preserved : goal.loop-place-preserved
 loop-place-preserved c =

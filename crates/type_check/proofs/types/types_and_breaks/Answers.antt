@@ -1,0 +1,59 @@
+use Rattle.std.proofs.Common.{◌≡◌, ◌+◌, ◌++◌, ℕ, List, Option, None, ap, ◌∙◌, arith, length}
+use Rattle.scj_base.specs.declared.findings.Found.{Found}
+use Rattle.scj_tree.specs.Forest.{Forest}
+use Rattle.scj_tree.specs.Recursion.{lookup, bottom_up, joined_below}
+use Rattle.scj_rules.specs.declared.typing.Ty.{Ty}
+use Rattle.scj_rules.specs.Contexts.{Declarations, declarations_of}
+use Rattle.scj_rules.specs.Phases.{over_nodes, type_phase}
+use Rattle.scj_rules.specs.TypeRules.{type_of_next, types_in}
+use Rattle.type_words.proofs.ReturnLemmas.{bottom_up-more}
+use Rattle.type_rules.proofs.MeaningLemmas.{no_meanings}
+use Rattle.type_check.specs.Passes.{breaks_at}
+use Rattle.type_check.proofs.PassLemmas.{joined-more}
+use Rattle.type_check.proofs.TypedLemmas.{breaks_so_far}
+use Rattle.type_check.proofs.types.types_and_breaks.Goals as goal
+
+pub loop-place-init : goal.loop-place-init
+unfolding bottom_up joined_below
+loop-place-init c = record {
+  typed = c.in_ok-types.ensures.items;
+  noted = c.new-found.ensures.items;
+  right = rw c.in_ok-rows.ensures.items (no_meanings c.args.known.now);
+  so_many = ap length c.in_ok-rows.ensures.items;
+}
+
+pub loop-place-preserved : goal.loop-place-preserved
+loop-place-preserved c =
+    let p : Declarations = declarations_of c.args.known.now in
+    let place : ℕ = c.loop-place.place in
+    let so_far : List (Option Ty) → List Found = λ ts. breaks_at p (lookup None ts) place in
+    let whole = rw c.program-program.ensures at c.len-place-end.ensures.whole in
+    let row = rw c.at-id.ensures at c.in_ok-add_row.ensures in
+    let t = rw (c.deref-in-loop-place-2.ensures.value, c.at-id.ensures) at c.in_ok-t.ensures in
+    record {
+      typed = c.in_ok-push.ensures.items
+          ∙ bottom_up-more None (type_of_next p) place c.loop-place.types.items c.in_ok-t.t c.loop-place.invariant.typed
+          t.type_of;
+      noted = t.found
+          ∙ ap (λ (fs : List Found). c.loop-place.found.items ++ fs) (ap so_far c.loop-place.invariant.typed
+          ∙ breaks_so_far c.args.known.now whole place)
+          ∙ joined-more (breaks_at p (lookup None (types_in p))) place c.loop-place.found.items
+          c.loop-place.invariant.noted;
+      right = row.told;
+      so_many = row.next;
+    }
+
+pub returns-clause-types : goal.returns-clause-types
+unfolding types_in declarations_of
+returns-clause-types c =
+    let full : c.loop-place.place ≡ length c.args.known.now.nodes =
+    omega (arith, rw c.program-program.ensures at c.len-place-end.ensures.value) in
+    c.loop-place.invariant.typed ∙ ap (bottom_up None (type_of_next (declarations_of c.args.known.now))) full
+
+pub returns-clause-breaks : goal.returns-clause-breaks
+unfolding type_phase over_nodes declarations_of
+returns-clause-breaks c =
+    let p : Declarations = declarations_of c.args.known.now in
+    let full : c.loop-place.place ≡ length c.args.known.now.nodes =
+    omega (arith, rw c.program-program.ensures at c.len-place-end.ensures.value) in
+    c.loop-place.invariant.noted ∙ ap (joined_below (breaks_at p (lookup None (types_in p)))) full
