@@ -1,3 +1,2 @@
-pub mod BareLemmas
 pub mod NodeLemmas
 pub mod ParameterLemmas

@@ -1,5 +1,5 @@
 -- What is broken at all nodes, and that nodes of most kinds break nothing.
-use Rattle.std.proofs.Common.{◌≡◌, ℕ, true, false, List, [], length, Option, Some, None, option_map, slice_get, refl, sym, true≢false}
+use Rattle.std.proofs.Common.{◌≡◌, ℕ, false, List, [], ◌++◌, append-nil, length, Option, Some, None, option_map, slice_get, refl, sym, ap, ◌∙◌, true≢false}
 use Rattle.scj_base.specs.declared.findings.Found.{Found}
 use Rattle.scj_tree.specs.declared.nodes.Node.{Node}
 use Rattle.scj_tree.specs.declared.nodes.Node.TheVariants.{Class, Field, Method, Parameter, Local, LocalWithValue}
@@ -23,15 +23,16 @@ breaks_nothing p id (Local place name flags t) h = absurd (true≢false (sym h))
 breaks_nothing p id (LocalWithValue place name_place name flags t value) h = absurd (true≢false (sym h))
 breaks_nothing p id _ h = refl
 
-pub nothing_of_kind : (forest : Forest) (id : ℕ) →
+pub nothing_of_kind : (forest : Forest) (id : ℕ) (found : List Found) →
     false ≡ holds (option_map kind_of (slice_get forest.nodes id)) may_break
-    → found_at (slice_get forest.nodes id) (annotation_breaks (declarations_of forest) id) ≡ []
-nothing_of_kind forest id h = go (slice_get forest.nodes id) h
+    → found ≡ found ++ found_at (slice_get forest.nodes id) (annotation_breaks (declarations_of forest) id)
+nothing_of_kind forest id found h =
+    sym (append-nil found) ∙ ap (λ (fs : List Found). found ++ fs) (go (slice_get forest.nodes id) h)
   where
     go : (o : Option Node) → false ≡ holds (option_map kind_of o) may_break →
-        found_at o (annotation_breaks (declarations_of forest) id) ≡ []
+        [] ≡ found_at o (annotation_breaks (declarations_of forest) id)
     go None h = refl
-    go (Some node) h = breaks_nothing (declarations_of forest) id node h
+    go (Some node) h = sym (breaks_nothing (declarations_of forest) id node h)
 
 -- one after the other
 pub nodes_joined : (forest : Forest) → over_nodes (declarations_of forest) (annotation_breaks (declarations_of forest))

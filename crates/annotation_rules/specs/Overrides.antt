@@ -1,5 +1,5 @@
 -- The scopes of the parameters of a method beside those of the method above.
-use Rattle.std.specs.Prelude.{ℕ, Bool, Option, drop, slice_get, option_map, option_and_then}
+use Rattle.std.specs.Prelude.{ℕ, Bool, drop}
 use Rattle.scj_rules.specs.declared.views.Declared.{Declared}
 use Rattle.scj_rules.specs.Classes.{FoundMethod}
 use Rattle.scj_rules.specs.Contexts.{Declarations}
@@ -10,13 +10,6 @@ use Rattle.scj_rules.specs.AnnotationRules.{seen_in, differ, parameters_differ}
 abbrev pub parameter_differs : Declarations → FoundMethod → FoundMethod → Declared → Declared → Bool
 parameter_differs p f g d e =
     differ (parameter_scope p f.on f.method d) (seen_in p f.on (parameter_scope p g.on g.method e))
-
--- the parameters of a number, where both are there
-unfoldable pub differs_at : Declarations → FoundMethod → FoundMethod → ℕ → Option Bool
-differs_at p f g i =
-    option_and_then
-    (λ (d : Declared). option_map (λ (e : Declared). parameter_differs p f g d e) (slice_get g.method.parameters i))
-    (slice_get f.method.parameters i)
 
 -- the parameters from a number on
 unfoldable pub parameters_from : Declarations → FoundMethod → FoundMethod → ℕ → Bool

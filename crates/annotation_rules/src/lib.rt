@@ -3,9 +3,7 @@
 
 mod checks;
 mod classes;
-mod fields;
-mod methods;
 mod overrides;
 mod things;
 
-pub use checks::{check_annotations, check_scoped_annotations};
+pub use checks::check_annotations;

@@ -5,8 +5,8 @@ use Rattle.std.specs.Cmp.Lexicographic.{slice_cmp}
 use Rattle.std.specs.Ordering.{nat_cmp, is_eq}
 use Rattle.std.proofs.lemmas.Bool.{true≢false, cases_lt}
 use Rattle.std.proofs.lemmas.List.{drop_all}
-use Rattle.std.proofs.lemmas.Bool.Decides.{nat_tests}
-use Rattle.std.proofs.lemmas.Cmp.{same_from_slice_cmp, nat_list_eq_equiv}
+use Rattle.std.proofs.lemmas.Cmp.{nat_list_eq_equiv}
+use Rattle.std.proofs.lemmas.Map.Text.{is_eq-slice_cmp}
 use Rattle.std.proofs.lemmas.Option.{slice_get-get_or}
 use Rattle.std.proofs.lemmas.Slice.Eq.{bytes_eq-Decides}
 use Rattle.scj_base.specs.Bytes.{is_same}
@@ -16,15 +16,14 @@ use Rattle.scj_rules.specs.Definitions.{is_reserved, first_definition, definitio
 use Rattle.scj_rules.specs.Classes.{class_nodes, first_user_class}
 use Rattle.scj_rules.specs.Contexts.{Declarations, declarations_of}
 use Rattle.scj_rules.specs.ScopeRules.{definition_in, scope_of_definition}
-use Rattle.scope_tree.specs.Names.{entered}
+use Rattle.scope_tree.specs.Trees.{entered}
 use Rattle.scope_tree.proofs.UserLemmas.{class_count, definition_at_place, no_definition_below, scope_at_place}
 
 same-true : (xs ys : List ℕ) → is_same xs ys ≡ true → xs ≡ ys
 same-true xs ys h = (bytes_eq-Decides xs ys).0 h
 
 pub ordered_same : (xs ys : List ℕ) → is_eq (slice_cmp nat_cmp xs ys) ≡ is_same ys xs
-ordered_same xs ys = same_from_slice_cmp nat_cmp is_eq is_same refl (λ _ _. refl) (λ _ _. refl)
-    (λ x y xs ys o h. grind (arith, nat_tests)) xs ys _ refl ∙ nat_list_eq_equiv.symm xs ys
+ordered_same xs ys = is_eq-slice_cmp xs ys ∙ nat_list_eq_equiv.symm xs ys
 
 -- the scope of a name by the definitions of the classes from a number on
 abbrev pub scope_from : Forest → ℕ → List ℕ → Option ℕ

@@ -11,6 +11,7 @@ use Rattle.scj_builtins.specs.Framework.{framework_classes}
 use Rattle.scj_tree.specs.declared.nodes.Node.{Node}
 use Rattle.scj_tree.specs.Counts.{times}
 use Rattle.scj_tree.specs.Forest.{Forest, IsForest, IsClass, is_class, AllClasses, joined, all_children}
+use Rattle.scj_tree.proofs.ForestLemmas.{times-append}
 use Rattle.scj_rules.specs.declared.scopes.Definition.{Definition}
 use Rattle.scj_rules.specs.Definitions.{read, definition, in_front, definition_with, definition_of, definitions_in, definitions, written_of, values_of, define_scope_of, flags_of}
 use Rattle.scj_rules.specs.Words.{is_among}
@@ -19,8 +20,8 @@ use Rattle.scj_rules.specs.Classes.{ClassRow, class_nodes, user_classes, class_n
 use Rattle.scj_rules.specs.Contexts.{Declarations, declarations_of, number_of_class}
 use Rattle.scj_rules.specs.ScopeRules.{definition_in, scope_of_definition}
 use Rattle.scj_rules.proofs.ChainLemmas.{same_number}
-use Rattle.class_rows.specs.Tables.{class_written, has_good_header}
-use Rattle.class_rows.proofs.RowLemmas.{class_get, class_length, counted, counted_is, kept}
+use Rattle.class_rows.specs.Tables.{class_written}
+use Rattle.class_rows.proofs.RowLemmas.{as_written, class_length}
 use Rattle.class_rows.proofs.SoundLemmas.{row_sound}
 
 -- ---- the nodes of the user classes are the classes of the files
@@ -48,17 +49,8 @@ written_in rows k = option_and_then (λ (row : ClassRow). row.written) (slice_ge
 pub written_stays : (forest : Forest) (class : ℕ) → class_written (declarations_of forest) class ≡ written_in
     (declarations_of forest).classes class
 unfolding class_written
-written_stays forest class = rw (class_get forest class) (go (slice_get (declarations_of forest).written class))
-  where
-    p : Declarations
-    p = declarations_of forest
-
-    go : (o : Option ClassRow) → option_and_then (λ (row : ClassRow). row.written) o
-        ≡ option_and_then (λ (row : ClassRow). row.written) (option_map (counted p class) o)
-    go None = refl
-    go (Some row) =
-        sym (ap (λ (r : ClassRow). r.written) (counted_is p class row)
-        ∙ kept (λ (r : ClassRow). r.written) row (has_good_header p class row) refl)
+written_stays forest class =
+    sym (as_written (option_and_then (λ (row : ClassRow). row.written)) (λ row. refl) forest class)
 
 pub no_user_below : (forest : Forest) (class : ℕ) → class < first_user_class →
     written_in (declarations_of forest).classes class ≡ None
@@ -197,11 +189,6 @@ place_there x xs k h once =
     (let l : k < length xs = slice_get_within xs k x h in grind (arith, nat_tests)) in
     rw e (rw inside refl)
 
-times-front : (x : ℕ) (xs ys : List ℕ) → times x xs ≤ times x (xs ++ ys)
-unfolding times
-times-front x [] ys = omega arith
-times-front x (y ∷ xs) ys = omega (arith, times-front x xs ys)
-
 -- ---- the definitions at the numbers of the classes
 
 pub no_definition_below : (forest : Forest) (class : ℕ) → class < first_user_class →
@@ -277,7 +264,7 @@ module _ (forest : Forest) (whole : IsForest forest) where
   unfolding declarations_of number_of_class
   scope_at_place k x d h e =
       let once : times x nodes_of ≤ 1 =
-      omega (arith, whole.one_place x, times-front x nodes_of (all_children forest.nodes)) in
+      omega (arith, whole.one_place x, times-append x nodes_of (all_children forest.nodes)) in
       let same : d.class ≡ x = class_of_definition forest.nodes x d e in
       ap (λ (ids : List ℕ). number_of_class ids d.class) users_are
       ∙ rw same (rw (place_there x nodes_of k h once) refl)

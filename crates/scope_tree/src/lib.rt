@@ -2,15 +2,11 @@
 #![tactic(auto)]
 
 mod builds;
-mod class_scopes;
-mod classes;
-mod headers;
 mod names;
-mod rows;
 mod rules;
 pub mod scopes;
 pub mod trees;
 
 pub use builds::build;
 pub use scopes::Scopes;
-pub use trees::{ScopeNames, ScopeTree};
+pub use trees::ScopeTree;

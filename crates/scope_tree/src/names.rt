@@ -1,17 +1,118 @@
-//! The scopes by their names.
+//! What single classes write of scopes, and the scopes by their names.
 
-ghost use Rattle.std.specs.Prelude.{◌≡◌, List, ℕ, length, IfOk, OnOk};
+ghost use Rattle.std.specs.Prelude.{◌≡◌, List, ℕ, length, option_and_then, option_map, IfOk, OnOk};
 ghost use Rattle.scj_rules.specs.Contexts.{declarations_of};
-ghost use Rattle.scj_rules.specs.Definitions.{is_reserved};
-ghost use Rattle.scj_rules.specs.ScopeRules.{definition_in};
-ghost use Rattle.scope_tree.specs.Names.{IsNaming, entered, scope_named};
+ghost use Rattle.scj_rules.specs.Definitions.{definition_of, define_scope_of, flags_of, is_reserved, read, values_of, written_of};
+ghost use Rattle.scj_rules.specs.ScopeRules.{definition_in, user_class_in};
+ghost use Rattle.scj_rules.specs.Views.{WrittenClass};
+ghost use Rattle.scj_tree.specs.Forest.{IsForest};
+ghost use Rattle.scope_tree.specs.Trees.{IsNaming, entered, scope_named};
 
-use crate::classes::{definition_in, is_whole};
 use crate::trees::ScopeNames;
 use class_rows::Classes;
-use scj_base::{ClassId, Memory, Name, ScopeId};
+use node_views::{class_modifiers, class_place};
+use scj_base::{ClassId, Memory, Name, NodeId, Pos, ScopeId};
+use scj_rules::{Definition, Modifiers, Written};
+use scj_tree::{Node, Program};
 use std::alloc::Global;
 use std::collections::BTreeMap;
+
+/// The program of the classes is a forest.
+pub fn is_whole(classes: &Classes)
+    ensures { IsForest classes.now }
+{
+    let _count = classes.program().len();
+}
+
+/// The two values of the `@DefineScope` before a class, if there is one: the scope's and the parent's.
+#[tactic(auto, unfolding(scj_rules::specs::Definitions::flags_of, scj_rules::specs::Definitions::define_scope_of, scj_rules::specs::Definitions::values_of))]
+fn values(program: &Program, class: NodeId) -> Option<(NodeId, NodeId)>
+    ensures { let nodes = program.now.nodes in
+        result ≡ option_and_then (read nodes values_of)
+        (option_and_then (read nodes define_scope_of) (read nodes flags_of class)) }
+{
+    let Node::Class { flags, .. } = program.get(class)? else {
+        return None;
+    };
+    let Node::Flags { define_scope, .. } = program.get((*flags)?)? else {
+        return None;
+    };
+    match program.get((*define_scope)?)? {
+        Node::DefineScope {
+            place: _,
+            first,
+            second,
+            parent_first,
+        } => {
+            if *parent_first {
+                Some((*second, *first))
+            } else {
+                Some((*first, *second))
+            }
+        }
+        _ => None,
+    }
+}
+
+/// The name of a scope that a node writes.
+#[tactic(auto, unfolding(scj_rules::specs::Definitions::written_of))]
+fn written(program: &Program, value: NodeId) -> Option<Written>
+    ensures { result ≡ read program.now.nodes written_of value }
+{
+    match program.get(value)? {
+        Node::ScopeName { place, name } => Some(Written {
+            name: *name.get(),
+            place: *place,
+        }),
+        _ => None,
+    }
+}
+
+/// The definition that the class at a node writes, if it writes one.
+#[tactic(auto, unfolding(scj_rules::specs::Definitions::definition_of, scj_rules::specs::Definitions::definition_with))]
+fn definition(program: &Program, class: Option<NodeId>) -> Option<Definition>
+    ensures { result ≡ option_and_then (definition_of program.now.nodes) class }
+{
+    let class = class?;
+    let (scope, parent) = values(program, class)?;
+    let scope = written(program, scope)?;
+    let parent = written(program, parent)?;
+    Some(Definition {
+        class,
+        scope,
+        parent,
+    })
+}
+
+/// The definition that a class writes.
+#[tactic(auto, using(crate::proofs::UserLemmas::definition_of_class))]
+pub fn definition_in(classes: &Classes, class: ClassId) -> Option<Definition>
+    ensures { result ≡ definition_in (declarations_of classes.now) class }
+{
+    is_whole(classes);
+    let node = classes.class_node(class);
+    definition(classes.program(), node)
+}
+
+/// The annotations and modifiers of a user class.
+#[tactic(auto, using(crate::proofs::UserLemmas::written_stays))]
+pub fn modifiers_in(classes: &Classes, class: ClassId) -> Option<Modifiers>
+    ensures { result ≡ option_map (λ (c : WrittenClass). c.modifiers)
+        (user_class_in (declarations_of classes.now).classes class) }
+{
+    let program = classes.program();
+    class_modifiers(program, classes.class_node(class)?)
+}
+
+/// Where a user class is named.
+#[tactic(auto, using(crate::proofs::UserLemmas::written_stays))]
+pub fn place_in(classes: &Classes, class: ClassId) -> Option<Pos>
+    ensures { result ≡ option_map (λ (c : WrittenClass). c.place)
+        (user_class_in (declarations_of classes.now).classes class) }
+{
+    let program = classes.program();
+    class_place(program, classes.class_node(class)?)
+}
 
 /// Whether no class can define a scope of this name.
 #[tactic(auto, unfolding(scj_rules::specs::Definitions::is_reserved))]

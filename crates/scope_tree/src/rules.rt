@@ -9,8 +9,7 @@ ghost use Rattle.scj_rules.specs.Phases.{BreaksScopeRules, at_class, scope_phase
 ghost use Rattle.scj_rules.specs.Report.{IsReport};
 ghost use Rattle.scj_rules.specs.ScopeRules.{definition_breaks, definition_in, has_wrong_parent, is_cyclic_scope, is_defined_already, is_handler, is_wrong_class, lacks_scope, lies_in_parent, makes_scope, misfits_parent, needs_scope, s1, s2, s3, s4, s5, s6, scope_breaks, scope_written_on_chain, user_class_in};
 
-use crate::classes::{modifiers_in, place_in};
-use crate::names::is_reserved;
+use crate::names::{definition_in, is_reserved, modifiers_in, place_in};
 use crate::scopes::Scopes;
 use class_rows::Classes;
 use class_rows::chains::Chain;
@@ -33,7 +32,7 @@ fn any_defines(scopes: &Scopes, chain: Chain<'_>) -> bool
 {
     let mut rest = chain;
     while let Some(class) = rest.next() {
-        if scopes.definition_in(class).is_some() {
+        if definition_in(scopes.classes(), class).is_some() {
             return true;
         }
     }
@@ -154,7 +153,7 @@ fn note_definition(
 fn note_written(found: &mut Vec<Found>, scopes: &Scopes, class: ClassId) -> Result<(), Memory>
     ensures { OnOk result (found.new.items ≡ found.old.items ++ definition_breaks (declarations_of scopes.now) class) }
 {
-    match scopes.definition_in(class) {
+    match definition_in(scopes.classes(), class) {
         Some(definition) => note_definition(found, scopes, class, &definition),
         None => Ok(()),
     }

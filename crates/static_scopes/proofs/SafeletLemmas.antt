@@ -1,8 +1,7 @@
 -- Methods that a class inherits as Safelet's, asked of class after class.
-use Rattle.std.proofs.Common.{◌≡◌, ℕ, zero, suc, ◌+◌, ◌≤◌, ◌<◌, Bool, true, false, ◌&&◌, ◌||◌, ◌==◌, List, [], ◌∷◌, length, drop, refl, sym, ap, ◌∙◌, arith, is_some}
+use Rattle.std.proofs.Common.{◌≡◌, ℕ, Bool, true, false, ◌&&◌, ◌||◌, ◌==◌, List, [], ◌∷◌, refl, ap, ◌∙◌, arith, is_some}
 use Rattle.std.specs.List.{list_any}
 use Rattle.std.proofs.lemmas.Bool.Decides.{nat_tests}
-use Rattle.std.proofs.lemmas.List.{drop_all}
 use Rattle.std.proofs.Math.Bool.{and_comm}
 use Rattle.scj_builtins.specs.Framework.{safelet}
 use Rattle.scj_rules.specs.Words.{is_among}
@@ -42,24 +41,6 @@ inherits_is p node name class =
     (one_interface (λ i. is_some (own_method p.classes name i)) safelet (all_interfaces p.classes class))
     ∙ and_comm (is_among safelet (all_interfaces p.classes class) && is_some (own_method p.classes name safelet))
     (has_method_of_node p node name class)
-
--- the numbers from one on, and from the next
-pub numbers_next : {A : Type 0} (q : ℕ → Bool) (k : ℕ) (xs : List A) → k < length xs →
-    list_any q (numbers_from k (drop k xs)) ≡ (q k || list_any q (numbers_from (k + 1) (drop (k + 1) xs)))
-unfolding numbers_from
-numbers_next {A} q k xs l = go k xs l k
-  where
-    go : (i : ℕ) (xs : List A) → i < length xs → (k : ℕ) →
-        list_any q (numbers_from k (drop i xs)) ≡ (q k || list_any q (numbers_from (k + 1) (drop (i + 1) xs)))
-    go i [] l k = absurd (omega (arith, l))
-    go zero (x ∷ xs) l k = refl
-    go (suc i) (x ∷ xs) l k = let n : suc i + 1 ≡ suc (i + 1) = omega arith in go i xs (omega (arith, l)) k
-        ∙ ap (λ m. q k || list_any q (numbers_from (k + 1) (drop m (x ∷ xs)))) (sym n)
-
-pub numbers_end : {A : Type 0} (q : ℕ → Bool) (k : ℕ) (xs : List A) → length xs ≤ k →
-    false ≡ list_any q (numbers_from k (drop k xs))
-unfolding numbers_from
-numbers_end {A} q k xs l = ap (λ (ys : List A). list_any q (numbers_from k ys)) (sym (drop_all k xs l))
 
 -- no class inherits a method of a name that Safelet doesn't have
 pub none_inherits : (p : Declarations) (m : DeclaredMethod) →

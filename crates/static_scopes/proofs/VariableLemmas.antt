@@ -1,5 +1,5 @@
 -- Nodes that declare no variable, or one whose type has no scope.
-use Rattle.std.proofs.Common.{◌≡◌, ℕ, zero, suc, Bool, true, false, List, [], ◌∷◌, ◌++◌, length, slice_get, Option, Some, None, is_some, option_map, option_and_then, refl, sym, ◌∙◌, true≢false}
+use Rattle.std.proofs.Common.{◌≡◌, ℕ, Bool, true, false, Option, Some, None, is_some, option_map, option_and_then, refl, sym, ◌∙◌, true≢false}
 use Rattle.scj_tree.specs.Forest.{Forest}
 use Rattle.scj_rules.specs.Words.{holds}
 use Rattle.scj_rules.specs.Views.{variable_at}
@@ -61,12 +61,3 @@ pub no_variable : (forest : Forest) (id : ℕ) → false ≡ is_some (variable_a
 unfolding declarations_of
 no_variable forest id h = made_of_none (declarations_of forest) id (λ class member.
     made (declarations_of forest) (variable_at forest.nodes id) class _ _ (λ k. absurd (true≢false (sym k ∙ sym h))))
-
--- one row more
-pub row_pushed : (f : ℕ → Option Scope) (rows : List (Option Scope)) (x : Option Scope) →
-    ((id : ℕ) (row : Option Scope) → slice_get rows id ≡ Some row → row ≡ f id) → x ≡ f (length rows) → (id : ℕ)
-    (row : Option Scope) → slice_get (rows ++ x ∷ []) id ≡ Some row → row ≡ f id
-row_pushed f [] x h e zero row k = let j : Some x ≡ Some row = k in cc
-row_pushed f [] x h e (suc id) row k = absurd (let j : None ≡ Some row = k in cc)
-row_pushed f (r ∷ rows) x h e zero row k = h zero row k
-row_pushed f (r ∷ rows) x h e (suc id) row k = row_pushed (λ n. f (suc n)) rows x (λ i. h (suc i)) e id row k

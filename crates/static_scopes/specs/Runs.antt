@@ -1,7 +1,8 @@
 -- The tables of scopes: those in which methods run and fields lie, and those of variables.
-use Rattle.std.specs.Prelude.{◌≡◌, ℕ, List, length, slice_get, Option, Some, None}
+use Rattle.std.specs.Prelude.{◌≡◌, ℕ, List, slice_get, Option, Some, None}
+use Rattle.std.specs.BTreeMap.{get}
+use Rattle.std.specs.Ordering.{nat_cmp}
 use Rattle.scj_tree.specs.Forest.{Forest}
-use Rattle.scj_tree.specs.Recursion.{listed}
 use Rattle.scj_rules.specs.Words.{◌>>=◌}
 use Rattle.scj_rules.specs.declared.typing.Scope.{Scope}
 use Rattle.scj_rules.specs.declared.views.Declared.{Declared}
@@ -13,17 +14,18 @@ use Rattle.scj_rules.specs.UseRules.{variable_scope_at}
 use Rattle.static_scopes.specs.declared.runs.Runs.{Runs}
 
 -- of a method of a class RunsIn, of a field its scope
-abbrev pub scope_of_member : Declarations → ℕ → Option DeclaredMethod → Option Declared → Option Scope
+unfoldable pub scope_of_member : Declarations → ℕ → Option DeclaredMethod → Option Declared → Option Scope
 scope_of_member p class (Some m) field = runs_in p class m
 scope_of_member p class None field = field >>= field_scope p class
 
--- what the table has at a node: that of the member of its class that it declares
+-- the same of the member that a node declares in its class
 unfoldable pub run_at : Declarations → ℕ → Option Scope
 run_at p id = in_class p id (λ class. scope_of_member p class (method_at p.nodes id) (field_at p.nodes id))
 
--- the table has at each node what is said of it
+-- each row of the table tells what is said of its node
 pub record AreRuns (forest : Forest) (runs : Runs) : Type 0 where
-  pub rows : runs.rows.items ≡ listed (run_at (declarations_of forest)) (length forest.nodes)
+  pub told : (id : ℕ) (row : Option Scope) → get nat_cmp runs.rows id ≡ Some row →
+      row ≡ run_at (declarations_of forest) id
 
 -- the rows that are there tell of the first nodes the scopes of the variables that they declare
 abbrev pub AreVariables : Forest → List (Option Scope) → Type 0

@@ -1,17 +1,18 @@
 //! The static scopes of a program.
 
-ghost use Rattle.std.specs.Prelude.{◌≡◌, ◌<◌, ◌^◌, Some, IfOk, IfSome};
-ghost use Rattle.std.specs.Bool.{OnTrue};
-ghost use Rattle.static_scopes.specs.Runs.{run_at, AreVariables};
+ghost use Rattle.std.specs.Prelude.{◌≡◌, ◌<◌, ◌^◌, IfOk, IfSome};
+ghost use Rattle.static_scopes.specs.Runs.{scope_of_member, AreVariables};
 ghost use Rattle.class_rows.specs.Fields.{found_field};
 ghost use Rattle.method_rows.specs.Methods.{found_method};
+ghost use Rattle.scj_rules.specs.Words.{holds};
+ghost use Rattle.scj_rules.specs.Views.{method_at, field_at, type_at, type_of_node, variable_at, variable_of};
 ghost use Rattle.scj_rules.specs.Contexts.{declarations_of, context, contexts_in};
-ghost use Rattle.scj_rules.specs.StaticScopes.{this_in, runs_in, current_in, declaration_scope, scoped_variable, scoped_result, parameter_scope, field_scope};
+ghost use Rattle.scj_rules.specs.StaticScopes.{has_no_scope, this_in, runs_in, current_in, declaration_scope, scoped_variable, scoped_result, parameter_scope, field_scope};
 ghost use Rattle.scj_rules.specs.AnnotationRules.{scoped_variable_at, result_scope};
+ghost use Rattle.scj_rules.specs.declared.views.Declared.{Declared as Declaration};
 ghost use Rattle.scj_rules.specs.UseRules.{this_at, current_at, variable_scope_at};
 
-use crate::plain::has_plain_type;
-use crate::runs::{Runs, told};
+use crate::runs::Runs;
 use crate::{methods, names, things};
 use class_rows::FieldRef;
 use class_rows::fields::found_field;
@@ -20,7 +21,7 @@ use node_contexts::{Contexts, is_static_member};
 use node_views::{is_field, is_method, is_variable, variable_at};
 use scj_base::{ClassId, Memory, NodeId};
 use scj_rules::{Context, Declared, Scope, ScopedDeclaration};
-use scj_tree::Program;
+use scj_tree::{Node, Program};
 use scope_tree::Scopes;
 use std::alloc::Global;
 use std::marker::Model;
@@ -107,23 +108,22 @@ impl<'a> Scoped<'a> {
         names::this_in(&self.scopes, class)
     }
 
-    /// Whether a node stands in a class.
-    fn stands_in(&self, node: NodeId, class: ClassId) -> bool
-        ensures { OnTrue result (Some class ≡ (context (declarations_of self.now) node).class) }
+    /// What the table has of the member that a node declares in a class, if it has a row of it.
+    #[tactic(auto, unfolding(crate::specs::Runs::run_at, scj_rules::specs::Contexts::declarations_of))]
+    fn told_of(&self, class: ClassId, node: NodeId) -> Option<Option<Scope>>
+        ensures { IfSome result (λ row. row ≡ scope_of_member (declarations_of self.now) class
+            (method_at self.now.nodes node) (field_at self.now.nodes node)) }
     {
-        match self.context(node).class {
-            Some(other) => other == class,
-            None => false,
+        let context = self.context(node);
+        if context.class? != class {
+            return None;
         }
-    }
-
-    /// What the table of methods and fields has at a node.
-    #[tactic(auto, using(crate::proofs::RunLemmas::told_run))]
-    fn run_at(&self, node: NodeId) -> Option<Scope>
-        ensures { result ≡ run_at (declarations_of self.now) node }
-    {
         let runs = self.runs;
-        told(&runs.rows, node)
+        let place = node.place();
+        match runs.rows.get(&place) {
+            Some(row) => Some(*row),
+            None => None,
+        }
     }
 
     /// The scope in which a method runs.
@@ -134,8 +134,8 @@ impl<'a> Scoped<'a> {
     {
         if let MethodSource::Declared(node) = &method.source {
             if is_method(self.program(), *node) {
-                if self.stands_in(*node, method.on) {
-                    return self.run_at(*node);
+                if let Some(row) = self.told_of(method.on, *node) {
+                    return row;
                 }
             }
         }
@@ -223,8 +223,8 @@ impl<'a> Scoped<'a> {
             result ≡ field_scope (declarations_of self.now) f.on f.field }
     {
         if is_field(self.program(), field.node) {
-            if self.stands_in(field.node, field.on) {
-                return self.run_at(field.node);
+            if let Some(row) = self.told_of(field.on, field.node) {
+                return row;
             }
         }
         let found = found_field(self.program(), field);
@@ -247,19 +247,10 @@ impl<'a> Scoped<'a> {
         }
     }
 
-    /// The scope of the parameter or local that a node declares, looked up.
-    fn declared_scope(&self, id: NodeId) -> Option<Scope>
-        ensures { result ≡ variable_scope_at (declarations_of self.now) id }
-    {
-        match &self.scoped_variable_at(id) {
-            Some(thing) => things::declaration_scope(&self.scopes, thing),
-            None => None,
-        }
-    }
-
-    /// The same. Nodes of most kinds, and types, tell that there is none.
+    /// The scope of the parameter or local that a node declares, found anew. Nodes of most kinds, and types, tell that
+    /// there is none.
     #[tactic(auto, using(crate::proofs::VariableLemmas::no_variable, crate::proofs::VariableLemmas::plain_variable))]
-    fn scope_at(&self, id: NodeId) -> Option<Scope>
+    fn find_variable_scope(&self, id: NodeId) -> Option<Scope>
         ensures { result ≡ variable_scope_at (declarations_of self.now) id }
     {
         if !is_variable(self.program(), id) {
@@ -268,15 +259,8 @@ impl<'a> Scoped<'a> {
         if has_plain_type(self.program(), id) {
             return None;
         }
-        self.declared_scope(id)
-    }
-
-    /// What is told of a variable at its node, if that is told.
-    fn variable_row(&self, id: NodeId) -> Option<Option<Scope>>
-        ensures { IfSome result (λ row. row ≡ variable_scope_at (declarations_of self.now) id) }
-    {
-        match self.variables.get(id.place()) {
-            Some(row) => Some(*row),
+        match &self.scoped_variable_at(id) {
+            Some(thing) => things::declaration_scope(&self.scopes, thing),
             None => None,
         }
     }
@@ -285,10 +269,36 @@ impl<'a> Scoped<'a> {
     pub fn variable_scope(&self, id: NodeId) -> Option<Scope>
         ensures { result ≡ variable_scope_at (declarations_of self.now) id }
     {
-        match self.variable_row(id) {
-            Some(row) => row,
-            None => self.scope_at(id),
+        if let Some(row) = self.variables.get(id.place()) {
+            return *row;
         }
+        self.find_variable_scope(id)
+    }
+}
+
+/// Whether a node writes a type whose values lie in no area, as `int` or `boolean`; so does a node that writes none.
+#[tactic(auto, unfolding(scj_rules::specs::Views::type_of_node, scj_rules::specs::StaticScopes::has_no_scope))]
+fn is_plain_type(program: &Program, id: NodeId) -> bool
+    ensures { result ≡ has_no_scope (type_at program.now.nodes id) }
+{
+    match program.get(id) {
+        Some(Node::IntType { is_array, .. }) => !*is_array,
+        Some(Node::BooleanType { is_array, .. }) => !*is_array,
+        Some(Node::ClassType { .. }) => false,
+        _ => true,
+    }
+}
+
+/// Whether a node declares a parameter or local of type `int` or `boolean`.
+#[tactic(auto, unfolding(scj_rules::specs::Views::variable_of))]
+fn has_plain_type(program: &Program, id: NodeId) -> bool
+    ensures { result ≡ holds (variable_at program.now.nodes id) (λ (d : Declaration). has_no_scope d.declared_type) }
+{
+    match program.get(id) {
+        Some(Node::Parameter { declared_type, .. }) => is_plain_type(program, *declared_type),
+        Some(Node::Local { declared_type, .. }) => is_plain_type(program, *declared_type),
+        Some(Node::LocalWithValue { declared_type, .. }) => is_plain_type(program, *declared_type),
+        _ => false,
     }
 }
 
@@ -307,13 +317,14 @@ fn variables_end(program: &Program) -> usize
 
 /// The scopes of the variables that nodes declare, up to the last of these: a row behind it would take memory and tell
 /// nothing.
+#[tactic(auto, unfolding(scj_tree::specs::Recursion::listed))]
 pub fn variables_of(alloc: Global, scoped: &Scoped) -> Result<Vec<Option<Scope>>, Memory>
     ensures { IfOk result (λ rows. AreVariables scoped.now rows.items) }
 {
     let end = variables_end(scoped.program());
     let mut rows = Vec::with_capacity(alloc, end)?;
     for place in 0..end {
-        rows.push(scoped.scope_at(NodeId::at(place as u32)))?;
+        rows.push(scoped.find_variable_scope(NodeId::at(place as u32)))?;
     }
     Ok(rows)
 }

@@ -3,10 +3,11 @@
 ghost use Rattle.std.specs.Prelude.{◌≡◌, not};
 ghost use Rattle.scj_rules.specs.Words.{holds};
 ghost use Rattle.scj_rules.specs.Contexts.{declarations_of};
-ghost use Rattle.scj_rules.specs.StaticScopes.{class_scope, has_no_scope, type_scope, is_unannotated, denotes_nothing, resolve_at, is_unknown_scope, contradicts, is_rightly_scoped, scope_as_written, declaration_scope, scoped_variable, scoped_field, suits_field, misfits_field, field_scope};
+ghost use Rattle.scj_rules.specs.StaticScopes.{class_scope, has_no_scope, type_scope, denotes_nothing, resolve_at, is_unknown_scope, contradicts, is_rightly_scoped, scope_as_written, declaration_scope, scoped_variable, scoped_field, suits_field, misfits_field, field_scope};
 
-use crate::names::{is_other_scope, resolve_name, this_in, written_scope};
-use crate::words::{are_same_scope, scope_or};
+use crate::names::{
+    are_same_scope, is_other_scope, resolve_name, scope_or, this_in, written_scope,
+};
 use scj_base::{ClassId, Name, ScopeId};
 use scj_rules::{ClassScope, Declared, Resolution, Scope, ScopedDeclaration, Written, WrittenType};
 use scope_tree::Scopes;
@@ -40,22 +41,15 @@ fn type_scope(scopes: &Scopes, declared_type: &WrittenType) -> ClassScope
     }
 }
 
-/// Whether a class's instances lie anywhere.
-#[tactic(auto, unfolding(scj_rules::specs::StaticScopes::is_unannotated))]
-fn is_unannotated(scope: &ClassScope) -> bool
-    ensures { result ≡ is_unannotated scope.now }
-{
-    matches!(scope, ClassScope::Unannotated)
-}
-
 /// Whether a name denotes nothing in the annotation of a declaration, though it does elsewhere: `THIS` in a static
 /// member of an unannotated class, and `CALLER` on a field.
-#[tactic(auto, unfolding(scj_rules::specs::StaticScopes::denotes_nothing))]
+#[tactic(auto, unfolding(scj_rules::specs::StaticScopes::denotes_nothing, scj_rules::specs::StaticScopes::is_unannotated))]
 fn denotes_nothing(scopes: &Scopes, thing: &ScopedDeclaration, name: &Name) -> bool
     ensures { result ≡ denotes_nothing (declarations_of scopes.now) thing.now name.now }
 {
     if name.bytes() == b"THIS".as_slice() {
-        return thing.is_static && is_unannotated(&scopes.class_scope(thing.class));
+        return thing.is_static
+            && matches!(&scopes.class_scope(thing.class), ClassScope::Unannotated);
     }
     name.bytes() == b"CALLER".as_slice() && thing.is_field
 }

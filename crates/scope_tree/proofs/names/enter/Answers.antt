@@ -3,7 +3,7 @@ use Rattle.scj_rules.specs.Contexts.{declarations_of}
 use Rattle.scj_rules.specs.Definitions.{is_reserved}
 use Rattle.scj_rules.specs.ScopeRules.{definition_in}
 use Rattle.scj_base.specs.Bytes.{is_same}
-use Rattle.scope_tree.specs.Names.{scope_named}
+use Rattle.scope_tree.specs.Trees.{scope_named}
 use Rattle.scope_tree.proofs.NameLemmas.{ordered_same}
 use Rattle.scope_tree.proofs.names.enter.Goals as goal
 

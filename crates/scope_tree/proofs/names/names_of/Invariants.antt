@@ -1,6 +1,6 @@
 use Rattle.std.proofs.Common.{◌≡◌, ◌≤◌, ℕ, List, length}
 use Rattle.scj_rules.specs.Contexts.{declarations_of}
-use Rattle.scope_tree.specs.Names.{scope_named}
+use Rattle.scope_tree.specs.Trees.{scope_named}
 use Rattle.scope_tree.proofs.NameLemmas.{scope_from}
 use Rattle.scope_tree.proofs.names.names_of.Given as goal
 
