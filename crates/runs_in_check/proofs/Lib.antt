@@ -1,4 +1,2 @@
-pub mod ArgumentLemmas
 pub mod CallLemmas
-pub mod KindLemmas
-pub mod PlainLemmas
+pub mod NodeLemmas

@@ -1,3 +1,1 @@
-pub mod Callees
 pub mod Phase
-pub mod Told

@@ -1,59 +1,96 @@
--- What the rules on uses find in a program.
-use Rattle.std.specs.Prelude.{◌↔◌, ℕ, Bool, true, false, not, List, slice_get, Option, None}
-use Rattle.std.specs.List.{Contains}
-use Rattle.std.specs.List.Sorted.{IsStrictlySortedBy}
+-- What is told of a node, what a call asks of its arguments, and what the rules on uses find in a program.
+use Rattle.std.specs.Prelude.{ℕ, Bool, true, false, not, List, [], ◌∷◌, ◌++◌, slice_get, Option, None}
 use Rattle.scj_base.specs.declared.findings.Found.{Found}
+use Rattle.scj_base.specs.declared.findings.Rule.TheVariants.{E3, E7, E8}
+use Rattle.scj_base.specs.declared.places.Pos.{Pos}
 use Rattle.scj_tree.specs.declared.kinds.NodeKind.{NodeKind}
-use Rattle.scj_tree.specs.declared.kinds.NodeKind.TheVariants.{SuperCall as super_call_kind, LocalWithValue as local_with_value_kind, Assign as assign_kind, Return as return_kind, Cast as cast_kind, Parenthesized as parenthesized_kind, SimpleName as simple_name_kind, FieldAccess as field_access_kind, Call as call_kind, Element as element_kind, New as new_kind, NewArray as new_array_kind, Null as null_kind, This as this_kind}
+use Rattle.scj_tree.specs.declared.kinds.NodeKind.TheVariants.{SuperCall, LocalWithValue, Assign, Return, Cast, Parenthesized, SimpleName, FieldAccess, Call, Element, New, NewArray, Null, This}
 use Rattle.scj_tree.specs.Recursion.{lookup}
+use Rattle.scj_rules.specs.declared.typing.Scope.{Scope}
 use Rattle.scj_rules.specs.declared.typing.Ty.{Ty}
+use Rattle.scj_rules.specs.declared.views.Declared.{Declared}
+use Rattle.scj_rules.specs.Words.{broken, found_at, holds, ◌>>=◌}
+use Rattle.scj_rules.specs.Views.{place_at}
+use Rattle.scj_rules.specs.Contexts.{Declarations, declarations_of}
+use Rattle.scj_rules.specs.StaticScopes.{declaration_scope, scoped_variable, substitute}
 use Rattle.scj_rules.specs.Types.{is_reference}
-use Rattle.scj_rules.specs.Words.{found_at, holds}
-use Rattle.scj_rules.specs.Contexts.{Declarations}
-use Rattle.scj_rules.specs.Report.{report_order}
 use Rattle.scj_rules.specs.TypeRules.{Types}
-use Rattle.scj_rules.specs.UseRules.{Scopes, scopes_in, use_breaks}
+use Rattle.scj_rules.specs.UseRules.{Scopes, misfit_scope, enters_wrong, executes_wrong, scopes_in, use_breaks}
 use Rattle.scj_rules.specs.Phases.{over_nodes}
+use Rattle.runs_in_check.specs.declared.arguments.Callee.{Callee}
+use Rattle.runs_in_check.specs.declared.uses.At.{At}
 
--- a type whose values are no references
+-- ---- a node
+
+abbrev pub declared : At → Declarations
+declared at = declarations_of at.uses.now
+
+abbrev pub types : At → Types
+types at = lookup None at.types.now
+
+abbrev pub scopes : At → Scopes
+scopes at = lookup None at.scopes.now
+
+-- nodes of this kind may have a scope
+unfoldable pub may_have_scope : NodeKind → Bool
+may_have_scope This = true
+may_have_scope Null = true
+may_have_scope Parenthesized = true
+may_have_scope SimpleName = true
+may_have_scope FieldAccess = true
+may_have_scope Call = true
+may_have_scope New = true
+may_have_scope NewArray = true
+may_have_scope Element = true
+may_have_scope Cast = true
+may_have_scope _ = false
+
+-- the values of a type are no references
 abbrev pub is_plain : Option Ty → Bool
 is_plain o = holds o (λ t. not (is_reference t))
 
--- a node of this type and kind has no scope: it is of none of the kinds that have one, or its type tells it
-unfoldable pub is_scopeless : Option Ty → NodeKind → Bool
-is_scopeless o simple_name_kind = is_plain o
-is_scopeless o field_access_kind = is_plain o
-is_scopeless o call_kind = is_plain o
-is_scopeless o this_kind = false
-is_scopeless o null_kind = false
-is_scopeless o parenthesized_kind = false
-is_scopeless o new_kind = false
-is_scopeless o new_array_kind = false
-is_scopeless o element_kind = false
-is_scopeless o cast_kind = false
-is_scopeless o _ = true
-
 -- a rule on uses may be broken at nodes of this kind
 unfoldable pub may_break : NodeKind → Bool
-may_break super_call_kind = true
-may_break local_with_value_kind = true
-may_break assign_kind = true
-may_break return_kind = true
-may_break cast_kind = true
-may_break call_kind = true
-may_break new_kind = true
-may_break new_array_kind = true
+may_break SuperCall = true
+may_break LocalWithValue = true
+may_break Assign = true
+may_break Return = true
+may_break Cast = true
+may_break Call = true
+may_break New = true
+may_break NewArray = true
 may_break _ = false
 
 -- what is broken at the node of a number
-abbrev pub breaks_at : Declarations → Types → Scopes → ℕ → List Found
+unfoldable pub breaks_at : Declarations → Types → Scopes → ℕ → List Found
 breaks_at p types scopes id = found_at (slice_get p.nodes id) (use_breaks p types scopes id)
+
+-- ---- a call
+
+-- the scope of a parameter as the caller sees it
+unfoldable pub seen_scope : Declarations → Callee → Declared → Option Scope
+seen_scope p callee d =
+    declaration_scope p (scoped_variable callee.class callee.runs_in callee.is_static d)
+    >>= substitute callee.object callee.current
+
+-- a value of a scope doesn't fit a parameter, if there is one
+abbrev pub misfits_parameter : (Declared → Option Scope) → Option Declared → Option Scope → Bool
+misfits_parameter seen parameter value = holds parameter (λ (d : Declared). misfit_scope value (seen d))
+
+-- E3 of an argument, where there is a parameter for it
+unfoldable pub argument_breaks : Declarations → Scopes → (Declared → Option Scope) → Option Declared → ℕ → List Found
+argument_breaks p scopes seen parameter argument =
+    broken (misfits_parameter seen parameter (scopes argument)) E3 (place_at p.nodes argument)
+
+-- E7 and E8 of a call of the framework's method of a number
+unfoldable pub entry_breaks : Declarations → Types → Scopes → ℕ → Pos → ℕ → List ℕ → List Found
+entry_breaks p types scopes id place number (o ∷ r ∷ []) =
+    broken (enters_wrong p types id number r) E7 place
+    ++ (broken (executes_wrong p types scopes number o r) E8 place ++ [])
+entry_breaks p types scopes id place number _ = []
+
+-- ---- all nodes
 
 -- E1 to E10, where these are the types of the nodes
 unfoldable pub broken_uses : Declarations → Types → List Found
 broken_uses p types = over_nodes p (use_breaks p types (lookup None (scopes_in p types)))
-
--- the list has exactly these findings, in the order of a report and each once
-pub record AreInOrder (findings found : List Found) : Type 0 where
-  pub in_order : IsStrictlySortedBy report_order found
-  pub same : (finding : Found) → Contains found finding ↔ Contains findings finding

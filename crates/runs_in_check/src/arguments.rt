@@ -3,11 +3,9 @@
 ghost use Rattle.std.specs.Prelude.{◌≡◌, ◌++◌, OnOk, slice_get};
 ghost use Rattle.scj_rules.specs.UseRules.{misfit_arguments};
 ghost use Rattle.type_rules.specs.Parameters.{taken};
-ghost use Rattle.runs_in_check.specs.Callees.{seen_scope, misfits_parameter, argument_breaks};
-ghost use Rattle.runs_in_check.specs.Told.{declared, scopes};
+ghost use Rattle.runs_in_check.specs.Phase.{declared, scopes, seen_scope, misfits_parameter, argument_breaks};
 
-use crate::uses::At;
-use crate::words::misfit_scope;
+use crate::uses::{At, misfit_scope};
 use node_views::place_at;
 use scj_base::{ClassId, Found, Memory, NodeId, Rule};
 use scj_rules::{Declared, Scope, report_if};
@@ -44,16 +42,19 @@ fn parameter(program: &Program, takes: &Takes, i: usize) -> Option<Declared>
 }
 
 /// The scope of a parameter as the caller sees it.
+#[tactic(auto, unfolding(crate::specs::Phase::seen_scope))]
 fn seen_scope(at: &At<'_>, callee: &Callee, parameter: &Declared) -> Option<Scope>
     ensures { result ≡ seen_scope (declared at.now) callee.now parameter.now }
 {
-    let scoped = at.uses.scoped();
-    let scope = scoped.scope_in(callee.class, &callee.runs_in, callee.is_static, parameter)?;
+    let uses = at.uses;
+    let scope = uses
+        .scoped
+        .scope_in(callee.class, &callee.runs_in, callee.is_static, parameter)?;
     substitute(&callee.object, &callee.current, &scope)
 }
 
 /// Whether a value of this scope doesn't fit the parameter of a number, if there is one. What has no scope fits.
-#[tactic(auto, unfolding(crate::specs::Callees::misfits_parameter), using(crate::proofs::ArgumentLemmas::none_misfits))]
+#[tactic(auto, using(crate::proofs::CallLemmas::none_misfits))]
 fn misfits_parameter(at: &At<'_>, callee: &Callee, i: usize, value: &Option<Scope>) -> bool
     ensures { result ≡ misfits_parameter (seen_scope (declared at.now) callee.now)
         (slice_get (taken at.now.uses.now.nodes callee.now.takes) i) value.now }
@@ -61,14 +62,15 @@ fn misfits_parameter(at: &At<'_>, callee: &Callee, i: usize, value: &Option<Scop
     if value.is_none() {
         return false;
     }
-    match &parameter(at.uses.program(), &callee.takes, i) {
+    let uses = at.uses;
+    match &parameter(uses.known.program(), &callee.takes, i) {
         Some(parameter) => misfit_scope(value, &seen_scope(at, callee, parameter)),
         None => false,
     }
 }
 
 /// Notes E3 at an argument, where there is a parameter for it.
-#[tactic(auto, unfolding(scj_rules::specs::Contexts::declarations_of))]
+#[tactic(auto, unfolding(crate::specs::Phase::argument_breaks, scj_rules::specs::Contexts::declarations_of))]
 fn note_argument(
     found: &mut Vec<Found>,
     at: &At<'_>,
@@ -80,14 +82,17 @@ fn note_argument(
         OnOk result (found.new.items ≡ found.old.items ++ argument_breaks p (scopes at.now) (seen_scope p callee.now)
         (slice_get (taken at.now.uses.now.nodes callee.now.takes) i) argument) }
 {
-    let is_wrong = misfits_parameter(at, callee, i, &at.scope_of(argument));
-    let place = place_at(at.uses.program(), argument);
-    report_if(found, is_wrong, Rule::E3, place)?;
+    if !misfits_parameter(at, callee, i, &at.scope_of(argument)) {
+        return Ok(());
+    }
+    let uses = at.uses;
+    let place = place_at(uses.known.program(), argument);
+    report_if(found, true, Rule::E3, place)?;
     Ok(())
 }
 
 /// Notes E3 at each argument of a call.
-#[tactic(auto, using(crate::proofs::ArgumentLemmas::arguments_all))]
+#[tactic(auto, using(crate::proofs::CallLemmas::arguments_more, crate::proofs::CallLemmas::arguments_all))]
 pub fn note_arguments(
     found: &mut Vec<Found>,
     at: &At<'_>,

@@ -1,20 +1,18 @@
 //! What is broken at a node: E1 to E10.
 
-ghost use Rattle.std.specs.Prelude.{◌≡◌, ◌++◌, not, None, OnOk};
+ghost use Rattle.std.specs.Prelude.{◌≡◌, ◌++◌, None, OnOk};
 ghost use Rattle.scj_base.specs.declared.findings.Rule.TheVariants.{E1};
-ghost use Rattle.scj_tree.specs.Recursion.{lookup};
 ghost use Rattle.scj_rules.specs.Definitions.{read};
 ghost use Rattle.scj_rules.specs.Words.{broken, found_at, holds};
 ghost use Rattle.scj_rules.specs.Contexts.{declarations_of};
 ghost use Rattle.scj_rules.specs.TypeRules.{written_type, superclass_at};
-ghost use Rattle.scj_rules.specs.UseRules.{scope_of_new, lies_elsewhere, e3_of_constructor, misfit_scope, target_rule, result_scope_at, misfits_cast, is_outer_of_current, isnt_around_current, misfits_element, use_breaks};
-ghost use Rattle.runs_in_check.specs.Told.{declared, types, scopes};
+ghost use Rattle.scj_rules.specs.UseRules.{scope_of_new, lies_elsewhere, e3_of_constructor, misfit_scope, target_rule, result_scope_at, misfits_cast, isnt_around_current, misfits_element, use_breaks};
+ghost use Rattle.runs_in_check.specs.Phase.{declared, types, scopes};
 
 use crate::arguments::{Callee, note_arguments};
-use crate::calls::{isnt_current, note_call};
+use crate::calls::note_call;
 use crate::scopes::scope_of_new;
-use crate::uses::{At, Uses};
-use crate::words::misfit_scope;
+use crate::uses::{At, Uses, is_other, misfit_scope};
 use scj_base::{ClassId, Found, Memory, Name, NodeId, Pos, Rule, ScopeId};
 use scj_rules::{ClassScope, Scope, Ty, report_if};
 use scj_tree::Node;
@@ -26,8 +24,8 @@ use type_rules::{NameMeaning, names};
 fn lies_elsewhere(uses: &Uses<'_>, id: NodeId, class: ClassId) -> bool
     ensures { result ≡ lies_elsewhere (declarations_of uses.now) id class }
 {
-    match uses.scoped().scopes().class_scope(class) {
-        ClassScope::Annotated(scope) => isnt_current(uses, id, &Scope::In(scope)),
+    match uses.scoped.scopes().class_scope(class) {
+        ClassScope::Annotated(scope) => is_other(&uses.scoped.current_at(id), &Scope::In(scope)),
         ClassScope::Unannotated | ClassScope::Unknown => false,
     }
 }
@@ -44,11 +42,12 @@ fn note_constructor(
     ensures { OnOk result (found.new.items ≡ found.old.items
         ++ e3_of_constructor (declared at.now) (scopes at.now) object arguments.now class) }
 {
+    let uses = at.uses;
     let current = object;
     let callee = Callee {
-        takes: constructor_parameters(at.uses.known(), class),
+        takes: constructor_parameters(&uses.known, class),
         class,
-        runs_in: at.uses.scoped().this_in(class),
+        runs_in: uses.scoped.this_in(class),
         is_static: false,
         object,
         current,
@@ -70,12 +69,8 @@ fn note_new(
         ++ (broken (lies_elsewhere p at.now.id class) E1 place
         ++ e3_of_constructor p (scopes at.now) (scope_of_new p at.now.id class) arguments.now class)) }
 {
-    report_if(
-        found,
-        lies_elsewhere(at.uses, at.id, class),
-        Rule::E1,
-        place,
-    )?;
+    let is_wrong = lies_elsewhere(at.uses, at.id, class);
+    report_if(found, is_wrong, Rule::E1, place)?;
     let object = scope_of_new(at.uses, at.id, class);
     note_constructor(found, at, object, arguments, class)?;
     Ok(())
@@ -85,9 +80,9 @@ fn note_new(
 fn superclass_at(uses: &Uses<'_>, id: NodeId) -> Option<ClassId>
     ensures { result ≡ superclass_at (declarations_of uses.now) id }
 {
-    let context = uses.known().context(id);
+    let context = uses.known.context(id);
     let class = context.class?;
-    uses.known().classes().superclass(class)
+    uses.known.classes().superclass(class)
 }
 
 /// The rule on an assignment to a node, if there is one of this number.
@@ -95,8 +90,8 @@ fn superclass_at(uses: &Uses<'_>, id: NodeId) -> Option<ClassId>
 fn target_rule(uses: &Uses<'_>, target: NodeId) -> Option<Rule>
     ensures { let p = declarations_of uses.now in result ≡ read p.nodes (target_rule p target) target }
 {
-    match uses.program().get(target)? {
-        Node::SimpleName { name, .. } => match names::meaning(uses.known(), target, name.get()) {
+    match uses.known.program().get(target)? {
+        Node::SimpleName { name, .. } => match names::meaning(&uses.known, target, name.get()) {
             NameMeaning::Variable(_) => Some(Rule::E4),
             _ => Some(Rule::E5),
         },
@@ -134,10 +129,10 @@ fn note_assign(
 fn result_scope_at(uses: &Uses<'_>, id: NodeId) -> Option<Scope>
     ensures { result ≡ result_scope_at (declarations_of uses.now) id }
 {
-    let context = uses.known().context(id);
+    let context = uses.known.context(id);
     let class = context.class?;
-    match &method_at(uses.program(), class, context.member?) {
-        Some(method) => uses.scoped().result_scope(method),
+    match &method_at(uses.known.program(), class, context.member?) {
+        Some(method) => uses.scoped.result_scope(method),
         None => None,
     }
 }
@@ -156,57 +151,38 @@ fn misfits_result(uses: &Uses<'_>, id: NodeId, value: &Option<Scope>) -> bool
 fn misfits_cast(uses: &Uses<'_>, operand: &Option<Scope>, name: &Name) -> bool
     ensures { result ≡ misfits_cast (declarations_of uses.now) operand.now name.now }
 {
-    let Some(class) = uses.known().class_of(name) else {
+    let Some(class) = uses.known.class_of(name) else {
         return false;
     };
-    match uses.scoped().scopes().class_scope(class) {
+    match uses.scoped.scopes().class_scope(class) {
         ClassScope::Annotated(scope) => misfit_scope(operand, &Some(Scope::In(scope))),
         ClassScope::Unannotated | ClassScope::Unknown => false,
     }
 }
 
-/// Whether a scope is the current one or lies outside it, where that is a named one.
-#[tactic(auto, unfolding(scj_rules::specs::UseRules::is_outer_of_current))]
-fn is_outer_of_current(uses: &Uses<'_>, scope: ScopeId, current: &Scope) -> bool
-    ensures { result ≡ is_outer_of_current (declarations_of uses.now) scope current.now }
-{
-    match current {
-        Scope::In(current) => uses.scoped().scopes().is_outer(scope, *current),
-        _ => false,
-    }
-}
-
 /// Whether a scope is neither the current one, by name, nor lies outside it.
+#[tactic(auto, unfolding(scj_rules::specs::UseRules::is_outer_of_current))]
 fn isnt_around_current(uses: &Uses<'_>, id: NodeId, scope: ScopeId) -> bool
     ensures { result ≡ isnt_around_current (declarations_of uses.now) id scope }
 {
-    match &uses.scoped().current_at(id) {
-        Some(current) => !is_outer_of_current(uses, scope, current),
+    match &uses.scoped.current_at(id) {
+        Some(Scope::In(current)) => !uses.scoped.scopes().is_outer(scope, *current),
+        Some(_) => true,
         None => false,
-    }
-}
-
-/// Whether an array of elements of a type may not be made here.
-#[tactic(auto, unfolding(scj_rules::specs::UseRules::misfits_element))]
-fn misfits_element(uses: &Uses<'_>, id: NodeId, t: &Ty) -> bool
-    ensures { result ≡ misfits_element (declarations_of uses.now) id t.now }
-{
-    match t {
-        Ty::Class(class) => match uses.scoped().scopes().class_scope(*class) {
-            ClassScope::Annotated(scope) => isnt_around_current(uses, id, scope),
-            ClassScope::Unannotated | ClassScope::Unknown => false,
-        },
-        _ => false,
     }
 }
 
 /// Whether an array of elements of the type that a node writes may not be made here.
+#[tactic(auto, unfolding(scj_rules::specs::UseRules::misfits_element))]
 fn misfits_array(uses: &Uses<'_>, id: NodeId, element: NodeId) -> bool
     ensures { let p = declarations_of uses.now in result ≡ holds (written_type p element) (misfits_element p id) }
 {
-    match &names::written_type(uses.known(), element) {
-        Some(t) => misfits_element(uses, id, t),
-        None => false,
+    match &names::written_type(&uses.known, element) {
+        Some(Ty::Class(class)) => match uses.scoped.scopes().class_scope(*class) {
+            ClassScope::Annotated(scope) => isnt_around_current(uses, id, scope),
+            ClassScope::Unannotated | ClassScope::Unknown => false,
+        },
+        _ => false,
     }
 }
 
@@ -223,7 +199,7 @@ pub fn note_uses(found: &mut Vec<Found>, at: &At<'_>, node: &Node) -> Result<(),
             name,
             arguments,
             ..
-        } => match uses.known().class_of(name.get()) {
+        } => match uses.known.class_of(name.get()) {
             Some(class) => {
                 note_new(found, at, *place, arguments.items(), class)?;
                 Ok(())
@@ -235,13 +211,10 @@ pub fn note_uses(found: &mut Vec<Found>, at: &At<'_>, node: &Node) -> Result<(),
             name,
             object,
             arguments,
-        } => {
-            note_call(found, at, *place, name.get(), object, arguments.items())?;
-            Ok(())
-        }
+        } => note_call(found, at, *place, name.get(), object, arguments.items()),
         Node::SuperCall { arguments, .. } => match superclass_at(uses, at.id) {
             Some(superclass) => {
-                let object = uses.scoped().this_at(at.id);
+                let object = uses.scoped.this_at(at.id);
                 note_constructor(found, at, object, arguments.items(), superclass)?;
                 Ok(())
             }
@@ -256,7 +229,7 @@ pub fn note_uses(found: &mut Vec<Found>, at: &At<'_>, node: &Node) -> Result<(),
             Ok(())
         }
         Node::LocalWithValue { place, value, .. } => {
-            let declared = uses.scoped().variable_scope(at.id);
+            let declared = uses.scoped.variable_scope(at.id);
             let is_wrong = misfit_scope(&at.scope_of(*value), &declared);
             report_if(found, is_wrong, Rule::E4, *place)?;
             Ok(())
@@ -281,8 +254,7 @@ pub fn note_uses(found: &mut Vec<Found>, at: &At<'_>, node: &Node) -> Result<(),
         }
         Node::NewArray { place, element, .. } => {
             let is_wrong = misfits_array(uses, at.id, *element);
-            report_if(found, is_wrong, Rule::E10, *place)?;
-            Ok(())
+            report_if(found, is_wrong, Rule::E10, *place)
         }
         _ => Ok(()),
     }

@@ -7,7 +7,6 @@ mod calls;
 mod checks;
 mod scopes;
 mod uses;
-mod words;
 
-pub use checks::{check_scopes, check_uses};
+pub use checks::check_uses;
 pub use uses::Uses;

@@ -1,63 +1,35 @@
-//! What is told of a program before the scopes of its expressions are, and of a node by those before it.
+//! What is told of a program before the scopes of its expressions are, and of a node by those before it; and scopes
+//! beside each other, where some may be missing.
 
-ghost use Rattle.std.specs.Prelude.{◌≡◌, None};
-ghost use Rattle.scj_tree.specs.Recursion.{lookup};
+ghost use Rattle.std.specs.Prelude.{◌≡◌, not};
+ghost use Rattle.scj_rules.specs.Words.{holds};
+ghost use Rattle.scj_rules.specs.StaticScopes.{are_same_scope};
+ghost use Rattle.scj_rules.specs.UseRules.{misfit_scope};
 
 use scj_base::NodeId;
 use scj_rules::{Scope, Ty};
-use scj_tree::Program;
-use static_scopes::{Scoped, told};
+use static_scopes::{Scoped, are_same_scope, fits, told};
 use std::marker::Model;
 use type_rules::{Known, names};
 
 /// A program with its classes, its scopes and the contexts of its nodes. A contract sees the program.
 #[derive(Drop)]
 pub struct Uses<'a> {
-    known: Known<'a>,
-    scoped: Scoped<'a>,
+    /// What is known before the types are.
+    pub known: Known<'a>,
+    /// The scopes of classes, methods, variables and fields.
+    pub scoped: Scoped<'a>,
 }
 
 impl<'a> Model for Uses<'a> {
+    ghost use Rattle.std.specs.Prelude.{◌≡◌};
     ghost use Rattle.scj_tree.specs.Forest.{Forest};
 
     ghost Value = { Forest };
 
-    ghost use Rattle.std.specs.Prelude.{◌≡◌};
-
     ghost view = { λ a. a.known };
 
     ghost invariant = { λ a. a.scoped ≡ a.known };
-}
-
-impl<'a> Uses<'a> {
-    /// What is told of a program, from what is known before its types are and from its scopes.
-    pub fn new(known: Known<'a>, scoped: Scoped<'a>) -> Uses<'a>
-        requires { scoped ≡ known }
-        ensures { result ≡ known.entry }
-    {
-        Uses { known, scoped }
-    }
-
-    /// What is known before the types are.
-    pub(crate) fn known(&self) -> &Known<'a>
-        ensures { result.now ≡ self.now }
-    {
-        &self.known
-    }
-
-    /// The scopes of classes, methods, variables and fields.
-    pub(crate) fn scoped(&self) -> &Scoped<'a>
-        ensures { result.now ≡ self.now }
-    {
-        &self.scoped
-    }
-
-    /// The program.
-    pub(crate) fn program(&self) -> &'a Program
-        ensures { result.now ≡ self.now }
-    {
-        self.known.program()
-    }
 }
 
 /// A node with its program, and the types and scopes of nodes as far as they are told.
@@ -90,4 +62,21 @@ impl<'a> At<'a> {
     {
         told(self.scopes, node)
     }
+}
+
+/// Whether a value's scope doesn't fit the one that is asked.
+pub fn misfit_scope(value: &Option<Scope>, target: &Option<Scope>) -> bool
+    ensures { result ≡ misfit_scope value.now target.now }
+{
+    match (value, target) {
+        (Some(s), Some(t)) => !fits(s, t),
+        _ => false,
+    }
+}
+
+/// Whether there is a scope, and it is another than this one.
+pub fn is_other(scope: &Option<Scope>, other: &Scope) -> bool
+    ensures { result ≡ holds scope.now (λ s. not (are_same_scope s other.now)) }
+{
+    scope.is_some_and(|s| !are_same_scope(&s, other))
 }

@@ -1,8 +1,7 @@
 use Rattle.std.proofs.Common.{◌≡◌, ◌++◌, drop}
 use Rattle.scj_rules.specs.UseRules.{misfit_arguments}
 use Rattle.type_rules.specs.Parameters.{taken}
-use Rattle.runs_in_check.specs.Callees.{seen_scope}
-use Rattle.runs_in_check.specs.Told.{declared, scopes}
+use Rattle.runs_in_check.specs.Phase.{declared, scopes, seen_scope}
 use Rattle.runs_in_check.proofs.arguments.note_arguments.Given as goal
 
 -- the other arguments are still to be noted

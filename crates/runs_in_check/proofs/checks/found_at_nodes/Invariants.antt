@@ -6,4 +6,5 @@ use Rattle.runs_in_check.proofs.checks.found_at_nodes.Given as goal
 
 abbrev pub invariant-loop-place : goal.invariant-loop-place
 invariant-loop-place l =
-    l.found.items ≡ joined_below (breaks_at (declarations_of l.uses) (lookup None l.types) (lookup None l.scopes)) l.place
+    l.found.items ≡ joined_below (breaks_at (declarations_of l.uses) (lookup None l.types) (lookup None l.scopes))
+    l.place
