@@ -3,10 +3,13 @@
 ghost use Rattle.std.specs.Prelude.{◌≤◌, length};
 
 use class_rows::{ClassTable, Classes};
+use node_contexts::Contexts;
 use scj_base::ids::{OBJECT, RUNNABLE};
 use scj_base::{ClassId, Found, Name, NodeId, Pos, Rule, ScopeId};
 use scj_check::{Reading, Sources, read};
+use scj_rules::ClassScope;
 use scj_tree::Program;
+use scope_tree::Scopes;
 use std::test::Fail;
 
 // The program of one file.
@@ -91,7 +94,8 @@ fn are(found: &[Found], expected: &[(u32, u32, Rule)]) -> bool {
 #[test]
 fn a_member_of_a_class_is_reported(rt: HostRuntime) -> Result<(), Fail> {
     let program = program_of(&rt, "class A { int x; int x; }")?;
-    let (_table, found) = class_table::build(rt.alloc(), &program)?;
+    let contexts = Contexts::of(rt.alloc(), &program)?;
+    let (_table, found) = class_table::build(rt.alloc(), &program, &contexts)?;
     assert!(rt; are(&found, &[(1, 1, Rule::C8), (1, 22, Rule::C4)]));
     Ok(())
 }
@@ -118,10 +122,11 @@ fn classes_that_may_define_no_scope_are_found(rt: HostRuntime) -> Result<(), Fai
     ];
     assert!(rt; are(&found, &expected));
     let first = ScopeId::at(16);
-    assert!(rt; tree.defined_by(ClassId::at(16)) == Some(first));
-    assert!(rt; tree.defined_by(ClassId::at(18)) == None);
-    assert!(rt; tree.class_scope(ClassId::at(16)) == None);
-    assert!(rt; tree.outer(ScopeId::IMMORTAL, first));
-    assert!(rt; !tree.outer(ScopeId::at(17), first));
+    let scopes = Scopes::new(&program, &table, &tree);
+    assert!(rt; scopes.defined_by_chain(ClassId::at(16)) == Some(first));
+    assert!(rt; scopes.defined_by_chain(ClassId::at(18)) == None);
+    assert!(rt; matches!(scopes.class_scope(ClassId::at(16)), ClassScope::Unannotated));
+    assert!(rt; scopes.is_outer(ScopeId::IMMORTAL, first));
+    assert!(rt; !scopes.is_outer(ScopeId::at(17), first));
     Ok(())
 }

@@ -4,7 +4,7 @@ use Rattle.scj_tree.specs.Forest.{Forest}
 use Rattle.scj_rules.specs.Syntax.{Reads}
 use Rattle.scj_rules.specs.Contexts.{declarations_of}
 use Rattle.scj_rules.specs.Bindings.{bindings_in}
-use Rattle.scj_rules.specs.Phases.{Reports, IsAccepted, NothingBreaks, BreaksClassRules, BreaksTypeRules, BreaksScopeRules}
+use Rattle.scj_rules.specs.Phases.{Reports, IsAccepted}
 use Rattle.scj_rules.specs.Verdicts.{IsReportOf}
 use Rattle.scj_check.specs.declared.verdicts.Verdict.{Verdict}
 use Rattle.scj_check.specs.declared.verdicts.Verdict.TheVariants.{Accepted, Refused}
@@ -25,12 +25,3 @@ IsVerdictOn forest (Refused report) = (0 < length report) × Reports forest None
 abbrev pub IsJudgement : Forest → Judgement → Type 0
 IsJudgement forest (Broken found) = (0 < length found.items) × Reports forest None found.items
 IsJudgement forest (Right bindings) = IsAccepted forest × (bindings ≡ bindings_in (declarations_of forest))
-
--- the phases of classes and types have no break; and that of scopes too
-pub record IsTyped (forest : Forest) : Type 0 where
-  pub classes : NothingBreaks (BreaksClassRules forest)
-  pub types : NothingBreaks (BreaksTypeRules forest)
-
-pub record IsScoped (forest : Forest) : Type 0 where
-  pub typed : IsTyped forest
-  pub scopes : NothingBreaks (BreaksScopeRules forest)

@@ -1,31 +1,25 @@
 //! The phases of a check of a program: classes and limits, types, scopes, and annotations with uses.
 
-ghost use Rattle.std.specs.Prelude.{◌≡◌, ◌↔◌, None, IfOk};
-ghost use Rattle.std.specs.List.{Contains};
-ghost use Rattle.scj_base.specs.declared.findings.Found.{Found as Finding};
-ghost use Rattle.scj_tree.specs.Recursion.{lookup};
+ghost use Rattle.std.specs.Prelude.{◌≡◌, None, IfOk};
 ghost use Rattle.class_rows.specs.Tables.{IsTableOf};
-ghost use Rattle.scope_tree.specs.Trees.{IsTreeOf};
 ghost use Rattle.scj_rules.specs.Contexts.{declarations_of, contexts_in};
-ghost use Rattle.scj_rules.specs.Bindings.{bindings_in};
-ghost use Rattle.scj_rules.specs.AnnotationRules.{annotation_breaks};
-ghost use Rattle.scj_rules.specs.Phases.{over_nodes, NothingBreaks, BreaksClassRules, BreaksUseRules};
+ghost use Rattle.scj_rules.specs.Phases.{NothingBreaks, Reports, BreaksClassRules, BreaksTypeRules, BreaksUseRules};
 ghost use Rattle.scj_rules.specs.Report.{IsReport};
 ghost use Rattle.scj_rules.specs.TypeRules.{types_in};
-ghost use Rattle.runs_in_check.specs.Phase.{broken_uses};
-ghost use Rattle.scj_check.specs.Verdicts.{IsJudgement, IsTyped, IsScoped};
+ghost use Rattle.scj_check.specs.Verdicts.{IsJudgement};
 
-use annotation_rules::check_scoped_annotations;
-use class_table::{ClassTable, Classes, build_with_contexts};
+use annotation_rules::check_annotations;
+use class_table::{ClassTable, Classes, build};
+use node_bindings::bindings_of;
 use node_contexts::Contexts;
 use runs_in_check::{Uses, check_uses};
 use scj_base::{Found, Memory};
-use scj_rules::{Bindings, put_in_order};
+use scj_rules::{Bindings, Ty, put_in_order};
 use scj_tree::Program;
-use scope_tree::{ScopeTree, Scopes};
+use scope_tree::Scopes;
 use static_scopes::{Runs, Scoped, variables_of};
 use std::alloc::Global;
-use type_check::{Types, check_known_types};
+use type_check::check_types;
 use type_rules::Known;
 use type_words::returning;
 
@@ -44,7 +38,7 @@ pub fn judge(alloc: Global, program: &Program) -> Result<Judgement, Memory>
     ensures { IfOk result (λ judgement. IsJudgement program.now judgement) }
 {
     let contexts = Contexts::of(alloc, program)?;
-    let (table, found) = build_with_contexts(alloc, program, &contexts)?;
+    let (table, found) = build(alloc, program, &contexts)?;
     if found.len() > 0 {
         return Ok(Judgement::Broken(found));
     }
@@ -64,99 +58,84 @@ fn judge_types(
 {
     let returns = returning(alloc, program)?;
     let known = Known::new(Classes::new(program, table), contexts, &returns);
-    let (types, found, rows) = check_known_types(alloc, &known, contexts)?;
+    let (types, found, rows) = check_types(alloc, &known)?;
     if found.len() > 0 {
         return Ok(Judgement::Broken(found));
     }
-    let known = known.with_meanings(&rows);
-    Ok(judge_scopes(alloc, program, table, contexts, known, types)?)
+    let late = late_report(
+        alloc,
+        program,
+        table,
+        contexts,
+        known.with_meanings(&rows),
+        &types,
+    )?;
+    if late.len() > 0 {
+        return Ok(Judgement::Broken(late));
+    }
+    let bindings = bindings_of(alloc, &known.with_meanings(&rows), contexts, &types)?;
+    Ok(Judgement::Right(bindings))
 }
 
-fn judge_scopes(
+/// The report of a program that breaks no rule of the phases before the scopes.
+fn late_report(
     alloc: Global,
     program: &Program,
     table: &ClassTable,
     contexts: &Contexts,
     known: Known<'_>,
-    types: Types,
-) -> Result<Judgement, Memory>
+    types: &[Option<Ty>],
+) -> Result<Vec<Found>, Memory>
     requires built { IsTableOf program.now table.now }
     requires contexts { contexts.now ≡ contexts_in program.now }
     requires known { known ≡ program.now }
-    requires typed { IsTyped program.now }
-    requires types { types.types ≡ types_in (declarations_of program.now) }
-    requires bindings { types.bindings ≡ bindings_in (declarations_of program.now) }
-    ensures { IfOk result (λ judgement. IsJudgement program.now judgement) }
+    requires right_classes { NothingBreaks (BreaksClassRules program.now) }
+    requires right_types { NothingBreaks (BreaksTypeRules program.now) }
+    requires types { types.now ≡ types_in (declarations_of program.now) }
+    ensures { IfOk result (λ found. Reports program.now None found.items) }
 {
     let (tree, found) = scope_tree::build(alloc, program, table)?;
     if found.len() > 0 {
-        return Ok(Judgement::Broken(found));
+        return Ok(found);
     }
     let scopes = Scopes::new(program, table, &tree);
-    Ok(judge_uses(alloc, program, contexts, known, scopes, types)?)
+    Ok(report_of_uses(alloc, contexts, known, scopes, types)?)
 }
 
-fn judge_uses(
+/// The report of annotations and uses. What is made for it alone is given back at its end.
+fn report_of_uses(
     alloc: Global,
-    program: &Program,
     contexts: &Contexts,
     known: Known<'_>,
     scopes: Scopes<'_>,
-    types: Types,
-) -> Result<Judgement, Memory>
-    requires contexts { contexts.now ≡ contexts_in program.now }
-    requires known { known ≡ program.now }
-    requires scopes { scopes ≡ program.now }
-    requires scoped { IsScoped program.now }
-    requires types { types.types ≡ types_in (declarations_of program.now) }
-    requires bindings { types.bindings ≡ bindings_in (declarations_of program.now) }
-    ensures { IfOk result (λ judgement. IsJudgement program.now judgement) }
+    types: &[Option<Ty>],
+) -> Result<Vec<Found>, Memory>
+    requires contexts { contexts.now ≡ contexts_in known }
+    requires scopes { scopes ≡ known }
+    requires types { types.now ≡ types_in (declarations_of known) }
+    ensures { IfOk result (λ found. IsReport (BreaksUseRules known.entry) found.items) }
 {
     let runs = Runs::of(alloc, &scopes, contexts)?;
     let scoped = Scoped::new(scopes, contexts, &runs);
     let variables = variables_of(alloc, &scoped)?;
-    let scoped = scoped.with_variables(&variables);
-    let found = late_report(alloc, program, known, scoped, &types)?;
-    if found.len() > 0 {
-        return Ok(Judgement::Broken(found));
-    }
-    Ok(Judgement::Right(types.into_bindings()))
+    Ok(joined_report(alloc, known, scoped.with_variables(&variables), types)?)
 }
 
-// The report of annotations and uses.
-fn late_report(
+/// What is broken at annotations, and what is broken at uses, as one report.
+fn joined_report(
     alloc: Global,
-    program: &Program,
     known: Known<'_>,
     scoped: Scoped<'_>,
-    types: &Types,
+    types: &[Option<Ty>],
 ) -> Result<Vec<Found>, Memory>
-    requires known { known ≡ program.now }
-    requires scoped { scoped ≡ program.now }
-    requires types { types.now.types ≡ types_in (declarations_of program.now) }
-    ensures { IfOk result (λ found. IsReport (BreaksUseRules program.now) found.items) }
+    requires scoped { scoped ≡ known }
+    requires types { types.now ≡ types_in (declarations_of known) }
+    ensures { IfOk result (λ found. IsReport (BreaksUseRules known.entry) found.items) }
 {
-    let annotations = check_scoped_annotations(alloc, &scoped)?;
-    let uses = Uses::new(known, scoped);
-    let broken = check_uses(alloc, &uses, types.all())?;
-    Ok(joined_report(program, annotations, &broken)?)
-}
-
-/// The report of a phase of which both parts are told: what is broken at annotations, and what is broken at uses.
-fn joined_report(
-    program: &Program,
-    annotations: Vec<Found>,
-    uses: &[Found],
-) -> Result<Vec<Found>, Memory>
-    requires annotations { let p = declarations_of program.now in (finding : Finding) →
-        Contains annotations.items finding ↔ Contains (over_nodes p (annotation_breaks p)) finding }
-    requires uses { let p = declarations_of program.now in (finding : Finding) →
-        Contains uses.now finding ↔ Contains (broken_uses p (lookup None (types_in p))) finding }
-    ensures { IfOk result (λ found. IsReport (BreaksUseRules program.now) found.items) }
-{
-    let _ = program;
-    let mut found = annotations;
-    found.extend_from_slice(uses)?;
+    let mut found = check_annotations(alloc, &scoped)?;
+    let uses = Uses { known, scoped };
+    let broken = check_uses(alloc, &uses, types)?;
+    found.extend_from_slice(&broken)?;
     put_in_order(&mut found);
     Ok(found)
 }

@@ -1,11 +1,14 @@
+use Rattle.std.proofs.Common.{arith}
+use Rattle.scj_rules.proofs.VerdictLemmas.{nothing_found, told_of_scopes}
+use Rattle.scj_check.proofs.VerdictLaws.{report_behind_scopes}
 use Rattle.scj_check.proofs.phases.late_report.Goals as goal
 
-pub joined_report-requires-clause-annotations : goal.joined_report-requires-clause-annotations
-joined_report-requires-clause-annotations c =
-    λ finding. (rw c.requires.scoped at c.in_ok-annotations.ensures).exact finding
+pub returns-then-len-gt0 : goal.returns-then-len-gt0
+returns-then-len-gt0 c =
+    told_of_scopes _ _ (omega arith) c.requires.right_classes c.requires.right_types c.in_ok-tree.ensures.found
 
-pub joined_report-requires-clause-uses : goal.joined_report-requires-clause-uses
-joined_report-requires-clause-uses c =
-    rw c.deref.ensures.value
-    (λ finding.
-    (rw (c.new-uses.ensures, c.requires.known, c.all.ensures, c.requires.types) at c.in_ok-broken.ensures).same finding)
+pub returns : goal.returns
+returns c =
+    report_behind_scopes _ _ c.requires.right_classes c.requires.right_types
+    (nothing_found _ _ (omega arith) c.in_ok-tree.ensures.found)
+    (rw c.requires.known at c.in_ok-report_of_uses.ensures)
