@@ -10,6 +10,9 @@ use scj_base::Memory;
 use std::alloc::Global;
 use std::marker::Model;
 
+/// The least that is given back, a quarter of what there is: below it, giving back costs more than it spares.
+const LEAST_GIVEN: usize = 1024;
+
 /// What was put aside, seen as a list with the last first.
 #[derive(Drop)]
 pub struct Stack {
@@ -74,6 +77,19 @@ impl Stack {
     pub fn pop(&mut self) -> Option<Entry>
         ensures { MatchOption result (self.old ≡ []) (λ entry. self.old ≡ entry ∷ self.new) }
     {
-        self.items.pop()
+        let entry = self.items.pop();
+        self.give_back();
+        entry
+    }
+
+    /// Gives memory back where three quarters of it are free: the nodes grow while a long row of operators is taken off
+    /// the stack, so it isn't to keep what it took.
+    fn give_back(&mut self)
+        ensures { self.new ≡ self.old }
+    {
+        let quarter = self.items.capacity() / 4;
+        if quarter >= LEAST_GIVEN && self.items.len() < quarter {
+            self.items.shrink_to(2 * quarter);
+        }
     }
 }
