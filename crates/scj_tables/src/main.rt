@@ -4,6 +4,7 @@
 //! that name says how the lines of the table are read.
 #![tactic(auto)]
 
+mod calls;
 mod changed;
 mod nodes;
 mod reports;

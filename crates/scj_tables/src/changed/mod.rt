@@ -5,12 +5,12 @@
 //! that of the last `==`, with the text in the place of the bytes from FROM up to TO. In lines and texts `\xNN` is
 //! one byte, by two digits from 0 to 9 and a to f, and a line that ends in `\` has no line feed behind it.
 
-mod calls;
 mod cases;
 
-use calls::Ending;
+use crate::calls::{Ending, parted};
 use case_tables::{Edit, Stop};
 use cases::Case;
+use scj_io::MemShelf;
 use std::alloc::Global;
 use std::io::Write;
 
@@ -71,10 +71,30 @@ impl Run {
 
 // The line for a case.
 fn print<W: Write>(alloc: Global, case: &Case, out: &mut W) -> Result<(), Stop> {
-    let ending = Ending::of(alloc, case)?;
+    let call = format!(in alloc; "check {}", case.name)?;
+    let mut shelf = MemShelf::new(alloc);
+    shelf.add(&case.name, &case.source)?;
+    let ending = Ending::with_room(alloc, &parted(alloc, &call)?, &mut shelf)?;
     let code = ending.status.code();
     write!(out, "{} {code} ", case.name)?;
-    out.write_all(ending.first_line())?;
+    out.write_all(first_line(&ending))?;
     out.write_all(b"\n")?;
     Ok(())
+}
+
+// The first line that was put out, or told where nothing was put out, without its line feed.
+fn first_line(ending: &Ending) -> &[u8] {
+    let out = ending.out.taken();
+    if out.is_empty() {
+        return front(ending.err.taken());
+    }
+    front(out)
+}
+
+// The bytes before the first line feed.
+fn front(bytes: &[u8]) -> &[u8] {
+    match bytes.iter().position(|byte| *byte == b'\n') {
+        Some(end) => &bytes[..end],
+        None => bytes,
+    }
 }

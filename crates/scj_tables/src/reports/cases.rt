@@ -1,10 +1,9 @@
 //! One case: its files, and what goes wrong outside.
 
+use crate::calls::ROOM;
 use case_tables::{Edit, Stop, add_line};
 use scj_io::{MemShelf, MemSink};
 use std::alloc::Global;
-
-const ROOM: usize = 65_536;
 
 /// The shelf of a case, the last file that was written and whether it is still open, and the case's two outputs.
 #[derive(Drop)]

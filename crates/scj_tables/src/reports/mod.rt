@@ -9,10 +9,9 @@
 //! comments. In files and texts `\xNN` is one byte, by two digits from 0 to 9 and a to f, and a line that ends in `\`
 //! has no line feed behind it.
 
-mod calls;
 mod cases;
 
-use calls::Ending;
+use crate::calls::{Ending, parted};
 use case_tables::{Edit, Stop};
 use cases::Case;
 use scj_io::Shelf;
@@ -74,9 +73,9 @@ impl Run {
 
     fn call<W: Write>(&mut self, words: &str, out: &mut W) -> Result<(), Stop> {
         self.case.end_file()?;
-        let ending = Ending::of(self.alloc, words, &mut self.case)?;
+        let ending = ending_of(self.alloc, words, &mut self.case)?;
         writeln!(out, "$ {words}")?;
-        ending.print(out)
+        print(&ending, out)
     }
 
     fn change<W: Write>(&mut self, words: &str, out: &mut W) -> Result<(), Stop> {
@@ -84,8 +83,29 @@ impl Run {
         let edit = Edit::parse(words)?;
         let mut case = self.case.edited(edit)?;
         let call = format!(in self.alloc; "check {}", self.case.name)?;
-        let ending = Ending::of(self.alloc, &call, &mut case)?;
+        let ending = ending_of(self.alloc, &call, &mut case)?;
         writeln!(out, "~ {words}")?;
-        ending.print(out)
+        print(&ending, out)
     }
+}
+
+// What a call of these words leaves.
+fn ending_of(alloc: Global, words: &str, case: &mut Case) -> Result<Ending, Stop> {
+    let words = parted(alloc, words)?;
+    let out = case.out()?;
+    let err = case.err()?;
+    Ending::of(alloc, &words, &mut case.shelf, out, err)
+}
+
+// Prints what was put, the status, and what was told.
+fn print<W: Write>(ending: &Ending, to: &mut W) -> Result<(), Stop> {
+    to.write_all(ending.out.taken())?;
+    let code = ending.status.code();
+    if ending.err.taken().is_empty() {
+        writeln!(to, "status {code}")?;
+        return Ok(());
+    }
+    write!(to, "status {code}, told ")?;
+    to.write_all(ending.err.taken())?;
+    Ok(())
 }

@@ -5,11 +5,10 @@
 //! plan's name is `plan.toml`, and the others are the sources in their order. In texts and lines `\xNN` is one byte, by
 //! two digits from 0 to 9 and a to f, and a line that ends in `\` has no line feed behind it.
 
-mod calls;
 mod cases;
 mod short_forms;
 
-use calls::print;
+use crate::calls::Ending;
 use case_tables::Stop;
 use cases::Case;
 use short_forms::ShortForms;
@@ -64,4 +63,14 @@ impl Run {
         }
         Ok(())
     }
+}
+
+// Makes the call of a case, and prints its name, what was put, what was told, and the status.
+fn print<W: Write>(alloc: Global, case: &mut Case, to: &mut W) -> Result<(), Stop> {
+    let ending = Ending::with_room(alloc, &case.words, &mut case.shelf)?;
+    writeln!(to, "== {}", case.name)?;
+    to.write_all(ending.out.taken())?;
+    to.write_all(ending.err.taken())?;
+    writeln!(to, "status {}", ending.status.code())?;
+    Ok(())
 }
