@@ -6,7 +6,7 @@ use Rattle.scj_rules.specs.Classes.{ClassRow, superclasses, all_interfaces, is_c
 use Rattle.class_headers.specs.declared.ways.Marks.{Marks}
 use Rattle.class_headers.specs.Rows.{header_of}
 use Rattle.class_headers.specs.Ways.{no_way, has_bit}
-use Rattle.indexmap.specs.IndexMap.{get}
+use Rattle.std.specs.HashMap.{get}
 use Rattle.scj_tree.specs.Forest.{Forest}
 use Rattle.scj_base.specs.Bytes.{is_same}
 use Rattle.scj_rules.specs.Contexts.{declarations_of}

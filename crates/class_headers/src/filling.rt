@@ -2,7 +2,7 @@
 
 ghost use Rattle.std.specs.Prelude.{◌≡◌, ◌++◌, map, filter_map, option_map, IfOk};
 ghost use Rattle.scj_builtins.specs.Framework.{framework_classes};
-ghost use Rattle.indexmap.specs.IndexMap.{get};
+ghost use Rattle.std.specs.HashMap.{get};
 ghost use Rattle.scj_base.specs.Bytes.{is_same};
 ghost use Rattle.scj_rules.specs.Views.{class_at};
 ghost use Rattle.class_headers.specs.declared.filling.Header.{Header as Row};
@@ -13,12 +13,12 @@ use crate::keys::NameKey;
 use crate::names::{class_ids, index_of, names_of};
 use crate::parts::{user_header, user_interfaces};
 use crate::ways::{Marks, marks_in};
-use indexmap::IndexMap;
 use scj_base::ids::OBJECT;
 use scj_base::{ClassId, Memory, NodeId};
 use scj_builtins::{ClassKind, FrameworkClass, framework_classes};
 use scj_tree::Program;
 use std::alloc::{AllocError, Global};
+use std::collections::HashMap;
 
 /// A class as it is written.
 #[derive(Clone, Copy, Debug)]
@@ -37,7 +37,7 @@ pub struct Header {
 #[derive(Drop)]
 pub struct Headers {
     /// The class of each name.
-    pub names: IndexMap<NameKey, ClassId>,
+    pub names: HashMap<NameKey, ClassId>,
     /// The classes, each at its number.
     pub rows: Vec<Header>,
     /// The interfaces of each class.
@@ -78,7 +78,7 @@ fn framework_headers(alloc: Global) -> Result<Vec<Header>, AllocError>
 fn user_headers(
     alloc: Global,
     program: &Program,
-    names: &IndexMap<NameKey, ClassId>,
+    names: &HashMap<NameKey, ClassId>,
     ids: &[NodeId],
 ) -> Result<Vec<Header>, AllocError>
     ensures { IfOk result (λ headers. headers.items ≡ filter_map
@@ -94,7 +94,7 @@ fn user_headers(
 fn headers_of(
     alloc: Global,
     program: &Program,
-    names: &IndexMap<NameKey, ClassId>,
+    names: &HashMap<NameKey, ClassId>,
     ids: &[NodeId],
 ) -> Result<Vec<Header>, Memory>
     ensures { IfOk result (λ headers. headers.items ≡ map framework_header framework_classes ++ filter_map
@@ -112,7 +112,7 @@ fn headers_of(
 fn interfaces(
     alloc: Global,
     program: &Program,
-    names: &IndexMap<NameKey, ClassId>,
+    names: &HashMap<NameKey, ClassId>,
     node: Option<NodeId>,
 ) -> Result<Vec<ClassId>, Memory>
     ensures { IfOk result (λ found. found.items ≡ interfaces_at program.now.nodes (get is_same names.now) node) }
@@ -131,7 +131,7 @@ fn interfaces(
 fn interfaces_of(
     alloc: Global,
     program: &Program,
-    names: &IndexMap<NameKey, ClassId>,
+    names: &HashMap<NameKey, ClassId>,
     rows: &[Header],
 ) -> Result<Vec<Vec<ClassId>>, Memory>
     ensures { IfOk result (λ lists. map (λ v. v.items) lists.items

@@ -1,7 +1,7 @@
 //! The classes of a program in their order, and by their names.
 
 ghost use Rattle.std.specs.Prelude.{◌≡◌, ◌++◌, List, ℕ, map, filter_map, option_map, position, IfOk};
-ghost use Rattle.indexmap.specs.IndexMap.{get};
+ghost use Rattle.std.specs.HashMap.{get};
 ghost use Rattle.scj_builtins.specs.declared.classes.FrameworkClass.{FrameworkClass};
 ghost use Rattle.scj_builtins.specs.Framework.{framework_classes};
 ghost use Rattle.scj_base.specs.Bytes.{is_same};
@@ -9,12 +9,12 @@ ghost use Rattle.scj_rules.specs.Views.{WrittenClass, class_at};
 ghost use Rattle.scj_rules.specs.Classes.{class_nodes};
 
 use crate::keys::NameKey;
-use indexmap::IndexMap;
 use node_views::class_name;
 use scj_base::{ClassId, Memory, Name, NodeId};
 use scj_builtins::framework_classes;
 use scj_tree::Program;
 use std::alloc::{AllocError, Global};
+use std::collections::HashMap;
 
 /// The nodes of the classes in the order of the sources.
 #[tactic(auto, using(crate::proofs::PartLemmas::joined_more), unfolding(scj_tree::specs::Forest::joined))]
@@ -60,14 +60,14 @@ pub fn names_of(alloc: Global, program: &Program, ids: &[NodeId]) -> Result<Vec<
 }
 
 /// The first place of each name.
-pub fn index_of(alloc: Global, names: &[Name]) -> Result<IndexMap<NameKey, ClassId>, Memory>
+pub fn index_of(alloc: Global, names: &[Name]) -> Result<HashMap<NameKey, ClassId>, Memory>
     ensures { IfOk result (λ index. (name : List ℕ) → get is_same index name ≡ position (is_same name) names.now) }
 {
     let mut number = names.len();
     if number > u32::MAX as usize {
         return Err(Memory);
     }
-    let mut index = IndexMap::new(alloc);
+    let mut index = HashMap::new(alloc);
     while number > 0 {
         number -= 1;
         index.insert(NameKey::of(names[number]), ClassId::at(number as u32))?;

@@ -1,7 +1,7 @@
 //! The parts of a class's header.
 
 ghost use Rattle.std.specs.Prelude.{◌≡◌, [], filter_map, is_some, IfOk, option_map, option_and_then, unwrap_or, if◌then◌else◌};
-ghost use Rattle.indexmap.specs.IndexMap.{get};
+ghost use Rattle.std.specs.HashMap.{get};
 ghost use Rattle.scj_base.specs.Bytes.{is_same};
 ghost use Rattle.scj_rules.specs.Views.{WrittenClass, class_at, constructor_at, named_super};
 ghost use Rattle.class_headers.specs.Rows.{superclass_by, interfaces_by, header_by};
@@ -12,7 +12,6 @@ ghost use Rattle.scj_rules.specs.Definitions.{read};
 
 use crate::filling::Header;
 use crate::keys::NameKey;
-use indexmap::IndexMap;
 use node_views::{
     class_extends, class_members, class_modifiers, interface_nodes, is_constructor, named_super,
 };
@@ -22,10 +21,11 @@ use scj_builtins::ClassKind;
 use scj_rules::Written;
 use scj_tree::Program;
 use std::alloc::{AllocError, Global};
+use std::collections::HashMap;
 
 /// The superclass that a class names, and `Object` where it names none.
 #[tactic(auto, unfolding(crate::specs::Rows::superclass_by))]
-fn superclass(names: &IndexMap<NameKey, ClassId>, extends: Option<Written>) -> Option<ClassId>
+fn superclass(names: &HashMap<NameKey, ClassId>, extends: Option<Written>) -> Option<ClassId>
     ensures { result ≡ superclass_by (get is_same names.now) extends }
 {
     match extends {
@@ -62,7 +62,7 @@ fn kind(is_abstract: bool) -> ClassKind
 #[tactic(auto, using(crate::proofs::PartLemmas::parts_are))]
 pub fn user_header(
     program: &Program,
-    names: &IndexMap<NameKey, ClassId>,
+    names: &HashMap<NameKey, ClassId>,
     id: NodeId,
 ) -> Option<Header>
     ensures { result ≡ option_map (header_by program.now.nodes (get is_same names.now))
@@ -81,7 +81,7 @@ pub fn user_header(
 fn named_classes(
     alloc: Global,
     program: &Program,
-    names: &IndexMap<NameKey, ClassId>,
+    names: &HashMap<NameKey, ClassId>,
     nodes: &[NodeId],
 ) -> Result<Vec<ClassId>, AllocError>
     ensures { IfOk result (λ found. found.items ≡ filter_map
@@ -98,7 +98,7 @@ fn named_classes(
 pub fn user_interfaces(
     alloc: Global,
     program: &Program,
-    names: &IndexMap<NameKey, ClassId>,
+    names: &HashMap<NameKey, ClassId>,
     id: NodeId,
 ) -> Result<Vec<ClassId>, Memory>
     ensures { IfOk result
@@ -110,7 +110,7 @@ pub fn user_interfaces(
 }
 
 /// The class that a node names.
-fn interface(program: &Program, names: &IndexMap<NameKey, ClassId>, node: NodeId) -> Option<ClassId>
+fn interface(program: &Program, names: &HashMap<NameKey, ClassId>, node: NodeId) -> Option<ClassId>
     ensures { result ≡ option_and_then (λ (w : Named). get is_same names.now w.name)
         (read program.now.nodes named_super node) }
 {

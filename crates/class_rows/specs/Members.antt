@@ -1,6 +1,6 @@
 -- The members of classes: which have numbers, and the first of each name in a class.
 use Rattle.std.specs.Prelude.{◌≡◌, ℕ, Bool, ◌&&◌, ◌==◌, List, find, is_some, Option, None, Some, option_map, option_and_then, if◌then◌else◌}
-use Rattle.indexmap.specs.IndexMap.{get}
+use Rattle.std.specs.HashMap.{get}
 use Rattle.scj_base.specs.Bytes.{is_same}
 use Rattle.scj_builtins.specs.Framework.{framework_method_count}
 use Rattle.scj_tree.specs.declared.nodes.Node.{Node}

@@ -2,7 +2,7 @@
 
 ghost use Rattle.std.specs.Prelude.{◌≡◌, ◌==◌, ◌+◌, ◌≤◌, ◌++◌, ℕ, List, filter, find, position, IfOk, OnOk, option_map, option_and_then};
 ghost use Rattle.std.specs.Option.{option_or};
-ghost use Rattle.indexmap.specs.IndexMap.{get};
+ghost use Rattle.std.specs.HashMap.{get};
 ghost use Rattle.scj_base.specs.Bytes.{is_same};
 ghost use Rattle.scj_rules.specs.declared.views.Declared.{Declared};
 ghost use Rattle.scj_rules.specs.Views.{field_at};
@@ -12,12 +12,12 @@ ghost use Rattle.class_rows.specs.declared.members.OwnKey.{OwnKey as Key};
 ghost use Rattle.class_rows.specs.Members.{is_member, member_nodes, name_at, first_named, first_number, is_like, is_same_own, in_class, IsMembersOf};
 
 use class_headers::{NameKey, WrittenClasses};
-use indexmap::IndexMap;
 use node_views::{is_constructor, is_field, is_method, method_name};
 use scj_base::{ClassId, Memory, Name, NodeId};
 use scj_builtins::FRAMEWORK_METHOD_COUNT;
 use scj_tree::{Node, Program};
 use std::alloc::Global;
+use std::collections::HashMap;
 
 /// Which members are meant.
 #[derive(Clone, Copy, Debug)]
@@ -43,11 +43,11 @@ pub struct Members {
     /// Their nodes, each at its number behind the first.
     pub(crate) nodes: Vec<NodeId>,
     /// The first of each name.
-    pub(crate) firsts: IndexMap<NameKey, NodeId>,
+    pub(crate) firsts: HashMap<NameKey, NodeId>,
     /// The first of each name in each class. A walk along a chain asks for the name once, and then for numbers.
-    pub(crate) named: IndexMap<OwnKey, NodeId>,
+    pub(crate) named: HashMap<OwnKey, NodeId>,
     /// The number of each, by its node.
-    pub(crate) numbers: IndexMap<usize, u32>,
+    pub(crate) numbers: HashMap<usize, u32>,
 }
 
 /// Whether a node declares a member of the kind.
@@ -108,11 +108,11 @@ fn firsts_of(
     program: &Program,
     kind: MemberKind,
     ids: &[NodeId],
-) -> Result<IndexMap<NameKey, NodeId>, Memory>
+) -> Result<HashMap<NameKey, NodeId>, Memory>
     ensures { IfOk result
         (λ firsts. (name : List ℕ) → get is_same firsts name ≡ first_named kind program.now.nodes name ids.now) }
 {
-    let mut firsts = IndexMap::new(alloc);
+    let mut firsts = HashMap::new(alloc);
     let mut at = ids.len();
     while at > 0 {
         at -= 1;
@@ -126,7 +126,7 @@ fn firsts_of(
 
 /// The first of the name that a node's member has.
 fn first_like(
-    firsts: &IndexMap<NameKey, NodeId>,
+    firsts: &HashMap<NameKey, NodeId>,
     program: &Program,
     kind: MemberKind,
     id: NodeId,
@@ -140,8 +140,8 @@ fn first_like(
 /// Enters those of these nodes that declare members of the kind, under a class and the firsts of their names. The last
 /// is entered first, so that the first stays.
 fn add_names(
-    map: &mut IndexMap<OwnKey, NodeId>,
-    firsts: &IndexMap<NameKey, NodeId>,
+    map: &mut HashMap<OwnKey, NodeId>,
+    firsts: &HashMap<NameKey, NodeId>,
     program: &Program,
     kind: MemberKind,
     class: ClassId,
@@ -167,7 +167,7 @@ fn add_names(
 }
 
 /// The first place of each node in a list, where the places begin with this number.
-pub fn places_of(alloc: Global, ids: &[NodeId], first: u32) -> Result<IndexMap<usize, u32>, Memory>
+pub fn places_of(alloc: Global, ids: &[NodeId], first: u32) -> Result<HashMap<usize, u32>, Memory>
     requires { first ≤ 100 }
     ensures { IfOk result
         (λ map. (id : ℕ) → get ◌==◌ map id ≡ option_map (λ place. first + place)
@@ -176,7 +176,7 @@ pub fn places_of(alloc: Global, ids: &[NodeId], first: u32) -> Result<IndexMap<u
     if ids.len() > u32::MAX as usize - 100 {
         return Err(Memory);
     }
-    let mut map = IndexMap::new(alloc);
+    let mut map = HashMap::new(alloc);
     let mut at = ids.len();
     while at > 0 {
         at -= 1;
@@ -221,8 +221,8 @@ fn named_of(
     alloc: Global,
     classes: &WrittenClasses,
     kind: MemberKind,
-    firsts: &IndexMap<NameKey, NodeId>,
-) -> Result<IndexMap<OwnKey, NodeId>, Memory>
+    firsts: &HashMap<NameKey, NodeId>,
+) -> Result<HashMap<OwnKey, NodeId>, Memory>
     ensures { IfOk result
         (λ named. (key : Key) → get is_same_own named key ≡ find
         (is_like kind classes.now.nodes (get is_same firsts.now) key.first)
@@ -232,7 +232,7 @@ fn named_of(
     if count > u32::MAX as usize {
         return Err(Memory);
     }
-    let mut named = IndexMap::new(alloc);
+    let mut named = HashMap::new(alloc);
     for number in 0..count {
         let class = ClassId::at(number as u32);
         let members = classes.members(class);

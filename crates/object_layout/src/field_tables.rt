@@ -1,7 +1,7 @@
 //! The table of the fields of a program.
 
 ghost use Rattle.std.specs.Prelude.{◌≡◌, ◌==◌, ℕ, map, position, option_map, option_and_then, slice_get, IfOk};
-ghost use Rattle.indexmap.specs.IndexMap.{get};
+ghost use Rattle.std.specs.HashMap.{get};
 ghost use Rattle.scj_rules.specs.Contexts.{declarations_of};
 ghost use Rattle.scj_rules.specs.Layout.{field_kind, static_place};
 ghost use Rattle.object_layout.specs.FieldTables.{IsFieldTableOf};
@@ -9,11 +9,11 @@ ghost use Rattle.object_layout.specs.FieldTables.{IsFieldTableOf};
 use crate::fields::{StaticField, kinds_at, static_nodes, statics_at};
 use class_rows::Classes;
 use class_rows::members::places_of;
-use indexmap::IndexMap;
 use scj_base::{FieldId, Memory, NodeId};
 use scj_rules::SlotKind;
 use scj_tree::Program;
 use std::alloc::Global;
+use std::collections::HashMap;
 
 /// What is asked of the fields of a program, each at its number.
 #[derive(Drop)]
@@ -29,7 +29,7 @@ pub struct FieldTable {
 /// The numbers under these nodes.
 fn numbers_at(
     alloc: Global,
-    found: &IndexMap<usize, u32>,
+    found: &HashMap<usize, u32>,
     ids: &[NodeId],
 ) -> Result<Vec<Option<u32>>, Memory>
     ensures { IfOk result (λ numbers. numbers.items ≡ map (λ (id : ℕ). get ◌==◌ found.now id) ids.now) }

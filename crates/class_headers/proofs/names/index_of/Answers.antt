@@ -1,5 +1,5 @@
 use Rattle.std.proofs.Common.{◌-◌, arith}
-use Rattle.indexmap.specs.IndexMap.{get}
+use Rattle.std.specs.HashMap.{get}
 use Rattle.scj_base.specs.Bytes.{is_same}
 use Rattle.class_headers.proofs.PartLemmas.{one_more_numbered, all_numbered}
 use Rattle.class_headers.proofs.names.index_of.Goals as goal

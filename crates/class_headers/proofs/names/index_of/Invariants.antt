@@ -1,6 +1,6 @@
 use Rattle.std.proofs.Common.{◌≡◌, ◌≤◌, ℕ, List, length, drop}
 use Rattle.std.specs.List.{position_from}
-use Rattle.indexmap.specs.IndexMap.{get}
+use Rattle.std.specs.HashMap.{get}
 use Rattle.scj_base.specs.Bytes.{is_same}
 use Rattle.class_headers.proofs.names.index_of.Given as goal
 

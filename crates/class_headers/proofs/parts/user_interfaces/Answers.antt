@@ -1,4 +1,4 @@
-use Rattle.indexmap.specs.IndexMap.{get}
+use Rattle.std.specs.HashMap.{get}
 use Rattle.scj_base.specs.Bytes.{is_same}
 use Rattle.scj_rules.specs.Definitions.{read}
 use Rattle.scj_rules.specs.Views.{named_super}

@@ -1,7 +1,7 @@
 use Rattle.std.proofs.Common.{◌≡◌, ◌≤◌, length, drop}
 use Rattle.std.specs.List.{find}
 use Rattle.std.specs.Option.{option_or}
-use Rattle.indexmap.specs.IndexMap.{get}
+use Rattle.std.specs.HashMap.{get}
 use Rattle.scj_base.specs.Bytes.{is_same}
 use Rattle.class_rows.specs.declared.members.OwnKey.{OwnKey}
 use Rattle.class_rows.specs.Members.{is_like, is_same_own, in_class}

@@ -1,5 +1,5 @@
 use Rattle.std.proofs.Common.{◌≡◌, ◌∙◌, ℕ, List}
-use Rattle.indexmap.specs.IndexMap.{get}
+use Rattle.std.specs.HashMap.{get}
 use Rattle.scj_base.specs.Bytes.{is_same}
 use Rattle.scj_rules.specs.Contexts.{declarations_of}
 use Rattle.class_rows.specs.Members.{first_declared, own_key, member_nodes}

@@ -1,5 +1,5 @@
 use Rattle.std.proofs.Common.{◌∙◌, arith, rules}
-use Rattle.indexmap.specs.IndexMap.{get}
+use Rattle.std.specs.HashMap.{get}
 use Rattle.scj_base.specs.Bytes.{is_same}
 use Rattle.class_rows.specs.Members.{is_like}
 use Rattle.class_rows.proofs.MemberLemmas.{names_none, names_more, names_all}

@@ -1,5 +1,5 @@
 use Rattle.std.proofs.Common.{◌≡◌}
-use Rattle.indexmap.specs.IndexMap.{get}
+use Rattle.std.specs.HashMap.{get}
 use Rattle.scj_base.specs.Bytes.{is_same}
 use Rattle.class_rows.specs.declared.members.OwnKey.{OwnKey}
 use Rattle.class_rows.specs.Members.{is_like, is_same_own}

@@ -1,6 +1,6 @@
 use Rattle.std.proofs.Common.{◌≡◌, ◌≤◌, ◌==◌, ◌+◌, ℕ, length, drop}
 use Rattle.std.specs.List.{position_from}
-use Rattle.indexmap.specs.IndexMap.{get}
+use Rattle.std.specs.HashMap.{get}
 use Rattle.class_rows.proofs.members.places_of.Given as goal
 
 -- the nodes from this place on are entered

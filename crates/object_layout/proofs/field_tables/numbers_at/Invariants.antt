@@ -1,5 +1,5 @@
 use Rattle.std.proofs.Common.{◌≡◌, ◌==◌, ℕ, ◌++◌, length, map}
-use Rattle.indexmap.specs.IndexMap.{get}
+use Rattle.std.specs.HashMap.{get}
 use Rattle.object_layout.proofs.field_tables.numbers_at.Given as goal
 
 -- those that are left are still to come
