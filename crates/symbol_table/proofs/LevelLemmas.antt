@@ -1,86 +1,61 @@
--- What a class has under the one above it.
-use Rattle.std.proofs.Common.{◌≡◌, ℕ, zero, suc, ◌+◌, ◌<◌, ◌≤◌, Bool, true, false, not, ◌&&◌, ◌||◌, ◌==◌, List, [], ◌∷◌, ◌++◌, length, reverse, filter, flat_map, slice_get, Option, None, Some, refl, sym, ap, ◌∙◌, subst, arith, if◌then◌else◌, length-append, option_and_then}
-use Rattle.std.specs.List.{list_all}
-use Rattle.std.proofs.lemmas.Bool.Decides.{nat_tests}
-use Rattle.std.proofs.lemmas.List.{reverse-append}
-use Rattle.std.proofs.lemmas.List.Folds.{list_any-append, list_all-append}
-use Rattle.std.proofs.lemmas.List.Concat.{flat_map-append}
-use Rattle.scj_builtins.specs.Framework.{framework_classes, object, object_name, class_row, runnable, safelet}
+-- The chain of Object and of a class right under another one, and what a class has of those above.
+use Rattle.std.proofs.Common.{◌≡◌, ℕ, zero, suc, ◌<◌, ◌≤◌, List, [], ◌∷◌, ◌++◌, length, flat_map, slice_get, Option, None, Some, refl, ap, ◌∙◌, arith, option_and_then, ◌+◌, reverse, filter, filter_map, sym, subst}
+use Rattle.std.proofs.lemmas.List.{length-map}
+use Rattle.std.proofs.lemmas.Grind.{common_steps}
+use Rattle.scj_builtins.specs.Framework.{framework_classes, object, object_name, class_row}
 use Rattle.scj_builtins.specs.declared.kinds.ClassKind.TheVariants.{Concrete as concrete_class}
 use Rattle.scj_tree.specs.Forest.{Forest}
-use Rattle.scj_rules.specs.declared.views.Declared.{Declared}
-use Rattle.scj_rules.specs.Words.{is_among, chain, chain_behind}
-use Rattle.scj_rules.specs.Classes.{ClassRow, all_interfaces, classes_above, framework_row, framework_rows_from, instance_fields, interfaces_in, is_user_class, own_instance_fields, superclass_in, superclasses, written_rows}
+use Rattle.scj_rules.specs.Words.{chain, chain_behind}
+use Rattle.scj_rules.specs.Classes.{ClassRow, all_interfaces, classes_above, framework_row, framework_rows_from, interfaces_in, superclass_in, superclasses, written_rows, first_user_class, instance_fields, own_instance_fields}
 use Rattle.scj_rules.specs.Contexts.{declarations_of}
-use Rattle.class_rows.specs.Tables.{is_good_header}
+use Rattle.scj_rules.specs.Views.{field_at}
+use Rattle.class_rows.specs.Tables.{is_good_header, class_written, members_in}
 use Rattle.class_rows.proofs.RowLemmas.{class_get, counted_is}
+use Rattle.class_rows.proofs.OwnLemmas.{fields_at}
+use Rattle.class_rows.proofs.SoundLemmas.{framework_there, members_of, row_sound}
+use Rattle.symbol_table.specs.Scopes.{IsNext, rows_of, IsPath, IsUnder, classes_of, is_instance, nearest_level, object_level, root_under}
 use Rattle.symbol_table.specs.declared.levels.Level.{Level}
-use Rattle.symbol_table.specs.Scopes.{IsLevel, IsNext, bare_root, is_framework, is_known, object_level, root_under, rows_of}
+
+abbrev behind : (ℕ → Option ℕ) → ℕ → Option ℕ → List ℕ
+behind next bound o = elim o as (λ _. List ℕ) [ None ↦ [] | Some b ↦ chain next bound b ]
 
 -- ---- Object
 
 abbrev object_row : ClassRow
 object_row = framework_row object (class_row object object_name concrete_class)
 
-object_at : (forest : Forest) → slice_get (rows_of forest) object ≡ Some object_row
-unfolding declarations_of written_rows framework_classes framework_rows_from is_good_header framework_row
-object_at forest =
-    class_get forest object ∙ ap (λ (r : ClassRow). Some r) (counted_is (declarations_of forest) object object_row)
-
 some_row : (rows : List ClassRow) (row : ClassRow) → slice_get rows 0 ≡ Some row → 0 < length rows
 some_row [] row e = cc
 some_row (x ∷ rows) row e = omega arith
 
-no_superclass : (forest : Forest) → superclass_in (rows_of forest) object ≡ None
-unfolding framework_row
-no_superclass forest =
-    ap (λ (o : Option ClassRow). option_and_then (λ (row : ClassRow). row.superclass) o) (object_at forest)
+module _ (forest : Forest) where
+  object_at : slice_get (rows_of forest) object ≡ Some object_row
+  unfolding declarations_of written_rows framework_classes framework_rows_from is_good_header framework_row
+  object_at =
+      class_get forest object ∙ ap (λ (r : ClassRow). Some r) (counted_is (declarations_of forest) object object_row)
 
-abbrev behind : (ℕ → Option ℕ) → ℕ → Option ℕ → List ℕ
-behind next bound o = elim o as (λ _. List ℕ) [ None ↦ [] | Some b ↦ chain next bound b ]
+  no_superclass : superclass_in (rows_of forest) object ≡ None
+  unfolding framework_row
+  no_superclass = ap (λ (o : Option ClassRow). option_and_then (λ (row : ClassRow). row.superclass) o) object_at
 
-pub object_chain : (forest : Forest) → superclasses (rows_of forest) object ≡ object ∷ []
-unfolding superclasses chain
-object_chain forest = go (length (rows_of forest)) (some_row (rows_of forest) object_row (object_at forest))
-  where
-    go : (n : ℕ) → 0 < n → chain (superclass_in (rows_of forest)) n object ≡ object ∷ []
-    go zero h = absurd (omega (arith, h))
-    go (suc n) h =
-        ap (λ (o : Option ℕ). object ∷ behind (superclass_in (rows_of forest)) n o) (no_superclass forest)
+  pub object_chain : superclasses (rows_of forest) object ≡ object ∷ []
+  unfolding superclasses chain
+  object_chain = go (length (rows_of forest)) (some_row (rows_of forest) object_row object_at)
+    where
+      go : (n : ℕ) → 0 < n → chain (superclass_in (rows_of forest)) n object ≡ object ∷ []
+      go zero h = absurd (omega (arith, h))
+      go (suc n) h = ap (λ (o : Option ℕ). object ∷ behind (superclass_in (rows_of forest)) n o) no_superclass
 
-pub none_above : (forest : Forest) → classes_above (rows_of forest) object ≡ []
-unfolding classes_above chain_behind
-none_above forest =
-    ap (behind (superclass_in (rows_of forest)) (length (rows_of forest))) (no_superclass forest)
+  pub none_above : classes_above (rows_of forest) object ≡ []
+  unfolding classes_above chain_behind
+  none_above = ap (behind (superclass_in (rows_of forest)) (length (rows_of forest))) no_superclass
 
-object_bare : (forest : Forest) → all_interfaces (rows_of forest) object ≡ []
-unfolding all_interfaces framework_row
-object_bare forest =
-    ap (flat_map (interfaces_in (rows_of forest))) (object_chain forest)
-    ∙ ap (λ (o : Option ClassRow). elim o as (λ _. List ℕ) [ None ↦ [] | Some row ↦ row.interfaces ] ++ [])
-    (object_at forest)
-
-pub object_is : (forest : Forest) → IsLevel (rows_of forest) object_level
-unfolding instance_fields own_instance_fields framework_row
-object_is forest =
-    let P : List ℕ → Type 0 = λ xs. filter is_framework xs ≡ xs in
-    let Q : List ℕ → Type 0 = λ xs. xs ≡ filter is_user_class xs ++ xs in
-    record {
-      root = subst P (sym (object_chain forest)) refl;
-      bare = object_bare forest;
-      chain = subst Q (sym (object_chain forest)) refl;
-      known = ap (list_all is_known) (object_bare forest);
-      runnable = sym (ap (is_among runnable) (object_bare forest));
-      safelet = sym (ap (is_among safelet) (object_bare forest));
-      count =
-          sym (ap (λ (xs : List ℕ). length (flat_map (own_instance_fields (rows_of forest)) (reverse xs)))
-          (object_chain forest)
-          ∙ ap (λ (o : Option ClassRow). length (elim o as (λ _. List Declared) [
-            | None ↦ []
-            | Some row ↦ filter (λ (f : Declared). not f.modifiers.is_static) row.fields
-          ] ++ []))
-          (object_at forest));
-    }
+  pub object_bare : all_interfaces (rows_of forest) object ≡ []
+  unfolding all_interfaces framework_row
+  object_bare =
+      ap (flat_map (interfaces_in (rows_of forest))) object_chain
+      ∙ ap (λ (o : Option ClassRow). elim o as (λ _. List ℕ) [ None ↦ [] | Some row ↦ row.interfaces ] ++ [])
+      object_at
 
 -- ---- a class right under another one
 
@@ -95,13 +70,12 @@ chain_short next (suc m) a h = go (λ b k. chain_short next m b k) (next a) h
     go ih None k = refl
     go ih (Some b) k = ap (λ (xs : List ℕ). a ∷ xs) (ih b (omega (arith, k)))
 
-module _ (rows : List ClassRow) (above depth class : ℕ) (n : IsNext rows above depth class) where
-  pub next_chain : length (superclasses rows above) ≡ depth + 1 →
-      superclasses rows class ≡ class ∷ superclasses rows above
+module _ (rows : List ClassRow) (above count class : ℕ) (n : IsNext rows above count class) where
+  pub next_chain : length (superclasses rows above) ≡ count → superclasses rows class ≡ class ∷ superclasses rows above
   unfolding superclasses chain
   next_chain d = go (length rows) n.shorter d
     where
-      go : (m : ℕ) → depth + 1 < m → length (chain (superclass_in rows) m above) ≡ depth + 1 →
+      go : (m : ℕ) → count < m → length (chain (superclass_in rows) m above) ≡ count →
           chain (superclass_in rows) m class ≡ class ∷ chain (superclass_in rows) m above
       go zero h k = absurd (omega (arith, h))
       go (suc m) h k =
@@ -112,103 +86,95 @@ module _ (rows : List ClassRow) (above depth class : ℕ) (n : IsNext rows above
   unfolding classes_above chain_behind superclasses
   next_above = ap (behind (superclass_in rows) (length rows)) n.superclass
 
-module _ (forest : Forest) (above : Level) (depth class : ℕ) (is_above : IsLevel (rows_of forest) above)
-    (d : length (superclasses (rows_of forest) above.class) ≡ depth + 1)
-    (n : IsNext (rows_of forest) above.class depth class) where
+-- the instance fields that a class declares
+pub fields_of_class : (forest : Forest) (class : ℕ) →
+    own_instance_fields (rows_of forest) class ≡ filter is_instance
+    (filter_map (field_at forest.nodes) (members_in (declarations_of forest) class))
+unfolding own_instance_fields
+fields_of_class forest class = grind (arith, common_steps, fields_at forest class)
+
+-- a framework class declares no members in the source
+pub no_members : (forest : Forest) (class : ℕ) → class < first_user_class →
+    members_in (declarations_of forest) class ≡ []
+unfolding members_in class_written
+no_members forest class h =
+    let there = framework_there forest class h in
+    ap (λ (o : Option ClassRow). members_of (elim o as (λ _. Option _) [ None ↦ None | Some row ↦ row.written ]))
+    there.1
+    ∙ ap members_of ((row_sound forest class there.0 there.1).framework h)
+
+-- ---- a class with those above it
+
+pub object_under : (forest : Forest) → IsUnder (rows_of forest) object_level []
+unfolding instance_fields
+object_under forest =
+    let rows = rows_of forest in
+    let none : own_instance_fields rows object ≡ [] =
+    fields_of_class forest object
+    ∙ ap (λ (ids : List ℕ). filter is_instance (filter_map (field_at forest.nodes) ids))
+    (no_members forest object (omega arith)) in
+    record {
+      chain = object_chain forest;
+      behind = none_above forest;
+      split = grind (arith, common_steps, object_chain forest);
+      root = grind (arith, common_steps, object_chain forest);
+      bare = object_bare forest;
+      count = grind (arith, common_steps, object_chain forest, none);
+    }
+
+module _ (forest : Forest) (above level : Level) (behind : List ℕ) (count : ℕ)
+    (u : IsUnder (rows_of forest) above behind) (n : IsNext (rows_of forest) above.class count level.class)
+    (d : count ≡ suc (length behind)) where
   abbrev rows : List ClassRow
   rows = rows_of forest
 
   abbrev those : List ℕ
   those = superclasses rows above.class
 
-  chain_is : superclasses rows class ≡ class ∷ those
-  chain_is = next_chain rows above.class depth class n d
+  chain_is : superclasses rows level.class ≡ level.class ∷ those
+  chain_is = next_chain rows above.class count level.class n (ap length u.chain ∙ sym d)
 
-  interfaces_are : all_interfaces rows class ≡ interfaces_in rows class ++ all_interfaces rows above.class
+  interfaces_are : all_interfaces rows level.class
+      ≡ interfaces_in rows level.class ++ all_interfaces rows above.class
   unfolding all_interfaces
   interfaces_are = ap (flat_map (interfaces_in rows)) chain_is
 
-  count_is : length (instance_fields rows class)
-      ≡ length (own_instance_fields rows class) + length (instance_fields rows above.class)
+  count_is : length (instance_fields rows level.class)
+      ≡ length (own_instance_fields rows level.class) + length (instance_fields rows above.class)
   unfolding instance_fields
   count_is =
-      let own = own_instance_fields rows in
-      let e : length (flat_map own (reverse (superclasses rows class)))
-      ≡ length (flat_map own (reverse those) ++ flat_map own (class ∷ [])) =
-      ap (λ (xs : List ℕ). length (flat_map own (reverse xs))) chain_is
-      ∙ ap (λ (xs : List ℕ). length (flat_map own xs)) (reverse-append (class ∷ []) those)
-      ∙ ap length (flat_map-append own (reverse those) (class ∷ [])) in
-      omega (
-        arith,
-        e,
-        length-append (flat_map own (reverse those)) (flat_map own (class ∷ [])),
-        length-append (own class) [],
-      )
+      ap (λ (xs : List ℕ). length (flat_map (own_instance_fields rows) (reverse xs))) chain_is
+      ∙ grind (arith, common_steps)
 
-  abbrev IsRoot : ℕ → Type 0
-  IsRoot root =
-      (filter is_framework (superclasses rows root) ≡ superclasses rows root) × (all_interfaces rows root ≡ [])
-      × (superclasses rows class ≡ filter is_user_class (superclasses rows class) ++ superclasses rows root)
-
-  root_is : (root : ℕ) → Some root ≡ root_under above (interfaces_in rows class) class → IsRoot root
-  root_is root e = go (is_user_class class) (above.class == object) (interfaces_in rows class) refl refl refl e
-    where
-      go : (t u : Bool) (is : List ℕ) → is_user_class class ≡ t → (above.class == object) ≡ u →
-          interfaces_in rows class ≡ is
-          → Some root ≡ (if t then Some above.root else (if u then bare_root is class else None)) → IsRoot root
-      go true u is f g i k =
-          let r : above.root ≡ root = cc in
-          let Q : List ℕ → Type 0 = λ xs. xs ≡ filter is_user_class xs ++ superclasses rows above.root in
-          subst IsRoot r (
-            is_above.root,
-            is_above.bare,
-            subst Q (sym chain_is) (rw f (ap (λ (xs : List ℕ). class ∷ xs) is_above.chain)),
-          )
-      go false true [] f g i k =
-          let r : class ≡ root = cc in
-          let same : above.class ≡ object = grind (arith, nat_tests, g) in
-          let two : superclasses rows class ≡ class ∷ object ∷ [] =
-          chain_is ∙ ap (λ (xs : List ℕ). class ∷ xs) (ap (superclasses rows) same ∙ object_chain forest) in
-          let P : List ℕ → Type 0 = λ xs. filter is_framework xs ≡ xs in
-          let Q : List ℕ → Type 0 = λ xs. xs ≡ filter is_user_class xs ++ xs in
-          subst IsRoot r (
-            subst P (sym two) (rw f refl),
-            interfaces_are ∙ ap (λ (xs : List ℕ). xs ++ all_interfaces rows above.class) i
-                ∙ ap (all_interfaces rows) same ∙ object_bare forest,
-            subst Q (sym two) (rw f refl),
-          )
-      go false true (x ∷ xs) f g i k = cc
-      go false false is f g i k = cc
-
-  pub level_is : (level : Level) → level.class ≡ class →
-      Some level.root ≡ root_under above (interfaces_in rows class) class →
-      list_all is_known (interfaces_in rows class) ≡ true
-      → level.is_runnable ≡ (is_among runnable (interfaces_in rows class) || above.is_runnable)
-      → level.is_safelet ≡ (is_among safelet (interfaces_in rows class) || above.is_safelet)
-      → level.field_count ≡ length (own_instance_fields rows class) + above.field_count → IsLevel rows level
-  level_is level c r k run safe count =
-      let P : ℕ → Type 0 =
-      λ m. superclasses rows m ≡ filter is_user_class (superclasses rows m) ++ superclasses rows level.root in
-      let is_root : IsRoot level.root = root_is level.root r in
-      let known : list_all is_known (all_interfaces rows class) ≡ true =
-      ap (list_all is_known) interfaces_are
-      ∙ list_all-append is_known (interfaces_in rows class) (all_interfaces rows above.class)
-      ∙ ap (λ t. t && list_all is_known (all_interfaces rows above.class)) k ∙ is_above.known in
+  level_is : Some level.root ≡ root_under above (interfaces_in rows level.class) level.class →
+      level.field_count ≡ length (own_instance_fields rows level.class) + above.field_count →
+      IsUnder rows level (above.class ∷ behind)
+  level_is r c =
       record {
-        root = is_root.0;
-        bare = is_root.1;
-        chain = subst P (sym c) is_root.2;
-        known = ap (λ m. list_all is_known (all_interfaces rows m)) c ∙ known;
-        runnable = implemented runnable level.is_runnable above.is_runnable run is_above.runnable;
-        safelet = implemented safelet level.is_safelet above.is_safelet safe is_above.safelet;
-        count =
-            count ∙ ap (λ m. length (own_instance_fields rows class) + m) is_above.count ∙ sym count_is
-            ∙ ap (λ m. length (instance_fields rows m)) (sym c);
+        chain = chain_is ∙ ap (λ (xs : List ℕ). level.class ∷ xs) u.chain;
+        behind = next_above rows above.class count level.class n ∙ u.chain;
+        split = grind (arith, common_steps, r, chain_is, u.split, object_chain forest);
+        root = grind (arith, common_steps, r, chain_is, u.root, object_chain forest);
+        bare = grind (arith, common_steps, r, interfaces_are, u.bare, object_bare forest);
+        count = c ∙ ap (λ k. length (own_instance_fields rows level.class) + k) u.count ∙ sym count_is;
       }
-    where
-      implemented : (i : ℕ) (now there : Bool) → now ≡ (is_among i (interfaces_in rows class) || there) →
-          there ≡ is_among i (all_interfaces rows above.class) → now ≡ is_among i (all_interfaces rows level.class)
-      implemented i now there e h =
-          e ∙ ap (λ t. is_among i (interfaces_in rows class) || t) h
-          ∙ sym (list_any-append (λ m. i == m) (interfaces_in rows class) (all_interfaces rows above.class))
-          ∙ ap (is_among i) (sym interfaces_are) ∙ ap (λ m. is_among i (all_interfaces rows m)) (sym c)
+
+module _ (forest : Forest) (level : Level) where
+  pub lowest_is : (path : List Level) → None ≡ nearest_level path → level ≡ object_level →
+      IsUnder (rows_of forest) level (classes_of path)
+  lowest_is [] e s = rw s (object_under forest)
+  lowest_is (l ∷ path) e s = cc
+
+  pub next_is : (path : List Level) (above : Level) (count : ℕ) → Some above ≡ nearest_level path →
+      IsPath (rows_of forest) path → count ≡ length path →
+      IsNext (rows_of forest) above.class count level.class
+      → Some level.root ≡ root_under above (interfaces_in (rows_of forest) level.class) level.class
+      → level.field_count ≡ length (own_instance_fields (rows_of forest) level.class) + above.field_count →
+      IsUnder (rows_of forest) level (classes_of path)
+  next_is [] above count e p d n r c = cc
+  next_is (l ∷ path) above count e p d n r c =
+      let same : l ≡ above = cc in
+      let P : Level → Type 0 = λ x. IsUnder (rows_of forest) x (classes_of path) in
+      let Q : Level → Type 0 = λ x. IsUnder (rows_of forest) level (x.class ∷ classes_of path) in
+      subst Q (sym same) (level_is forest above level (classes_of path) count (subst P same p.0) n
+      (omega (arith, d, length-map path (λ (x : Level). x.class))) r c)

@@ -1,19 +1,126 @@
--- What a scope tells of the class that it is at.
-use Rattle.std.proofs.Common.{◌≡◌, ℕ, ◌<◌, ◌≤◌, Bool, true, false, cond, ◌||◌, ◌==◌, List, [], ◌∷◌, ◌++◌, append-nil, filter, Option, None, Some, refl, sym, ap, ◌∙◌, subst, arith, option_and_then, if◌then◌else◌}
-use Rattle.std.specs.List.{list_all}
+-- What is found along classes by the members that are entered, and what a scope tells of the class that it is at.
+use Rattle.std.proofs.Common.{◌≡◌, ℕ, ◌≤◌, Bool, true, false, cond, List, [], ◌∷◌, find, map, filter, Option, None, Some, refl, sym, ap, ◌∙◌, arith, option_map, ◌<◌, ◌++◌, option_and_then}
+use Rattle.std.proofs.lemmas.Bool.{true≢false}
 use Rattle.std.proofs.lemmas.Bool.Decides.{nat_tests}
-use Rattle.std.proofs.lemmas.List.Elements.{filter-append}
-use Rattle.std.proofs.lemmas.List.Folds.{list_any-append}
-use Rattle.scj_builtins.specs.Framework.{runnable, safelet}
+use Rattle.std.proofs.lemmas.Grind.{common_steps}
+use Rattle.std.proofs.lemmas.List.Folds.{find-append}
+use Rattle.std.specs.HashMap.{get}
+use Rattle.scj_base.specs.Bytes.{is_same}
 use Rattle.scj_tree.specs.Forest.{Forest}
-use Rattle.scj_rules.specs.declared.typing.FoundField.{FoundField}
-use Rattle.scj_rules.specs.Words.{along, chain_behind, is_among, or_else}
-use Rattle.scj_rules.specs.Classes.{FoundMethod, all_interfaces, classes_above, field_named, first_user_class, framework_row_named, is_user_class, method_above, method_named, ClassRow, own_field, own_method, superclass_in, superclasses}
+use Rattle.scj_rules.specs.Words.{along, holds, or_else, chain_behind, is_among}
+use Rattle.scj_rules.specs.Classes.{first_user_class, is_user_class, own_field, own_method, ClassRow, FoundMethod, all_interfaces, classes_above, field_named, framework_row_named, method_above, method_named, superclass_in, superclasses}
+use Rattle.scj_rules.specs.Contexts.{declarations_of}
+use Rattle.method_rows.specs.Methods.{found_method}
+use Rattle.class_rows.specs.declared.members.MemberKind.{MemberKind}
 use Rattle.class_rows.specs.declared.members.MemberKind.TheVariants.{Field, Method}
+use Rattle.class_rows.specs.declared.fields.FieldRef.{FieldRef as Member}
+use Rattle.class_rows.specs.Fields.{found_field}
+use Rattle.class_rows.specs.Members.{first_named, name_at}
+use Rattle.class_rows.specs.Tables.{members_in}
+use Rattle.class_rows.proofs.OwnLemmas.{declared_row_is, own_field_row}
+use Rattle.class_rows.proofs.InterfaceLemmas.{framework_append}
+use Rattle.class_rows.proofs.WalkLemmas.{along_append}
+use Rattle.symbol_table.specs.Names.{found_at, member, members_of, members_on, nearest_named}
+use Rattle.symbol_table.specs.Scopes.{rows_of, IsScope, classes_of, is_framework}
+use Rattle.symbol_table.proofs.LevelLemmas.{no_members}
 use Rattle.symbol_table.specs.declared.scopes.Scope.{Scope}
-use Rattle.symbol_table.specs.Names.{declares, nearest}
-use Rattle.symbol_table.specs.Scopes.{IsScope, classes_of, implements, interface_method, is_framework, is_known, rows_of}
-use Rattle.symbol_table.proofs.AlongLemmas.{along_append, along_front, along_found, along_known, disjoint, field_declared, known_cases, known_kept, method_declared, or_else_assoc, users_dropped}
+
+pub along_front : {B : Type 0} (f : ℕ → Option B) (x : ℕ) (xs : List ℕ) →
+    along f (x ∷ xs) ≡ or_else (f x) (along f xs)
+unfolding along
+along_front f x xs = grind (arith, common_steps)
+
+map_twice : {A B C : Type 0} (f : B → C) (g : A → B) (o : Option A) →
+    option_map f (option_map g o) ≡ option_map (λ x. f (g x)) o
+map_twice f g None = refl
+map_twice f g (Some x) = refl
+
+find_mapped : {A B : Type 0} (test : B → Bool) (f : A → B) (xs : List A) →
+    find test (map f xs) ≡ option_map f (find (λ x. test (f x)) xs)
+find_mapped test f [] = refl
+find_mapped test f (x ∷ xs) = grind (arith, common_steps, find_mapped test f xs)
+
+module _ (kind : MemberKind) (forest : Forest) (name : List ℕ) where
+  abbrev first_on : ℕ → Option Member
+  first_on class =
+      option_map (member class) (first_named kind forest.nodes name (members_in (declarations_of forest) class))
+
+  abbrev nearest_of : List ℕ → Option Member
+  nearest_of classes = nearest_named kind forest.nodes name (members_of forest classes)
+
+  -- what the classes that are kept give of their first member of the name, they give together of the nearest
+  module _ {B : Type 0} (f : ℕ → Option B) (g : Member → B) (keep : ℕ → Bool)
+      (here : (class : ℕ) → keep class ≡ true → f class ≡ option_map g (first_on class))
+      (none : (class : ℕ) → keep class ≡ false → members_in (declarations_of forest) class ≡ []) where
+    along_kept : (classes : List ℕ) → along f (filter keep classes) ≡ option_map g (nearest_of classes)
+    unfolding along
+    along_kept [] = refl
+    along_kept (c ∷ cs) = go (keep c) refl (along_kept cs)
+      where
+        test : Member → Bool
+        test m = holds (name_at kind forest.nodes m.node) (is_same name)
+
+        go : (t : Bool) → keep c ≡ t → along f (filter keep cs) ≡ option_map g (nearest_of cs) →
+            along f (cond t (c ∷ filter keep cs) (filter keep cs)) ≡ option_map g (nearest_of (c ∷ cs))
+        go false e later = rw (none c e) later
+        go true e later =
+            let own = find_mapped test (member c) (members_in (declarations_of forest) c) in
+            let both = find-append test (members_on forest c) (members_of forest cs) in
+            grind (arith, common_steps, later, here c e, along_front f c (filter keep cs), own, both)
+
+module _ (forest : Forest) (name : List ℕ) where
+  pub fields_along : (classes : List ℕ) →
+      along (own_field (rows_of forest) name) classes ≡ option_map (found_field forest.nodes)
+      (nearest_named Field forest.nodes name (members_of forest classes))
+  fields_along classes =
+      ap (along (own_field (rows_of forest) name)) (all classes)
+      ∙ along_kept Field forest name (own_field (rows_of forest) name) (found_field forest.nodes) (λ _. true)
+      (λ class e. sym (own_field_row forest class name _ refl)) (λ class e. absurd (true≢false e)) classes
+    where
+      all : (xs : List ℕ) → xs ≡ filter (λ _. true) xs
+      all [] = refl
+      all (x ∷ xs) = ap (λ (ys : List ℕ). x ∷ ys) (all xs)
+
+  pub methods_along : (classes : List ℕ)
+      → along (own_method (rows_of forest) name) (filter is_user_class classes)
+      ≡ option_map (found_at forest.nodes) (nearest_named Method forest.nodes name (members_of forest classes))
+  methods_along =
+      along_kept Method forest name (own_method (rows_of forest) name) (found_at forest.nodes) is_user_class
+      (λ class e. let l : first_user_class ≤ class = grind (arith, nat_tests, e) in
+      sym (declared_row_is forest class name _ l refl) ∙ map_twice (found_method forest.nodes) _ (named class)
+      ∙ sym (map_twice (found_at forest.nodes) (member class) (named class)))
+      (λ class e. no_members forest class (grind (arith, nat_tests, e)))
+    where
+      named : ℕ → Option ℕ
+      named class = first_named Method forest.nodes name (members_in (declarations_of forest) class)
+
+-- ---- what a scope tells
+
+or_else_assoc : {B : Type 0} (a b c : Option B) → or_else (or_else a b) c ≡ or_else a (or_else b c)
+or_else_assoc None b c = refl
+or_else_assoc (Some y) b c = refl
+
+-- a framework class is among the framework's, where it is among all
+among_framework : (k : ℕ) → k < first_user_class → (xs : List ℕ) →
+    is_among k (filter is_framework xs) ≡ is_among k xs
+among_framework k h [] = refl
+among_framework k h (x ∷ xs) = grind (arith, common_steps, h, among_framework k h xs)
+
+module _ (forest : Forest) (class : ℕ) (name : List ℕ) where
+  abbrev own : ℕ → Option FoundMethod
+  own = own_method (rows_of forest) name
+
+  abbrev implemented : List ℕ
+  implemented = all_interfaces (rows_of forest) class
+
+  -- the user classes of a list first, and then the framework's with the interfaces
+  split : (xs : List ℕ) → xs ≡ filter is_user_class xs ++ filter is_framework xs →
+      along own (xs ++ implemented)
+      ≡ or_else (along own (filter is_user_class xs)) (along own (filter is_framework (xs ++ implemented)))
+  split xs h =
+      let parts = along_append own (filter is_user_class xs) (filter is_framework xs) in
+      let whole = along_append own (filter is_user_class xs ++ filter is_framework xs) implemented in
+      grind (arith, common_steps, h, whole, parts, framework_append forest class name xs)
 
 module _ (forest : Forest) (scope : Scope) (s : IsScope forest scope) where
   abbrev rows : List ClassRow
@@ -22,160 +129,68 @@ module _ (forest : Forest) (scope : Scope) (s : IsScope forest scope) where
   abbrev at : ℕ
   at = scope.level.class
 
+  abbrev root : ℕ
+  root = scope.level.root
+
   abbrev above : List ℕ
-  above = classes_of scope.path
+  above = classes_of scope.above.path
 
-  abbrev chain : List ℕ
-  chain = superclasses rows at
-
-  abbrev implemented : List ℕ
-  implemented = all_interfaces rows at
-
-  abbrev root_chain : List ℕ
-  root_chain = superclasses rows scope.level.root
-
-  among_none : (k : ℕ) → k < first_user_class → (xs : List ℕ) → is_among k (filter is_user_class xs) ≡ false
-  among_none k h [] = refl
-  among_none k h (x ∷ xs) = go (among_none k h xs) (is_user_class x) refl
-    where
-      go : is_among k (filter is_user_class xs) ≡ false → (t : Bool) → is_user_class x ≡ t
-          → is_among k (cond t (x ∷ filter is_user_class xs) (filter is_user_class xs)) ≡ false
-      go ih true e = let n : (k == x) ≡ false = grind (arith, nat_tests, h, e) in rw n ih
-      go ih false e = ih
-
-  not_among_known : (i : ℕ) → (i == runnable) ≡ false → (i == safelet) ≡ false → (xs : List ℕ) →
-      list_all is_known xs ≡ true → false ≡ is_among i xs
-  not_among_known i a b =
-      known_cases (λ xs. false ≡ is_among i xs) refl (λ xs e. rw a e) (λ xs e. rw b e)
-
-  pub implements_is : (i : ℕ) → implements scope.level i ≡ is_among i implemented
-  implements_is i = go (i == runnable) (i == safelet) refl refl
-    where
-      go : (t u : Bool) → (i == runnable) ≡ t → (i == safelet) ≡ u
-          → (if t then scope.level.is_runnable else (if u then scope.level.is_safelet else false))
-          ≡ is_among i implemented
-      go true u e g =
-          let is : i ≡ runnable = grind (arith, nat_tests, e) in
-          s.under.is_level.runnable ∙ ap (λ n. is_among n implemented) (sym is)
-      go false true e g =
-          let is : i ≡ safelet = grind (arith, nat_tests, g) in
-          s.under.is_level.safelet ∙ ap (λ n. is_among n implemented) (sym is)
-      go false false e g = not_among_known i e g implemented s.under.is_level.known
-
-  pub under_is : (k : ℕ) → k < first_user_class → is_among k root_chain ≡ is_among k chain
-  under_is k h =
-      sym (ap (is_among k) s.under.is_level.chain
-      ∙ list_any-append (λ m. k == m) (filter is_user_class chain) root_chain
-      ∙ ap (λ b. b || is_among k root_chain) (among_none k h chain))
+  pub under_is : (k : ℕ) → k < first_user_class →
+      is_among k (superclasses rows root) ≡ is_among k (superclasses rows at)
+  under_is k h = ap (is_among k) (sym s.under.root) ∙ among_framework k h (superclasses rows at)
 
   module _ (name : List ℕ) where
-    abbrev own : ℕ → Option FoundMethod
-    own = own_method rows name
+    abbrev own_at : ℕ → Option FoundMethod
+    own_at = own_method rows name
 
-    abbrev nearest_own : Option FoundMethod
-    nearest_own = option_and_then own (nearest scope.methods name)
+    abbrev nearest : Option FoundMethod
+    nearest = option_map (found_at forest.nodes) (get is_same scope.above.methods.nearest name)
 
-    along_interfaces : along own implemented ≡ interface_method rows name scope.level
-    along_interfaces =
-        along_known own (disjoint forest name) implemented s.under.is_level.known
-        ∙ ap (λ b. or_else (if b then own runnable else None)
-        (if is_among safelet implemented then own safelet else None))
-        (sym s.under.is_level.runnable)
-        ∙ ap (λ b. or_else (if scope.level.is_runnable then own runnable else None) (if b then own safelet else None))
-        (sym s.under.is_level.safelet)
-
-    root_named : along own root_chain ≡ method_named rows scope.level.root name
-    unfolding method_named
-    root_named =
-        ap (along own) (sym (ap (λ (xs : List ℕ). root_chain ++ xs) s.under.is_level.bare ∙ append-nil root_chain))
-
-    abbrev by_framework : Option FoundMethod
-    by_framework = or_else (method_named rows scope.level.root name) (interface_method rows name scope.level)
-
-    -- some classes, and then the framework's
-    along_parts : (some : List ℕ) →
-        along own ((some ++ root_chain) ++ implemented) ≡ or_else (along own some) by_framework
-    along_parts some =
-        along_append own (some ++ root_chain) implemented
-        ∙ ap (λ (o : Option FoundMethod). or_else o (along own implemented)) (along_append own some root_chain)
-        ∙ or_else_assoc (along own some) (along own root_chain) (along own implemented)
-        ∙ ap (or_else (along own some))
-        (ap (λ (o : Option FoundMethod). or_else o (along own implemented)) root_named
-        ∙ ap (or_else (method_named rows scope.level.root name)) along_interfaces)
-
-    pub framework_row_is : framework_row_named rows at name ≡ by_framework
-    unfolding framework_row_named along
+    pub framework_row_is : framework_row_named rows at name
+        ≡ or_else (method_named rows root name) (along own_at (all_interfaces rows at))
+    unfolding framework_row_named method_named
     framework_row_is =
-        ap (along own)
-        (filter-append is_framework chain implemented
-        ∙ ap (λ (xs : List ℕ). xs ++ filter is_framework implemented)
-        (ap (filter is_framework) s.under.is_level.chain
-        ∙ filter-append is_framework (filter is_user_class chain) root_chain
-        ∙ ap (λ (xs : List ℕ). xs ++ filter is_framework root_chain) (users_dropped chain) ∙ s.under.is_level.root)
-        ∙ ap (λ (xs : List ℕ). root_chain ++ xs) (known_kept implemented s.under.is_level.known))
-        ∙ along_parts []
+        let whole = framework_append forest at name (superclasses rows at) in
+        grind (arith, common_steps, whole, s.under.root, s.under.bare)
 
-    -- the user classes of the chain first
-    pub users_first : method_named rows at name ≡ or_else (along own (filter is_user_class chain)) by_framework
-    unfolding method_named
-    users_first =
-        ap (λ (xs : List ℕ). along own (xs ++ implemented)) s.under.is_level.chain
-        ∙ along_parts (filter is_user_class chain)
-
-    -- the methods of those above
-    users_above : along own (filter is_user_class above) ≡ nearest_own
+    users_above : along own_at (filter is_user_class above) ≡ nearest
     users_above =
-        along_found own is_user_class (declares Method forest name) (method_declared forest name) above
-        ∙ ap (option_and_then own) (sym (s.methods name))
+        methods_along forest name above
+        ∙ ap (option_map (found_at forest.nodes)) (sym (s.above.methods.nearest name))
 
-    pub above_is : first_user_class ≤ at →
-        method_above rows at name ≡ or_else nearest_own (framework_row_named rows at name)
-    unfolding method_above
+    pub above_is : first_user_class ≤ at → method_above rows at name
+        ≡ or_else nearest (framework_row_named rows at name)
+    unfolding method_above framework_row_named
     above_is h =
-        let users = filter is_user_class above in
         let user : is_user_class at ≡ true = grind (arith, nat_tests, h) in
-        let P : List ℕ → Type 0 = λ xs. xs ≡ filter is_user_class xs ++ root_chain in
-        let whole : at ∷ above ≡ cond (is_user_class at) (at ∷ users) users ++ root_chain =
-        subst P s.under.chain s.under.is_level.chain in
-        let split : above ≡ users ++ root_chain =
-        (let both : at ∷ above ≡ at ∷ (users ++ root_chain) =
-        whole ∙ ap (λ (t : Bool). cond t (at ∷ users) users ++ root_chain) user in cc) in
-        ap (λ (xs : List ℕ). along own (xs ++ implemented)) (s.under.behind ∙ split) ∙ along_parts users
-        ∙ ap (λ (o : Option FoundMethod). or_else o by_framework) users_above
-        ∙ ap (or_else nearest_own) (sym framework_row_is)
+        let parts : above ≡ filter is_user_class above ++ filter is_framework above =
+        grind (arith, common_steps, user, s.under.chain, s.under.split) in
+        let whole = split forest at name above parts in
+        grind (arith, common_steps, user, s.under.chain, s.under.behind, whole, users_above)
 
-    pub named_is : method_named rows at name ≡ or_else (own at) (method_above rows at name)
+    pub named_is : method_named rows at name ≡ or_else (own_at at) (method_above rows at name)
     unfolding method_named method_above
     named_is =
-        ap (λ (xs : List ℕ). along own (xs ++ implemented)) s.under.chain ∙ along_front own at (above ++ implemented)
-        ∙ ap (λ (xs : List ℕ). or_else (own at) (along own (xs ++ implemented))) (sym s.under.behind)
+        grind (arith, s.under.chain, s.under.behind, along_front own_at at (above ++ all_interfaces rows at))
 
-    pub declared_is : along own (filter is_user_class chain)
-        ≡ or_else (if is_user_class at then own at else None) nearest_own
-    declared_is = ap (λ (xs : List ℕ). along own (filter is_user_class xs)) s.under.chain ∙ go (is_user_class at)
-      where
-        go : (t : Bool) → along own (cond t (at ∷ filter is_user_class above) (filter is_user_class above))
-            ≡ or_else (if t then own at else None) nearest_own
-        go false = users_above
-        go true = along_front own at (filter is_user_class above) ∙ ap (or_else (own at)) users_above
+    abbrev by_chain : Option FoundMethod
+    by_chain = along own_at (filter is_user_class (superclasses rows at))
 
-    -- the fields of those above
-    abbrev own_of : ℕ → Option FoundField
-    own_of = own_field rows name
+    pub by_users : method_named rows at name ≡ or_else by_chain (framework_row_named rows at name)
+    unfolding method_named framework_row_named
+    by_users = split forest at name (superclasses rows at) s.under.split
+
+    pub user_method : first_user_class ≤ at → by_chain ≡ or_else (own_at at) nearest
+    user_method h =
+        let user : is_user_class at ≡ true = grind (arith, nat_tests, h) in
+        grind (arith, user, s.under.chain, along_front own_at at (filter is_user_class above), users_above)
+
+    pub framework_method : at < first_user_class → by_chain ≡ nearest
+    framework_method h =
+        let user : is_user_class at ≡ false = grind (arith, nat_tests, h) in
+        grind (arith, user, s.under.chain, users_above)
 
     pub field_is : option_and_then (λ class. field_named rows class name) (superclass_in rows at)
-        ≡ option_and_then own_of (nearest scope.fields name)
+        ≡ option_map (found_field forest.nodes) (get is_same scope.above.fields.nearest name)
     unfolding field_named classes_above chain_behind superclasses along
-    field_is =
-        go (superclass_in rows at) ∙ ap (along own_of) (s.under.behind ∙ all_kept above)
-        ∙ along_found own_of (λ _. true) (declares Field forest name) (field_declared forest name) above
-        ∙ ap (option_and_then own_of) (sym (s.fields name))
-      where
-        all_kept : (xs : List ℕ) → xs ≡ filter (λ _. true) xs
-        all_kept [] = refl
-        all_kept (x ∷ xs) = ap (λ (ys : List ℕ). x ∷ ys) (all_kept xs)
-
-        go : (o : Option ℕ) → option_and_then (λ class. along own_of (superclasses rows class)) o
-            ≡ along own_of (elim o as (λ _. List ℕ) [ None ↦ [] | Some b ↦ superclasses rows b ])
-        go None = refl
-        go (Some b) = refl
+    field_is = grind (arith, common_steps, s.under.behind, fields_along forest name above, s.above.fields.nearest name)

@@ -1,89 +1,81 @@
--- Names when a class is entered, and when it is left.
-use Rattle.std.proofs.Common.{◌≡◌, ℕ, Bool, true, false, cond, ◌||◌, List, [], ◌∷◌, ◌++◌, Option, None, Some, refl, sym, ap, ◌∙◌, is_some, if◌then◌else◌}
+-- Names when a member is entered, and when it is taken back.
+use Rattle.std.proofs.Common.{◌≡◌, ℕ, true, List, [], ◌∷◌, ◌++◌, Option, None, Some, sym, ap, ◌∙◌, arith, if◌then◌else◌}
 use Rattle.std.proofs.lemmas.Cmp.{nat_list_eq_equiv}
+use Rattle.std.proofs.lemmas.Grind.{common_steps}
+use Rattle.std.proofs.lemmas.List.{same_from_push}
 use Rattle.std.proofs.lemmas.Slice.Eq.{bytes_eq-Decides}
+use Rattle.std.specs.HashMap.{get}
 use Rattle.scj_base.specs.Bytes.{is_same}
 use Rattle.scj_tree.specs.declared.nodes.Node.{Node}
-use Rattle.scj_rules.specs.Words.{holds}
 use Rattle.class_rows.specs.declared.members.MemberKind.{MemberKind}
-use Rattle.class_rows.specs.Members.{first_named, name_at}
-use Rattle.symbol_table.specs.declared.names.Covered.{Covered}
-use Rattle.symbol_table.specs.Names.{covering, entered, restored}
+use Rattle.class_rows.specs.Members.{name_at}
+use Rattle.class_rows.specs.declared.fields.FieldRef.{FieldRef as Member}
+use Rattle.symbol_table.specs.declared.names.Names.{Names}
+use Rattle.symbol_table.specs.Names.{befores, if_abstract, nearest_named, AreNamed}
 
 pub same_name : (xs ys : List ℕ) → is_same xs ys ≡ true → xs ≡ ys
 same_name xs ys h = (bytes_eq-Decides xs ys).0 h
 
--- ---- one member more
+module _ (kind : MemberKind) (nodes : List Node) (m : Member) (behind : List Member) where
+  -- what stands under a name behind the member, and with it
+  abbrev named : List ℕ → Option Member
+  named name = nearest_named kind nodes name behind
 
-found_more : (t h : Bool) (id : ℕ) (later : Option ℕ) → is_some later ≡ h → is_some (cond t (Some id) later) ≡ (t || h)
-found_more true h id later e = refl
-found_more false h id later e = e
+  abbrev first : List ℕ → Option Member
+  first name = nearest_named kind nodes name (m ∷ behind)
 
-module _ (kind : MemberKind) (nodes : List Node) (id : ℕ) (name : List ℕ) (class : ℕ) (before : Option ℕ) where
-  abbrev later : List ℕ → Bool
-  later ids = is_some (first_named kind nodes name ids)
+  pub not_added : (names : Names) → None ≡ name_at kind nodes m.node → AreNamed kind nodes names behind →
+      AreNamed kind nodes names (m ∷ behind)
+  not_added names e a =
+      record {
+        nearest = λ name. rw (← e) (a.nearest name);
+        abstracts = λ name. rw (← e) (a.abstracts name);
+        before = rw (← e, befores) a.before;
+      }
 
-  pub entered_more : (own : List ℕ) (after : Option ℕ) → after ≡ (if is_same own name then Some class else before) →
-      (rest : List ℕ) → Some own ≡ name_at kind nodes id
-      → entered (later rest) class after ≡ entered (later (id ∷ rest)) class before
-  entered_more own after a rest e =
-      ap (entered (later rest) class) a ∙ pick (is_same own name) (later rest)
-      ∙ ap (λ t. entered t class before)
-      (sym (found_more (holds (name_at kind nodes id) (is_same name)) (later rest) id (first_named kind nodes name rest)
-      refl
-      ∙ ap (λ t. t || later rest) (same (name_at kind nodes id) e)))
-    where
-      same : (o : Option (List ℕ)) → Some own ≡ o → holds o (is_same name) ≡ is_same own name
-      same None h = cc
-      same (Some n) h = let alike : n ≡ own = cc in ap (is_same name) alike ∙ nat_list_eq_equiv.symm name own
+  pub not_taken : (names : Names) → None ≡ name_at kind nodes m.node → AreNamed kind nodes names (m ∷ behind) →
+      AreNamed kind nodes names behind
+  not_taken names e a =
+      record {
+        nearest = λ name. rw (← e) at (a.nearest name);
+        abstracts = λ name. rw (← e) at (a.abstracts name);
+        before = rw (← e, befores) at a.before;
+      }
 
-      pick : (t l : Bool) → entered l class (if t then Some class else before) ≡ entered (t || l) class before
-      pick true true = refl
-      pick true false = refl
-      pick false l = refl
+  module _ (names now : Names) (own : List ℕ) (e : Some own ≡ name_at kind nodes m.node) where
+    pub added : AreNamed kind nodes names behind
+        → ((name : List ℕ) → get is_same now.nearest name
+        ≡ (if is_same own name then Some m else get is_same names.nearest name))
+        → ((name : List ℕ) → get is_same now.abstracts name
+        ≡ (if is_same own name then if_abstract nodes (Some m) else get is_same names.abstracts name))
+        → now.before.items ≡ names.before.items ++ get is_same names.nearest own ∷ [] →
+        AreNamed kind nodes now (m ∷ behind)
+    added a near abstracts before =
+        let turned = λ (name : List ℕ). nat_list_eq_equiv.symm own name in
+        record {
+          nearest = λ name. rw (← e) (grind (arith, common_steps, near name, a.nearest name, turned name));
+          abstracts = λ name. rw (← e) (grind (arith, common_steps, abstracts name, a.abstracts name, turned name));
+          before =
+              rw (← e, befores) (before ∙ ap (λ (o : Option Member). names.before.items ++ o ∷ []) (a.nearest own)
+              ∙ ap (λ (os : List (Option Member)). os ++ named own ∷ []) a.before);
+        }
 
-  pub entered_no_more : (rest : List ℕ) → None ≡ name_at kind nodes id
-      → entered (later rest) class before ≡ entered (later (id ∷ rest)) class before
-  entered_no_more rest e =
-      ap
-      (λ t. entered (is_some (cond t (Some id) (first_named kind nodes name rest))) class before)
-      (fails (name_at kind nodes id) e)
-    where
-      fails : (o : Option (List ℕ)) → None ≡ o → false ≡ holds o (is_same name)
-      fails None h = refl
-      fails (Some n) h = cc
-
--- ---- what stood under names before
-
-restored_more : (cs : List Covered) (c : Covered) (now : List ℕ → Option ℕ) (name : List ℕ)
-    → restored (cs ++ c ∷ []) now name ≡ restored cs (λ n. if is_same c.name n then c.before else now n) name
-restored_more [] c now name = refl
-restored_more (d ∷ cs) c now name =
-    ap (λ (o : Option ℕ). if is_same d.name name then d.before else o) (restored_more cs c now name)
-
-pub restored_same : (cs : List Covered) (now other : List ℕ → Option ℕ) → ((n : List ℕ) → now n ≡ other n) →
-    (name : List ℕ) → restored cs now name ≡ restored cs other name
-restored_same [] now other h name = h name
-restored_same (d ∷ cs) now other h name =
-    ap (λ (o : Option ℕ). if is_same d.name name then d.before else o) (restored_same cs now other h name)
-
-pub covered_more : (cs : List Covered) (own : List ℕ) (class : ℕ) (before after first : List ℕ → Option ℕ)
-    → ((n : List ℕ) → after n ≡ (if is_same own n then Some class else before n)) →
-    ((n : List ℕ) → restored cs before n ≡ first n) → (name : List ℕ)
-    → restored (cs ++ covering own (before own) ∷ []) after name ≡ first name
-covered_more cs own class before after first a h name =
-    restored_more cs (covering own (before own)) after name
-    ∙ restored_same cs (λ n. if is_same own n then before own else after n) before (λ n. back n (is_same own n) refl)
-    name
-    ∙ h name
-  where
-    back : (n : List ℕ) (t : Bool) → is_same own n ≡ t → (if t then before own else after n) ≡ before n
-    back n true e = ap before (same_name own n e)
-    back n false e = a n ∙ ap (λ (t : Bool). if t then Some class else before n) e
-
-pub left_more : (cs all : List Covered) (c : Covered) (now after : List ℕ → Option ℕ) → all ≡ cs ++ c ∷ []
-    → ((n : List ℕ) → after n ≡ (if is_same c.name n then c.before else now n)) → (name : List ℕ) →
-    restored cs after name ≡ restored all now name
-left_more cs all c now after e h name =
-    restored_same cs after (λ n. if is_same c.name n then c.before else now n) h name
-    ∙ sym (restored_more cs c now name) ∙ ap (λ (xs : List Covered). restored xs now name) (sym e)
+    pub taken : (was : Option Member) → AreNamed kind nodes names (m ∷ behind) →
+        names.before.items ≡ now.before.items ++ was ∷ []
+        → ((name : List ℕ) → get is_same now.nearest name
+        ≡ (if is_same own name then was else get is_same names.nearest name))
+        → ((name : List ℕ) → get is_same now.abstracts name
+        ≡ (if is_same own name then if_abstract nodes was else get is_same names.abstracts name)) →
+        AreNamed kind nodes now behind
+    taken was a before near abstracts =
+        let both = same_from_push now.before.items (befores kind nodes behind) was (named own)
+        (sym before ∙ (rw (← e, befores) at a.before)) in
+        let turned = λ (name : List ℕ). nat_list_eq_equiv.symm own name in
+        let same = same_name own in
+        record {
+          nearest = λ name. let k = rw (← e) at (a.nearest name) in
+              grind (arith, common_steps, near name, k, both.1, turned name, same name);
+          abstracts = λ name. let k = rw (← e) at (a.abstracts name) in
+              grind (arith, common_steps, abstracts name, k, both.1, turned name, same name);
+          before = both.0;
+        }

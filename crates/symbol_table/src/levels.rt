@@ -1,18 +1,19 @@
 //! What a class has of its own and of those above.
 
-ghost use Rattle.std.specs.Prelude.{◌≡◌, ◌+◌, ◌||◌, length, IfOk};
+ghost use Rattle.std.specs.Prelude.{◌≡◌, ◌+◌, [], ◌∷◌, length, filter, filter_map, IfOk, MatchOption, OnOk};
 ghost use Rattle.std.specs.Bool.{OnTrue};
-ghost use Rattle.std.specs.List.{list_all};
-ghost use Rattle.scj_rules.specs.Words.{is_among};
-ghost use Rattle.scj_rules.specs.Classes.{own_instance_fields, superclasses};
-ghost use Rattle.symbol_table.specs.Scopes.{implements, is_known, root_under, rows_of, IsLevel, IsNext};
+ghost use Rattle.scj_rules.specs.Views.{field_at};
+ghost use Rattle.scj_rules.specs.Classes.{own_instance_fields};
+ghost use Rattle.symbol_table.specs.Scopes.{classes_of, is_instance, nearest_level, object_level, root_under, rows_of, IsNext, IsPath, IsUnder};
 
-use crate::instances::instance_count;
-use class_headers::marks::is_listed;
 use class_rows::Classes;
-use scj_base::ids::{OBJECT, RUNNABLE, SAFELET};
-use scj_base::{ClassId, Memory};
+use node_views::field_at;
+use scj_base::ids::OBJECT;
+use scj_base::{ClassId, Memory, NodeId};
 use scj_builtins::FRAMEWORK_CLASS_COUNT;
+use scj_tree::Program;
+use std::alloc::Global;
+use std::marker::Model;
 
 /// A class, with what it has of its own and of those above.
 #[derive(Clone, Copy, Debug)]
@@ -21,45 +22,81 @@ pub struct Level {
     pub class: ClassId,
     /// The framework class that it is or stands under.
     pub root: ClassId,
-    /// Whether it implements `Runnable`.
-    pub is_runnable: bool,
-    /// Whether it implements `Safelet`.
-    pub is_safelet: bool,
     /// How many instance fields an object has.
     pub field_count: usize,
 }
 
-impl Level {
-    /// Whether the class implements an interface.
-    pub fn implements(&self, interface: ClassId) -> bool
-        ensures { result ≡ implements self.now interface }
+/// The classes of a chain. A contract sees the nearest first.
+#[derive(Drop)]
+pub struct Path {
+    levels: Vec<Level>,
+}
+
+impl Model for Path {
+    ghost use Rattle.std.specs.Prelude.{List, reverse};
+    ghost use Rattle.symbol_table.specs.declared.levels.Level.{Level};
+
+    ghost Value = { List Level };
+
+    ghost view = { λ a. reverse a.levels.items };
+}
+
+impl Path {
+    /// A path of no class.
+    pub fn new(alloc: Global) -> Path
+        ensures { result ≡ [] }
     {
-        if interface == RUNNABLE {
-            return self.is_runnable;
+        Path {
+            levels: Vec::new(alloc),
         }
-        if interface == SAFELET {
-            return self.is_safelet;
+    }
+
+    /// Puts a class under the nearest.
+    pub fn push(&mut self, level: Level) -> Result<(), Memory>
+        ensures { OnOk result (self.new ≡ level ∷ self.old) }
+    {
+        self.levels.push(level)?;
+        Ok(())
+    }
+
+    /// Takes the nearest class away, if there is one.
+    pub fn pop(&mut self) -> Option<Level>
+        ensures { MatchOption result (self.old ≡ [] × self.new ≡ []) (λ level. self.old ≡ level ∷ self.new) }
+    {
+        self.levels.pop()
+    }
+
+    /// The nearest class.
+    pub fn nearest(&self) -> Option<Level>
+        ensures { result ≡ nearest_level self.now }
+    {
+        match self.levels.last() {
+            Some(level) => Some(*level),
+            None => None,
         }
-        false
+    }
+
+    /// How many classes there are.
+    pub fn len(&self) -> usize
+        ensures { result ≡ length self.now }
+    {
+        self.levels.len()
     }
 }
 
-/// Whether these interfaces are some that a class may implement: a header with another one is forbidden.
-fn are_known(interfaces: &[ClassId]) -> bool
-    ensures { result ≡ list_all is_known interfaces.now }
+/// How many instance fields stand among members.
+fn instance_count(program: &Program, members: &[NodeId]) -> usize
+    ensures { result ≡ length (filter is_instance (filter_map (field_at program.now.nodes) members.now)) }
 {
-    interfaces.iter().all(|interface| *interface == RUNNABLE || *interface == SAFELET)
-}
-
-/// Whether an interface is among these, or implemented above.
-fn is_implemented(interface: ClassId, interfaces: &[ClassId], is_above: bool) -> bool
-    ensures { result ≡ (is_among interface interfaces.now || is_above) }
-{
-    is_listed(interface, interfaces) || is_above
+    members
+        .iter()
+        .filter_map(|id| field_at(program, *id))
+        .filter(|field| !field.modifiers.is_static)
+        .count()
 }
 
 /// How many instance fields an object of a class has under another one.
-#[tactic(auto, using(crate::proofs::InstanceLemmas::fields_of_class))]
+#[tactic(auto, using(crate::proofs::LevelLemmas::fields_of_class))]
 fn field_count(classes: &Classes<'_>, above: usize, class: ClassId) -> Result<usize, Memory>
     ensures { IfOk result (λ count. count ≡ length (own_instance_fields (rows_of classes.now) class) + above) }
 {
@@ -87,12 +124,11 @@ fn root_under(above: &Level, interfaces: &[ClassId], class: ClassId) -> Option<C
     }
 }
 
-/// Whether a class stands right under another one, which has so many above it.
-fn is_next(classes: &Classes<'_>, above: ClassId, depth: usize, class: ClassId) -> bool
-    ensures { OnTrue result (IsNext (rows_of classes.now) above depth class) }
+/// Whether a class stands right under another one, which is the last of so many.
+fn is_next(classes: &Classes<'_>, above: ClassId, count: usize, class: ClassId) -> bool
+    ensures { OnTrue result (IsNext (rows_of classes.now) above count class) }
 {
-    let count = classes.count();
-    if count == 0 || depth >= count - 1 {
+    if count >= classes.count() {
         return false;
     }
     match classes.superclass(class) {
@@ -101,36 +137,41 @@ fn is_next(classes: &Classes<'_>, above: ClassId, depth: usize, class: ClassId) 
     }
 }
 
-/// A class with what it has of its own and of those above, where it stands under another one. A chain is shorter than
-/// there are classes, and forbidden headers don't count: so it is there for each class of a program.
-pub fn level_under(
-    classes: &Classes<'_>,
-    above: &Level,
-    depth: usize,
-    class: ClassId,
-) -> Result<Level, Memory>
-    requires level { IsLevel (rows_of classes.now) above.now }
-    requires depth { length (superclasses (rows_of classes.now) above.now.class) ≡ depth + 1 }
-    ensures class { IfOk result (λ level. level.class ≡ class) }
-    ensures level { IfOk result (λ level. IsLevel (rows_of classes.now) level) }
-    ensures next { IfOk result (λ level. IsNext (rows_of classes.now) above.now.class depth level.class) }
+/// `Object`.
+pub fn object_level() -> Level
+    ensures { result ≡ object_level }
 {
-    if !is_next(classes, above.class, depth, class) {
+    Level {
+        class: OBJECT,
+        root: OBJECT,
+        field_count: 0,
+    }
+}
+
+/// A class with what it has of those above, where it stands right under the nearest of a path, or is `Object` under
+/// none. A chain is shorter than there are classes, and forbidden headers don't count: so it is there for each class of a
+/// program.
+pub fn level_under(classes: &Classes<'_>, path: &Path, class: ClassId) -> Result<Level, Memory>
+    requires { IsPath (rows_of classes.now) path.now }
+    ensures class { IfOk result (λ level. level.class ≡ class) }
+    ensures under { IfOk result (λ level. IsUnder (rows_of classes.now) level (classes_of path.now)) }
+{
+    let Some(above) = path.nearest() else {
+        if class != OBJECT {
+            return Err(Memory);
+        }
+        return Ok(object_level());
+    };
+    if !is_next(classes, above.class, path.len(), class) {
         return Err(Memory);
     }
-    let interfaces = classes.interfaces(class);
-    if !are_known(interfaces) {
-        return Err(Memory);
-    }
-    let Some(root) = root_under(above, interfaces, class) else {
+    let Some(root) = root_under(&above, classes.interfaces(class), class) else {
         return Err(Memory);
     };
     let field_count = field_count(classes, above.field_count, class)?;
     Ok(Level {
         class,
         root,
-        is_runnable: is_implemented(RUNNABLE, interfaces, above.is_runnable),
-        is_safelet: is_implemented(SAFELET, interfaces, above.is_safelet),
         field_count,
     })
 }

@@ -1,7 +1,6 @@
 //! The members in scope at one class after another: what stands above a declaration, without a walk for each.
 #![tactic(auto)]
 
-pub mod instances;
 pub mod levels;
 pub mod looks;
 pub mod names;

@@ -1,44 +1,32 @@
-//! Names with the nearest class that declares a member of each.
+//! The members of the classes that are entered, with the nearest of each name.
 
-ghost use Rattle.std.specs.Prelude.{◌≡◌, ◌++◌, ◌∷◌, [], ℕ, List, Some, None, if◌then◌else◌, option_map, IfOk, OnOk};
-ghost use Rattle.indexmap.specs.IndexMap.{get};
+ghost use Rattle.std.specs.Prelude.{◌≡◌, ◌++◌, ◌∷◌, [], ℕ, List, None, Some, if◌then◌else◌, option_map, OnOk};
+ghost use Rattle.std.specs.HashMap.{get};
 ghost use Rattle.scj_base.specs.Bytes.{is_same};
 ghost use Rattle.scj_rules.specs.declared.views.Declared.{Declared};
-ghost use Rattle.scj_rules.specs.Words.{holds};
 ghost use Rattle.scj_rules.specs.Views.{field_at};
-ghost use Rattle.scj_rules.specs.Classes.{FoundMethod, own_method};
-ghost use Rattle.method_rows.specs.Methods.{found_method};
+ghost use Rattle.class_rows.specs.declared.fields.FieldRef.{FieldRef as Row};
 ghost use Rattle.class_rows.specs.Members.{name_at};
-ghost use Rattle.symbol_table.specs.Symbols.{is_abstract};
-ghost use Rattle.symbol_table.specs.Names.{covering, is_open, nearest, restored, Enters, IsSettled, Restores};
-ghost use Rattle.symbol_table.specs.Scopes.{rows_of};
+ghost use Rattle.symbol_table.specs.Names.{if_abstract, members_on, AreNamed};
 
 use class_headers::NameKey;
-use class_rows::Classes;
 use class_rows::members::MemberKind;
-use indexmap::IndexMap;
-use method_rows::{MethodRef, declared};
-use node_views::{field_written, method_name};
+use class_rows::{Classes, FieldRef as Member};
+use node_views::{field_written, is_abstract_method, method_name};
 use scj_base::{ClassId, Memory, Name, NodeId};
 use scj_tree::Program;
 use std::alloc::Global;
+use std::collections::HashMap;
 
-/// A name with the class that was the nearest to declare it, if there was one, before another class was entered.
-#[derive(Clone, Copy, Debug)]
-pub struct Covered {
-    /// The name.
-    pub name: Name,
-    /// The class.
-    pub before: Option<ClassId>,
-}
-
-/// What is known of the members of one kind.
+/// The members of one kind that the entered classes declare. Methods stand in rows like those of fields.
 #[derive(Drop)]
 pub struct Names {
-    /// The nearest class that declares each name.
-    pub classes: IndexMap<NameKey, ClassId>,
-    /// The names whose nearest class declares an abstract method.
-    pub open: IndexMap<NameKey, Name>,
+    /// The nearest of each name.
+    pub nearest: HashMap<NameKey, Member>,
+    /// Those of them that are abstract methods.
+    pub abstracts: HashMap<NameKey, Member>,
+    /// Which was the nearest of its name when each was entered, the last at the end.
+    pub before: Vec<Option<Member>>,
 }
 
 /// The name of the field at a node.
@@ -62,168 +50,156 @@ fn name_at(program: &Program, kind: MemberKind, id: NodeId) -> Option<Name>
     }
 }
 
-/// Whether there is a method, and it is abstract.
-pub fn is_abstract(program: &Program, method: &Option<MethodRef>) -> bool
-    ensures { result ≡ holds (option_map (found_method program.now.nodes) method.now)
-        (λ (f : FoundMethod). is_abstract f.method) }
+/// A member, where it is an abstract method.
+fn if_abstract(program: &Program, member: &Option<Member>) -> Option<Member>
+    ensures { result ≡ if_abstract program.now.nodes member.now }
 {
-    match method {
-        Some(method) => declared(program, method).modifiers.is_abstract,
-        None => false,
+    match member {
+        Some(member) if is_abstract_method(program, member.node) => Some(*member),
+        _ => None,
     }
 }
 
-/// Whether a class declares an abstract method of the name.
-#[tactic(auto, unfolding(crate::specs::Names::is_open))]
-fn is_open(classes: &Classes<'_>, kind: MemberKind, name: &Name, class: &Option<ClassId>) -> bool
-    ensures { result ≡ is_open kind (rows_of classes.now) name.now class.now }
-{
-    match kind {
-        MemberKind::Field => false,
-        MemberKind::Method => match class {
-            Some(class) => is_abstract(classes.program(), &classes.own_method(*class, name)),
-            None => false,
-        },
-    }
-}
-
-/// Keeps a class under a name, or none.
+/// Keeps a member under a name, or none.
 fn keep(
-    values: &mut IndexMap<NameKey, ClassId>,
+    members: &mut HashMap<NameKey, Member>,
     name: &Name,
-    class: &Option<ClassId>,
+    member: &Option<Member>,
 ) -> Result<(), Memory>
-    ensures { OnOk result ((other : List ℕ) → get is_same values.new other
-        ≡ (if is_same name.now other then class.now else get is_same values.old other)) }
+    ensures { OnOk result ((other : List ℕ) → get is_same members.new other
+        ≡ (if is_same name.now other then member.now else get is_same members.old other)) }
 {
     let key = NameKey::of(*name);
-    match class {
-        Some(class) => {
-            values.insert(key, *class)?;
-            Ok(())
+    match member {
+        Some(member) => {
+            members.insert(key, *member)?;
         }
         None => {
-            values.swap_remove(&key);
-            Ok(())
+            members.remove(&key);
         }
     }
-}
-
-/// Keeps a name where it is open, and not where it isn't.
-fn settle(open: &mut IndexMap<NameKey, Name>, name: &Name, is_open: bool) -> Result<(), Memory>
-    ensures { OnOk result ((other : List ℕ) → get is_same open.new other ≡ (if is_same name.now other
-        then (if is_open then Some name.now else None) else get is_same open.old other)) }
-{
-    let key = NameKey::of(*name);
-    if is_open {
-        open.insert(key, *name)?;
-        return Ok(());
-    }
-    open.swap_remove(&key);
     Ok(())
 }
 
-/// Notes the nearest class that declares a name.
+/// Notes the nearest member of a name.
 fn note(
     names: &mut Names,
-    classes: &Classes<'_>,
-    kind: MemberKind,
+    program: &Program,
     name: &Name,
-    class: &Option<ClassId>,
+    member: &Option<Member>,
 ) -> Result<(), Memory>
-    requires { IsSettled kind (rows_of classes.now) names.old }
-    ensures settled { OnOk result (IsSettled kind (rows_of classes.now) names.new) }
-    ensures nearest { OnOk result ((other : List ℕ) → nearest names.new other
-        ≡ (if is_same name.now other then class.now else nearest names.old other)) }
+    ensures nearest { OnOk result ((other : List ℕ) → get is_same names.new.nearest other
+        ≡ (if is_same name.now other then member.now else get is_same names.old.nearest other)) }
+    ensures abstracts { OnOk result ((other : List ℕ) → get is_same names.new.abstracts other
+        ≡ (if is_same name.now other then if_abstract program.now.nodes member.now
+        else get is_same names.old.abstracts other)) }
+    ensures before { OnOk result (names.new.before.items ≡ names.old.before.items) }
 {
-    keep(&mut names.classes, name, class)?;
-    settle(&mut names.open, name, is_open(classes, kind, name, class))?;
+    keep(&mut names.nearest, name, member)?;
+    keep(&mut names.abstracts, name, &if_abstract(program, member))?;
     Ok(())
 }
 
-/// Notes that a class is the nearest that declares a name, and what stood there before.
-fn cover(
-    covered: &mut Vec<Covered>,
-    names: &mut Names,
-    classes: &Classes<'_>,
-    kind: MemberKind,
-    name: &Name,
-    class: ClassId,
-) -> Result<(), Memory>
-    requires { IsSettled kind (rows_of classes.now) names.old }
-    ensures settled { OnOk result (IsSettled kind (rows_of classes.now) names.new) }
-    ensures nearest { OnOk result ((other : List ℕ) → nearest names.new other
-        ≡ (if is_same name.now other then Some class else nearest names.old other)) }
-    ensures covered { OnOk result (covered.new.items ≡ covered.old.items
-        ++ covering name.now (nearest names.old name.now) ∷ []) }
+/// Enters a member, where it is one of the kind.
+#[tactic(auto, using(crate::proofs::NameLemmas::not_added))]
+fn add(names: &mut Names, program: &Program, kind: MemberKind, member: Member) -> Result<(), Memory>
+    ensures { OnOk result ((behind : List Row) → AreNamed kind program.now.nodes names.old behind →
+        AreNamed kind program.now.nodes names.new (member ∷ behind)) }
 {
-    let before = names.nearest(name);
-    covered.push(Covered {
-        name: *name,
-        before,
-    })?;
-    note(names, classes, kind, name, &Some(class))?;
+    let Some(name) = name_at(program, kind, member.node) else {
+        return Ok(());
+    };
+    let before = names.nearest_of(&name);
+    names.before.push(before)?;
+    note(names, program, &name, &Some(member))?;
+    Ok(())
+}
+
+/// Takes the nearest member back, where it is one of the kind.
+#[tactic(auto, using(crate::proofs::NameLemmas::not_taken))]
+fn take(
+    names: &mut Names,
+    program: &Program,
+    kind: MemberKind,
+    member: Member,
+) -> Result<(), Memory>
+    ensures { OnOk result ((behind : List Row) → AreNamed kind program.now.nodes names.old (member ∷ behind) →
+        AreNamed kind program.now.nodes names.new behind) }
+{
+    let Some(name) = name_at(program, kind, member.node) else {
+        return Ok(());
+    };
+    let Some(before) = names.before.pop() else {
+        return Err(Memory);
+    };
+    note(names, program, &name, &before)?;
     Ok(())
 }
 
 impl Names {
     /// No names.
     pub fn new(alloc: Global) -> Names
-        ensures classes { result.classes.entries ≡ [] }
-        ensures open { result.open.entries ≡ [] }
+        ensures nearest { result.nearest.entries ≡ [] }
+        ensures abstracts { result.abstracts.entries ≡ [] }
+        ensures before { result.before.items ≡ [] }
     {
         Names {
-            classes: IndexMap::new(alloc),
-            open: IndexMap::new(alloc),
+            nearest: HashMap::new(alloc),
+            abstracts: HashMap::new(alloc),
+            before: Vec::new(alloc),
         }
     }
 
-    /// The nearest class that declares a name.
-    pub fn nearest(&self, name: &Name) -> Option<ClassId>
-        ensures { result ≡ nearest self.now name.now }
+    /// The nearest member of a name.
+    pub fn nearest_of(&self, name: &Name) -> Option<Member>
+        ensures { result ≡ get is_same self.now.nearest name.now }
     {
-        self.classes.get(&NameKey::of(*name)).copied()
+        self.nearest.get(&NameKey::of(*name)).copied()
     }
 }
 
-/// Enters the names of the members of a class. What stood under them before is given back.
+/// Enters the members of a class. The last is entered first, so that the first of a name is the nearest.
 pub fn enter(
-    alloc: Global,
     names: &mut Names,
     classes: &Classes<'_>,
     kind: MemberKind,
     class: ClassId,
-) -> Result<Vec<Covered>, Memory>
-    requires { IsSettled kind (rows_of classes.now) names.old }
-    ensures settled { OnOk result (IsSettled kind (rows_of classes.now) names.new) }
-    ensures entered { OnOk result (Enters kind classes.now class names.old names.new) }
-    ensures covered { IfOk result (λ covered. Restores covered.items names.new names.old) }
+) -> Result<(), Memory>
+    ensures { OnOk result ((behind : List Row) → AreNamed kind classes.now.nodes names.old behind →
+        AreNamed kind classes.now.nodes names.new (members_on classes.now class ++ behind)) }
 {
-    let mut covered = Vec::new(alloc);
-    let mut others = classes.members(class);
-    while let [id, rest @ ..] = others {
-        if let Some(name) = name_at(classes.program(), kind, *id) {
-            cover(&mut covered, names, classes, kind, &name, class)?;
-        }
-        others = rest;
+    let members = classes.members(class);
+    let mut at = members.len();
+    while at > 0 {
+        at -= 1;
+        let member = Member {
+            on: class,
+            node: members[at],
+        };
+        add(names, classes.program(), kind, member)?;
     }
-    Ok(covered)
+    Ok(())
 }
 
-/// Takes the names of a class back, the last one first.
+/// Takes the members of the nearest class back, the first one first.
 pub fn leave(
     names: &mut Names,
-    covered: &mut Vec<Covered>,
     classes: &Classes<'_>,
     kind: MemberKind,
+    class: ClassId,
 ) -> Result<(), Memory>
-    requires { IsSettled kind (rows_of classes.now) names.old }
-    ensures settled { OnOk result (IsSettled kind (rows_of classes.now) names.new) }
-    ensures left { OnOk result ((name : List ℕ) → nearest names.new name
-        ≡ restored covered.old.items (nearest names.old) name) }
+    ensures { OnOk result ((behind : List Row) →
+        AreNamed kind classes.now.nodes names.old (members_on classes.now class ++ behind) →
+        AreNamed kind classes.now.nodes names.new behind) }
 {
-    while let Some(last) = covered.pop() {
-        note(names, classes, kind, &last.name, &last.before)?;
+    let mut others = classes.members(class);
+    while let [id, rest @ ..] = others {
+        let member = Member {
+            on: class,
+            node: *id,
+        };
+        take(names, classes.program(), kind, member)?;
+        others = rest;
     }
     Ok(())
 }

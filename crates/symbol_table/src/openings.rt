@@ -2,81 +2,80 @@
 
 ghost use Rattle.std.specs.Prelude.{◌≡◌};
 ghost use Rattle.std.specs.List.{list_any};
-ghost use Rattle.scj_rules.specs.Views.{method_at};
-ghost use Rattle.scj_rules.specs.Words.{holds};
+ghost use Rattle.std.specs.HashMap.{values};
+ghost use Rattle.scj_rules.specs.Contexts.{declarations_of};
+ghost use Rattle.class_rows.specs.declared.fields.FieldRef.{FieldRef as Row};
+ghost use Rattle.class_rows.specs.Tables.{members_in};
+ghost use Rattle.symbol_table.specs.Scopes.{is_left, leaves_at, rows_of};
 ghost use Rattle.symbol_table.specs.Symbols.{leaves_declared_open};
-ghost use Rattle.symbol_table.specs.Scopes.{abstract_name, is_left, rows_of, IsScope};
 
-use crate::looks::declared_named;
-use crate::names::is_abstract;
-use crate::scopes::Scope;
-use class_rows::Classes;
+use crate::looks::as_method;
+use crate::table::SymbolTable;
+use class_headers::NameKey;
+use class_rows::FieldRef as Member;
+use method_rows::declared;
 use node_views::{is_abstract_method, method_name};
 use scj_base::{Name, NodeId};
-use scj_tree::Program;
+use scj_builtins::FRAMEWORK_CLASS_COUNT;
+use std::collections::HashMap;
 
-/// Whether the method of a name that the user classes of the chain give the class is abstract.
-fn is_left(classes: &Classes<'_>, scope: &Scope, name: &Name) -> bool
-    requires { IsScope classes.now scope.now }
-    ensures { result ≡ is_left (rows_of classes.now) scope.now.level.class name.now }
-{
-    is_abstract(classes.program(), &declared_named(classes, scope, name))
-}
-
-/// The name of the abstract method at a node.
-#[tactic(auto, using(crate::proofs::OpenLemmas::abstract_name_is, crate::proofs::OpenLemmas::no_abstract_name))]
-fn abstract_name(program: &Program, id: NodeId) -> Option<Name>
-    ensures { result ≡ abstract_name (method_at program.now.nodes id) }
-{
-    if is_abstract_method(program, id) {
-        method_name(program, id)
-    } else {
-        None
-    }
-}
-
-/// Whether one of the abstract methods among members is left open.
-fn leaves_own(classes: &Classes<'_>, scope: &Scope, members: &[NodeId]) -> bool
-    requires { IsScope classes.now scope.now }
-    ensures { result ≡ list_any
-        (λ id. holds (abstract_name (method_at classes.now.nodes id))
-        (is_left (rows_of classes.now) scope.now.level.class)) members.now }
-{
-    let mut others = members;
-    while let [id, rest @ ..] = others {
-        if let Some(name) = abstract_name(classes.program(), *id) {
-            if is_left(classes, scope, &name) {
-                return true;
+impl<'a> SymbolTable<'a> {
+    /// Whether the method of a name that the user classes of the chain give the class is abstract.
+    #[tactic(auto, using(crate::proofs::LookLemmas::user_method, crate::proofs::LookLemmas::framework_method))]
+    fn is_left(&self, name: &Name) -> bool
+        ensures { result ≡ is_left (rows_of self.now.forest) self.now.class name.now }
+    {
+        let program = self.classes.program();
+        if self.scope.level.class.number() >= FRAMEWORK_CLASS_COUNT {
+            if let Some(method) = self.classes.own_method(self.scope.level.class, name) {
+                return declared(program, &method).modifiers.is_abstract;
             }
         }
-        others = rest;
-    }
-    false
-}
-
-/// Whether one of these names is left open.
-fn leaves_named(classes: &Classes<'_>, scope: &Scope, names: &[Name]) -> bool
-    requires { IsScope classes.now scope.now }
-    ensures { result ≡ list_any (is_left (rows_of classes.now) scope.now.level.class) names.now }
-{
-    let mut others = names;
-    while let [name, rest @ ..] = others {
-        if is_left(classes, scope, name) {
-            return true;
+        match self.scope.above.methods.nearest_of(name) {
+            Some(member) => declared(program, &as_method(member)).modifiers.is_abstract,
+            None => false,
         }
-        others = rest;
     }
-    false
-}
 
-/// Whether an abstract method that a user class of the chain declares isn't implemented on the chain. Each name that
-/// is open above and that the class doesn't leave open is one that it declares: so this costs no more than its members.
-#[tactic(auto, using(crate::proofs::OpenLemmas::leaves_by_own, crate::proofs::OpenLemmas::leaves_by_names))]
-pub fn leaves_declared_open(classes: &Classes<'_>, scope: &Scope) -> bool
-    requires { IsScope classes.now scope.now }
-    ensures { result ≡ leaves_declared_open (rows_of classes.now) scope.now.level.class }
-{
-    let members = classes.members(scope.level.class);
-    leaves_own(classes, scope, members)
-        || leaves_named(classes, scope, scope.methods.open.values().as_slice())
+    /// Whether a member is an abstract method, and the one of its name that the class has is abstract, too.
+    #[tactic(auto, using(crate::proofs::OpenLemmas::left_at, crate::proofs::OpenLemmas::not_abstract))]
+    fn leaves_at(&self, node: NodeId) -> bool
+        ensures { result ≡ leaves_at self.now.forest.nodes (rows_of self.now.forest) self.now.class node }
+    {
+        if !is_abstract_method(self.classes.program(), node) {
+            return false;
+        }
+        match method_name(self.classes.program(), node) {
+            Some(name) => self.is_left(&name),
+            None => false,
+        }
+    }
+
+    /// Whether one of the class's own abstract methods is left open.
+    fn leaves_own(&self) -> bool
+        ensures { result ≡ list_any (leaves_at self.now.forest.nodes (rows_of self.now.forest) self.now.class)
+            (members_in (declarations_of self.now.forest) self.now.class) }
+    {
+        let members = self.classes.members(self.scope.level.class);
+        members.iter().any(|id| self.leaves_at(*id))
+    }
+
+    /// Whether one of these members is left open.
+    fn leaves_one(&self, members: &HashMap<NameKey, Member>) -> bool
+        ensures { result
+            ≡ list_any (λ (m : Row). leaves_at self.now.forest.nodes (rows_of self.now.forest) self.now.class m.node)
+            (values members.now) }
+    {
+        members.values().any(|member| self.leaves_at(member.node))
+    }
+
+    /// Whether an abstract method that a user class of the chain declares isn't implemented on the chain. Each name
+    /// that is open above and that the class doesn't leave open is one that it declares: so this costs no more than its
+    /// members.
+    #[tactic(auto, using(crate::proofs::OpenLemmas::leaves_by_own))]
+    pub fn leaves_declared_open(&self) -> bool
+        ensures { result ≡ leaves_declared_open (declarations_of self.now.forest).classes self.now.class }
+    {
+        self.leaves_own() || self.leaves_one(&self.scope.above.methods.abstracts)
+    }
 }

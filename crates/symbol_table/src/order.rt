@@ -9,15 +9,6 @@ use scj_base::ids::OBJECT;
 use scj_base::{ClassId, Memory};
 use std::alloc::Global;
 
-/// The classes by their superclasses, as numbers; 0 stands for none, since `Object` has no superclass.
-#[derive(Drop)]
-struct Families {
-    /// The first class under each class.
-    first: Vec<u32>,
-    /// The next class under the same superclass.
-    next: Vec<u32>,
-}
-
 /// The number at the place of a class.
 fn number_at(numbers: &[u32], class: ClassId) -> u32 {
     match numbers.get(class.number() as usize) {
@@ -33,8 +24,9 @@ fn put_at(numbers: &mut [u32], class: ClassId, number: u32) {
     }
 }
 
-/// The classes by their superclasses, those under one in the order of their numbers.
-fn group(alloc: Global, classes: &Classes<'_>, count: u32) -> Result<Families, Memory> {
+/// The first class under each class, and the next class under the same superclass, in the order of their numbers; 0
+/// stands for none, since `Object` has no superclass.
+fn group(alloc: Global, classes: &Classes<'_>, count: u32) -> Result<(Vec<u32>, Vec<u32>), Memory> {
     let mut first = vec![in alloc; 0; count as usize]?;
     let mut next = vec![in alloc; 0; count as usize]?;
     for passed in 0..count {
@@ -44,32 +36,15 @@ fn group(alloc: Global, classes: &Classes<'_>, count: u32) -> Result<Families, M
             put_at(&mut first, above, class.number());
         }
     }
-    Ok(Families { first, next })
+    Ok((first, next))
 }
 
-/// The next class of the order: the first one under the class, or else the next one beside it or beside one above.
-fn next_class(
-    classes: &Classes<'_>,
-    families: &Families,
-    count: u32,
-    class: ClassId,
-) -> Option<ClassId> {
-    let first = number_at(&families.first, class);
-    if first != 0 {
-        return Some(ClassId::at(first));
+/// Puts a class last, where there is one.
+fn leave_over(classes: &mut Vec<ClassId>, number: u32) -> Result<(), Memory> {
+    if number != 0 {
+        classes.push(ClassId::at(number))?;
     }
-    let mut at = class;
-    for _step in 0..count {
-        let next = number_at(&families.next, at);
-        if next != 0 {
-            return Some(ClassId::at(next));
-        }
-        let Some(above) = classes.superclass(at) else {
-            return None;
-        };
-        at = above;
-    }
-    None
+    Ok(())
 }
 
 /// Classes in that order: those that stand under `Object`. The contract says only that they are classes of the program;
@@ -80,18 +55,20 @@ pub fn tour(alloc: Global, classes: &Classes<'_>) -> Result<Vec<ClassId>, Memory
     let Ok(count) = u32::try_from(classes.count()) else {
         return Err(Memory);
     };
-    let families = group(alloc, classes, count)?;
+    let (first, next) = group(alloc, classes, count)?;
     let mut order = Vec::new(alloc);
-    let mut class = OBJECT;
+    let mut left_over = Vec::new(alloc);
+    left_over.push(OBJECT)?;
     for _place in 0..count {
+        let Some(class) = left_over.pop() else {
+            return Ok(order);
+        };
         if class.number() >= count {
             return Ok(order);
         }
         order.push(class)?;
-        let Some(next) = next_class(classes, &families, count, class) else {
-            return Ok(order);
-        };
-        class = next;
+        leave_over(&mut left_over, number_at(&next, class))?;
+        leave_over(&mut left_over, number_at(&first, class))?;
     }
     Ok(order)
 }

@@ -1,19 +1,15 @@
 //! The members in scope at one class after another.
 
-ghost use Rattle.std.specs.Prelude.{◌≡◌, ◌<◌, length, option_and_then, option_map, IfOk, OnOk};
+ghost use Rattle.std.specs.Prelude.{◌≡◌, ◌<◌, length, IfOk, OnOk};
 ghost use Rattle.scj_builtins.specs.Framework.{object};
-ghost use Rattle.scj_rules.specs.Classes.{field_named, first_user_class, framework_row_named, instance_fields, is_sub, method_above, method_named, superclass_in};
+ghost use Rattle.scj_rules.specs.Classes.{instance_fields};
 ghost use Rattle.scj_rules.specs.Contexts.{declarations_of};
-ghost use Rattle.method_rows.specs.Methods.{found_method};
-ghost use Rattle.class_rows.specs.Fields.{found_field};
-ghost use Rattle.symbol_table.specs.Symbols.{at_class, leaves_declared_open};
+ghost use Rattle.symbol_table.specs.Symbols.{at_class};
 
 use crate::scopes::Scope;
 use crate::ways::go;
-use crate::{looks, openings};
-use class_rows::{Classes, FieldRef};
-use method_rows::MethodRef;
-use scj_base::{ClassId, Memory, Name};
+use class_rows::Classes;
+use scj_base::{ClassId, Memory};
 use std::alloc::Global;
 use std::marker::Model;
 
@@ -21,8 +17,8 @@ use std::marker::Model;
 #[derive(Drop)]
 pub struct SymbolTable<'a> {
     alloc: Global,
-    classes: Classes<'a>,
-    scope: Scope,
+    pub(crate) classes: Classes<'a>,
+    pub(crate) scope: Scope,
 }
 
 impl<'a> Model for SymbolTable<'a> {
@@ -74,54 +70,6 @@ impl<'a> SymbolTable<'a> {
         ensures { result ≡ self.now.class }
     {
         self.scope.level.class
-    }
-
-    /// The field of a name that the superclass has, its own or the nearest above.
-    pub fn field_above(&self, name: &Name) -> Option<FieldRef>
-        ensures { option_map (found_field self.now.forest.nodes) result
-            ≡ option_and_then (λ above. field_named (declarations_of self.now.forest).classes above name.now)
-            (superclass_in (declarations_of self.now.forest).classes self.now.class) }
-    {
-        looks::field_above(&self.classes, &self.scope, name)
-    }
-
-    /// What a declaration of the name in the class overrides.
-    pub fn method_above(&self, name: &Name) -> Option<MethodRef>
-        ensures { option_map (found_method self.now.forest.nodes) result
-            ≡ method_above (declarations_of self.now.forest).classes self.now.class name.now }
-    {
-        looks::method_above(&self.classes, &self.scope, name)
-    }
-
-    /// The method of a name that the class has: the nearest declaration above, or else an interface's.
-    pub fn method_named(&self, name: &Name) -> Option<MethodRef>
-        ensures { option_map (found_method self.now.forest.nodes) result
-            ≡ method_named (declarations_of self.now.forest).classes self.now.class name.now }
-    {
-        looks::method_named(&self.classes, &self.scope, name)
-    }
-
-    /// The framework's own method of the name, where the class stands under the framework class or implements it.
-    pub fn framework_row_named(&self, name: &Name) -> Option<MethodRef>
-        ensures { option_map (found_method self.now.forest.nodes) result
-            ≡ framework_row_named (declarations_of self.now.forest).classes self.now.class name.now }
-    {
-        looks::framework_row_named(&self.classes, &self.scope, name)
-    }
-
-    /// Whether the class is a subclass of a framework class, or implements it.
-    pub fn is_sub(&self, above: ClassId) -> bool
-        requires { above < first_user_class }
-        ensures { result ≡ is_sub (declarations_of self.now.forest).classes self.now.class above }
-    {
-        looks::is_sub(&self.classes, &self.scope, above)
-    }
-
-    /// Whether an abstract method that a user class of the chain declares isn't implemented on the chain.
-    pub fn leaves_declared_open(&self) -> bool
-        ensures { result ≡ leaves_declared_open (declarations_of self.now.forest).classes self.now.class }
-    {
-        openings::leaves_declared_open(&self.classes, &self.scope)
     }
 
     /// How many instance fields an object of the class has.

@@ -1,182 +1,92 @@
 //! The way from one class to another.
 
 ghost use Rattle.std.specs.Prelude.{◌≡◌, OnOk};
-ghost use Rattle.symbol_table.specs.Scopes.{IsScope};
+ghost use Rattle.symbol_table.specs.Scopes.{classes_of, rows_of, IsEntered, IsScope, IsUnder};
 
-use crate::levels::level_under;
-use crate::names::{enter, leave};
+use crate::levels::{Level, Path, level_under};
 use crate::scopes::{Entered, Scope};
 use class_rows::Classes;
-use class_rows::members::MemberKind;
 use scj_base::{ClassId, Memory};
 use std::alloc::Global;
 
-/// Goes from a class to one right under it, whose names are not entered yet.
-fn down(
-    alloc: Global,
-    scope: &mut Scope,
+/// Whether a class is the nearest of a path, or is none where the path has none.
+fn is_nearest(path: &Path, class: &Option<ClassId>) -> bool {
+    match path.nearest() {
+        Some(level) => *class == Some(level.class),
+        None => class.is_none(),
+    }
+}
+
+/// Leaves classes until this one is the nearest, or none is left.
+fn climb(
+    entered: &mut Entered,
     classes: &Classes<'_>,
-    class: ClassId,
+    class: &Option<ClassId>,
 ) -> Result<(), Memory>
-    requires { IsScope classes.now scope.old }
-    ensures { OnOk result (IsScope classes.now scope.new) }
+    requires { IsEntered classes.now entered.old }
+    ensures { OnOk result (IsEntered classes.now entered.new) }
 {
-    let below = level_under(classes, &scope.level, scope.path.len(), class)?;
-    let level = scope.level;
-    let fields = enter(
-        alloc,
-        &mut scope.fields,
-        classes,
-        MemberKind::Field,
-        level.class,
-    )?;
-    let methods = enter(
-        alloc,
-        &mut scope.methods,
-        classes,
-        MemberKind::Method,
-        level.class,
-    )?;
-    scope.path.push(Entered {
-        level,
-        fields,
-        methods,
-    })?;
-    scope.level = below;
-    Ok(())
-}
-
-/// Goes to the class right above, if there is one.
-fn up(scope: &mut Scope, classes: &Classes<'_>) -> Result<(), Memory>
-    requires { IsScope classes.now scope.old }
-    ensures { OnOk result (IsScope classes.now scope.new) }
-{
-    let Some(mut above) = scope.path.pop() else {
-        return Ok(());
-    };
-    leave(
-        &mut scope.fields,
-        &mut above.fields,
-        classes,
-        MemberKind::Field,
-    )?;
-    leave(
-        &mut scope.methods,
-        &mut above.methods,
-        classes,
-        MemberKind::Method,
-    )?;
-    scope.level = above.level;
-    Ok(())
-}
-
-/// Goes to another class right under the nearest one above, whose names stay entered.
-fn aside(scope: &mut Scope, classes: &Classes<'_>, class: ClassId) -> Result<(), Memory>
-    requires { IsScope classes.now scope.old }
-    ensures { OnOk result (IsScope classes.now scope.new) }
-{
-    let count = scope.path.len();
-    if count == 0 {
-        return Err(Memory);
-    }
-    let Some(above) = scope.path.nearest_level() else {
-        return Err(Memory);
-    };
-    let beside = level_under(classes, &above, count - 1, class)?;
-    scope.level = beside;
-    Ok(())
-}
-
-/// Whether a class stands right under the nearest one above.
-fn is_beside(scope: &Scope, classes: &Classes<'_>, class: ClassId) -> bool {
-    let Some(superclass) = classes.superclass(class) else {
-        return false;
-    };
-    match scope.path.nearest_level() {
-        Some(above) => above.class == superclass,
-        None => false,
-    }
-}
-
-/// Whether a scope is at a class, right above it or beside it.
-fn is_near(scope: &Scope, classes: &Classes<'_>, class: ClassId) -> bool {
-    if scope.level.class == class || is_beside(scope, classes, class) {
-        return true;
-    }
-    match classes.superclass(class) {
-        Some(above) => scope.level.class == above,
-        None => false,
-    }
-}
-
-/// Goes up to a class, to one right above it or beside it, or as far as there are classes.
-fn climb(scope: &mut Scope, classes: &Classes<'_>, class: ClassId) -> Result<(), Memory>
-    requires { IsScope classes.now scope.old }
-    ensures { OnOk result (IsScope classes.now scope.new) }
-{
-    for _step in 0..scope.path.len() {
-        if is_near(scope, classes, class) {
+    for _step in 0..entered.path.len() {
+        if is_nearest(&entered.path, class) {
             return Ok(());
         }
-        up(scope, classes)?;
+        entered.pop(classes)?;
     }
     Ok(())
 }
 
-/// A class and those above it, up to one that is left out.
-fn chain_below(
+/// The classes above a class, the nearest first.
+fn chain_above(
     alloc: Global,
     classes: &Classes<'_>,
     class: ClassId,
-    end: ClassId,
 ) -> Result<Vec<ClassId>, Memory> {
-    let mut below = Vec::new(alloc);
-    let mut chain = classes.superclasses(class);
-    while let Some(on) = chain.next() {
-        if on == end {
-            return Ok(below);
-        }
-        below.push(on)?;
+    let mut above = Vec::new(alloc);
+    let mut chain = classes.classes_above(class);
+    while let Some(at) = chain.next() {
+        above.push(at)?;
     }
-    Ok(below)
+    Ok(above)
 }
 
-/// Goes down to these classes, the last first.
-fn descend(
-    alloc: Global,
-    scope: &mut Scope,
-    classes: &Classes<'_>,
-    below: &[ClassId],
-) -> Result<(), Memory>
-    requires { IsScope classes.now scope.old }
-    ensures { OnOk result (IsScope classes.now scope.new) }
+/// Enters these classes, the last first.
+fn descend(entered: &mut Entered, classes: &Classes<'_>, chain: &[ClassId]) -> Result<(), Memory>
+    requires { IsEntered classes.now entered.old }
+    ensures { OnOk result (IsEntered classes.now entered.new) }
 {
-    for k in 0..below.len() {
-        down(alloc, scope, classes, below[below.len() - 1 - k])?;
+    for k in 0..chain.len() {
+        let level = level_under(classes, &entered.path, chain[chain.len() - 1 - k])?;
+        entered.push(classes, level)?;
     }
     Ok(())
 }
 
-/// Goes to a class from one above it or beside it.
+/// Enters the classes above a class and leaves all others, from a class that stands under those that are entered.
 fn arrive(
     alloc: Global,
-    scope: &mut Scope,
+    entered: &mut Entered,
     classes: &Classes<'_>,
+    from: Level,
     class: ClassId,
 ) -> Result<(), Memory>
-    requires { IsScope classes.now scope.old }
-    ensures { OnOk result (IsScope classes.now scope.new) }
+    requires entered { IsEntered classes.now entered.old }
+    requires from { IsUnder (rows_of classes.now) from (classes_of entered.old.path) }
+    ensures { OnOk result (IsEntered classes.now entered.new) }
 {
-    if is_beside(scope, classes, class) {
-        aside(scope, classes, class)?;
+    let above = classes.superclass(class);
+    if above == Some(from.class) {
+        entered.push(classes, from)?;
         return Ok(());
     }
-    let below = chain_below(alloc, classes, class, scope.level.class)?;
-    descend(alloc, scope, classes, below.as_slice())?;
+    climb(entered, classes, &above)?;
+    if !is_nearest(&entered.path, &above) {
+        let chain = chain_above(alloc, classes, class)?;
+        descend(entered, classes, chain.as_slice())?;
+    }
     Ok(())
 }
 
-/// Goes to a class. The names of a class are entered once for all that stand right under it, where these follow.
+/// Goes to a class. The members of a class are entered once for all that stand right under it, where these follow.
 pub fn go(
     alloc: Global,
     scope: &mut Scope,
@@ -187,10 +97,8 @@ pub fn go(
     ensures scope { OnOk result (IsScope classes.now scope.new) }
     ensures at { OnOk result (scope.new.level.class ≡ class) }
 {
-    climb(scope, classes, class)?;
-    arrive(alloc, scope, classes, class)?;
-    if scope.level.class != class {
-        return Err(Memory);
-    }
+    let from = scope.level;
+    arrive(alloc, &mut scope.above, classes, from, class)?;
+    scope.level = level_under(classes, &scope.above.path, class)?;
     Ok(())
 }

@@ -1,11 +1,11 @@
-use Rattle.std.proofs.Common.{refl, sym, ◌∙◌}
-use Rattle.symbol_table.proofs.LevelLemmas.{level_is}
+use Rattle.symbol_table.proofs.LevelLemmas.{lowest_is, next_is}
 use Rattle.symbol_table.proofs.levels.level_under.Goals as goal
 
-pub returns-clause-level : goal.returns-clause-level
-returns-clause-level c =
-    level_is c.args.classes.now c.args.above.now c.args.depth c.args.class c.requires.level c.requires.depth
-    c.if-not-is_next.ensures _ refl (rw (← c.interfaces-interfaces.ensures) c.in-Some.ensures)
-    (rw (← c.interfaces-interfaces.ensures) (sym c.are_known.ensures ∙ c.if-not-are_known.false))
-    (rw (← c.interfaces-interfaces.ensures) c.is_implemented.ensures)
-    (rw (← c.interfaces-interfaces.ensures) c.is_implemented-2.ensures) c.in_ok-field_count.ensures
+pub returns-in_default-clause-under : goal.returns-in_default-clause-under
+returns-in_default-clause-under c =
+    lowest_is c.args.classes.now c.object_level.result c.args.path.now c.in_default.ensures c.object_level.ensures
+
+pub returns-clause-under : goal.returns-clause-under
+returns-clause-under c =
+    next_is c.args.classes.now _ c.args.path.now c.in-Some.above c.len.result c.in-Some.ensures c.requires c.len.ensures
+    c.if-not-is_next.ensures (rw (← c.interfaces.ensures) c.in-Some-root_under.ensures) c.in_ok-field_count.ensures

@@ -1,20 +1,16 @@
-use Rattle.std.proofs.Common.{◌≡◌, ℕ, List, length, is_some}
-use Rattle.class_rows.specs.Members.{first_named}
-use Rattle.symbol_table.specs.Names.{IsSettled, entered, nearest, restored}
-use Rattle.symbol_table.specs.Scopes.{rows_of}
+use Rattle.std.proofs.Common.{◌≤◌, ◌++◌, List, length, drop, map}
+use Rattle.class_rows.specs.declared.fields.FieldRef.{FieldRef as Member}
+use Rattle.symbol_table.specs.Names.{AreNamed, member}
 use Rattle.symbol_table.proofs.names.enter.Given as goal
 
--- those that are left are still to be entered
-abbrev pub invariant-loop-others : goal.invariant-loop-others
-invariant-loop-others l =
+-- the members from this one on are entered
+abbrev pub invariant-loop-at : goal.invariant-loop-at
+invariant-loop-at l =
     record {
-      settled : IsSettled l.kind (rows_of l.classes) l.names;
-      entered : (name : List ℕ)
-          → entered (is_some (first_named l.kind l.classes.nodes name l.others)) l.class (nearest l.names name)
-          ≡ entered (is_some (first_named l.kind l.classes.nodes name l.initial.others)) l.class
-          (nearest l.initial.names name);
-      covered : (name : List ℕ) → restored l.covered.items (nearest l.names) name ≡ nearest l.initial.names name;
+      within : l.at ≤ length l.members;
+      named : (behind : List Member) → AreNamed l.kind l.classes.nodes l.initial.names behind →
+          AreNamed l.kind l.classes.nodes l.names (map (member l.class) (drop l.at l.members) ++ behind);
     }
 
-abbrev pub decreases-loop-others : goal.decreases-loop-others
-decreases-loop-others l = length l.others
+abbrev pub decreases-loop-at : goal.decreases-loop-at
+decreases-loop-at l = l.at

@@ -1,16 +1,14 @@
-use Rattle.std.proofs.Common.{◌≡◌, ℕ, List, length}
-use Rattle.symbol_table.specs.Names.{IsSettled, nearest, restored}
-use Rattle.symbol_table.specs.Scopes.{rows_of}
+use Rattle.std.proofs.Common.{◌++◌, List, length, map}
+use Rattle.class_rows.specs.declared.fields.FieldRef.{FieldRef as Member}
+use Rattle.symbol_table.specs.Names.{AreNamed, member}
 use Rattle.symbol_table.proofs.names.leave.Given as goal
 
--- those that are left are still to be taken back
-abbrev pub invariant-loop-last : goal.invariant-loop-last
-invariant-loop-last l =
-    record {
-      settled : IsSettled l.kind (rows_of l.classes) l.names;
-      left : (name : List ℕ) → restored l.covered.items (nearest l.names) name
-          ≡ restored l.initial.covered.items (nearest l.initial.names) name;
-    }
+-- the other members are still to be taken back
+abbrev pub invariant-loop-others : goal.invariant-loop-others
+invariant-loop-others l =
+    (behind : List Member)
+    → AreNamed l.kind l.classes.nodes l.initial.names (map (member l.class) l.initial.others ++ behind) →
+    AreNamed l.kind l.classes.nodes l.names (map (member l.class) l.others ++ behind)
 
-abbrev pub decreases-loop-last : goal.decreases-loop-last
-decreases-loop-last l = length l.covered.items
+abbrev pub decreases-loop-others : goal.decreases-loop-others
+decreases-loop-others l = length l.others
