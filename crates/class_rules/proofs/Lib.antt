@@ -1,6 +1,5 @@
-pub mod InterfaceLemmas
 pub mod MemberLemmas
 pub mod OpeningLemmas
 pub mod OverrideLemmas
+pub mod RepeatLemmas
 pub mod SafeletLemmas
-pub mod TwiceLemmas

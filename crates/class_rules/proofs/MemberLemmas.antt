@@ -17,6 +17,12 @@ pub no_method_here : (o : Option DeclaredMethod) → is_some o ≡ false → Non
 no_method_here None h = refl
 no_method_here (Some m) h = absurd (true≢false h)
 
+pub abstract_of_source : (o : Option DeclaredMethod) →
+    (unwrap_or o no_method).declared.modifiers.is_abstract
+    ≡ holds o (λ (m : DeclaredMethod). m.declared.modifiers.is_abstract)
+abstract_of_source None = refl
+abstract_of_source (Some m) = refl
+
 pub there_above : {A B C : Type 0} (view : A → B) (find : C → Option B) (above : Option C) (found : Option A) →
     option_map view found ≡ option_and_then find above → is_some found ≡ holds above (λ c. is_some (find c))
 there_above view find None None h = refl

@@ -1,80 +1,64 @@
 -- The abstract methods that a class has: those of the user classes above it, and those of the framework, row after row.
-use Rattle.std.proofs.Common.{◌≡◌, ◌<◌, ◌≤◌, ℕ, zero, suc, ◌+◌, Bool, true, false, not, nat_lt, ◌||◌, List, [], ◌∷◌, drop, slice_get, Some, None, refl, sym, ap, ◌∙◌, arith, unwrap_or, ⊎_elim, cond, ◌&&◌, ◌==◌, ◌++◌, map, filter, filter_map, flat_map, Option}
+use Rattle.std.proofs.Common.{◌≡◌, ◌<◌, ◌≤◌, ℕ, zero, suc, ◌+◌, Bool, true, false, not, nat_lt, ◌||◌, List, [], ◌∷◌, length, drop, get_or, slice_get, Some, None, refl, sym, ap, ◌∙◌, arith, unwrap_or, ⊎_elim, cond, ◌&&◌, ◌==◌, ◌++◌, map, filter, filter_map, flat_map, Option}
 use Rattle.std.specs.List.{list_any, cons_option}
-use Rattle.std.proofs.lemmas.Bool.{true≢false, cases_lt}
+use Rattle.std.proofs.lemmas.Bool.{true≢false, cases_lt, and_parts, and_from, or_cases, or_left, or_right}
 use Rattle.std.proofs.lemmas.Bool.Decides.{nat_tests}
 use Rattle.std.proofs.lemmas.List.{drop_all}
+use Rattle.std.proofs.lemmas.List.Folds.{Any-from_list_any, list_any-append, list_any_at}
 use Rattle.std.proofs.lemmas.Map.Keys.{any_passes_from_place}
+use Rattle.std.proofs.lemmas.Map.Views.{any-filter_same}
+use Rattle.std.proofs.lemmas.Option.{slice_get-get_or}
 use Rattle.scj_builtins.specs.declared.methods.FrameworkMethod.{FrameworkMethod}
 use Rattle.scj_builtins.specs.Framework.{framework_methods, framework_method_count}
-use Rattle.scj_rules.specs.Words.{holds, is_among}
-use Rattle.scj_rules.specs.Classes.{first_user_class, is_sub, ClassRow, FoundMethod, is_user_class, framework_method, framework_methods_on, superclasses, interfaces_in, all_interfaces, method_named}
-use Rattle.scj_rules.specs.ClassRules.{is_left_open, own_abstract_methods, abstract_methods, stays_open}
-use Rattle.scj_rules.specs.Contexts.{Declarations, declarations_of}
-use Rattle.method_rows.specs.Methods.{framework_numbered, no_method}
-use Rattle.class_rules.specs.Members.{is_row_left}
-use Rattle.std.proofs.lemmas.List.Folds.{list_any-append}
 use Rattle.scj_tree.specs.declared.nodes.Node.{Node}
 use Rattle.scj_tree.specs.Forest.{Forest}
+use Rattle.scj_rules.specs.Words.{holds, is_among}
 use Rattle.scj_rules.specs.Views.{DeclaredMethod, method_at}
+use Rattle.scj_rules.specs.Classes.{first_user_class, is_sub, ClassRow, FoundMethod, is_user_class, framework_method, framework_methods_on, superclasses, all_interfaces, method_named}
+use Rattle.scj_rules.specs.ClassRules.{is_left_open, own_abstract_methods, abstract_methods, stays_open}
+use Rattle.scj_rules.specs.Contexts.{Declarations, declarations_of}
+use Rattle.scj_rules.proofs.ChainLemmas.{same_number, is_same_number, among-cases, among-front}
+use Rattle.method_rows.specs.Methods.{no_method}
+use Rattle.method_rows.proofs.MethodLemmas.{no_number}
+use Rattle.class_headers.proofs.SuperLemmas.{bools}
 use Rattle.class_rows.specs.Tables.{members_in}
+use Rattle.class_rows.specs.Walks.{is_known}
+use Rattle.class_rows.proofs.InterfaceLemmas.{unknown_not_implemented}
 use Rattle.class_rows.proofs.RowLemmas.{as_written}
 use Rattle.class_rows.proofs.SoundLemmas.{row_sound, framework_there, first_methods}
-use Rattle.method_rows.proofs.MethodLemmas.{no_number}
 use Rattle.symbol_table.specs.Symbols.{is_abstract, stays_abstract, declared_abstract_methods, leaves_declared_open}
 use Rattle.symbol_table.proofs.OpeningLemmas.{user_abstract}
-use Rattle.class_rules.proofs.InterfaceLemmas.{no_user_interfaces}
+use Rattle.class_rules.specs.Members.{is_row_left}
 
-none_beyond : list_any (λ (m : FrameworkMethod). not (nat_lt m.on first_user_class)) framework_methods ≡ false
+-- ---- the framework's methods by their numbers
+
+abbrev is_beyond : FrameworkMethod → Bool
+is_beyond m = not (nat_lt m.on first_user_class)
+
+none_beyond : list_any is_beyond framework_methods ≡ false
 unfolding framework_methods
 none_beyond = refl
 
 -- a method of the framework is one of a framework class
 pub row_within : (number : ℕ) (m : FrameworkMethod) → slice_get framework_methods number ≡ Some m →
     m.on < first_user_class
-row_within number m e = go (nat_lt m.on first_user_class) refl
-  where
-    go : (b : Bool) → nat_lt m.on first_user_class ≡ b → m.on < first_user_class
-    go true t = grind (arith, nat_tests)
-    go false t =
-        absurd
-        (true≢false
-        (sym
-        (any_passes_from_place (λ (m : FrameworkMethod). not (nat_lt m.on first_user_class)) framework_methods number
-        m e (ap not t)) ∙ none_beyond))
-
-pub row_is : (p : Declarations) (class number : ℕ) (m : FrameworkMethod) →
-    slice_get framework_methods number ≡ Some m → m.is_abstract ≡ true → is_sub p.classes class m.on ≡ true
-    → is_left_open p class (unwrap_or (framework_numbered number) no_method) ≡ holds
-    (slice_get framework_methods number)
-    (is_row_left p class)
-unfolding framework_numbered
-row_is p class number m e f g = rw (e, f, g) refl
-
-pub no_row : (p : Declarations) (class number : ℕ) → slice_get framework_methods number ≡ None →
-    false ≡ holds (slice_get framework_methods number) (is_row_left p class)
-no_row p class number e = rw e refl
+row_within number m e =
+    ⊎_elim (λ (l : m.on < first_user_class). l)
+    (λ (l : first_user_class ≤ m.on). let beyond : is_beyond m ≡ true = grind (arith, nat_tests) in
+    absurd (true≢false (sym (any_passes_from_place is_beyond framework_methods number m e beyond) ∙ none_beyond)))
+    (cases_lt m.on first_user_class)
 
 -- the rows from one on
-any_from : {A : Type 0} (f : A → Bool) (xs : List A) (k : ℕ) →
+pub rows_from : {A : Type 0} (f : A → Bool) (k : ℕ) (xs : List A) →
     list_any f (drop k xs) ≡ (holds (slice_get xs k) f || list_any f (drop (k + 1) xs))
-any_from f [] zero = refl
-any_from f [] (suc k) = let e : suc k + 1 ≡ suc (k + 1) = omega arith in rw e refl
-any_from f (x ∷ xs) zero = refl
-any_from f (x ∷ xs) (suc k) = let e : suc k + 1 ≡ suc (k + 1) = omega arith in rw e (any_from f xs k)
+rows_from f zero [] = refl
+rows_from f (suc k) [] = let e : suc k + 1 ≡ suc (k + 1) = omega arith in rw e refl
+rows_from f zero (x ∷ xs) = refl
+rows_from f (suc k) (x ∷ xs) = let e : suc k + 1 ≡ suc (k + 1) = omega arith in rw e (rows_from f k xs)
 
-pub row_asked : (f : FrameworkMethod → Bool) (k : ℕ) (whole here : Bool) →
-    here ≡ holds (slice_get framework_methods k) f → list_any f (drop k framework_methods) ≡ whole →
-    (here || list_any f (drop (k + 1) framework_methods)) ≡ whole
-row_asked f k whole here h e =
-    ap (λ b. b || list_any f (drop (k + 1) framework_methods)) h ∙ sym (any_from f framework_methods k) ∙ e
-
-pub rows_ended : (f : FrameworkMethod → Bool) (k : ℕ) (whole : Bool) → framework_method_count ≤ k →
-    list_any f (drop k framework_methods) ≡ whole → false ≡ whole
+pub rows_end : (k : ℕ) → framework_method_count ≤ k → drop k framework_methods ≡ []
 unfolding framework_methods
-rows_ended f k whole h e =
-    let none : drop k framework_methods ≡ [] = drop_all k framework_methods h in
-    sym (ap (list_any f) none) ∙ e
+rows_end k h = drop_all k framework_methods h
 
 -- ---- tests of all elements
 
@@ -98,42 +82,21 @@ any_filter q keeps (x ∷ xs) = go (keeps x) (any_filter q keeps xs)
     go true h = ap (λ b. q x || b) h
     go false h = h
 
-any_same : {A : Type 0} (f g : A → Bool) (xs : List A) → ((x : A) → f x ≡ g x) → list_any f xs ≡ list_any g xs
-any_same f g [] h = refl
-any_same f g (x ∷ xs) h = ap (λ b. b || list_any f xs) (h x) ∙ ap (λ b. g x || b) (any_same f g xs h)
+-- a class among whose methods one passes, and back
+any_in : (q : DeclaredMethod → Bool) (own : ℕ → List DeclaredMethod) (classes : List ℕ) →
+    list_any q (flat_map own classes) ≡ true →
+    (c : ℕ) × (is_among c classes ≡ true) × (list_any q (own c) ≡ true)
+any_in q own classes h =
+    let a = Any-from_list_any (λ c. list_any q (own c)) classes (sym (any_flat q own classes) ∙ h) in
+    (a.1, list_any_at (λ m. a.1 == m) classes a.0 a.1 a.2 (is_same_number a.1 (get_or classes a.0 a.1) (sym a.3)), a.4)
 
-any_or : {A : Type 0} (f g : A → Bool) (xs : List A) →
-    list_any (λ x. f x || g x) xs ≡ (list_any f xs || list_any g xs)
-any_or f g [] = refl
-any_or f g (x ∷ xs) =
-    ap (λ b. (f x || g x) || b) (any_or f g xs) ∙ mixed (f x) (g x) (list_any f xs) (list_any g xs)
-  where
-    mixed : (a b c d : Bool) → ((a || b) || (c || d)) ≡ ((a || c) || (b || d))
-    mixed true b c d = refl
-    mixed false true true d = refl
-    mixed false true false d = refl
-    mixed false false c d = refl
-
-never : {A : Type 0} (xs : List A) → list_any (λ (x : A). false) xs ≡ false
-never [] = refl
-never (x ∷ xs) = never xs
-
-any_turned : (r : FrameworkMethod → Bool) (classes : List ℕ) (ms : List FrameworkMethod) →
-    list_any (λ c. list_any (λ (m : FrameworkMethod). (m.on == c) && r m) ms) classes
-    ≡ list_any (λ (m : FrameworkMethod). is_among m.on classes && r m) ms
-any_turned r [] ms = sym (never ms)
-any_turned r (c ∷ classes) ms =
-    ap (λ b. list_any (λ (m : FrameworkMethod). (m.on == c) && r m) ms || b) (any_turned r classes ms)
-    ∙ sym (any_or (λ (m : FrameworkMethod). (m.on == c) && r m)
-    (λ (m : FrameworkMethod). is_among m.on classes && r m) ms)
-    ∙ any_same _ _ ms (λ m. both (m.on == c) (is_among m.on classes) (r m))
-  where
-    both : (a b c : Bool) → ((a && c) || (b && c)) ≡ ((a || b) && c)
-    both true true true = refl
-    both true true false = refl
-    both true false true = refl
-    both true false false = refl
-    both false b c = refl
+in_any : (q : DeclaredMethod → Bool) (own : ℕ → List DeclaredMethod) (classes : List ℕ) (c : ℕ) →
+    is_among c classes ≡ true → list_any q (own c) ≡ true → list_any q (flat_map own classes) ≡ true
+in_any q own classes c k h =
+    let a = Any-from_list_any (λ m. c == m) classes k in
+    any_flat q own classes
+    ∙ list_any_at (λ c. list_any q (own c)) classes a.0 a.1 a.2
+    (ap (λ n. list_any q (own n)) (a.3 ∙ sym (same_number c a.1 a.4)) ∙ h)
 
 -- tests that differ on no declared method
 same_declared : (f g : DeclaredMethod → Bool) → ((m : DeclaredMethod) → m.builtin ≡ None → f m ≡ g m)
@@ -178,11 +141,14 @@ module _ (forest : Forest) (class : ℕ) where
   abbrev row_stays : FrameworkMethod → Bool
   row_stays m = m.is_abstract && is_left (framework_method m)
 
-  abbrev of_user : ℕ → Bool
-  of_user c = is_user_class c && list_any stays (own c)
+  abbrev on_class : ℕ → FrameworkMethod → Bool
+  on_class c m = (m.on == c) && row_stays m
 
-  abbrev of_rows : ℕ → Bool
-  of_rows c = list_any (λ (m : FrameworkMethod). (m.on == c) && row_stays m) framework_methods
+  abbrev above : List ℕ
+  above = superclasses p.classes class
+
+  abbrev interfaces : List ℕ
+  interfaces = all_interfaces p.classes class
 
   open_declared : (m : DeclaredMethod) → m.builtin ≡ None → (is_abstract m && is_left m) ≡ (is_abstract m && stays m)
   unfolding is_left_open stays_abstract
@@ -205,7 +171,8 @@ module _ (forest : Forest) (class : ℕ) where
       (λ (m : DeclaredMethod). is_abstract m && stays m) open_declared forest.nodes (members_in p c)
       ∙ sym (any_filter stays is_abstract ms) ∙ ap (list_any stays) (sym (user_abstract forest c l))
 
-  framework_open : (c : ℕ) → c < first_user_class → list_any is_left (own c) ≡ of_rows c
+  framework_open : (c : ℕ) → c < first_user_class →
+      list_any is_left (own c) ≡ list_any (on_class c) framework_methods
   unfolding framework_methods_on framework_method
   framework_open c l =
       ap (list_any is_left) (framework_abstract forest c l)
@@ -214,63 +181,71 @@ module _ (forest : Forest) (class : ℕ) where
       (filter (λ (m : FrameworkMethod). m.on == c) framework_methods)
       ∙ any_filter row_stays (λ (m : FrameworkMethod). m.on == c) framework_methods
 
-  none_of_rows : (c : ℕ) → first_user_class ≤ c → of_rows c ≡ false
-  none_of_rows c l = go framework_methods (λ k m e. row_within k m e)
-    where
-      go : (ms : List FrameworkMethod) →
-          ((k : ℕ) (m : FrameworkMethod) → slice_get ms k ≡ Some m → m.on < first_user_class)
-          → list_any (λ (m : FrameworkMethod). (m.on == c) && row_stays m) ms ≡ false
-      go [] w = refl
-      go (m ∷ ms) w =
-          let b : m.on < first_user_class = w 0 m refl in
-          let e : (m.on == c) ≡ false = grind (arith, nat_tests) in
-          rw e (go ms (λ k n f. w (suc k) n f))
+  -- a class of the framework that is above, or one that is implemented
+  by_row : (c : ℕ) → c < first_user_class → is_among c (above ++ interfaces) ≡ true →
+      list_any is_left (own c) ≡ true → list_any (is_row_left p class) framework_methods ≡ true
+  unfolding is_sub
+  by_row c l k h =
+      let a = Any-from_list_any (on_class c) framework_methods (sym (framework_open c l) ∙ h) in
+      let parts = and_parts (a.1.on == c) (row_stays a.1) a.4 in
+      let sub : is_sub p.classes class a.1.on ≡ true =
+      sym (list_any-append (λ n. a.1.on == n) above interfaces)
+      ∙ ap (λ n. is_among n (above ++ interfaces)) (same_number a.1.on c parts.0) ∙ k in
+      list_any_at (is_row_left p class) framework_methods a.0 a.1 a.2
+      (ap (is_row_left p class) a.3 ∙ and_from (is_sub p.classes class a.1.on) (row_stays a.1) sub parts.1)
 
-  parts : (c : ℕ) → list_any is_left (own c) ≡ (of_user c || of_rows c)
-  parts c =
-      ⊎_elim
-      (λ (l : c < first_user_class). let e : is_user_class c ≡ false = grind (arith, nat_tests) in
-      framework_open c l ∙ ap (λ b. (b && list_any stays (own c)) || of_rows c) (sym e))
-      (λ (l : first_user_class ≤ c). let e : is_user_class c ≡ true = grind (arith, nat_tests) in
-      user_open c l ∙ plain (list_any stays (own c)) ∙ ap (λ b. (b && list_any stays (own c)) || false) (sym e)
-      ∙ ap (λ b. of_user c || b) (sym (none_of_rows c l)))
-      (cases_lt c first_user_class)
-    where
-      plain : (b : Bool) → b ≡ (b || false)
-      plain true = refl
-      plain false = refl
+  from_row : (k : ℕ) (m : FrameworkMethod) → k < length framework_methods → get_or framework_methods k m ≡ m →
+      is_row_left p class m ≡ true → list_any is_left (flat_map own (above ++ interfaces)) ≡ true
+  unfolding is_sub
+  from_row k m l e h =
+      let parts = and_parts (is_sub p.classes class m.on) (row_stays m) h in
+      let within : m.on < first_user_class =
+      row_within k m (slice_get-get_or framework_methods k m l ∙ ap (λ (m : FrameworkMethod). Some m) e) in
+      in_any is_left own (above ++ interfaces) m.on (list_any-append (λ n. m.on == n) above interfaces ∙ parts.0)
+      (framework_open m.on within ∙ list_any_at (on_class m.on) framework_methods k m l
+      (ap (on_class m.on) e ∙ and_from (m.on == m.on) (row_stays m) (is_same_number m.on m.on refl) parts.1))
 
-  leaves_open_split : list_any is_left (abstract_methods p.classes class)
+  among_users : (c : ℕ) → is_among c (filter is_user_class above) ≡ (is_user_class c && is_among c above)
+  among_users c =
+      any-filter_same (λ m. c == m) is_user_class (is_user_class c)
+      (λ k t. ap is_user_class (sym (same_number c k t))) above
+
+  -- a user class that is above: no user class is implemented
+  by_declared : (c : ℕ) → first_user_class ≤ c → is_among c (above ++ interfaces) ≡ true →
+      list_any is_left (own c) ≡ true → leaves_declared_open p.classes class ≡ true
+  unfolding leaves_declared_open declared_abstract_methods
+  by_declared c l k h =
+      let user : is_user_class c ≡ true = grind (arith, nat_tests) in
+      let other : is_known c ≡ false = grind (arith, nat_tests) in
+      let there : is_among c above ≡ true =
+      ⊎_elim (λ (e : is_among c above ≡ true). e)
+      (λ (e : is_among c interfaces ≡ true).
+      absurd (true≢false (sym e ∙ unknown_not_implemented forest class c other)))
+      (among-cases c above interfaces k) in
+      in_any stays own (filter is_user_class above) c
+      (among_users c ∙ and_from (is_user_class c) (is_among c above) user there) (sym (user_open c l) ∙ h)
+
+  from_declared : leaves_declared_open p.classes class ≡ true →
+      list_any is_left (flat_map own (above ++ interfaces)) ≡ true
+  unfolding leaves_declared_open declared_abstract_methods
+  from_declared h =
+      let r = any_in stays own (filter is_user_class above) h in
+      let both = and_parts (is_user_class r.0) (is_among r.0 above) (sym (among_users r.0) ∙ r.1) in
+      let user : first_user_class ≤ r.0 = grind (arith, nat_tests, both.0) in
+      in_any is_left own (above ++ interfaces) r.0 (among-front r.0 above interfaces both.1) (user_open r.0 user ∙ r.2)
+
+  pub leaves_open_split : list_any is_left (abstract_methods p.classes class)
       ≡ (leaves_declared_open p.classes class || list_any (is_row_left p class) framework_methods)
-  unfolding abstract_methods leaves_declared_open declared_abstract_methods is_sub all_interfaces
+  unfolding abstract_methods
   leaves_open_split =
-      let above = superclasses p.classes class in
-      let interfaces = flat_map (interfaces_in p.classes) above in
-      any_flat is_left own (above ++ interfaces)
-      ∙ any_same _ _ (above ++ interfaces) parts ∙ any_or of_user of_rows (above ++ interfaces)
-      ∙ ap (λ b. b || list_any of_rows (above ++ interfaces))
-      (list_any-append of_user above interfaces
-      ∙ first (list_any of_user above) (no_user_interfaces forest (λ c. list_any stays (own c)) above)
-      ∙ sym (any_flat stays own (filter is_user_class above)
-      ∙ any_filter (λ c. list_any stays (own c)) is_user_class above))
-      ∙ ap (λ b. list_any stays (flat_map own (filter is_user_class above)) || b)
-      (any_turned row_stays (above ++ interfaces) framework_methods
-      ∙ any_same _ _ framework_methods (λ m.
-      ap (λ b. b && row_stays m) (list_any-append (λ k. m.on == k) above interfaces)
-      ∙ swapped (is_among m.on above || is_among m.on interfaces) m.is_abstract (is_left (framework_method m))))
-    where
-      first : (a : Bool) {b : Bool} → b ≡ false → (a || b) ≡ a
-      first true e = refl
-      first false e = e
-
-      swapped : (a b c : Bool) → (a && (b && c)) ≡ (b && a && c)
-      swapped true true c = refl
-      swapped true false c = refl
-      swapped false true c = refl
-      swapped false false c = refl
-
-  pub leaves_open_if : (declared : Bool) → declared ≡ leaves_declared_open p.classes class
-      → (declared || list_any (is_row_left p class) framework_methods)
-      ≡ list_any is_left (abstract_methods p.classes class)
-  leaves_open_if declared e =
-      ap (λ b. b || list_any (is_row_left p class) framework_methods) e ∙ sym leaves_open_split
+      let declared = leaves_declared_open p.classes class in
+      let rows = list_any (is_row_left p class) framework_methods in
+      bools (list_any is_left (flat_map own (above ++ interfaces))) (declared || rows)
+      (λ h. let r = any_in is_left own (above ++ interfaces) h in
+      ⊎_elim (λ (l : r.0 < first_user_class). or_right declared rows (by_row r.0 l r.1 r.2))
+      (λ (l : first_user_class ≤ r.0). or_left declared rows (by_declared r.0 l r.1 r.2))
+      (cases_lt r.0 first_user_class))
+      (λ h. ⊎_elim from_declared
+      (λ (k : rows ≡ true). let a = Any-from_list_any (is_row_left p class) framework_methods k in
+      from_row a.0 a.1 a.2 a.3 a.4)
+      (or_cases declared rows h))

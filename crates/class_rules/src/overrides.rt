@@ -1,10 +1,9 @@
 //! Methods that stand in the place of others.
 
 ghost use Rattle.std.specs.Prelude.{◌≡◌};
-ghost use Rattle.scj_rules.specs.ClassRules.{narrower_kind, is_narrower, is_result_of, has_types_of, is_wrong_override, stays_open};
+ghost use Rattle.scj_rules.specs.ClassRules.{narrower_kind, is_narrower, has_types_of, is_wrong_override, stays_open};
 ghost use Rattle.scj_rules.specs.Contexts.{declarations_of};
 ghost use Rattle.method_rows.specs.Methods.{found_method};
-ghost use Rattle.class_rules.specs.Types.{kind_of_row};
 
 use crate::types::{class_written, have_same_types, is_same_type};
 use class_rows::Classes;
@@ -15,29 +14,20 @@ use scj_builtins::FRAMEWORK_CLASS_COUNT;
 use scj_rules::WrittenType;
 use symbol_table::SymbolTable;
 
-/// The kind that the result of a framework's method names, where that is one whose result may be narrower.
-#[tactic(auto, unfolding(crate::specs::Types::kind_of_row))]
-fn kind_of_row(classes: &Classes<'_>, row: &MethodRef) -> Option<ClassId>
-    ensures { result ≡ kind_of_row (declarations_of classes.now) (found_method classes.now.nodes row.now) }
-{
-    let kind = class_written(classes, &result_type(classes.program(), row))?;
-    if kind == MISSION_SEQUENCER {
-        return Some(kind);
-    }
-    if kind == MISSION {
-        return Some(kind);
-    }
-    None
-}
-
 /// The kind under which the framework lets the result of this name be narrower in the class.
-#[tactic(auto, using(crate::proofs::OverrideLemmas::kind_is))]
+#[tactic(auto, unfolding(scj_rules::specs::ClassRules::narrower_kind))]
 fn narrower_kind(table: &SymbolTable<'_>, name: &Name) -> Option<ClassId>
     ensures { result ≡ narrower_kind (declarations_of table.now.forest) table.now.class name.now }
 {
-    match &table.framework_row_named(name) {
-        Some(row) => kind_of_row(table.classes(), row),
-        None => None,
+    let classes = table.classes();
+    let kind = match &table.framework_row_named(name) {
+        Some(row) => class_written(classes, &result_type(classes.program(), row))?,
+        None => return None,
+    };
+    if kind == MISSION_SEQUENCER || kind == MISSION {
+        Some(kind)
+    } else {
+        None
     }
 }
 
@@ -59,27 +49,8 @@ fn is_narrower(
     own.number() >= FRAMEWORK_CLASS_COUNT && classes.is_sub(own, kind) && classes.is_sub(own, other)
 }
 
-/// Whether a result is that of the method above, or a narrower one that the framework allows.
-#[tactic(auto, unfolding(scj_rules::specs::ClassRules::is_result_of))]
-fn is_result_of(
-    table: &SymbolTable<'_>,
-    name: &Name,
-    written: &WrittenType,
-    above: &WrittenType,
-) -> bool
-    ensures { result ≡ is_result_of (declarations_of table.now.forest) table.now.class name.now written.now above.now }
-{
-    if is_same_type(written, above) {
-        return true;
-    }
-    match narrower_kind(table, name) {
-        Some(kind) => is_narrower(table.classes(), kind, written, above),
-        None => false,
-    }
-}
-
-/// Whether a method has the types of the one above.
-#[tactic(auto, unfolding(scj_rules::specs::ClassRules::has_types_of))]
+/// Whether a method has the types of the one above; its result may be a narrower one that the framework allows.
+#[tactic(auto, unfolding(scj_rules::specs::ClassRules::has_types_of, scj_rules::specs::ClassRules::is_result_of))]
 fn has_types_of(table: &SymbolTable<'_>, m: &MethodRef, above: &MethodRef) -> bool
     ensures { result ≡ has_types_of (declarations_of table.now.forest) table.now.class
         (found_method table.now.forest.nodes m.now).method
@@ -90,12 +61,14 @@ fn has_types_of(table: &SymbolTable<'_>, m: &MethodRef, above: &MethodRef) -> bo
         return false;
     }
     let written = result_type(program, m);
-    is_result_of(
-        table,
-        &name(program, m),
-        &written,
-        &result_type(program, above),
-    )
+    let other = result_type(program, above);
+    if is_same_type(&written, &other) {
+        return true;
+    }
+    match narrower_kind(table, &name(program, m)) {
+        Some(kind) => is_narrower(table.classes(), kind, &written, &other),
+        None => false,
+    }
 }
 
 /// Whether a method of a class may not stand in the place of the one above.

@@ -2,16 +2,15 @@
 
 ghost use Rattle.std.specs.Prelude.{◌≡◌, ◌++◌, ◌<◌, Some, length, OnOk};
 ghost use Rattle.scj_rules.specs.Views.{class_at};
-ghost use Rattle.scj_rules.specs.ClassRules.{c1, c2, c3, c4, c5, c6, c7, c10};
-ghost use Rattle.scj_rules.specs.LimitRules.{class_limits};
+ghost use Rattle.scj_rules.specs.ClassRules.{c4, c5, c6, c7, c10};
 ghost use Rattle.scj_rules.specs.Contexts.{declarations_of};
 ghost use Rattle.class_rules.specs.Parts.{class_found, row_of, written_class};
 
 use crate::headers::{note_c10, note_header};
-use crate::members::{note_bodies, note_hidings, note_overrides};
+use crate::members::{note_hidings, note_methods};
 use crate::openings::leaves_open;
 use crate::parts::ClassParts;
-use crate::repeats::{note_c5, note_repeated_fields};
+use crate::repeats::note_repeats;
 use scj_base::{Found, Memory, Rule};
 use scj_builtins::FRAMEWORK_CLASS_COUNT;
 use scj_rules::report_if;
@@ -19,7 +18,7 @@ use std::alloc::Global;
 use symbol_table::SymbolTable;
 
 /// Notes the fields of which an earlier one of the class or one above has the name.
-#[tactic(auto, unfolding(scj_rules::specs::ClassRules::c4, scj_rules::specs::Classes::user_row, scj_rules::specs::Contexts::declarations_of))]
+#[tactic(auto, using(crate::proofs::RepeatLemmas::c4_named))]
 fn note_c4(
     alloc: Global,
     found: &mut Vec<Found>,
@@ -29,7 +28,7 @@ fn note_c4(
     ensures { OnOk result (found.new.items ≡ found.old.items ++ c4 (declarations_of table.now.forest) table.now.class
         (row_of table.now.forest c.now)) }
 {
-    note_repeated_fields(alloc, found, table.classes().program(), c)?;
+    note_repeats(alloc, found, table.classes().program(), c.members, Rule::C4)?;
     note_hidings(found, table, c.members)?;
     Ok(())
 }
@@ -46,13 +45,13 @@ fn note_c7(
 {
     let is_open = !c.modifiers.is_abstract && leaves_open(table);
     report_if(found, is_open, Rule::C7, c.place)?;
-    note_bodies(found, table.classes().program(), table.class(), c.members)?;
+    note_methods(found, table, c.members, Rule::C7)?;
     Ok(())
 }
 
 /// Notes what is wrong with the methods of a class, and what is forbidden in its header.
-#[tactic(auto, unfolding(scj_rules::specs::ClassRules::c6, scj_rules::specs::Classes::user_row, scj_rules::specs::Contexts::declarations_of))]
-fn note_methods(
+#[tactic(auto, unfolding(scj_rules::specs::ClassRules::c5, scj_rules::specs::ClassRules::c6, scj_rules::specs::Classes::user_row, scj_rules::specs::Contexts::declarations_of, crate::specs::Members::left_twice, crate::specs::Members::member_name))]
+fn note_inside(
     alloc: Global,
     found: &mut Vec<Found>,
     table: &SymbolTable<'_>,
@@ -66,30 +65,17 @@ fn note_methods(
         (row_of table.now.forest c.now)
         ++ c10 (declarations_of table.now.forest) (written_class table.now.forest.nodes c.now))))) }
 {
-    note_c5(alloc, found, table.classes().program(), c)?;
-    note_overrides(found, table, c.members)?;
+    let classes = table.classes();
+    note_repeats(alloc, found, classes.program(), c.members, Rule::C5)?;
+    note_methods(found, table, c.members, Rule::C6)?;
     note_c7(found, table, c)?;
-    note_c10(alloc, found, table.classes(), c)?;
+    note_c10(alloc, found, classes, c)?;
     Ok(())
 }
 
-/// Notes the 257th class and each later one, and a class whose objects have too many instance fields.
-#[tactic(auto, unfolding(scj_rules::specs::LimitRules::class_limits, scj_rules::specs::LimitRules::k1, scj_rules::specs::LimitRules::k4))]
-fn note_limits(
-    found: &mut Vec<Found>,
-    table: &SymbolTable<'_>,
-    c: &ClassParts<'_>,
-) -> Result<(), Memory>
-    ensures { OnOk result (found.new.items ≡ found.old.items ++ class_limits (declarations_of table.now.forest)
-        table.now.class (written_class table.now.forest.nodes c.now)) }
-{
-    let is_late = table.class().number() >= FRAMEWORK_CLASS_COUNT + 256;
-    report_if(found, is_late, Rule::K1, c.place)?;
-    report_if(found, table.instance_field_count() > 64, Rule::K4, c.place)
-}
-
-/// Notes what is broken at the class at which the table stands.
-#[tactic(auto, unfolding(scj_rules::specs::ClassRules::class_breaks))]
+/// Notes what is broken at the class at which the table stands; among it the 257th class and each later one, and a class
+/// whose objects have too many instance fields.
+#[tactic(auto, unfolding(scj_rules::specs::ClassRules::class_breaks, scj_rules::specs::LimitRules::class_limits, scj_rules::specs::LimitRules::k1, scj_rules::specs::LimitRules::k4))]
 pub fn note_rules(
     alloc: Global,
     found: &mut Vec<Found>,
@@ -103,7 +89,10 @@ pub fn note_rules(
 {
     note_header(found, table.classes(), table.class(), c)?;
     note_c4(alloc, found, table, c)?;
-    note_methods(alloc, found, table, c)?;
-    note_limits(found, table, c)?;
+    note_inside(alloc, found, table, c)?;
+    let is_late = table.class().number() >= FRAMEWORK_CLASS_COUNT + 256;
+    report_if(found, is_late, Rule::K1, c.place)?;
+    let has_many = table.instance_field_count() > 64;
+    report_if(found, has_many, Rule::K4, c.place)?;
     Ok(())
 }

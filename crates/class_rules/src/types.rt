@@ -1,14 +1,14 @@
 //! Written types that are compared.
 
-ghost use Rattle.std.specs.Prelude.{◌≡◌, [], ◌∷◌, slice_get, IfNone, IfSome};
-ghost use Rattle.std.specs.Cmp.Lexicographic.{pointwise};
+ghost use Rattle.std.specs.Prelude.{◌≡◌, [], ◌∷◌, map, IfNone, IfSome};
 ghost use Rattle.scj_rules.specs.ClassRules.{is_same_type, have_same_types, class_written};
 ghost use Rattle.scj_rules.specs.Contexts.{declarations_of};
+ghost use Rattle.scj_rules.specs.declared.views.Declared.{Declared as Declaration};
 ghost use Rattle.method_rows.specs.Methods.{found_method};
-ghost use Rattle.class_rules.specs.Types.{is_same_at, types_among, AreFew};
+ghost use Rattle.class_rules.specs.Types.{types_among, types_left};
 
 use class_rows::Classes;
-use method_rows::{MethodRef, MethodSource, parameter};
+use method_rows::{MethodRef, MethodSource, parameter_count, parameter_type};
 use node_views::{method_parameters, parameter_nodes, variable_type};
 use scj_base::{ClassId, NodeId};
 use scj_rules::WrittenType;
@@ -49,9 +49,32 @@ pub fn class_written(classes: &Classes<'_>, written: &WrittenType) -> Option<Cla
     }
 }
 
+/// The types of parameters that are still to be compared.
+#[derive(Clone, Copy)]
+pub enum Types<'a> {
+    /// Those of the parameters at nodes.
+    Nodes(&'a [NodeId]),
+    /// Those of a method from the parameter of a number on.
+    Parameters(MethodRef, usize),
+}
+
+/// The types of the parameters of a method: one of the framework has few, which are looked up by their numbers.
+#[tactic(auto, unfolding(crate::specs::Types::types_left, crate::specs::Types::types_among, method_rows::specs::Methods::found_method, method_rows::specs::Methods::method_from), using(method_rows::proofs::MethodLemmas::parameters_of_source))]
+fn types_of<'a>(program: &'a Program, m: &MethodRef) -> Types<'a>
+    ensures { types_left program.now.nodes result
+        ≡ map (λ (d : Declaration). d.declared_type) (found_method program.now.nodes m.now).method.parameters }
+{
+    match &m.source {
+        MethodSource::Declared(node) => {
+            Types::Nodes(parameter_nodes(program, method_parameters(program, *node)))
+        }
+        MethodSource::Framework(_) => Types::Parameters(*m, 0),
+    }
+}
+
 /// The type of the first parameter among nodes, and the nodes behind it.
 #[tactic(auto, unfolding(crate::specs::Types::types_among))]
-fn next_type<'a>(program: &Program, list: &'a [NodeId]) -> Option<(WrittenType, &'a [NodeId])>
+fn next_among<'a>(program: &Program, list: &'a [NodeId]) -> Option<(WrittenType, &'a [NodeId])>
     ensures none { IfNone result (types_among program.now.nodes list.now ≡ []) }
     ensures some { IfSome result (λ r. types_among program.now.nodes list.now ≡ r.0
         ∷ types_among program.now.nodes r.1.now) }
@@ -66,77 +89,48 @@ fn next_type<'a>(program: &Program, list: &'a [NodeId]) -> Option<(WrittenType, 
     None
 }
 
-/// Whether the parameters among nodes have the types of those among others.
-#[tactic(auto, unfolding(crate::specs::Types::types_among))]
-pub fn have_same_declared(program: &Program, list: &[NodeId], other: &[NodeId]) -> bool
-    ensures { result ≡ pointwise is_same_type (types_among program.now.nodes list.now)
-        (types_among program.now.nodes other.now) }
+/// The first of these types, and the others.
+#[tactic(auto, unfolding(crate::specs::Types::types_left), using(crate::proofs::OverrideLemmas::type_there, crate::proofs::OverrideLemmas::none_there))]
+fn next_type<'a>(program: &Program, types: &Types<'a>) -> Option<(WrittenType, Types<'a>)>
+    ensures none { IfNone result (types_left program.now.nodes types.now ≡ []) }
+    ensures some { IfSome result (λ r. types_left program.now.nodes types.now ≡ r.0
+        ∷ types_left program.now.nodes r.1) }
 {
-    let mut left = list;
-    let mut right = other;
-    while let [id, rest @ ..] = left {
-        if let Some(written) = variable_type(program, *id) {
-            match next_type(program, right) {
-                Some((other, behind)) => {
-                    if !is_same_type(&written, &other) {
-                        return false;
-                    }
-                    right = behind;
-                }
-                None => return false,
-            }
+    match types {
+        Types::Nodes(list) => {
+            let Some((written, rest)) = next_among(program, list) else {
+                return None;
+            };
+            Some((written, Types::Nodes(rest)))
         }
-        left = rest;
-    }
-    next_type(program, right).is_none()
-}
-
-/// Whether two methods have parameters of the same type at a place, or none there.
-fn is_same_at(program: &Program, m: &MethodRef, other: &MethodRef, i: usize) -> bool
-    ensures { result ≡ is_same_at (slice_get (found_method program.now.nodes m.now).method.parameters i)
-        (slice_get (found_method program.now.nodes other.now).method.parameters i) }
-{
-    match parameter(program, m, i) {
-        Some(a) => match parameter(program, other, i) {
-            Some(b) => is_same_type(&a.declared_type, &b.declared_type),
-            None => false,
-        },
-        None => match parameter(program, other, i) {
-            Some(_) => false,
-            None => true,
-        },
+        Types::Parameters(m, number) => {
+            if *number >= parameter_count(program, m) {
+                return None;
+            }
+            let Some(written) = parameter_type(program, m, *number) else {
+                return None;
+            };
+            Some((written, Types::Parameters(*m, *number + 1)))
+        }
     }
 }
 
-/// Whether two methods of which one has few parameters have parameters of the same types.
-fn have_same_few(program: &Program, m: &MethodRef, other: &MethodRef) -> bool
-    requires { AreFew (found_method program.now.nodes m.now).method.parameters
-        (found_method program.now.nodes other.now).method.parameters }
-    ensures { result ≡ have_same_types (found_method program.now.nodes m.now).method.parameters
-        (found_method program.now.nodes other.now).method.parameters }
-{
-    if !is_same_at(program, m, other, 0) {
-        return false;
-    }
-    if !is_same_at(program, m, other, 1) {
-        return false;
-    }
-    is_same_at(program, m, other, 2)
-}
-
-/// Whether two methods have parameters of the same types: those of the framework have few.
-#[tactic(auto, unfolding(crate::specs::Types::types_among, method_rows::specs::Methods::found_method, method_rows::specs::Methods::method_from))]
+/// Whether two methods have parameters of the same types.
 pub fn have_same_types(program: &Program, m: &MethodRef, other: &MethodRef) -> bool
     ensures { result ≡ have_same_types (found_method program.now.nodes m.now).method.parameters
         (found_method program.now.nodes other.now).method.parameters }
 {
-    match (&m.source, &other.source) {
-        (MethodSource::Declared(a), MethodSource::Declared(b)) => have_same_declared(
-            program,
-            parameter_nodes(program, method_parameters(program, *a)),
-            parameter_nodes(program, method_parameters(program, *b)),
-        ),
-        (MethodSource::Framework(_), _) => have_same_few(program, m, other),
-        (_, MethodSource::Framework(_)) => have_same_few(program, m, other),
+    let mut left = types_of(program, m);
+    let mut right = types_of(program, other);
+    while let Some((written, rest)) = next_type(program, &left) {
+        let Some((against, behind)) = next_type(program, &right) else {
+            return false;
+        };
+        if !is_same_type(&written, &against) {
+            return false;
+        }
+        left = rest;
+        right = behind;
     }
+    next_type(program, &right).is_none()
 }

@@ -14,63 +14,51 @@ use Rattle.scj_rules.specs.Phases.{at_class, over_classes, class_phase, BreaksCl
 use Rattle.scj_rules.specs.Report.{IsReport, report_order}
 use Rattle.class_rows.specs.Tables.{class_written}
 use Rattle.class_rows.proofs.RowLemmas.{as_written}
-use Rattle.class_rows.proofs.SoundLemmas.{members_of, row_sound, other_methods}
+use Rattle.class_rows.proofs.SoundLemmas.{IsSound, members_of, row_sound, other_methods}
 use Rattle.class_rules.specs.Parts.{class_found, own_row}
 use Rattle.node_rules.specs.Findings.{FindSame}
 use Rattle.node_rules.specs.Nodes.{nodes_broken}
 use Rattle.node_rules.proofs.FindingLemmas.{same_lists, same_then, both_same}
 use Rattle.class_table.specs.Noted.{broken_at_class}
 
-at_written : (forest : Forest) (class : ℕ)
-    → found_at (class_written (declarations_of forest) class)
+pub at_written : (forest : Forest) (class : ℕ)
+    → broken_at_class forest class
+    ≡ found_at (class_written (declarations_of forest) class)
     (λ (c : WrittenClass). class_found (declarations_of forest) class (own_row (declarations_of forest) c) c)
-    ≡ broken_at_class forest class
 unfolding at_class class_written class_breaks c4 c6 c7 user_row declarations_of
 at_written forest class =
-    go (slice_get p.written class) refl
-    ∙ sym (as_written (λ (o : Option ClassRow). found_at o (λ (row : ClassRow).
-    found_at row.written (class_found p class row))) (λ row. refl) forest class)
+    as_written (λ (o : Option ClassRow). found_at o (λ (row : ClassRow).
+    found_at row.written (class_found p class row))) (λ row. refl) forest class ∙ go (slice_get p.written class) refl
   where
     p : Declarations
     p = declarations_of forest
 
-    user : (row : ClassRow) (c : WrittenClass) → (class < first_user_class → row.written ≡ None) →
-        row.written ≡ Some c → first_user_class ≤ class
-    user row c f w = ⊎_elim (λ (l : class < first_user_class). absurd (let e : None ≡ Some c = sym (f l) ∙ w in cc (e)))
-        (λ (l : first_user_class ≤ class). l) (cases_lt class first_user_class)
-
-    by_row : (row : ClassRow) (w : Option WrittenClass) → row.written ≡ w → slice_get p.written class ≡ Some row →
-        found_at w (λ (c : WrittenClass). class_found p class (own_row p c) c) ≡ found_at w (class_found p class row)
-    by_row row None s e = refl
-    by_row row (Some c) s e =
-        let sound = row_sound forest class row e in
+    by_row : (row : ClassRow) (w : Option WrittenClass) → row.written ≡ w → IsSound forest.nodes class row →
+        found_at w (class_found p class row) ≡ found_at w (λ (c : WrittenClass). class_found p class (own_row p c) c)
+    by_row row None s sound = refl
+    by_row row (Some c) s sound =
+        let user : first_user_class ≤ class =
+        ⊎_elim (λ (l : class < first_user_class).
+        absurd (let e : None ≡ Some c = sym (sound.framework l) ∙ s in cc (e)))
+        (λ (l : first_user_class ≤ class). l) (cases_lt class first_user_class) in
         let fields : row.fields ≡ filter_map (field_at forest.nodes) c.members =
         sound.fields ∙ ap (λ o. filter_map (field_at forest.nodes) (members_of o)) s in
         let methods : row.methods ≡ filter_map (method_at forest.nodes) c.members =
-        sound.methods ∙ sym (other_methods forest.nodes class row.written (user row c sound.framework s))
+        sound.methods ∙ sym (other_methods forest.nodes class row.written user)
         ∙ ap (λ o. filter_map (method_at forest.nodes) (members_of o)) s in
         rw (fields, methods) refl
 
     go : (o : Option ClassRow) → slice_get p.written class ≡ o
-        → found_at (option_and_then (λ (row : ClassRow). row.written) o)
+        → found_at o (λ (row : ClassRow). found_at row.written (class_found p class row))
+        ≡ found_at (option_and_then (λ (row : ClassRow). row.written) o)
         (λ (c : WrittenClass). class_found p class (own_row p c) c)
-        ≡ found_at o (λ (row : ClassRow). found_at row.written (class_found p class row))
     go None e = refl
-    go (Some row) e = by_row row row.written refl e
-
-pub at_user : (forest : Forest) (class : ℕ) (c : WrittenClass) → Some c ≡ class_written (declarations_of forest) class →
-    class_found (declarations_of forest) class (own_row (declarations_of forest) c) c ≡ broken_at_class forest class
-at_user forest class c e =
-    ap (λ (o : Option WrittenClass). found_at o
-    (λ (c : WrittenClass). class_found (declarations_of forest) class (own_row (declarations_of forest) c) c)) e
-    ∙ at_written forest class
+    go (Some row) e = by_row row row.written refl (row_sound forest class row e)
 
 pub at_other : (forest : Forest) (class : ℕ) (found : List Found) → None ≡ class_written (declarations_of forest) class
     → found ≡ found ++ broken_at_class forest class
 at_other forest class found e =
-    sym (ap (λ xs. found ++ xs) (sym (at_written forest class) ∙ ap (λ (o : Option WrittenClass). found_at o
-    (λ (c : WrittenClass). class_found (declarations_of forest) class (own_row (declarations_of forest) c) c)) (sym e))
-    ∙ append-nil found)
+    sym (ap (λ xs. found ++ xs) (at_written forest class ∙ rw (← e) refl) ∙ append-nil found)
 
 -- what is noted is what is broken
 pub is_report : (forest : Forest) (first classes found sorted : List Found) → first ≡ c8 (declarations_of forest)

@@ -1,113 +1,98 @@
--- Classes that are noted one after the other.
-use Rattle.std.proofs.Common.{◌≡◌, ◌≢◌, ◌⊎◌, inl, inr, ⊎_elim, ◌<◌, ℕ, zero, suc, ◌+◌, Bool, true, false, List, [], ◌∷◌, ◌++◌, length, set, replicate, flat_map, refl, sym, ap, ◌∙◌, subst, arith, append_assoc, append-nil, length-set}
+-- What is found at classes, in whatever order.
+use Rattle.std.proofs.Common.{Option, ◌≡◌, ◌⊎◌, inl, inr, ⊎_elim, ◌<◌, ◌≤◌, ℕ, zero, suc, ◌+◌, ◌==◌, Bool, true, false, List, [], ◌∷◌, ◌++◌, length, set, replicate, flat_map, refl, sym, ◌∙◌, subst, arith}
 use Rattle.std.specs.List.{Contains}
-use Rattle.std.proofs.lemmas.Bool.{true≢false, cases_eq}
-use Rattle.std.proofs.lemmas.Grind.{get_or-set_at}
+use Rattle.std.proofs.lemmas.Bool.{cases_eq, cases_lt, or_cases, or_left, or_right}
 use Rattle.std.proofs.lemmas.List.{get_or-set_other}
 use Rattle.std.proofs.lemmas.List.Elements.{Contains-append_left, Contains-append_right, Contains-append_cases}
+use Rattle.std.proofs.lemmas.Option.{slice_get_past}
 use Rattle.scj_base.specs.declared.findings.Found.{Found}
 use Rattle.scj_tree.specs.Forest.{Forest}
-use Rattle.scj_tree.specs.Recursion.{lookup, joined_below}
+use Rattle.scj_tree.specs.Recursion.{lookup}
+use Rattle.scj_rules.specs.Words.{is_among, found_at}
+use Rattle.scj_rules.specs.Classes.{ClassRow}
 use Rattle.scj_rules.specs.ClassRules.{numbers_from}
 use Rattle.scj_rules.specs.Contexts.{declarations_of}
-use Rattle.scj_rules.specs.Phases.{over_classes}
+use Rattle.scj_rules.specs.Phases.{at_class, over_classes}
+use Rattle.scj_rules.proofs.ChainLemmas.{same_number, is_same_number}
+use Rattle.scj_rules.proofs.ReportLemmas.{none_contained}
 use Rattle.class_rules.specs.Parts.{class_found}
 use Rattle.node_rules.specs.Findings.{FindSame}
-use Rattle.node_rules.proofs.FindingLemmas.{from_joined, to_joined}
-use Rattle.class_table.specs.Noted.{broken_at_class, AreNoted, IsNoted}
+use Rattle.node_rules.proofs.FindingLemmas.{same_lists, both_same}
+use Rattle.class_table.specs.Noted.{broken_at_class, HasEach}
 
-joined_from : {A : Type 0} (f : ℕ → List Found) (k : ℕ) (xs : List A) →
-    joined_below f k ++ flat_map f (numbers_from k xs) ≡ joined_below f (k + length xs)
-unfolding joined_below numbers_from
-joined_from f k [] =
-    let n : k ≡ k + 0 = omega arith in
-    append-nil (joined_below f k) ∙ ap (joined_below f) n
-joined_from f k (x ∷ xs) =
-    let next : suc k ≡ k + 1 = omega arith in
-    let all : k + 1 + length xs ≡ k + suc (length xs) = omega arith in
-    sym (append_assoc (joined_below f k) (f k) (flat_map f (numbers_from (k + 1) xs)))
-    ∙ ap (λ m. joined_below f m ++ flat_map f (numbers_from (k + 1) xs)) next
-    ∙ joined_from f (k + 1) xs ∙ ap (joined_below f) all
+-- ---- marks
 
-none_told : (n class : ℕ) → lookup false (replicate n false) class ≡ false
-none_told zero zero = refl
-none_told zero (suc class) = refl
-none_told (suc n) zero = refl
-none_told (suc n) (suc class) = none_told n class
+pub none_marked : (n class : ℕ) → lookup false (replicate n false) class ≡ false
+none_marked zero zero = refl
+none_marked zero (suc class) = refl
+none_marked (suc n) zero = refl
+none_marked (suc n) (suc class) = none_marked n class
+
+pub marked_before : (marks : List Bool) (at class : ℕ) → lookup false (set marks at true) class ≡ true →
+    (class ≡ at) ⊎ (lookup false marks class ≡ true)
+marked_before marks at class h =
+    ⊎_elim (λ (e : class ≡ at). inl e)
+    (λ (apart : class ≡ at → ⊥). inr (sym (get_or-set_other marks at class true false apart) ∙ h))
+    (cases_eq class at)
+
+-- ---- the classes one after the other
+
+among_numbers : {A : Type 0} (n k : ℕ) (xs : List A) → n ≤ k → k < n + length xs →
+    is_among k (numbers_from n xs) ≡ true
+unfolding numbers_from
+among_numbers n k [] l m = absurd (omega (arith, l, m))
+among_numbers n k (x ∷ xs) l m =
+    ⊎_elim (λ (e : k ≡ n). or_left (k == n) (is_among k (numbers_from (n + 1) xs)) (is_same_number k n e))
+    (λ (apart : k ≡ n → ⊥). or_right (k == n) (is_among k (numbers_from (n + 1) xs))
+    (among_numbers (n + 1) k xs (omega (arith, l, apart)) (omega (arith, m))))
+    (cases_eq k n)
+
+module _ (f : ℕ → List Found) (x : Found) where
+  found_from : (ks : List ℕ) → Contains (flat_map f ks) x → (k : ℕ) × (is_among k ks ≡ true) × Contains (f k) x
+  found_from [] h = absurd (none_contained x h)
+  found_from (k ∷ ks) h =
+      ⊎_elim
+      (λ (e : Contains (f k) x). (k, or_left (k == k) (is_among k ks) (is_same_number k k refl), e))
+      (λ (e : Contains (flat_map f ks) x). let r = found_from ks e in
+      (r.0, or_right (r.0 == k) (is_among r.0 ks) r.1, r.2))
+      (Contains-append_cases (f k) (flat_map f ks) x h)
+
+  found_in : (ks : List ℕ) (k : ℕ) → is_among k ks ≡ true → Contains (f k) x → Contains (flat_map f ks) x
+  found_in [] k e h = cc
+  found_in (j ∷ ks) k e h =
+      ⊎_elim
+      (λ (s : (k == j) ≡ true). Contains-append_left (f j) (flat_map f ks) x
+      (subst (λ m. Contains (f m) x) (same_number k j s) h))
+      (λ (s : is_among k ks ≡ true). Contains-append_right (f j) (flat_map f ks) x (found_in ks k s h))
+      (or_cases (k == j) (is_among k ks) e)
 
 module _ (forest : Forest) where
   abbrev broken : ℕ → List Found
   broken = broken_at_class forest
 
-  abbrev count : ℕ
-  count = length (declarations_of forest).classes
+  abbrev rows : List ClassRow
+  rows = (declarations_of forest).classes
 
-  abbrev all : List Found
-  all = over_classes (declarations_of forest) (class_found (declarations_of forest))
+  -- something is broken at classes alone
+  is_class : (k : ℕ) (x : Found) → Contains (broken k) x → k < length rows
+  unfolding at_class
+  is_class k x h =
+      ⊎_elim (λ (l : k < length rows). l)
+      (λ (l : length rows ≤ k). absurd (none_contained x (subst (λ (o : Option ClassRow). Contains (found_at o
+      (λ (row : ClassRow). found_at row.written (class_found (declarations_of forest) k row))) x)
+      (slice_get_past rows k l) h)))
+      (cases_lt k (length rows))
 
-  joined : all ≡ joined_below broken count
-  unfolding over_classes joined_below
-  joined =
-      let n : 0 + count ≡ count = omega arith in
-      joined_from broken 0 (declarations_of forest).classes ∙ ap (joined_below broken) n
-
-  pub none_noted : (before : List Found) (n : ℕ) (told : List Bool) → told ≡ replicate n false →
-      AreNoted forest before before told
-  none_noted before n told e =
-      record {
-        sound = λ f h. Contains-append_left before all f h;
-        first = λ f h. h;
-        each = λ class t. absurd (true≢false (sym t ∙ ap (λ s. lookup false s class) e ∙ none_told n class));
-      }
-
-  pub already_noted : (class : ℕ) (found : List Found) (told : List Bool) → lookup false told class ≡ true →
-      IsNoted forest class found found told told
-  already_noted class found told t = record { count = refl; here = t; kept = λ k h. h; noted = λ before a. a }
-
-  pub one_noted : (class : ℕ) (found after : List Found) (told : List Bool) → class < length told →
-      length told ≡ count → after ≡ found ++ broken class → IsNoted forest class found after told (set told class true)
-  one_noted class found after told l n e =
-      rw e record {
-        count = length-set told class true;
-        here = get_or-set_at told class class true false refl l;
-        kept = λ k t. kept k t (cases_eq k class);
-        noted = noted;
-      }
-    where
-      kept : (k : ℕ) → lookup false told k ≡ true → (k ≡ class) ⊎ (k ≢ class) →
-          lookup false (set told class true) k ≡ true
-      kept k t (inl same) = get_or-set_at told class k true false same l
-      kept k t (inr apart) = get_or-set_other told class k true false apart ∙ t
-
-      noted : (before : List Found) → AreNoted forest before found told →
-          AreNoted forest before (found ++ broken class) (set told class true)
-      noted before a =
-          record {
-            sound = λ f h. ⊎_elim (a.sound f)
-                (λ (k : Contains (broken class) f). Contains-append_right before all f
-                (subst (λ xs. Contains xs f) (sym joined) (to_joined broken count class f (omega (arith, l, n)) k)))
-                (Contains-append_cases found (broken class) f h);
-            first = λ f h. Contains-append_left found (broken class) f (a.first f h);
-            each = λ k t f h. each k t f h (cases_eq k class);
-          }
-        where
-          each : (k : ℕ) → lookup false (set told class true) k ≡ true → (f : Found) → Contains (broken k) f →
-              (k ≡ class) ⊎ (k ≢ class) → Contains (found ++ broken class) f
-          each k t f h (inl same) =
-              Contains-append_right found (broken class) f (subst (λ n. Contains (broken n) f) same h)
-          each k t f h (inr apart) =
-              Contains-append_left found (broken class) f
-              (a.each k (sym (get_or-set_other told class k true false apart) ∙ t) f h)
-
-  pub all_noted : (before found : List Found) (told : List Bool) → ((k : ℕ) → k < count → lookup false told k ≡ true) →
-      AreNoted forest before found told → FindSame found (before ++ all)
-  all_noted before found told t a =
-      record {
-        exact = λ f. (
-          a.sound f,
-          (λ h. ⊎_elim (a.first f)
-              (λ (k : Contains all f). let r = from_joined broken count f (subst (λ xs. Contains xs f) joined k) in
-              a.each r.0 (t r.0 r.1) f r.2)
-              (Contains-append_cases before all f h)),
+  pub each_noted : (before found : List Found) (order : List ℕ) → HasEach forest order → found ≡ before ++ flat_map broken order →
+      FindSame found (before ++ over_classes (declarations_of forest) (class_found (declarations_of forest)))
+  unfolding over_classes
+  each_noted before found order h e =
+      let all : List ℕ = numbers_from 0 rows in
+      rw e (both_same (same_lists refl) (record {
+        exact = λ x. (
+          (λ k. let r = found_from broken x order k in
+              let l : r.0 < length rows = is_class r.0 x r.2 in
+              found_in broken x all r.0 (among_numbers 0 r.0 rows (omega arith) (omega (arith, l))) r.2),
+          (λ k. let r = found_from broken x all k in found_in broken x order r.0 (h r.0 (is_class r.0 x r.2)) r.2),
         );
-      }
+      }))

@@ -1,4 +1,4 @@
-//! The report of the rules on classes and members.
+//! The table of the classes, and the report of the rules on classes and members.
 
 ghost use Rattle.std.specs.Prelude.{◌≡◌, IfOk};
 ghost use Rattle.scj_rules.specs.Contexts.{contexts_in};
@@ -16,23 +16,6 @@ use scj_rules::put_in_order;
 use scj_tree::Program;
 use std::alloc::Global;
 
-/// The breaks of the rules on classes and members and of the limits, in the order of a report.
-pub fn check_classes(
-    alloc: Global,
-    classes: &Classes<'_>,
-    contexts: &Contexts,
-) -> Result<Vec<Found>, Memory>
-    requires { contexts.now ≡ contexts_in classes.now }
-    ensures { IfOk result (λ found. IsReport (BreaksClassRules classes.now) found.items) }
-{
-    let mut found = Vec::new(alloc);
-    note_c8(&mut found, classes)?;
-    note_classes(alloc, &mut found, classes)?;
-    note_nodes(alloc, &mut found, classes, contexts)?;
-    put_in_order(&mut found);
-    Ok(found)
-}
-
 /// The table of the classes of a program, and the breaks of the rules on classes and members and of the limits, in the
 /// order of a report; by the contexts of its nodes, which later phases ask too.
 pub fn build(
@@ -46,6 +29,10 @@ pub fn build(
 {
     let table = ClassTable::of(alloc, program)?;
     let classes = Classes::new(program, &table);
-    let found = check_classes(alloc, &classes, contexts)?;
+    let mut found = Vec::new(alloc);
+    note_c8(&mut found, &classes)?;
+    note_classes(alloc, &mut found, &classes)?;
+    note_nodes(alloc, &mut found, &classes, contexts)?;
+    put_in_order(&mut found);
     Ok((table, found))
 }

@@ -4,5 +4,5 @@
 pub mod checks;
 pub mod classes;
 
-pub use checks::{build, check_classes};
+pub use checks::build;
 pub use class_rows::{ClassTable, Classes};

@@ -1,6 +1,6 @@
 use Rattle.std.proofs.Common.{◌≡◌, length}
 use Rattle.class_rules.specs.Types.{types_among}
-use Rattle.class_rules.proofs.types.next_type.Given as goal
+use Rattle.class_rules.proofs.types.next_among.Given as goal
 
 -- no parameter so far
 abbrev pub invariant-loop-others : goal.invariant-loop-others

@@ -3,7 +3,7 @@ use Rattle.std.specs.List.{list_any}
 use Rattle.scj_builtins.specs.Framework.{framework_methods}
 use Rattle.scj_rules.specs.Contexts.{declarations_of}
 use Rattle.class_rules.specs.Members.{is_row_left}
-use Rattle.class_rules.proofs.openings.leaves_rows.Given as goal
+use Rattle.class_rules.proofs.openings.leaves_open.Given as goal
 
 -- the rows before the number aren't left open
 abbrev pub invariant-loop-number : goal.invariant-loop-number

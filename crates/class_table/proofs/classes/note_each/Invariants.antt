@@ -1,0 +1,15 @@
+use Rattle.std.proofs.Common.{◌≡◌, ◌++◌, flat_map, length}
+use Rattle.class_table.specs.Noted.{broken_at_class}
+use Rattle.class_table.proofs.classes.note_each.Given as goal
+
+-- the other classes are still to be noted
+abbrev pub invariant-loop-others : goal.invariant-loop-others
+invariant-loop-others l =
+    record {
+      same : l.table.forest ≡ l.initial.table.forest;
+      left : l.found.items ++ flat_map (broken_at_class l.initial.table.forest) l.others
+          ≡ l.initial.found.items ++ flat_map (broken_at_class l.initial.table.forest) l.classes;
+    }
+
+abbrev pub decreases-loop-others : goal.decreases-loop-others
+decreases-loop-others l = length l.others
