@@ -1,5 +1,5 @@
 -- Lists of findings that are joined from others.
-use Rattle.std.proofs.Common.{◌≡◌, ℕ, zero, suc, ◌+◌, ◌<◌, ◌≤◌, List, ◌++◌, sym, ap, ◌∙◌, subst, arith, ⊎_elim, append_assoc}
+use Rattle.std.proofs.Common.{◌≡◌, ℕ, zero, suc, ◌+◌, ◌<◌, ◌≤◌, List, ◌++◌, refl, sym, ap, ◌∙◌, subst, arith, ⊎_elim, append_assoc}
 use Rattle.std.specs.List.{Contains}
 use Rattle.std.proofs.lemmas.List.Elements.{Contains-append_left, Contains-append_right, Contains-append_cases}
 use Rattle.std.proofs.lemmas.Bool.{cases_lt}
@@ -44,55 +44,37 @@ pub swapped : (xs ys : List Found) → FindSame (xs ++ ys) (ys ++ xs)
 swapped xs ys = record { exact = λ f. (turn xs ys f, turn ys xs f) }
   where
     turn : (xs ys : List Found) (f : Found) → Contains (xs ++ ys) f → Contains (ys ++ xs) f
-    turn xs ys f h = ⊎_elim (λ (k : Contains xs f). Contains-append_right ys xs f k)
-        (λ (k : Contains ys f). Contains-append_left ys xs f k) (Contains-append_cases xs ys f h)
+    turn xs ys f h = ⊎_elim (Contains-append_right ys xs f) (Contains-append_left ys xs f)
+        (Contains-append_cases xs ys f h)
 
 pub both_same : {us vs xs ys : List Found} → FindSame us vs → FindSame xs ys → FindSame (us ++ xs) (vs ++ ys)
 both_same {us} {vs} {xs} {ys} a b =
-    record {
-      exact = λ f. (
-        put us vs xs ys f (a.exact f).0 (b.exact f).0,
-        put vs us ys xs f (a.exact f).1 (b.exact f).1,
-      );
-    }
+    record { exact = λ f. (put us vs xs ys a b f, put vs us ys xs (same_back a) (same_back b) f) }
   where
-    put : (us vs xs ys : List Found) (f : Found) → (Contains us f → Contains vs f) → (Contains xs f → Contains ys f)
-        → Contains (us ++ xs) f → Contains (vs ++ ys) f
-    put us vs xs ys f a b h = ⊎_elim (λ (k : Contains us f). Contains-append_left vs ys f (a k))
-        (λ (k : Contains xs f). Contains-append_right vs ys f (b k)) (Contains-append_cases us xs f h)
+    put : (us vs xs ys : List Found) → FindSame us vs → FindSame xs ys → (f : Found) → Contains (us ++ xs) f →
+        Contains (vs ++ ys) f
+    put us vs xs ys a b f h = ⊎_elim (λ (k : Contains us f). Contains-append_left vs ys f ((a.exact f).0 k))
+        (λ (k : Contains xs f). Contains-append_right vs ys f ((b.exact f).0 k)) (Contains-append_cases us xs f h)
 
 -- lists of which each is joined from two others
 pub joined_parts : (all first second : ℕ → List Found) (n : ℕ) →
     ((k : ℕ) → FindSame (all k) (first k ++ second k))
     → FindSame (joined_below all n) (joined_below first n ++ joined_below second n)
-joined_parts all first second n parts = record { exact = λ f. (there f, back f) }
+unfolding joined_below
+joined_parts all first second zero parts = same_lists refl
+joined_parts all first second (suc n) parts =
+    same_then (both_same (joined_parts all first second n parts) (parts n))
+    (crossed (joined_below first n) (joined_below second n) (first n) (second n))
   where
-    there : (f : Found) → Contains (joined_below all n) f →
-        Contains (joined_below first n ++ joined_below second n) f
-    there f h =
-        let a = from_joined all n f h in
-        ⊎_elim
-        (λ (k : Contains (first a.0) f). Contains-append_left (joined_below first n) (joined_below second n) f
-        (to_joined first n a.0 f a.1 k))
-        (λ (k : Contains (second a.0) f). Contains-append_right (joined_below first n) (joined_below second n) f
-        (to_joined second n a.0 f a.1 k))
-        (Contains-append_cases (first a.0) (second a.0) f (((parts a.0).exact f).0 a.2))
-
-    back : (f : Found) → Contains (joined_below first n ++ joined_below second n) f →
-        Contains (joined_below all n) f
-    back f h =
-        ⊎_elim
-        (λ (k : Contains (joined_below first n) f). let a = from_joined first n f k in
-        to_joined all n a.0 f a.1 (((parts a.0).exact f).1 (Contains-append_left (first a.0) (second a.0) f a.2)))
-        (λ (k : Contains (joined_below second n) f). let a = from_joined second n f k in
-        to_joined all n a.0 f a.1 (((parts a.0).exact f).1 (Contains-append_right (first a.0) (second a.0) f a.2)))
-        (Contains-append_cases (joined_below first n) (joined_below second n) f h)
+    crossed : (a b c d : List Found) → FindSame ((a ++ b) ++ (c ++ d)) ((a ++ c) ++ (b ++ d))
+    crossed a b c d =
+        same_then (same_lists (let e : (a ++ b) ++ (c ++ d) ≡ a ++ ((b ++ c) ++ d) = simp append_assoc refl in e))
+        (same_then (both_same (same_lists refl) (both_same (swapped b c) (same_lists refl)))
+        (same_lists (let e : a ++ ((c ++ b) ++ d) ≡ (a ++ c) ++ (b ++ d) = simp append_assoc refl in e)))
 
 -- one list more
-pub joined_next : {A : Type 0} (f : ℕ → List A) (n at : ℕ) (found after first : List A) → at ≡ n → found ≡ first
-    ++ joined_below f n → after ≡ found ++ f at → after ≡ first ++ joined_below f (n + 1)
+pub joined_next : {A : Type 0} (f : ℕ → List A) (n : ℕ) (first : List A) →
+    first ++ joined_below f (n + 1) ≡ (first ++ joined_below f n) ++ f n
 unfolding joined_below
-joined_next f n at found after first e w a =
-    let count : n + 1 ≡ suc n = omega arith in
-    a ∙ ap (λ k. found ++ f k) e ∙ ap (λ xs. xs ++ f n) w ∙ append_assoc first (joined_below f n) (f n)
-    ∙ ap (λ m. first ++ joined_below f m) (sym count)
+joined_next f n first = ap (λ m. first ++ joined_below f m) (let count : n + 1 ≡ suc n = omega arith in count)
+    ∙ sym (append_assoc first (joined_below f n) (f n))

@@ -1,9 +1,9 @@
 -- The variables that come late: K2 at all members is what one pass over the nodes notes.
-use Rattle.std.proofs.Common.{◌≡◌, ◌<◌, ◌≤◌, ℕ, zero, suc, nat_le, Bool, true, false, ◌&&◌, List, [], ◌∷◌, ◌++◌, length, drop, filter_map, Option, Some, None, option_map, if◌then◌else◌, refl, sym, ap, ◌∙◌, subst, arith, append-nil, ⊎_elim}
+use Rattle.std.proofs.Common.{◌≡◌, ◌<◌, ◌≤◌, ℕ, zero, suc, nat_le, Bool, true, false, List, [], ◌∷◌, ◌++◌, length, drop, filter_map, Option, Some, None, option_map, if◌then◌else◌, refl, sym, ap, ◌∙◌, subst, arith, append-nil, ⊎_elim}
 use Rattle.std.specs.List.{Contains, cons_option}
-use Rattle.std.proofs.lemmas.Bool.{true≢false, cases_lt, eq-eqb}
-use Rattle.std.proofs.lemmas.Bool.Decides.{nat_tests}
-use Rattle.std.proofs.lemmas.List.{drop_all, map-append}
+use Rattle.std.proofs.lemmas.Bool.{true≢false, and_parts, cases_lt, eq-eqb}
+use Rattle.std.proofs.lemmas.Grind.{common_steps}
+use Rattle.std.proofs.lemmas.List.{map-append}
 use Rattle.std.proofs.lemmas.List.Elements.{filter_map-append}
 use Rattle.std.proofs.lemmas.Option.{slice_get_past}
 use Rattle.scj_base.specs.declared.findings.Found.{Found}
@@ -20,162 +20,96 @@ use Rattle.node_views.specs.Parts.{naming}
 use Rattle.node_contexts.specs.Numbers.{owner_of, count_below, number_before}
 use Rattle.node_contexts.proofs.CountLemmas.{one, variables_are, counted, tested, owned, number_is}
 use Rattle.node_rules.specs.Findings.{FindSame}
-use Rattle.node_rules.specs.Counting.{is_late_at, too_late, late_at}
+use Rattle.node_rules.specs.Nodes.{broken_at_variable, late_at}
 use Rattle.node_rules.proofs.FindingLemmas.{from_joined, to_joined}
 
 -- ---- K2 at a member, node after node
 
-drop_push : {A : Type 0} (k : ℕ) (xs : List A) (y : A) →
-    drop k (xs ++ y ∷ []) ≡ drop k xs ++ (if nat_le k (length xs) then y ∷ [] else [])
-drop_push {A} zero xs y = let t : nat_le 0 (length xs) ≡ true = grind (arith, nat_tests) in rw t refl
-drop_push {A} (suc k) [] y = let t : nat_le (suc k) 0 ≡ false = grind (arith, nat_tests) in rw t (nothing k)
-  where
-    nothing : (k : ℕ) → drop {A = A} k [] ≡ []
-    nothing zero = refl
-    nothing (suc k) = refl
-drop_push {A} (suc k) (x ∷ xs) y = drop_push k xs y
-    ∙ ap (λ b. drop k xs ++ (if b then y ∷ [] else [])) (shift k (length xs))
-  where
-    shift : (k n : ℕ) → nat_le k n ≡ nat_le (suc k) (suc n)
-    shift k n = grind (arith, nat_tests)
-
--- a number that passes behind k others
-abbrev one_behind : (ℕ → Bool) → ℕ → ℕ → List ℕ
-one_behind test k id = if test id then (if nat_le k (count_below test id) then id ∷ [] else []) else []
-
-drop_next : (test : ℕ → Bool) (k n : ℕ) → drop k (joined_below (one test) n) ≡ joined_below (one_behind test k) n →
-    drop k (joined_below (one test) (suc n)) ≡ joined_below (one_behind test k) (suc n)
-unfolding joined_below
-drop_next test k n before = go (test n)
-  where
-    go : (b : Bool) → drop k ((joined_below (one test) n) ++ (if b then n ∷ [] else [])) ≡ joined_below
-        (one_behind test k) n
-        ++ (if b then (if nat_le k (count_below test n) then n ∷ [] else []) else [])
-    go false = ap (drop k) (append-nil (joined_below (one test) n)) ∙ before
-        ∙ sym (append-nil (joined_below (one_behind test k) n))
-    go true = drop_push k (joined_below (one test) n) n
-        ∙ ap (λ ys. ys ++ (if nat_le k (length (joined_below (one test) n)) then n ∷ [] else [])) before
-        ∙ ap (λ c. joined_below (one_behind test k) n ++ (if nat_le k c then n ∷ [] else [])) (counted test n)
-
-drop_joined : (test : ℕ → Bool) (k n : ℕ) → drop k (joined_below (one test) n) ≡ joined_below (one_behind test k) n
-unfolding joined_below
-drop_joined test k zero = drop_all k [] (omega arith)
-drop_joined test k (suc n) = drop_next test k n (drop_joined test k n)
-
 abbrev broken_at_all : Declarations → List ℕ → List Found
 broken_at_all p ids = broken_at_declared K2 (filter_map (variable_at p.nodes) ids)
 
-all_joined : (p : Declarations) (f : ℕ → List ℕ) (n : ℕ) →
-    broken_at_all p (joined_below f n) ≡ joined_below (λ id. broken_at_all p (f id)) n
-unfolding joined_below
-all_joined p f zero = refl
-all_joined p f (suc n) =
-    ap (broken_at_declared K2) (filter_map-append (variable_at p.nodes) (joined_below f n) (f n))
-    ∙ map-append (λ (d : Declared). record { pos = d.place; rule = K2 })
-    (filter_map (variable_at p.nodes) (joined_below f n)) (filter_map (variable_at p.nodes) (f n))
-    ∙ ap (λ xs. xs ++ broken_at_all p (f n)) (all_joined p f n)
+broken_append : (p : Declarations) (xs ys : List ℕ) →
+    broken_at_all p (xs ++ ys) ≡ broken_at_all p xs ++ broken_at_all p ys
+broken_append p xs ys = simp (filter_map-append, map-append) refl
 
--- K2 of a member at a node
-abbrev late_here : Declarations → ℕ → ℕ → List Found
-late_here p member id = broken_at_all p (one_behind (is_variable_of p member) most_locals id)
-
-k2_is : (p : Declarations) (member : ℕ) → k2 p member ≡ joined_below (late_here p member) (length p.nodes)
-unfolding k2
-k2_is p member = ap (λ vs. broken_at_all p (drop most_locals vs)) (variables_are p member)
-    ∙ ap (broken_at_all p) (drop_joined (is_variable_of p member) most_locals (length p.nodes))
-    ∙ all_joined p (one_behind (is_variable_of p member) most_locals) (length p.nodes)
-
--- ---- whether a variable is late, by its number
-
-pub early : (p : Declarations) (id number : ℕ) → number ≡ number_before p id → number < 32 → false ≡ is_late_at p id
-unfolding is_late_at
-early p id number e l = go (owner_of p id) refl
-  where
-    go : (o : Option ℕ) → owner_of p id ≡ o
-        → false ≡ holds o (λ m. is_callable p.nodes m && nat_le most_locals (count_below (is_variable_of p m) id))
-    go None f = refl
-    go (Some m) f =
-        let same : number ≡ count_below (is_variable_of p m) id = e ∙ number_is p id (Some m) f in
-        let no : nat_le 32 (count_below (is_variable_of p m) id) ≡ false = grind (arith, nat_tests) in
-        rw no (none (is_callable p.nodes m))
-      where
-        none : (b : Bool) → false ≡ (b && false)
-        none true = refl
-        none false = refl
-
-pub late_where : (p : Declarations) (id member number : ℕ) (is : Bool) → owner_of p id ≡ Some member →
-    number ≡ number_before p id → 32 ≤ number → is ≡ is_callable p.nodes member → is ≡ is_late_at p id
-unfolding is_late_at
-late_where p id member number is f e l c =
-    let same : number ≡ count_below (is_variable_of p member) id = e ∙ number_is p id (Some member) f in
-    let late : nat_le 32 (count_below (is_variable_of p member) id) ≡ true = grind (arith, nat_tests) in
-    c ∙ sym
-    (ap (λ o. holds o (λ m. is_callable p.nodes m && nat_le most_locals (count_below (is_variable_of p m) id))) f
-    ∙ ap (λ b. is_callable p.nodes member && b) late ∙ whole (is_callable p.nodes member))
-  where
-    whole : (b : Bool) → (b && true) ≡ b
-    whole true = refl
-    whole false = refl
-
--- ---- K2 at all members, node after node
-
--- what is noted at a node is K2 of a member there
-record IsOfMember (p : Declarations) (id : ℕ) (f : Found) : Type 0 where
-  member : ℕ
-  callable : is_callable p.nodes member ≡ true
-  found : Contains (late_here p member id) f
-
-same_here : (p : Declarations) (id : ℕ) → broken_at_all p (id ∷ []) ≡ too_late p.nodes id
-same_here p id = go (variable_at p.nodes id)
+broken_once : (p : Declarations) (b : Bool) (id : ℕ) →
+    broken_at_all p (if b then id ∷ [] else []) ≡ (if b then broken_at_variable p.nodes id else [])
+broken_once p false id = refl
+broken_once p true id = go (variable_at p.nodes id)
   where
     go : (o : Option Declared) → broken_at_declared K2 (cons_option o [])
         ≡ found_at (option_map naming o) (λ w. broken true K2 w.place)
     go None = refl
     go (Some d) = refl
 
-of_member : (p : Declarations) (id : ℕ) (f : Found) → Contains (late_at p id) f → IsOfMember p id f
-unfolding late_at is_late_at
-of_member p id f = go (owner_of p id) refl
-  where
-    go : (o : Option ℕ) → owner_of p id ≡ o
-        → Contains (if holds o (λ m. is_callable p.nodes m && nat_le most_locals (count_below (is_variable_of p m) id))
-        then too_late p.nodes id else []) f → IsOfMember p id f
-    go None e h = absurd (none_contained f h)
-    go (Some m) e h = at (is_callable p.nodes m) (nat_le most_locals (count_below (is_variable_of p m) id)) refl refl h
-      where
-        at : (b c : Bool) → is_callable p.nodes m ≡ b → nat_le most_locals (count_below (is_variable_of p m) id) ≡ c →
-            Contains (if b && c then too_late p.nodes id else []) f → IsOfMember p id f
-        at false c s t h = absurd (none_contained f h)
-        at true false s t h = absurd (none_contained f h)
-        at true true s t h =
-            let own : is_variable_of p m id ≡ true = tested p id m (Some m) e ∙ eq-eqb m m refl in
-            record {
-              member = m;
-              callable = s;
-              found = subst (λ xs. Contains xs f) (sym ((rw (own, t) refl) ∙ same_here p id)) h;
-            }
+drop_push : (k : ℕ) (xs : List ℕ) (y : ℕ) →
+    drop k (xs ++ y ∷ []) ≡ drop k xs ++ (if nat_le k (length xs) then y ∷ [] else [])
+drop_push k xs y = grind (arith, common_steps)
 
-at_node : (p : Declarations) (id member : ℕ) (f : Found) → is_callable p.nodes member ≡ true →
-    Contains (late_here p member id) f → Contains (late_at p id) f
-unfolding late_at is_late_at
-at_node p id member f s =
-    go (is_variable_of p member id) (nat_le most_locals (count_below (is_variable_of p member) id)) refl refl
+-- K2 of a member at a node
+abbrev late_here : Declarations → ℕ → ℕ → List Found
+late_here p member id =
+    if is_variable_of p member id
+    then (if nat_le most_locals (count_below (is_variable_of p member) id) then broken_at_variable p.nodes id else [])
+    else []
+
+late_below : (p : Declarations) (member n : ℕ) →
+    broken_at_all p (drop most_locals (joined_below (one (is_variable_of p member)) n)) ≡ joined_below
+    (late_here p member) n
+unfolding joined_below
+late_below p member zero = refl
+late_below p member (suc n) = go (is_variable_of p member n) (late_below p member n)
   where
-    go : (b c : Bool) → is_variable_of p member id ≡ b
-        → nat_le most_locals (count_below (is_variable_of p member) id) ≡ c
-        → Contains (broken_at_all p (if b then (if c then id ∷ [] else []) else [])) f → Contains (late_at p id) f
-    go false c v t h = absurd (none_contained f h)
-    go true false v t h = absurd (none_contained f h)
-    go true true v t h =
-        let owner = owned p id member v in
-        let late : is_late_at p id ≡ true =
-        ap (λ o. holds o (λ m. is_callable p.nodes m && nat_le most_locals (count_below (is_variable_of p m) id))) owner
-        ∙ (rw (s, t) refl) in
-        subst (λ xs. Contains xs f) (same_here p id ∙ sym (ap (λ b. if b then too_late p.nodes id else []) late)) h
+    so_far : List ℕ
+    so_far = joined_below (one (is_variable_of p member)) n
+
+    go : (b : Bool) → broken_at_all p (drop most_locals so_far) ≡ joined_below (late_here p member) n →
+        broken_at_all p (drop most_locals (so_far ++ (if b then n ∷ [] else []))) ≡ joined_below (late_here p member) n
+        ++ (if b then (if nat_le most_locals (count_below (is_variable_of p member) n)
+        then broken_at_variable p.nodes n else []) else [])
+    go false e = ap (λ xs. broken_at_all p (drop most_locals xs)) (append-nil so_far) ∙ e
+        ∙ sym (append-nil (joined_below (late_here p member) n))
+    go true e = ap (broken_at_all p) (drop_push most_locals so_far n)
+        ∙ broken_append p (drop most_locals so_far) (if nat_le most_locals (length so_far) then n ∷ [] else [])
+        ∙ ap (λ fs. fs ++ broken_at_all p (if nat_le most_locals (length so_far) then n ∷ [] else [])) e
+        ∙ ap (λ fs. joined_below (late_here p member) n ++ fs) (broken_once p (nat_le most_locals (length so_far)) n
+        ∙ ap (λ k. if nat_le most_locals k then broken_at_variable p.nodes n else [])
+        (counted (is_variable_of p member) n))
+
+k2_is : (p : Declarations) (member : ℕ) → k2 p member ≡ joined_below (late_here p member) (length p.nodes)
+unfolding k2
+k2_is p member = ap (λ vs. broken_at_all p (drop most_locals vs)) (variables_are p member)
+    ∙ late_below p member (length p.nodes)
+
+-- ---- K2 at all members, node after node
+
+-- what is noted at a variable is K2 of its member there
+at_owner : (p : Declarations) (id member : ℕ) → owner_of p id ≡ Some member → is_callable p.nodes member ≡ true →
+    late_at p id ≡ late_here p member id
+unfolding late_at
+at_owner p id member o c =
+    let own : is_variable_of p member id ≡ true = tested p id member (Some member) o ∙ eq-eqb member member refl in
+    rw (o, c, own, number_is p id (Some member) o) refl
 
 -- K2 at a node, where it is a method or a constructor
 abbrev pub late_of : Declarations → ℕ → List Found
 late_of p member = if is_callable p.nodes member then k2 p member else []
+
+in_if : (b : Bool) (xs : List Found) (f : Found) → Contains (if b then xs else []) f → b ≡ true
+in_if true xs f h = refl
+in_if false xs f h = absurd (none_contained f h)
+
+of_callable : (p : Declarations) (id : ℕ) (f : Found) → Contains (late_at p id) f → (m : ℕ) ×
+    (owner_of p id ≡ Some m) × (is_callable p.nodes m ≡ true)
+unfolding late_at
+of_callable p id f h =
+    go (owner_of p id) (and_parts (holds (owner_of p id) (is_callable p.nodes))
+    (nat_le most_locals (number_before p id)) (in_if _ (broken_at_variable p.nodes id) f h)).0
+  where
+    go : (o : Option ℕ) → holds o (is_callable p.nodes) ≡ true → (m : ℕ) × (o ≡ Some m) ×
+        (is_callable p.nodes m ≡ true)
+    go None t = absurd (true≢false (sym t))
+    go (Some m) t = (m, refl, t)
 
 pub all_late : (p : Declarations) →
     FindSame (joined_below (late_at p) (length p.nodes)) (joined_below (late_of p) (length p.nodes))
@@ -190,19 +124,21 @@ all_late p = record { exact = λ f. (there f, back f) }
         Contains (joined_below (late_of p) (length p.nodes)) f
     there f h =
         let r = from_joined (late_at p) (length p.nodes) f h in
-        let is = of_member p r.0 f r.2 in
-        let all : Contains (k2 p is.member) f = subst (λ xs. Contains xs f) (sym (k2_is p is.member))
-        (to_joined (late_here p is.member) (length p.nodes) r.0 f r.1 is.found) in
-        to_joined (late_of p) (length p.nodes) is.member f (within is.member is.callable)
-        (subst (λ b. Contains (if b then k2 p is.member else []) f) (sym is.callable) all)
+        let m = of_callable p r.0 f r.2 in
+        let here : Contains (late_here p m.0 r.0) f =
+        subst (λ xs. Contains xs f) (at_owner p r.0 m.0 m.1 m.2) r.2 in
+        let all : Contains (k2 p m.0) f = subst (λ xs. Contains xs f) (sym (k2_is p m.0))
+        (to_joined (late_here p m.0) (length p.nodes) r.0 f r.1 here) in
+        to_joined (late_of p) (length p.nodes) m.0 f (within m.0 m.2)
+        (subst (λ b. Contains (if b then k2 p m.0 else []) f) (sym m.2) all)
 
     back : (f : Found) → Contains (joined_below (late_of p) (length p.nodes)) f →
         Contains (joined_below (late_at p) (length p.nodes)) f
-    back f h = let r = from_joined (late_of p) (length p.nodes) f h in go r.0 (is_callable p.nodes r.0) refl r.2
-      where
-        go : (m : ℕ) (b : Bool) → is_callable p.nodes m ≡ b → Contains (if b then k2 p m else []) f
-            → Contains (joined_below (late_at p) (length p.nodes)) f
-        go m false t h = absurd (none_contained f h)
-        go m true t h =
-            let r = from_joined (late_here p m) (length p.nodes) f (subst (λ xs. Contains xs f) (k2_is p m) h) in
-            to_joined (late_at p) (length p.nodes) r.0 f r.1 (at_node p r.0 m f t r.2)
+    back f h =
+        let m = from_joined (late_of p) (length p.nodes) f h in
+        let c = in_if (is_callable p.nodes m.0) (k2 p m.0) f m.2 in
+        let all : Contains (k2 p m.0) f = subst (λ b. Contains (if b then k2 p m.0 else []) f) c m.2 in
+        let r = from_joined (late_here p m.0) (length p.nodes) f (subst (λ xs. Contains xs f) (k2_is p m.0) all) in
+        let o = owned p r.0 m.0 (in_if (is_variable_of p m.0 r.0) _ f r.2) in
+        to_joined (late_at p) (length p.nodes) r.0 f r.1
+        (subst (λ xs. Contains xs f) (sym (at_owner p r.0 m.0 o c)) r.2)

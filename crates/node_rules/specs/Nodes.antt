@@ -1,24 +1,58 @@
 -- What is found at the nodes, in the order in which it is noted.
-use Rattle.std.specs.Prelude.{ℕ, Bool, true, false, List, ◌++◌, Option, Some, slice_get}
+use Rattle.std.specs.Prelude.{ℕ, nat_le, Bool, true, false, ◌&&◌, List, [], ◌++◌, Option, Some, slice_get, option_map, if◌then◌else◌}
 use Rattle.scj_base.specs.declared.findings.Found.{Found}
+use Rattle.scj_base.specs.declared.findings.Rule.TheVariants.{K2}
+use Rattle.scj_builtins.specs.declared.classes.FrameworkClass.{FrameworkClass}
+use Rattle.scj_builtins.specs.Framework.{framework_classes}
 use Rattle.scj_tree.specs.declared.nodes.Node.{Node}
+use Rattle.scj_tree.specs.declared.nodes.Node.TheVariants.{Method as method_node, Constructor as constructor_node}
 use Rattle.scj_tree.specs.declared.kinds.NodeKind.{NodeKind}
 use Rattle.scj_tree.specs.declared.kinds.NodeKind.TheVariants.{Class, Field, Method, Constructor, Parameter, Local, LocalWithValue, TypeArgument, New, Cast, NewArray}
-use Rattle.scj_rules.specs.Words.{found_at}
-use Rattle.scj_rules.specs.ClassRules.{c9, c11, node_breaks}
-use Rattle.scj_rules.specs.LimitRules.{node_limits}
+use Rattle.scj_rules.specs.Words.{broken, found_at, holds, or_else}
+use Rattle.scj_rules.specs.Views.{WrittenClass, variable_at}
+use Rattle.scj_rules.specs.Classes.{is_callable}
+use Rattle.scj_rules.specs.ClassRules.{node_breaks}
+use Rattle.scj_rules.specs.LimitRules.{most_locals, k3, node_limits}
 use Rattle.scj_rules.specs.Contexts.{Declarations}
 use Rattle.scj_rules.specs.Phases.{over_nodes}
-use Rattle.node_rules.specs.Counting.{late_at}
-use Rattle.node_rules.specs.Limits.{parameter_limit}
+use Rattle.node_views.specs.Parts.{naming}
+use Rattle.class_rows.specs.Tables.{class_written}
+use Rattle.node_contexts.specs.Numbers.{owner_of, number_before}
 
--- at one node, but for the limit on variables
-unfoldable pub node_found : Declarations → ℕ → Node → List Found
-node_found p id node = c9 p node ++ (c11 p id node ++ parameter_limit p node)
+-- the name of the framework's class of a number, or of the class that is written
+unfoldable pub name_of : Declarations → ℕ → Option (List ℕ)
+name_of p class =
+    or_else (option_map (λ (c : FrameworkClass). c.name) (slice_get framework_classes class))
+    (option_map (λ (c : WrittenClass). c.name) (class_written p class))
 
--- the same, with the limit on variables, as they are counted one after the other
+-- K3 at a node
+unfoldable pub parameter_limit : Declarations → Node → List Found
+parameter_limit p (method_node place name flags result_type parameters body) = k3 p parameters
+parameter_limit p (constructor_node place name flags parameters super_call body) = k3 p parameters
+parameter_limit p _ = []
+
+-- what is found at a node, if there is one, but for the limit on variables
+unfoldable pub found_there : Declarations → ℕ → List Found
+found_there p id = found_at (slice_get p.nodes id) (λ node. node_breaks p id node ++ parameter_limit p node)
+
+-- the node declares a variable of a method or a constructor behind 32 others, if there are so many before it
+abbrev pub is_late : Declarations → ℕ → ℕ → Bool
+is_late p id number = holds (owner_of p id) (is_callable p.nodes) && nat_le most_locals number
+
+-- K2 at the variable that a node declares
+abbrev pub broken_at_variable : List Node → ℕ → List Found
+broken_at_variable nodes id = found_at (option_map naming (variable_at nodes id)) (λ w. broken true K2 w.place)
+
+-- the same, where it comes late
+abbrev pub too_late : Declarations → ℕ → ℕ → List Found
+too_late p id number = if is_late p id number then broken_at_variable p.nodes id else []
+
+unfoldable pub late_at : Declarations → ℕ → List Found
+late_at p id = too_late p id (number_before p id)
+
+-- what is found at a node, with the limit on variables, as they are counted one after the other
 unfoldable pub noted_at : Declarations → ℕ → List Found
-noted_at p id = found_at (slice_get p.nodes id) (node_found p id) ++ late_at p id
+noted_at p id = found_there p id ++ late_at p id
 
 -- what the rules find at all nodes
 abbrev pub nodes_broken : Declarations → List Found

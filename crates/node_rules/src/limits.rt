@@ -1,17 +1,20 @@
-//! The limit on parameters.
+//! The limits on parameters and on the variables of a member.
 
 ghost use Rattle.std.specs.Prelude.{◌≡◌, ◌++◌, OnOk};
 ghost use Rattle.scj_rules.specs.LimitRules.{k3};
-ghost use Rattle.scj_rules.specs.Contexts.{declarations_of};
-ghost use Rattle.node_rules.specs.Limits.{parameter_limit};
+ghost use Rattle.scj_rules.specs.Contexts.{contexts_in, declarations_of};
+ghost use Rattle.node_rules.specs.Nodes.{is_late, too_late};
 
-use node_views::{parameter_nodes, variable_written};
+use node_contexts::Contexts;
+use node_contexts::numbers::owner_of;
+use node_views::{is_constructor, is_method, parameter_nodes, variable_written};
 use scj_base::{Found, Memory, NodeId, Rule};
-use scj_tree::{Node, Program};
+use scj_rules::report_if;
+use scj_tree::Program;
 
 /// Notes the ninth parameter and each later one.
 #[tactic(auto, unfolding(scj_rules::specs::LimitRules::k3, scj_rules::specs::Contexts::declarations_of))]
-fn note_k3(
+pub fn note_k3(
     found: &mut Vec<Found>,
     program: &Program,
     parameters: Option<NodeId>,
@@ -36,15 +39,41 @@ fn note_k3(
     Ok(())
 }
 
-/// Notes the parameters of a method or a constructor that are too many.
-#[tactic(auto, unfolding(crate::specs::Limits::parameter_limit))]
-pub fn note_parameters(found: &mut Vec<Found>, program: &Program, node: &Node) -> Result<(), Memory>
-    ensures { OnOk result (found.new.items ≡ found.old.items
-        ++ parameter_limit (declarations_of program.now) node.now) }
+/// How many variables a method or a constructor may have.
+const MOST_LOCALS: u32 = 32;
+
+/// Whether a node declares a variable that comes late, where so many of its member stand before it.
+#[tactic(auto, unfolding(scj_rules::specs::Contexts::declarations_of))]
+fn is_late(program: &Program, contexts: &Contexts, id: NodeId, number: u32) -> bool
+    requires { contexts.now ≡ contexts_in program.now }
+    ensures { result ≡ is_late (declarations_of program.now) id number }
 {
-    match node {
-        Node::Method { parameters, .. } => note_k3(found, program, *parameters),
-        Node::Constructor { parameters, .. } => note_k3(found, program, *parameters),
-        _ => Ok(()),
+    if number < MOST_LOCALS {
+        return false;
+    }
+    match owner_of(program, contexts, id) {
+        Some(member) => is_method(program, member) || is_constructor(program, member),
+        None => false,
+    }
+}
+
+/// Notes the variable that a node declares, if it does, where it comes late.
+#[tactic(auto, unfolding(scj_rules::specs::Contexts::declarations_of))]
+pub fn note_late(
+    found: &mut Vec<Found>,
+    program: &Program,
+    contexts: &Contexts,
+    id: NodeId,
+    number: u32,
+) -> Result<(), Memory>
+    requires { contexts.now ≡ contexts_in program.now }
+    ensures { OnOk result (found.new.items ≡ found.old.items ++ too_late (declarations_of program.now) id number) }
+{
+    if !is_late(program, contexts, id, number) {
+        return Ok(());
+    }
+    match variable_written(program, id) {
+        Some(variable) => report_if(found, true, Rule::K2, variable.place),
+        None => Ok(()),
     }
 }

@@ -1,18 +1,21 @@
-//! Words that stand where they can't.
+//! Words that stand where they can't, and constructors with another name than their class.
 
-ghost use Rattle.std.specs.Prelude.{◌≡◌, ◌++◌, IfOk, OnOk};
-ghost use Rattle.scj_rules.specs.ClassRules.{c11, has_method_words, is_misplaced_on_class, is_misplaced_on_field, is_misplaced_on_variable, is_misplaced_on_method, is_misplaced_on_constructor};
+ghost use Rattle.std.specs.Prelude.{◌≡◌, IfOk, slice_get};
+ghost use Rattle.scj_base.specs.Bytes.{is_same};
+ghost use Rattle.scj_rules.specs.Words.{holds};
 ghost use Rattle.scj_rules.specs.Views.{modifiers_at};
+ghost use Rattle.scj_rules.specs.Classes.{ClassRow};
+ghost use Rattle.scj_rules.specs.ClassRules.{has_method_words, is_misplaced_on_class, is_misplaced_on_field, is_misplaced_on_variable, is_misplaced_on_method, is_misplaced_on_constructor};
 ghost use Rattle.scj_rules.specs.Contexts.{contexts_in, declarations_of};
+ghost use Rattle.node_rules.specs.Nodes.{name_of};
 
-use crate::class_names::has_name;
 use crate::framework_methods::is_framework_method;
 use class_rows::Classes;
 use node_contexts::Contexts;
-use node_views::modifiers_at;
-use scj_base::{Found, Memory, Name, NodeId, Rule};
-use scj_rules::{Modifiers, report_if};
-use scj_tree::{Node, Program};
+use node_views::{class_name, modifiers_at};
+use scj_base::{ClassId, Memory, Name, NodeId};
+use scj_builtins::framework_classes;
+use scj_rules::Modifiers;
 
 /// Whether words stand there that a method alone can have.
 fn has_method_words(m: &Modifiers) -> bool
@@ -21,36 +24,30 @@ fn has_method_words(m: &Modifiers) -> bool
     m.runs_in.is_some() || m.is_synchronized
 }
 
-/// Whether what stands before a class holds a word that can't.
-fn is_off_class(program: &Program, flags: Option<NodeId>) -> bool
-    ensures { result ≡ is_misplaced_on_class (modifiers_at program.now.nodes flags) }
+/// Whether a word stands before a class that it can't have.
+pub fn is_misplaced_on_class(m: &Modifiers) -> bool
+    ensures { result ≡ is_misplaced_on_class m.now }
 {
-    let m = modifiers_at(program, flags);
-    has_method_words(&m) || m.is_static
+    has_method_words(m) || m.is_static
 }
 
-/// Whether what stands before a field holds a word that can't.
-fn is_off_field(program: &Program, flags: Option<NodeId>) -> bool
-    ensures { result ≡ is_misplaced_on_field (modifiers_at program.now.nodes flags) }
+/// Whether a word stands before a field that it can't have.
+pub fn is_misplaced_on_field(m: &Modifiers) -> bool
+    ensures { result ≡ is_misplaced_on_field m.now }
 {
-    let m = modifiers_at(program, flags);
-    m.defines_scope || has_method_words(&m) || m.is_abstract
+    m.defines_scope || has_method_words(m) || m.is_abstract
 }
 
-/// Whether what stands before a parameter or a local holds a word that can't.
-fn is_off_variable(program: &Program, flags: Option<NodeId>) -> bool
-    ensures { result ≡ is_misplaced_on_variable (modifiers_at program.now.nodes flags) }
+/// Whether a word stands before a parameter or a local that it can't have.
+pub fn is_misplaced_on_variable(m: &Modifiers) -> bool
+    ensures { result ≡ is_misplaced_on_variable m.now }
 {
-    if flags.is_none() {
-        return false;
-    }
-    let m = modifiers_at(program, flags);
-    m.defines_scope || has_method_words(&m) || m.is_static || m.is_abstract
+    m.defines_scope || has_method_words(m) || m.is_static || m.is_abstract
 }
 
-/// Whether what stands before a method holds a word that can't.
+/// Whether a word stands before a method that it can't have.
 #[tactic(auto, unfolding(scj_rules::specs::Contexts::declarations_of))]
-fn is_off_method(
+pub fn is_misplaced_on_method(
     classes: &Classes<'_>,
     contexts: &Contexts,
     id: NodeId,
@@ -75,13 +72,35 @@ fn is_off_method(
     if m.is_static || m.is_abstract {
         return Ok(true);
     }
-    let context = contexts.get(id);
-    is_framework_method(classes, context.class, id, name)
+    is_framework_method(classes, contexts.get(id).class, id, name)
 }
 
-/// Whether what stands before a constructor holds a word that can't, or its name is another than the class's.
+/// The name of a class.
+#[tactic(auto, unfolding(crate::specs::Nodes::name_of))]
+fn name_of(classes: &Classes<'_>, class: ClassId) -> Option<Name>
+    ensures { result ≡ name_of (declarations_of classes.now) class }
+{
+    match framework_classes().get(class.number() as usize) {
+        Some(class) => Some(class.name),
+        None => class_name(classes.program(), classes.class_node(class)?),
+    }
+}
+
+/// Whether a class has this name.
+#[tactic(auto, using(crate::proofs::NameLemmas::name_is, crate::proofs::NameLemmas::name_held))]
+fn has_name(classes: &Classes<'_>, class: ClassId, name: &Name) -> bool
+    ensures { result ≡ holds (slice_get (declarations_of classes.now).classes class)
+        (λ (row : ClassRow). is_same row.name name.now) }
+{
+    match &name_of(classes, class) {
+        Some(own) => own == name,
+        None => false,
+    }
+}
+
+/// Whether a word stands before a constructor that it can't have, or its name is another than the class's.
 #[tactic(auto, unfolding(scj_rules::specs::Contexts::declarations_of))]
-fn is_off_constructor(
+pub fn is_misplaced_on_constructor(
     classes: &Classes<'_>,
     contexts: &Contexts,
     id: NodeId,
@@ -93,61 +112,11 @@ fn is_off_constructor(
         (modifiers_at classes.now.nodes flags) }
 {
     let m = modifiers_at(classes.program(), flags);
-    if m.defines_scope || has_method_words(&m) || m.is_static || m.is_abstract {
+    if is_misplaced_on_variable(&m) || m.scope.is_some() {
         return true;
     }
-    if m.scope.is_some() {
-        return true;
-    }
-    let context = contexts.get(id);
-    !has_name(classes, context.class, name)
-}
-
-/// Notes an annotation or a modifier that stands where it can't, and a constructor with another name than its class.
-#[tactic(auto, unfolding(scj_rules::specs::ClassRules::c11, scj_rules::specs::Contexts::declarations_of))]
-pub fn note_c11(
-    found: &mut Vec<Found>,
-    classes: &Classes<'_>,
-    contexts: &Contexts,
-    id: NodeId,
-    node: &Node,
-) -> Result<(), Memory>
-    requires { contexts.now ≡ contexts_in classes.now }
-    ensures { OnOk result (found.new.items ≡ found.old.items ++ c11 (declarations_of classes.now) id node.now) }
-{
-    let program = classes.program();
-    match node {
-        Node::Class { place, flags, .. } => {
-            report_if(found, is_off_class(program, *flags), Rule::C11, *place)
-        }
-        Node::Field { place, flags, .. } => {
-            report_if(found, is_off_field(program, *flags), Rule::C11, *place)
-        }
-        Node::Method {
-            place,
-            name,
-            flags,
-            ..
-        } => {
-            let is_wrong = is_off_method(classes, contexts, id, name.get(), *flags)?;
-            report_if(found, is_wrong, Rule::C11, *place)
-        }
-        Node::Constructor {
-            place,
-            name,
-            flags,
-            ..
-        } => {
-            let is_wrong = is_off_constructor(classes, contexts, id, name.get(), *flags);
-            report_if(found, is_wrong, Rule::C11, *place)
-        }
-        Node::Parameter { place, flags, .. }
-        | Node::Local { place, flags, .. }
-        | Node::LocalWithValue {
-            name_place: place,
-            flags,
-            ..
-        } => report_if(found, is_off_variable(program, *flags), Rule::C11, *place),
-        _ => Ok(()),
+    match contexts.get(id).class {
+        Some(class) => !has_name(classes, class, name),
+        None => true,
     }
 }

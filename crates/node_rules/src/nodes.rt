@@ -1,21 +1,24 @@
 //! What is broken at the nodes of a program.
 
-ghost use Rattle.std.specs.Prelude.{◌≡◌, ◌++◌, slice_get, option_map, OnOk};
-ghost use Rattle.scj_tree.specs.Kinds.{kind_of};
-ghost use Rattle.scj_rules.specs.Words.{found_at};
+ghost use Rattle.std.specs.Prelude.{◌≡◌, ◌+◌, ◌++◌, OnOk};
 ghost use Rattle.scj_rules.specs.Contexts.{contexts_in, declarations_of};
+ghost use Rattle.node_contexts.specs.Numbers.{AreCounted};
 ghost use Rattle.node_rules.specs.Findings.{FindSame};
-ghost use Rattle.node_rules.specs.Nodes.{node_found, nodes_broken, is_asked_kind};
+ghost use Rattle.node_rules.specs.Nodes.{found_there, noted_at, nodes_broken, is_asked_kind};
 
-use crate::late::count_node;
-use crate::limits::note_parameters;
-use crate::misplaced::note_c11;
-use crate::types::note_c9;
+use crate::limits::{note_k3, note_late};
+use crate::misplaced::{
+    is_misplaced_on_class, is_misplaced_on_constructor, is_misplaced_on_field,
+    is_misplaced_on_method, is_misplaced_on_variable,
+};
+use crate::types::{names_no_class, names_no_mission, note_element, note_type};
 use class_rows::Classes;
 use node_contexts::Contexts;
-use node_contexts::numbers::none_counted;
-use scj_base::{Found, Memory, NodeId};
-use scj_tree::NodeKind;
+use node_contexts::numbers::{count, none_counted};
+use node_views::modifiers_at;
+use scj_base::{Found, Memory, NodeId, Rule};
+use scj_rules::report_if;
+use scj_tree::{Node, NodeKind};
 use std::alloc::Global;
 
 /// Whether the rules on single nodes ask nodes of this kind.
@@ -23,31 +26,26 @@ use std::alloc::Global;
 fn is_asked_kind(kind: &Option<NodeKind>) -> bool
     ensures { result ≡ is_asked_kind kind.now }
 {
-    match kind {
-        Some(NodeKind::Class) => true,
-        Some(NodeKind::Field) => true,
-        Some(NodeKind::Method) => true,
-        Some(NodeKind::Constructor) => true,
-        Some(NodeKind::Parameter) => true,
-        Some(NodeKind::Local) => true,
-        Some(NodeKind::LocalWithValue) => true,
-        Some(NodeKind::TypeArgument) => true,
-        Some(NodeKind::New) => true,
-        Some(NodeKind::Cast) => true,
-        Some(NodeKind::NewArray) => true,
-        _ => false,
-    }
-}
-
-/// Whether the rules on single nodes ask a node of its kind.
-fn is_asked(classes: &Classes<'_>, id: NodeId) -> bool
-    ensures { result ≡ is_asked_kind (option_map kind_of (slice_get classes.now.nodes id)) }
-{
-    is_asked_kind(&classes.program().kind(id))
+    matches!(
+        kind,
+        Some(
+            NodeKind::Class
+                | NodeKind::Field
+                | NodeKind::Method
+                | NodeKind::Constructor
+                | NodeKind::Parameter
+                | NodeKind::Local
+                | NodeKind::LocalWithValue
+                | NodeKind::TypeArgument
+                | NodeKind::New
+                | NodeKind::Cast
+                | NodeKind::NewArray
+        )
+    )
 }
 
 /// Notes what is broken at a node of a kind that is asked, but for the limit on variables.
-#[tactic(auto, unfolding(crate::specs::Nodes::node_found))]
+#[tactic(auto, unfolding(crate::specs::Nodes::found_there, crate::specs::Nodes::parameter_limit, scj_rules::specs::ClassRules::node_breaks, scj_rules::specs::ClassRules::c9, scj_rules::specs::ClassRules::c11, scj_rules::specs::Contexts::declarations_of))]
 fn note_asked(
     found: &mut Vec<Found>,
     classes: &Classes<'_>,
@@ -55,39 +53,123 @@ fn note_asked(
     id: NodeId,
 ) -> Result<(), Memory>
     requires { contexts.now ≡ contexts_in classes.now }
-    ensures { OnOk result (found.new.items ≡ found.old.items
-        ++ found_at (slice_get classes.now.nodes id) (node_found (declarations_of classes.now) id)) }
+    ensures { OnOk result (found.new.items ≡ found.old.items ++ found_there (declarations_of classes.now) id) }
 {
     let program = classes.program();
     let Some(node) = program.get(id) else {
         return Ok(());
     };
-    note_c9(found, classes, node)?;
-    note_c11(found, classes, contexts, id, node)?;
-    note_parameters(found, program, node)?;
-    Ok(())
+    match node {
+        Node::Class { place, flags, .. } => {
+            let is_wrong = flags.is_some() && is_misplaced_on_class(&modifiers_at(program, *flags));
+            report_if(found, is_wrong, Rule::C11, *place)
+        }
+        Node::Field {
+            place,
+            flags,
+            declared_type,
+            ..
+        } => {
+            note_type(found, classes, *declared_type)?;
+            let is_wrong = flags.is_some() && is_misplaced_on_field(&modifiers_at(program, *flags));
+            report_if(found, is_wrong, Rule::C11, *place)
+        }
+        Node::Method {
+            place,
+            name,
+            flags,
+            result_type,
+            parameters,
+            ..
+        } => {
+            note_type(found, classes, *result_type)?;
+            let is_wrong = is_misplaced_on_method(classes, contexts, id, name.get(), *flags)?;
+            report_if(found, is_wrong, Rule::C11, *place)?;
+            note_k3(found, program, *parameters)
+        }
+        Node::Constructor {
+            place,
+            name,
+            flags,
+            parameters,
+            ..
+        } => {
+            let is_wrong = is_misplaced_on_constructor(classes, contexts, id, name.get(), *flags);
+            report_if(found, is_wrong, Rule::C11, *place)?;
+            note_k3(found, program, *parameters)
+        }
+        Node::Parameter {
+            place,
+            flags,
+            declared_type,
+            ..
+        }
+        | Node::Local {
+            place,
+            flags,
+            declared_type,
+            ..
+        }
+        | Node::LocalWithValue {
+            name_place: place,
+            flags,
+            declared_type,
+            ..
+        } => {
+            note_type(found, classes, *declared_type)?;
+            let is_wrong = flags.is_some()
+                && is_misplaced_on_variable(&modifiers_at(program, *flags));
+            report_if(found, is_wrong, Rule::C11, *place)
+        }
+        Node::TypeArgument { place, name } => {
+            let is_wrong = names_no_mission(classes, name.get());
+            report_if(found, is_wrong, Rule::C9, *place)
+        }
+        Node::New {
+            name_place,
+            name,
+            ..
+        }
+        | Node::Cast {
+            name_place,
+            name,
+            ..
+        } => {
+            let is_wrong = names_no_class(classes, name.get());
+            report_if(found, is_wrong, Rule::C9, *name_place)
+        }
+        Node::NewArray { element, .. } => note_element(found, classes, *element),
+        _ => Ok(()),
+    }
 }
 
-/// Notes what is broken at a node, but for the limit on variables. Most nodes are of kinds that no rule asks, so their
-/// kind is looked at first.
+/// Notes what is broken at a node, and counts the variable that it declares. Most nodes are of kinds that no rule asks,
+/// so their kind is looked at first.
+#[tactic(auto, using(crate::proofs::NodeLemmas::unasked, crate::proofs::NodeLemmas::uncounted), unfolding(crate::specs::Nodes::noted_at, crate::specs::Nodes::late_at))]
 fn note_node(
     found: &mut Vec<Found>,
     classes: &Classes<'_>,
     contexts: &Contexts,
+    counts: &mut Vec<u32>,
     id: NodeId,
 ) -> Result<(), Memory>
-    requires { contexts.now ≡ contexts_in classes.now }
-    ensures { OnOk result (found.new.items ≡ found.old.items
-        ++ found_at (slice_get classes.now.nodes id) (node_found (declarations_of classes.now) id)) }
+    requires contexts { contexts.now ≡ contexts_in classes.now }
+    requires counted { AreCounted (declarations_of classes.now) id counts.old.items }
+    ensures found { OnOk result (found.new.items ≡ found.old.items ++ noted_at (declarations_of classes.now) id) }
+    ensures counted { OnOk result (AreCounted (declarations_of classes.now) (id + 1) counts.new.items) }
 {
-    if !is_asked(classes, id) {
+    let program = classes.program();
+    if !is_asked_kind(&program.kind(id)) {
         return Ok(());
     }
     note_asked(found, classes, contexts, id)?;
+    let number = count(program, contexts, counts, id)?;
+    note_late(found, program, contexts, id, number)?;
     Ok(())
 }
 
 /// Notes what is broken at the nodes.
+#[tactic(auto, using(crate::proofs::FindingLemmas::joined_next), unfolding(scj_tree::specs::Recursion::joined_below))]
 pub fn note_nodes(
     alloc: Global,
     found: &mut Vec<Found>,
@@ -99,9 +181,13 @@ pub fn note_nodes(
 {
     let mut counts = none_counted(alloc, classes.program())?;
     for place in 0..classes.program().len() {
-        let id = NodeId::at(place as u32);
-        note_node(found, classes, contexts, id)?;
-        count_node(found, classes, contexts, &mut counts, id)?;
+        note_node(
+            found,
+            classes,
+            contexts,
+            &mut counts,
+            NodeId::at(place as u32),
+        )?;
     }
     Ok(())
 }

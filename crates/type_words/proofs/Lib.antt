@@ -1,2 +1,1 @@
-pub mod NeverLemmas
 pub mod ReturnLemmas

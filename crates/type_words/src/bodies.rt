@@ -1,18 +1,24 @@
-//! The results of members, and the bodies of size methods.
+//! The results of members, the bodies of size methods, and statements that always return (as JLS 14.21, but for
+//! statements that aren't reached).
 
-ghost use Rattle.std.specs.Prelude.{◌≡◌};
+ghost use Rattle.std.specs.Prelude.{◌≡◌, IfOk, false, is_some};
+ghost use Rattle.std.specs.List.{list_any};
+ghost use Rattle.scj_tree.specs.Recursion.{lookup};
 ghost use Rattle.scj_rules.specs.Definitions.{read};
 ghost use Rattle.scj_rules.specs.Words.{holds};
 ghost use Rattle.scj_rules.specs.ClassRules.{is_same_type};
 ghost use Rattle.scj_rules.specs.declared.views.WrittenType.TheVariants.{Long as long_type, Void as void_type};
 ghost use Rattle.scj_rules.specs.Contexts.{declarations_of, contexts_in};
-ghost use Rattle.scj_rules.specs.TypeRules.{is_number, returns_number, is_size_body, result_of_member, result_at};
+ghost use Rattle.scj_rules.specs.Types.{is_true_literal, returns_of};
+ghost use Rattle.scj_rules.specs.TypeRules.{is_number, returns_number, is_size_body, result_at, always_returns};
+ghost use Rattle.type_words.specs.Returns.{all_returns, returns_next, is_returning_kind};
 
 use node_contexts::Contexts;
 use node_views::type_at;
-use scj_base::NodeId;
+use scj_base::{Memory, NodeId};
 use scj_rules::WrittenType;
-use scj_tree::{Node, Program};
+use scj_tree::{Node, NodeKind, Program};
+use std::alloc::Global;
 
 /// Whether the type is `void`.
 #[tactic(auto, unfolding(scj_rules::specs::ClassRules::is_same_type))]
@@ -30,81 +36,154 @@ pub fn is_long(t: &WrittenType) -> bool
     matches!(t, WrittenType::Long)
 }
 
-/// The result that the method at a node writes.
-#[tactic(auto, unfolding(scj_rules::specs::TypeRules::result_of_member))]
-fn result_of_member(program: &Program, member: NodeId) -> Option<NodeId>
-    ensures { result ≡ read program.now.nodes result_of_member member }
-{
-    match program.get(member)? {
-        Node::Method { result_type, .. } => Some(*result_type),
-        _ => None,
-    }
-}
-
 /// The result that is written where the node stands, `void` in a constructor.
-#[tactic(auto, unfolding(scj_rules::specs::TypeRules::result_at, scj_rules::specs::Contexts::declarations_of))]
+#[tactic(auto, unfolding(scj_rules::specs::TypeRules::result_at, scj_rules::specs::TypeRules::result_of_member, scj_rules::specs::Contexts::declarations_of))]
 pub fn result_at(program: &Program, contexts: &Contexts, id: NodeId) -> WrittenType
     requires { contexts.now ≡ contexts_in program.now }
     ensures { result ≡ result_at (declarations_of program.now) id }
 {
-    let Some(member) = contexts.get(id).member else {
-        return WrittenType::Void;
+    let member = match contexts.get(id).member {
+        Some(member) => program.get(member),
+        None => None,
     };
-    match result_of_member(program, member) {
-        Some(result_type) => type_at(program, result_type),
-        None => WrittenType::Void,
+    match member {
+        Some(Node::Method { result_type, .. }) => type_at(program, *result_type),
+        _ => WrittenType::Void,
     }
 }
 
-/// Whether a node is a number that is an `int`, if it is a number.
+/// Whether a node is a number that is an `int`.
 #[tactic(auto, unfolding(scj_rules::specs::TypeRules::is_number))]
-fn number(program: &Program, id: NodeId) -> Option<bool>
-    ensures { result ≡ read program.now.nodes is_number id }
+fn is_number(program: &Program, id: NodeId) -> bool
+    ensures { result ≡ holds (read program.now.nodes is_number id) (λ right. right) }
 {
-    match program.get(id)? {
-        Node::Number {
-            value,
-            is_negative,
-            ..
-        } => Some(!*is_negative && *value < 2147483648),
-        _ => None,
+    match program.get(id) {
+        Some(
+            Node::Number {
+                value,
+                is_negative,
+                ..
+            },
+        ) => !*is_negative && *value < 2147483648,
+        _ => false,
     }
 }
 
-/// The same of the value of a `return`.
+/// Whether a node returns one.
 #[tactic(auto, unfolding(scj_rules::specs::TypeRules::returns_number))]
-fn number_returned(program: &Program, id: NodeId) -> Option<bool>
-    ensures { result ≡ read program.now.nodes (returns_number program.now.nodes) id }
+fn returns_number(program: &Program, id: NodeId) -> bool
+    ensures { result ≡ holds (read program.now.nodes (returns_number program.now.nodes) id) (λ right. right) }
 {
-    match program.get(id)? {
-        Node::Return {
-            value: Some(value),
-            ..
-        } => number(program, *value),
-        _ => None,
-    }
-}
-
-/// The same of a block that is one `return`.
-#[tactic(auto, unfolding(scj_rules::specs::TypeRules::is_size_body))]
-fn number_in_block(program: &Program, id: NodeId) -> Option<bool>
-    ensures { result ≡ read program.now.nodes (is_size_body program.now.nodes) id }
-{
-    match program.get(id)? {
-        Node::Block { statements, .. } => match statements.items() {
-            [statement] => number_returned(program, *statement),
-            _ => None,
-        },
-        _ => None,
+    match program.get(id) {
+        Some(
+            Node::Return {
+                value: Some(value),
+                ..
+            },
+        ) => is_number(program, *value),
+        _ => false,
     }
 }
 
 /// Whether a body is `{ return N; }` of a number.
+#[tactic(auto, unfolding(scj_rules::specs::TypeRules::is_size_body))]
 pub fn is_size_body(program: &Program, body: NodeId) -> bool
     ensures { result ≡ holds (read program.now.nodes (is_size_body program.now.nodes) body) (λ right. right) }
 {
-    match number_in_block(program, body) {
-        Some(right) => right,
+    match program.get(body) {
+        Some(Node::Block { statements, .. }) => match statements.items() {
+            [statement] => returns_number(program, *statement),
+            _ => false,
+        },
+        _ => false,
+    }
+}
+
+/// What is told of a node.
+fn told(returns: &[bool], id: NodeId) -> bool
+    ensures { result ≡ lookup false returns.now id }
+{
+    matches!(returns.get(id.place()), Some(true))
+}
+
+/// Whether one of these nodes returns.
+fn any_returns(returns: &[bool], ids: &[NodeId]) -> bool
+    ensures { result ≡ list_any (lookup false returns.now) ids.now }
+{
+    ids.iter().any(|id| told(returns, *id))
+}
+
+/// Whether the node is the literal `true`.
+#[tactic(auto, unfolding(scj_rules::specs::Types::is_true_literal))]
+fn is_true(program: &Program, id: NodeId) -> bool
+    ensures { result ≡ is_some (read program.now.nodes is_true_literal id) }
+{
+    matches!(program.get(id), Some(Node::True { .. }))
+}
+
+/// Whether a node returns, by what is told of those before it.
+#[tactic(auto, unfolding(scj_rules::specs::Types::returns_of))]
+fn returns_of(program: &Program, returns: &[bool], node: &Node) -> bool
+    ensures { result ≡ returns_of program.now.nodes (lookup false returns.now) node.now }
+{
+    match node {
+        Node::Return { .. } => true,
+        Node::Block { statements, .. } => any_returns(returns, statements.items()),
+        Node::If {
+            then_part,
+            else_part: Some(other),
+            ..
+        } => told(returns, *then_part) && told(returns, *other),
+        Node::While { condition, .. } => is_true(program, *condition),
+        _ => false,
+    }
+}
+
+/// Whether nodes of this kind may always return.
+#[tactic(auto, unfolding(crate::specs::Returns::is_returning_kind))]
+fn is_returning_kind(kind: &Option<NodeKind>) -> bool
+    ensures { result ≡ is_returning_kind kind.now }
+{
+    matches!(
+        kind,
+        Some(NodeKind::Return | NodeKind::Block | NodeKind::If | NodeKind::While)
+    )
+}
+
+/// Whether the node of a number returns, by what is told of those before it. Its kind is looked at first, since most
+/// nodes are no statements.
+#[tactic(auto, using(crate::proofs::ReturnLemmas::never_returns))]
+fn returns_at(program: &Program, returns: &[bool], id: NodeId) -> bool
+    ensures { result ≡ returns_next program.now.nodes id (lookup false returns.now) }
+{
+    if !is_returning_kind(&program.kind(id)) {
+        return false;
+    }
+    match program.get(id) {
+        Some(node) => returns_of(program, returns, node),
         None => false,
     }
+}
+
+/// Whether each node always returns.
+#[tactic(auto, using(crate::proofs::ReturnLemmas::told_next), unfolding(crate::specs::Returns::all_returns, scj_tree::specs::Recursion::bottom_up))]
+pub fn returning(alloc: Global, program: &Program) -> Result<Vec<bool>, Memory>
+    ensures { IfOk result (λ returns. returns.items ≡ all_returns program.now.nodes) }
+{
+    let mut returns = Vec::with_capacity(alloc, program.len())?;
+    for place in 0..program.len() {
+        let value = returns_at(program, &returns, NodeId::at(place as u32));
+        returns.push(value)?;
+    }
+    Ok(returns)
+}
+
+/// Whether a body always returns.
+#[tactic(auto, using(crate::proofs::ReturnLemmas::body_returns), unfolding(scj_rules::specs::Contexts::declarations_of))]
+pub fn always_returns(program: &Program, returns: &[bool], body: NodeId) -> bool
+    requires { returns.now ≡ all_returns program.now.nodes }
+    ensures { result ≡ always_returns (declarations_of program.now) body }
+{
+    let _ = program;
+    told(returns, body)
 }

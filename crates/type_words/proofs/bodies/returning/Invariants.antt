@@ -1,7 +1,7 @@
 use Rattle.std.proofs.Common.{◌≡◌, false}
 use Rattle.scj_tree.specs.Recursion.{bottom_up}
 use Rattle.type_words.specs.Returns.{returns_next}
-use Rattle.type_words.proofs.returns.returning.Given as goal
+use Rattle.type_words.proofs.bodies.returning.Given as goal
 
 -- the nodes so far are told
 abbrev pub invariant-loop-place : goal.invariant-loop-place
