@@ -1,11 +1,15 @@
 -- The pass over the nodes of a file finds the heights that are defined.
-use Rattle.std.proofs.Common.{◌≡◌, ℕ, ◌+◌, ◌-◌, ◌<◌, ◌≤◌, zero, suc, max, List, [], ◌∷◌, ◌++◌, length, drop, Option, Some, None, slice_get, slice_index_or, get_or, drop-cons, add-one, nat_lt, Bool, true, false, refl, sym, ap, ◌∙◌, arith, rules, subst, length-append}
+use Rattle.std.proofs.Common.{◌≡◌, ℕ, ◌+◌, ◌-◌, ◌<◌, ◌≤◌, suc, max, List, [], ◌∷◌, ◌++◌, length, drop, Option, Some, None, slice_get, get_or, drop-cons, add-one, nat_lt, true, false, refl, sym, ap, ◌∙◌, arith, rules, subst, length-append, ⊎_elim}
 use Rattle.scj_tree.specs.Heights.{highest, weight, node_height, height, super_height, body_height, first_too_deep}
-use Rattle.scj_tree.specs.Recursion.{below}
+use Rattle.scj_tree.specs.Recursion.{below, lookup}
 use Rattle.scj_tree.specs.Shape.{children, optional, place_of}
 use Rattle.scj_tree.specs.declared.nodes.Node.{Node}
 use Rattle.scj_tree.specs.declared.nodes.Node.TheVariants.{Method, Constructor}
-use Rattle.scj_tree.proofs.RecursionLemmas.{by_smaller-is}
+use Rattle.scj_tree.proofs.RecursionLemmas.{by_smaller-is, lookup-front, lookup-next}
+use Rattle.std.proofs.lemmas.Bool.{cases_lt}
+use Rattle.std.proofs.lemmas.Grind.{common_steps}
+use Rattle.std.proofs.lemmas.List.{drop_all}
+use Rattle.std.proofs.lemmas.Option.{slice_get_read}
 use Rattle.scj_parser.specs.HeightRowsSupport.{row, AllWithin, ChildrenWithin, super_height_by, body_height_by}
 use Rattle.std.proofs.lemmas.Bool.Decides.{nat_tests}
 
@@ -56,59 +60,22 @@ pub light : (node : Node) → weight node ≤ 1
 unfolding weight
 light node = search rules
 
-row-front : (rows : List ℕ) (h i : ℕ) → i < length rows → slice_index_or (rows ++ h ∷ []) i 0 ≡ slice_index_or rows i 0
-row-front [] h i k = absurd (omega (arith, k))
-row-front (r ∷ rows) h zero k = refl
-row-front (r ∷ rows) h (suc i) k = row-front rows h i (omega (arith, k))
-
-row-last : (rows : List ℕ) (h i : ℕ) → i ≡ length rows → slice_index_or (rows ++ h ∷ []) i 0 ≡ h
-row-last [] h zero k = refl
-row-last [] h (suc i) k = absurd (omega (arith, k))
-row-last (r ∷ rows) h zero k = absurd (omega (arith, k))
-row-last (r ∷ rows) h (suc i) k = row-last rows h i (omega (arith, k))
-
-row-behind : (rows : List ℕ) (i : ℕ) → length rows ≤ i → slice_index_or rows i 0 ≡ 0
-row-behind [] i k = refl
-row-behind (r ∷ rows) zero k = absurd (omega (arith, k))
-row-behind (r ∷ rows) (suc i) k = row-behind rows i (omega (arith, k))
-
 -- the row with one height more
 pub holds-next : (nodes : List Node) (first at h : ℕ) (rows : List ℕ) → Holds nodes first at rows →
     h ≡ height nodes at → h ≤ length rows + 1 → Holds nodes first (at + 1) (rows ++ h ∷ [])
 holds-next nodes first at h rows k e l =
     record {
       count = rw length-append (omega (arith, k.count));
-      right = λ c low high. next_right c low high (nat_lt c at) refl;
-      small = λ c. next_small c (nat_lt (c - first) (length rows)) refl;
+      right = λ c low high. ⊎_elim
+          (λ (m : c < at). lookup-front 0 rows (h ∷ []) (c - first) (omega (arith, k.count, m, low)) ∙ k.right c low m)
+          (λ (m : at ≤ c). let same : c ≡ at = omega (arith, m, high) in
+          lookup-next 0 rows h (c - first) (omega (arith, k.count, same)) ∙ (e ∙ ap (height nodes) (sym same)))
+          (cases_lt c at);
+      small = λ c. small (c - first) (k.small c);
     }
   where
-    next_right : (c : ℕ) → first ≤ c → c < at + 1 → (b : Bool) → nat_lt c at ≡ b →
-        row first (rows ++ h ∷ []) c ≡ height nodes c
-    next_right c low high true e1 =
-        let lt : c < at = grind (arith, nat_tests) in
-        row-front rows h (c - first) (omega (arith, k.count, lt, low)) ∙ k.right c low lt
-    next_right c low high false e1 =
-        let ge : at ≤ c = grind (arith, nat_tests) in
-        let same : c ≡ at = omega (arith, ge, high) in
-        row-last rows h (c - first) (omega (arith, k.count, same)) ∙ (e ∙ ap (height nodes) (sym same))
-
-    next_last : (c : ℕ) (b : Bool) → nat_lt (length rows) (c - first) ≡ b → length rows ≤ c - first →
-        row first (rows ++ h ∷ []) c ≤ length (rows ++ h ∷ [])
-    next_last c true e1 ge =
-        let gt : length rows < c - first = grind (arith, nat_tests) in
-        rw length-append (omega (arith, row-behind (rows ++ h ∷ []) (c - first) (rw length-append (omega (arith, gt)))))
-    next_last c false e1 ge =
-        let same : c - first ≡ length rows = grind (arith, nat_tests) in
-        rw length-append (omega (arith, row-last rows h (c - first) same, l))
-
-    next_small : (c : ℕ) → (b : Bool) → nat_lt (c - first) (length rows) ≡ b →
-        row first (rows ++ h ∷ []) c ≤ length (rows ++ h ∷ [])
-    next_small c true e1 =
-        let lt : c - first < length rows = grind (arith, nat_tests) in
-        rw length-append (omega (arith, row-front rows h (c - first) lt, k.small c))
-    next_small c false e1 =
-        let ge : length rows ≤ c - first = grind (arith, nat_tests) in
-        next_last c (nat_lt (length rows) (c - first)) refl ge
+    small : (i : ℕ) → lookup 0 rows i ≤ length rows → lookup 0 (rows ++ h ∷ []) i ≤ length (rows ++ h ∷ [])
+    small i m = grind (arith, common_steps)
 
 -- ---- a body
 
@@ -150,123 +117,47 @@ same-body nodes first at rows _ h w = refl
 
 -- ---- the pass
 
-get-drop : (nodes : List Node) (k : ℕ) (node : Node) (others : List Node) → drop k nodes ≡ node ∷ others →
-    slice_get nodes k ≡ Some node
-get-drop [] zero node others e = cc
-get-drop [] (suc k) node others e = cc
-get-drop (m ∷ nodes) zero node others e = cc
-get-drop (m ∷ nodes) (suc k) node others e = get-drop nodes k node others e
+-- the nodes before the next have their heights in the row, and none of their bodies is too deep
+pub record Gone (nodes : List Node) (first : ℕ) (rows : List ℕ) (next : ℕ) : Type 0 where
+  pub same : first_too_deep nodes (drop first nodes) ≡ first_too_deep nodes (drop next nodes)
+  pub holds : Holds nodes first next rows
+  pub within : ChildrenWithin first next (drop next nodes)
 
-drop-next : (nodes : List Node) (k : ℕ) (node : Node) (others : List Node) → drop k nodes ≡ node ∷ others →
-    drop (suc k) nodes ≡ others
-drop-next [] zero node others e = cc
-drop-next [] (suc k) node others e = cc
-drop-next (m ∷ nodes) zero node others e = cc
-drop-next (m ∷ nodes) (suc k) node others e = drop-next nodes k node others e
+module _ (nodes : List Node) (first : ℕ) (rows : List ℕ) (next : ℕ) (g : Gone nodes first rows next) where
+  module _ (node : Node) (l : next < length nodes) (e : node ≡ get_or nodes next node) where
+    whole : drop next nodes ≡ node ∷ drop (next + 1) nodes
+    whole = rw add-one (drop-cons nodes next node l ∙ ap (λ (n : Node). n ∷ drop (suc next) nodes) (sym e))
 
--- the nodes up to the rest have their heights in the row, and none of their bodies is too deep
-pub record Gone (nodes : List Node) (first : ℕ) (rows : List ℕ) (rest : List Node) : Type 0 where
-  pub same : first_too_deep nodes (drop first nodes) ≡ first_too_deep nodes rest
-  pub holds : Holds nodes first (first + length rows) rows
-  pub left : drop (first + length rows) nodes ≡ rest
-  pub within : ChildrenWithin first (first + length rows) rest
+    within : ChildrenWithin first next (node ∷ drop (next + 1) nodes)
+    within = let P : List Node → Type 0 = ChildrenWithin first next in subst P whole g.within
 
-pub gone_none : (nodes : List Node) (first : ℕ) → ChildrenWithin first first (drop first nodes) →
-    Gone nodes first [] (drop first nodes)
-gone_none nodes first w =
-    let e : first ≡ first + 0 = omega arith in
-    record {
-      same = refl;
-      holds =
-          record {
-            count = refl;
-            right = λ c low high. absurd (omega (arith, low, high));
-            small = λ c. omega
-                (arith, row-behind [] (c - first) (omega arith));
-          };
-      left = ap (λ (n : ℕ). drop n nodes) (sym e);
-      within = (let P : ℕ → Type 0 = λ n. ChildrenWithin first n (drop first nodes) in subst P e w);
-    }
+    pub gone_deep : 64 < body_height_by (row first rows) node →
+        first_too_deep nodes (drop first nodes) ≡ Some (place_of node)
+    unfolding first_too_deep ChildrenWithin
+    gone_deep h =
+        let same = same-body nodes first next rows node g.holds within.0 in
+        let high : nat_lt 64 (body_height nodes node) ≡ true = grind (arith, nat_tests) in
+        g.same ∙ ap (first_too_deep nodes) whole ∙ rw high refl
 
-pub gone_deep : (nodes : List Node) (first : ℕ) (rows : List ℕ) (node : Node) (others : List Node) →
-    Gone nodes first rows (node ∷ others) → 64 < body_height_by (row first rows) node →
-    first_too_deep nodes (drop first nodes) ≡ Some (place_of node)
-unfolding first_too_deep ChildrenWithin
-gone_deep nodes first rows node others g h =
-    let same = same-body nodes first (first + length rows) rows node g.holds g.within.0 in
-    let e : nat_lt 64 (body_height nodes node) ≡ true =
-    (let lt : 64 < body_height nodes node = omega (arith, same, h) in grind (arith, nat_tests)) in
-    g.same ∙ rw e refl
+    pub gone_next : (h : ℕ) → body_height_by (row first rows) node ≤ 64 →
+        h ≡ weight node + highest (row first rows) (children node) → Gone nodes first (rows ++ h ∷ []) (next + 1)
+    unfolding first_too_deep ChildrenWithin
+    gone_next h low is =
+        let same = same-body nodes first next rows node g.holds within.0 in
+        let flat : nat_lt 64 (body_height nodes node) ≡ false = grind (arith, nat_tests) in
+        record {
+          same = g.same ∙ ap (first_too_deep nodes) whole ∙ rw flat refl;
+          holds = holds-next nodes first next h rows g.holds
+              (is ∙ next-height nodes first next rows node g.holds
+              (slice_get_read nodes (length nodes) next node refl l e) within.0)
+              (omega (arith, is, light node, small-highest first rows (children node) (length rows) g.holds.small));
+          within = within.1;
+        }
 
-pub gone_next : (nodes : List Node) (first : ℕ) (rows : List ℕ) (node : Node) (others : List Node) (h : ℕ) →
-    Gone nodes first rows (node ∷ others) → body_height_by (row first rows) node ≤ 64 →
-    h ≡ weight node + highest (row first rows) (children node) → Gone nodes first (rows ++ h ∷ []) others
-unfolding first_too_deep ChildrenWithin
-gone_next nodes first rows node others h g low e =
-    let at : ℕ = first + length rows in
-    let same = same-body nodes first (first + length rows) rows node g.holds g.within.0 in
-    let flat : nat_lt 64 (body_height nodes node) ≡ false =
-    (let le : body_height nodes node ≤ 64 = omega (arith, same, low) in grind (arith, nat_tests)) in
-    let is : h ≡ height nodes (first + length rows) =
-    e ∙ next-height nodes first (first + length rows) rows node g.holds
-    (get-drop nodes (first + length rows) node others g.left) g.within.0 in
-    let small : h ≤ length rows + 1 =
-    omega (arith, e, light node, small-highest first rows (children node) (length rows) g.holds.small) in
-    let next = holds-next nodes first (first + length rows) h rows g.holds is small in
-    let count : (first + length rows) + 1 ≡ first + length (rows ++ h ∷ []) = rw length-append (omega arith) in
-    let behind : suc (first + length rows) ≡ first + length (rows ++ h ∷ []) = rw length-append (omega arith) in
-    record {
-      same = g.same ∙ rw flat refl;
-      holds = (let P : ℕ → Type 0 = λ n. Holds nodes first n (rows ++ h ∷ []) in subst P count next);
-      left = ap (λ (n : ℕ). drop n nodes) (sym behind) ∙ drop-next nodes (first + length rows) node others g.left;
-      within = (let P : ℕ → Type 0 = λ n. ChildrenWithin first n others in subst P count g.within.1);
-    }
+  pub gone_small_child : (node : Node) → next < length nodes → highest (row first rows) (children node) < length nodes
+  gone_small_child node l =
+      omega (arith, small-highest first rows (children node) (length rows) g.holds.small, g.holds.count)
 
-pub gone_end : (nodes : List Node) (first : ℕ) (rows : List ℕ) → Gone nodes first rows [] →
-    first_too_deep nodes (drop first nodes) ≡ None
-unfolding first_too_deep
-gone_end nodes first rows g = g.same
-
-length-left : (nodes : List Node) (k : ℕ) (node : Node) (others : List Node) → drop k nodes ≡ node ∷ others →
-    k < length nodes
-length-left [] zero node others e = cc
-length-left [] (suc k) node others e = cc
-length-left (m ∷ nodes) zero node others e = omega arith
-length-left (m ∷ nodes) (suc k) node others e = omega (arith, length-left nodes k node others e)
-
--- each height in the row is below the number of the nodes
-pub gone_small : (nodes : List Node) (first : ℕ) (rows : List ℕ) (node : Node) (others : List Node) (c : ℕ) →
-    Gone nodes first rows (node ∷ others) → row first rows c < length nodes
-gone_small nodes first rows node others c g =
-    omega (arith, g.holds.small c, length-left nodes (first + length rows) node others g.left)
-
-pub gone_small_child : (nodes : List Node) (first : ℕ) (rows : List ℕ) (node : Node) (others : List Node) →
-    Gone nodes first rows (node ∷ others) → highest (row first rows) (children node) < length nodes
-gone_small_child nodes first rows node others g =
-    omega (
-      arith,
-      small-highest first rows (children node) (length rows) g.holds.small,
-      length-left nodes (first + length rows) node others g.left,
-    )
-
--- the rest begins with the node at its place
-pub gone_at : (nodes : List Node) (first : ℕ) (rows : List ℕ) (next : ℕ) (node : Node) →
-    Gone nodes first rows (drop next nodes) → next < length nodes → node ≡ get_or nodes next node →
-    Gone nodes first rows (node ∷ drop (next + 1) nodes)
-gone_at nodes first rows next node g l e =
-    let whole : drop next nodes ≡ node ∷ drop (next + 1) nodes =
-    rw add-one (drop-cons nodes next node l ∙ ap (λ (n : Node). n ∷ drop (suc next) nodes) (sym e)) in
-    let P : List Node → Type 0 = λ rest. Gone nodes first rows rest in
-    subst P whole g
-
-drop-all : (nodes : List Node) (n : ℕ) → length nodes ≤ n → drop n nodes ≡ []
-drop-all [] zero h = refl
-drop-all [] (suc n) h = refl
-drop-all (m ∷ nodes) zero h = absurd (omega (arith, h))
-drop-all (m ∷ nodes) (suc n) h = drop-all nodes n (omega (arith, h))
-
-pub gone_all : (nodes : List Node) (first : ℕ) (rows : List ℕ) (next : ℕ) → Gone nodes first rows (drop next nodes) →
-    length nodes ≤ next → first_too_deep nodes (drop first nodes) ≡ None
-gone_all nodes first rows next g l =
-    let P : List Node → Type 0 = λ rest. Gone nodes first rows rest in
-    gone_end nodes first rows (subst P (drop-all nodes next l) g)
+  pub gone_all : length nodes ≤ next → first_too_deep nodes (drop first nodes) ≡ None
+  unfolding first_too_deep
+  gone_all l = g.same ∙ ap (first_too_deep nodes) (drop_all next nodes l)

@@ -22,7 +22,6 @@ use Rattle.machine_laws.proofs.GrowthOfFiles.{forest_kept}
 use Rattle.scj_tree.specs.Files.{BreaksGrammar, FileRead, not_in_the_grammar}
 use Rattle.scj_tree.specs.Forest.{IsForest, forest_of}
 use Rattle.scj_tree.specs.Grammar.{RefusedAt, Tree}
-use Rattle.scj_tree.specs.Heights.{too_deep}
 use Rattle.scj_tree.specs.Lexemes.{Lexeme, lexeme_of, lexemes_of}
 use Rattle.scj_tree.specs.declared.nodes.Node.{Node}
 
@@ -96,26 +95,22 @@ unfolding answer
 rest_is_none st [] f e = e
 rest_is_none st (r ∷ rest) f e = cc (f r)
 
-pub is_done : (N : List Node) (i : List Lexeme) (st : State) → EndsThere i → way (start N) i ≡ to st →
-    finished st ≡ None → Prim.⊥
-is_done N i st there e none =
-    let reached : run (start N) i ≡ Some st = (way_run (start N) st i e).0 in
-    let begins = run_begins N i st reached in
-    let given = sym (answer_behind (start N) st i begins.rest reached) ∙ file_run begins.tree in
-    let behind : (r : Lexeme) → step st r ≡ None =
-    λ r. nothing_behind (start N) st there.front there.place r
-    (let P : List Lexeme → Type 0 = λ l. run (start N) l ≡ Some st in subst P there.is reached) in
-    some_none (sym none ∙ rest_is_none st begins.rest behind given)
+pub never_unfinished : (N : List Node) (i : List Lexeme) → EndsThere i →
+    ((st : State) × (way (start N) i ≡ to st) × (finished st ≡ None)) → Prim.⊥
+never_unfinished N i there h =
+    let reached : run (start N) i ≡ Some h.0 = (way_run (start N) h.0 i h.1).0 in
+    let begins = run_begins N i h.0 reached in
+    let given = sym (answer_behind (start N) h.0 i begins.rest reached) ∙ file_run begins.tree in
+    let behind : (r : Lexeme) → step h.0 r ≡ None =
+    λ r. nothing_behind (start N) h.0 there.front there.place r (rw there.is at reached) in
+    some_none (sym h.2 ∙ rest_is_none h.0 begins.rest behind given)
 
-pub tree_of : (N N1 : List Node) (i : List Lexeme) (st : State) (ids : List ℕ) → way (start N) i ≡ to st →
-    finished st ≡ Some (parsed N1 ids) → Tree N i N1 ids
-tree_of N N1 i st ids e f = answer_is_tree N i ((way_run (start N) st i e).1 ∙ f)
+-- a whole file is a tree
+pub whole_tree : (N N1 : List Node) (i : List Lexeme) (ids : List ℕ) →
+    ((st : State) × (way (start N) i ≡ to st) × (finished st ≡ Some (parsed N1 ids))) → Tree N i N1 ids
+whole_tree N N1 i ids h = answer_is_tree N i ((way_run (start N) h.0 i h.1).1 ∙ h.2)
 
 -- ---- programs
-
-pub added : {N N1 : List Node} {i : List Lexeme} {ids : List ℕ} {files more : List (List ℕ)} → Tree N i N1 ids →
-    more ≡ files ++ ids ∷ [] → too_deep (length N) N1 ≡ None → FileRead (forest_of N files) i (forest_of N1 more)
-added {N} {N1} {i} {ids} d e f = record { classes = ids; tree = d; files = e; is_low = f }
 
 pub forest_after : (N N1 : List Node) (i : List Lexeme) (files more : List (List ℕ)) →
     FileRead (forest_of N files) i (forest_of N1 more) → IsForest (forest_of N files) → length files < 16 →
@@ -123,15 +118,6 @@ pub forest_after : (N N1 : List Node) (i : List Lexeme) (files more : List (List
 forest_after N N1 i files more a h room fits =
     let P : List (List ℕ) → Type 0 = λ fs. IsForest (forest_of N1 fs) in
     subst P (sym a.files) (forest_kept files a.tree h room fits)
-
--- a whole file is a tree; what has no end is none
-pub whole_tree : (N N1 : List Node) (i : List Lexeme) (ids : List ℕ) →
-    ((st : State) × (way (start N) i ≡ to st) × (finished st ≡ Some (parsed N1 ids))) → Tree N i N1 ids
-whole_tree N N1 i ids h = tree_of N N1 i h.0 ids h.1 h.2
-
-pub never_unfinished : (N : List Node) (i : List Lexeme) → EndsThere i →
-    ((st : State) × (way (start N) i ≡ to st) × (finished st ≡ None)) → Prim.⊥
-never_unfinished N i there h = is_done N i h.0 there h.1 h.2
 
 -- two answers that are the same tell the same
 pub same_found : {A : Type 0} (f g : Found) → ◌≡◌ {A = Result A ParseAnswer} (Err (Bad f)) (Err (Bad g)) → f ≡ g

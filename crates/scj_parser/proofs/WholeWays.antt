@@ -73,6 +73,3 @@ answer_behind st last (u ∷ i) o e = go (λ next h. answer_behind next last i o
         elim r [ Some next ↦ answer next (i ++ o) | None ↦ None ] ≡ answer last o
     go f None e = cc
     go f (Some next) e = f next e
-
-pub way_answer : (st last : State) (i : List Lexeme) → way st i ≡ to last → answer st i ≡ finished last
-way_answer st last i e = (way_run st last i e).1

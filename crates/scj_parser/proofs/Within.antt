@@ -1,5 +1,6 @@
 -- The children of a file's nodes are nodes of the file.
-use Rattle.std.proofs.Common.{◌≡◌, ℕ, ◌+◌, ◌<◌, ◌≤◌, suc, Bool, true, false, nat_lt, List, [], ◌∷◌, ◌++◌, length, drop, refl, sym, ap, ◌∙◌, subst, arith, length-append, zero-add}
+use Rattle.std.proofs.Common.{◌≡◌, ℕ, ◌+◌, ◌<◌, ◌≤◌, suc, List, [], ◌∷◌, ◌++◌, length, drop, refl, ap, ◌∙◌, arith, length-append, zero-add, add-zero, ⊎_elim}
+use Rattle.std.proofs.lemmas.Bool.{cases_lt}
 use Rattle.std.proofs.lemmas.Bool.Decides.{nat_tests}
 use Rattle.machine_laws.proofs.Growth.{below, below-grows, below-low, below-one}
 use Rattle.machine_laws.proofs.GrowthOfFiles.{tree_grown}
@@ -20,16 +21,15 @@ times-rest : (y x : ℕ) (xs : List ℕ) → times y xs ≤ times y (x ∷ xs)
 unfolding times
 times-rest y x xs = omega arith
 
-not_low : (low x : ℕ) (b : Bool) → nat_lt x low ≡ b → (x < low → Prim.⊥) → low ≤ x
-not_low low x true e f = absurd (f (grind (arith, nat_tests)))
-not_low low x false e f = grind (arith, nat_tests)
-
 ids_within : (low high : ℕ) (ids : List ℕ) → AllBelow high ids → ((x : ℕ) → x < low → times x ids ≡ 0) →
     AllWithin low high ids
 unfolding AllBelow AllWithin
 ids_within low high [] b f = tt
 ids_within low high (x ∷ ids) b f = (
-  (not_low low x (nat_lt x low) refl (λ l. absurd (omega (arith, f x l, times-first x ids))), b.0),
+  (
+    ⊎_elim (λ (l : x < low). absurd (omega (arith, f x l, times-first x ids))) (λ (m : low ≤ x). m) (cases_lt x low),
+    b.0,
+  ),
   ids_within low high ids b.1 (λ y l. omega (arith, f y l, times-rest y x ids)),
 )
 
@@ -45,10 +45,9 @@ nodes_within low at (node ∷ more) h f = (
 
 first_behind : (from : ℕ) (N more : List Node) → ChildrenFirst from (N ++ more) → ChildrenFirst (from + length N) more
 unfolding ChildrenFirst
-first_behind from [] more h = let e : from ≡ from + 0 =
-    omega arith in (let P : ℕ → Type 0 = λ n. ChildrenFirst n more in subst P e h)
-first_behind from (m ∷ N) more h = let e : (from + 1) + length N ≡ from + suc (length N) =
-    omega arith in (let P : ℕ → Type 0 = λ n. ChildrenFirst n more in subst P e (first_behind (from + 1) N more h.1))
+first_behind from [] more h = rw add-zero h
+first_behind from (m ∷ N) more h =
+    let e : from + suc (length N) ≡ (from + 1) + length N = omega arith in rw e (first_behind (from + 1) N more h.1)
 
 drop_front : (N more : List Node) → drop (length N) (N ++ more) ≡ more
 drop_front [] more = refl
@@ -58,11 +57,8 @@ pub tree_within : {N N1 : List Node} {i : List Lexeme} {ids : List ℕ} → Tree
     ChildrenWithin (length N) (length N) (drop (length N) N1)
 tree_within {N} {N1} d h =
     let g = tree_grown d in
-    let all : ChildrenFirst 0 (N ++ g.more) =
-    (let P : List Node → Type 0 = λ M. ChildrenFirst 0 M in subst P g.whole (g.first h)) in
-    let behind : ChildrenFirst (length N) g.more =
-    (let e : 0 + length N ≡ length N = zero-add _ in let P : ℕ → Type 0 = λ n. ChildrenFirst n g.more in
-    subst P e (first_behind 0 N g.more all)) in
+    let all : ChildrenFirst 0 (N ++ g.more) = rw (← g.whole) (g.first h) in
+    let behind : ChildrenFirst (length N) g.more = rw zero-add at (first_behind 0 N g.more all) in
     let fresh : (x : ℕ) → x < length N → times x (all_children g.more) ≡ 0 = λ x l.
     let e : times x (all_children N1) ≡ times x (all_children N) + times x (all_children g.more) =
     ap (λ M. times x (all_children M)) g.whole
@@ -79,8 +75,7 @@ tree_within {N} {N1} d h =
       below-low x (length N) l,
     ) in
     let same : drop (length N) N1 ≡ g.more = ap (drop (length N)) g.whole ∙ drop_front N g.more in
-    (let P : List Node → Type 0 = λ M. ChildrenWithin (length N) (length N) M in
-    subst P (sym same) (nodes_within (length N) (length N) g.more behind fresh))
+    rw same (nodes_within (length N) (length N) g.more behind fresh)
 
 pub tree_longer : {N N1 : List Node} {i : List Lexeme} {ids : List ℕ} → Tree N i N1 ids → length N ≤ length N1
 tree_longer {N} {N1} d = let g = tree_grown d in omega (arith, ap length g.whole, length-append N g.more)

@@ -66,8 +66,8 @@ fn add_file(
     ensures few { OnOk result (length nodes.new.all < 2 ^ 32) }
     ensures kept { nodes.new.kept ≡ nodes.old.kept }
 {
-    let classes = read_classes(alloc, nodes, bytes, tokens)?;
     let first = nodes.kept_len();
+    let classes = read_classes(alloc, nodes, bytes, tokens)?;
     if let Some(pos) = too_deep(alloc, nodes.items(), first)? {
         return Err(ParseAnswer::Bad(Found {
             pos,

@@ -1,10 +1,7 @@
-use Rattle.std.proofs.Common.{◌≡◌, ℕ, List, Ok, ap, ◌∙◌, subst}
+use Rattle.std.proofs.Common.{◌≡◌, Ok, ap, ◌∙◌}
 use Rattle.parser_steps.specs.declared.file_reads.FileRead.{FileRead}
-use Rattle.scj_base.specs.declared.findings.Found.{Found}
 use Rattle.scj_base.specs.declared.findings.Rule.TheVariants.{P1}
 use Rattle.scj_parser.proofs.ParsingLemmas.{never_unfinished, refused_stop, same_found, whole_tree}
-use Rattle.scj_tree.specs.Files.{BreaksGrammar}
-use Rattle.scj_tree.specs.Grammar.{Tree}
 use Rattle.scj_tree.specs.Lexemes.{lexemes_of}
 use Rattle.scj_parser.proofs.parses.read_classes.Goals as goal
 
@@ -16,20 +13,14 @@ unreachable-requires c =
 pub returns-in-Whole-clause-ok : goal.returns-in-Whole-clause-ok
 returns-in-Whole-clause-ok c = λ classes e.
     let same : c.in-Whole.classes ≡ classes = cc e in
-    let P : List ℕ → Type 0 =
-    λ ids. Tree c.args.nodes.now.all (lexemes_of c.args.bytes.now c.args.tokens.now) c.read_file.new.nodes.all ids
-    in
-    subst P same
-    (whole_tree c.args.nodes.now.all c.read_file.new.nodes.all (lexemes_of c.args.bytes.now c.args.tokens.now)
-    c.in-Whole.classes
+    rw (← same) (whole_tree c.args.nodes.now.all c.read_file.new.nodes.all
+    (lexemes_of c.args.bytes.now c.args.tokens.now) c.in-Whole.classes
     (c.read_file.ensures.whole c.in-Whole.classes
     (c.in_ok-classes.was ∙ ap (λ (r : FileRead). Ok r) c.in-Whole.is)))
 
 pub returns-in-Stopped-clause-bad : goal.returns-in-Stopped-clause-bad
 returns-in-Stopped-clause-bad c = λ found e.
     let same = same_found (record { pos = c.in-Stopped.pos; rule = P1 }) found e in
-    let P : Found → Type 0 = λ f. BreaksGrammar c.args.nodes.now.all (lexemes_of c.args.bytes.now c.args.tokens.now) f
-    in
-    subst P same (refused_stop c.args.nodes.now.all (lexemes_of c.args.bytes.now c.args.tokens.now) c.in-Stopped.pos
+    rw (← same) (refused_stop c.args.nodes.now.all (lexemes_of c.args.bytes.now c.args.tokens.now) c.in-Stopped.pos
     (c.read_file.ensures.stopped c.in-Stopped.pos
     (c.in_ok-classes.was ∙ ap (λ (r : FileRead). Ok r) c.in-Stopped.is)))
