@@ -1,4 +1,3 @@
-pub mod KnownFacts
 pub mod Meanings
 pub mod Parameters
 pub mod Told

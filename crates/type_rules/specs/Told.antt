@@ -3,7 +3,7 @@ use Rattle.std.specs.Prelude.{None}
 use Rattle.scj_tree.specs.Recursion.{lookup}
 use Rattle.scj_rules.specs.Contexts.{Declarations, declarations_of}
 use Rattle.scj_rules.specs.TypeRules.{Types}
-use Rattle.type_rules.specs.declared.nodes.At.{At}
+use Rattle.type_rules.specs.declared.known.At.{At}
 
 abbrev pub declared : At → Declarations
 declared at = declarations_of at.known.now

@@ -1,20 +1,16 @@
 //! Arguments and the parameters that take them.
 
-ghost use Rattle.std.specs.Prelude.{◌≡◌, None, length, is_some, option_map, slice_get};
+ghost use Rattle.std.specs.Prelude.{◌≡◌, None, length, is_some};
 ghost use Rattle.std.specs.List.{list_all};
-ghost use Rattle.scj_rules.specs.declared.views.Declared.{Declared as Declaration};
 ghost use Rattle.scj_tree.specs.Recursion.{lookup};
-ghost use Rattle.scj_rules.specs.Words.{holds};
-ghost use Rattle.scj_rules.specs.Classes.{is_empty};
 ghost use Rattle.scj_rules.specs.Contexts.{declarations_of};
 ghost use Rattle.scj_rules.specs.Types.{all_types, constructor_parameters};
-ghost use Rattle.scj_rules.specs.TypeRules.{misfit};
-ghost use Rattle.type_rules.specs.Parameters.{taken, takes_type};
+ghost use Rattle.scj_rules.specs.TypeRules.{misfit, takes_arguments};
+ghost use Rattle.type_rules.specs.Parameters.{taken, parameter_type, takes_value, fits, all_fit};
 ghost use Rattle.type_rules.specs.Told.{declared, types};
 
-use crate::known::Known;
+use crate::known::{At, Known};
 use crate::names::{assigns, told, type_written};
-use crate::nodes::At;
 use method_rows::MethodRef;
 use scj_base::{ClassId, NodeId};
 use scj_rules::{Ty, WrittenType};
@@ -36,6 +32,7 @@ fn have_types(types: &[Option<Ty>], ids: &[NodeId]) -> bool
 }
 
 /// Whether each of these nodes has a type.
+#[tactic(auto, using(crate::proofs::ArgumentLemmas::typed_each))]
 pub fn are_typed(types: &[Option<Ty>], ids: &[NodeId]) -> bool
     ensures { result ≡ is_some (all_types (lookup None types.now) ids.now) }
 {
@@ -56,8 +53,7 @@ fn count(known: &Known<'_>, takes: &Takes) -> usize
 /// The type of the parameter of a number.
 #[tactic(auto, unfolding(crate::specs::Parameters::taken))]
 fn parameter_type(known: &Known<'_>, takes: &Takes, i: usize) -> Option<WrittenType>
-    ensures { result ≡ option_map (λ (d : Declaration). d.declared_type)
-        (slice_get (taken known.now.nodes takes.now) i) }
+    ensures { result ≡ parameter_type (taken known.now.nodes takes.now) i }
 {
     match takes {
         Takes::Method(method) => method_rows::parameter_type(known.program(), method, i),
@@ -65,43 +61,49 @@ fn parameter_type(known: &Known<'_>, takes: &Takes, i: usize) -> Option<WrittenT
     }
 }
 
-/// Whether the parameter of a number takes a value of the type.
-#[tactic(auto, using(crate::proofs::ArgumentLemmas::taken_by_type, crate::proofs::ArgumentLemmas::taken_by_none))]
-fn fits(known: &Known<'_>, takes: &Takes, i: usize, t: &Ty) -> bool
-    ensures { result ≡ holds (slice_get (taken known.now.nodes takes.now) i)
-        (takes_type (declarations_of known.now) t.now) }
+/// Whether a value of a type fits a parameter or a result of the type that is written.
+pub fn takes_value(known: &Known<'_>, written: &WrittenType, t: &Ty) -> bool
+    ensures { result ≡ takes_value (declarations_of known.now) t.now written.now }
 {
-    let Some(declared_type) = parameter_type(known, takes, i) else {
-        return false;
-    };
-    match type_written(known, &declared_type) {
-        Some(written) => assigns(known, t, &written),
+    match type_written(known, written) {
+        Some(u) => assigns(known, t, &u),
         None => false,
     }
 }
 
+/// Whether an argument has a type that fits the parameter of a number, if there is one.
+fn fits(at: &At<'_>, takes: &Takes, i: usize, argument: NodeId) -> bool
+    ensures { result ≡ fits (declared at.now) (types at.now) (taken at.now.known.now.nodes takes.now) i argument }
+{
+    match (at.type_of(argument), parameter_type(at.known, takes, i)) {
+        (Some(t), Some(written)) => takes_value(at.known, &written, &t),
+        _ => false,
+    }
+}
+
+/// Whether each argument fits the parameter of its number, and there are as many.
+#[tactic(auto, using(crate::proofs::ArgumentLemmas::one_misfits, crate::proofs::ArgumentLemmas::one_fits, crate::proofs::ArgumentLemmas::none_left))]
+fn all_fit(at: &At<'_>, takes: &Takes, ids: &[NodeId]) -> bool
+    ensures { result ≡ all_fit (declared at.now) (types at.now) (taken at.now.known.now.nodes takes.now) 0 ids.now }
+{
+    for i in 0..ids.len() {
+        if !fits(at, takes, i, ids[i]) {
+            return false;
+        }
+    }
+    !(ids.len() < count(at.known, takes))
+}
+
 /// Whether the arguments have types, and their number or types don't fit (JLS 15.9.3, 15.12.2, 8.8.7).
-#[tactic(auto, using(crate::proofs::ArgumentLemmas::misfit_untyped, crate::proofs::ArgumentLemmas::misfit_more, crate::proofs::ArgumentLemmas::misfit_end))]
+#[tactic(auto, using(crate::proofs::ArgumentLemmas::misfit_is))]
 pub fn misfit(at: &At<'_>, takes: &Takes, ids: &[NodeId]) -> bool
     ensures { result ≡ misfit (declared at.now) (types at.now) (taken at.now.known.now.nodes takes.now) ids.now }
 {
-    let mut i = 0;
-    let mut others = ids;
-    while let [id, rest @ ..] = others {
-        let Some(t) = at.type_of(*id) else {
-            return false;
-        };
-        if !fits(at.known, takes, i, &t) {
-            return are_typed(at.types, rest);
-        }
-        others = rest;
-        i += 1;
-    }
-    i < count(at.known, takes)
+    are_typed(at.types, ids) && !all_fit(at, takes, ids)
 }
 
 /// The parameters of a class's constructor: none where none is written (JLS 8.8.9).
-#[tactic(auto, unfolding(crate::specs::Parameters::taken))]
+#[tactic(auto, using(crate::proofs::ArgumentLemmas::constructor_takes), unfolding(crate::specs::Parameters::taken))]
 pub fn constructor_parameters(known: &Known<'_>, class: ClassId) -> Takes
     ensures { taken known.now.nodes result ≡ constructor_parameters (declarations_of known.now).classes class }
 {
@@ -111,10 +113,10 @@ pub fn constructor_parameters(known: &Known<'_>, class: ClassId) -> Takes
     }
 }
 
-/// Whether there are none.
+/// Whether the constructor of a class takes arguments.
 #[tactic(auto, unfolding(scj_rules::specs::Classes::is_empty))]
-pub fn takes_none(known: &Known<'_>, takes: &Takes) -> bool
-    ensures { result ≡ is_empty (taken known.now.nodes takes.now) }
+pub fn takes_arguments(known: &Known<'_>, class: ClassId) -> bool
+    ensures { result ≡ takes_arguments (declarations_of known.now) class }
 {
-    count(known, takes) == 0
+    count(known, &constructor_parameters(known, class)) > 0
 }

@@ -1,44 +1,44 @@
-//! What is told of a program before its types are.
+//! What is told of a program before its types are, and of a node before it is judged.
 
-ghost use Rattle.std.specs.Prelude.{◌≡◌};
+ghost use Rattle.std.specs.Prelude.{◌≡◌, None};
+ghost use Rattle.scj_tree.specs.Forest.{Forest};
+ghost use Rattle.scj_tree.specs.Recursion.{lookup};
 ghost use Rattle.scj_rules.specs.Classes.{class_number};
 ghost use Rattle.scj_rules.specs.Contexts.{declarations_of, contexts_in, context, variable_named, has_object};
-ghost use Rattle.scj_rules.specs.TypeRules.{result_at, always_returns};
+ghost use Rattle.scj_rules.specs.TypeRules.{result_at};
 ghost use Rattle.type_words.specs.Returns.{all_returns};
 ghost use Rattle.type_rules.specs.Meanings.{IsMeaningAt, AreMeanings};
 
-use crate::meanings::{NodeMeaning, row_of};
+use crate::meanings::NodeMeaning;
+use crate::names::told;
 use class_rows::Classes;
 use node_contexts::Contexts;
 use scj_base::{ClassId, Name, NodeId};
-use scj_rules::{Context, WrittenType};
+use scj_rules::{Context, Ty, WrittenType};
 use scj_tree::Program;
 use std::marker::Model;
 
-/// A program with its classes, the contexts of its nodes, those that always return, and what names, accesses and calls
-/// stand for as far as that is told. A contract sees the program.
+/// A program with its classes, and what is told of its nodes before their types. A contract sees the program.
 #[derive(Drop)]
 pub struct Known<'a> {
     pub(crate) classes: Classes<'a>,
     contexts: &'a Contexts,
-    returns: &'a [bool],
+    pub(crate) returns: &'a [bool],
     meanings: &'a [NodeMeaning],
 }
 
 impl<'a> Model for Known<'a> {
-    ghost use Rattle.scj_tree.specs.Forest.{Forest};
-
     ghost Value = { Forest };
-
-    ghost use Rattle.type_rules.specs.KnownFacts.{IsKnownOf};
 
     ghost view = { λ a. a.classes };
 
-    ghost invariant = { λ a. IsKnownOf a.classes a.contexts.now a.returns.now a.meanings.now };
+    ghost invariant = { λ a. (a.contexts.now ≡ contexts_in a.classes) × (a.returns.now ≡ all_returns a.classes.nodes)
+        × AreMeanings a.classes a.meanings.now };
 }
 
 impl<'a> Known<'a> {
     /// What is known of a program.
+    #[tactic(auto, using(crate::proofs::MeaningLemmas::no_meanings))]
     pub fn new(classes: Classes<'a>, contexts: &'a Contexts, returns: &'a [bool]) -> Known<'a>
         requires contexts { contexts.now ≡ contexts_in classes }
         requires returns { returns.now ≡ all_returns classes.nodes }
@@ -70,8 +70,8 @@ impl<'a> Known<'a> {
     pub(crate) fn row(&self, id: NodeId) -> NodeMeaning
         ensures { IsMeaningAt self.now id result }
     {
-        match row_of(self.meanings, id) {
-            Some(row) => row,
+        match self.meanings.get(id.place()) {
+            Some(row) => *row,
             None => NodeMeaning::Nothing,
         }
     }
@@ -125,11 +125,22 @@ impl<'a> Known<'a> {
     {
         type_words::result_at(self.program(), self.contexts, id)
     }
+}
 
-    /// Whether a body always returns.
-    pub fn always_returns(&self, body: NodeId) -> bool
-        ensures { result ≡ always_returns (declarations_of self.now) body }
+/// A node with what is known of its program, and the types of nodes as far as they are told.
+#[derive(Clone, Copy)]
+pub struct At<'a> {
+    pub known: &'a Known<'a>,
+    /// The types of the nodes before it.
+    pub types: &'a [Option<Ty>],
+    pub id: NodeId,
+}
+
+impl<'a> At<'a> {
+    /// The type of a node, if it has one.
+    pub fn type_of(&self, node: NodeId) -> Option<Ty>
+        ensures { result ≡ lookup None self.now.types.now node }
     {
-        type_words::always_returns(self.program(), self.returns, body)
+        told(self.types, node)
     }
 }

@@ -8,11 +8,9 @@ pub mod forms;
 pub mod known;
 pub mod meanings;
 pub mod names;
-pub mod nodes;
 pub mod results;
 pub mod rows;
 pub mod statements;
 
-pub use known::Known;
+pub use known::{At, Known};
 pub use meanings::{NameMeaning, NodeMeaning};
-pub use nodes::At;

@@ -1,8 +1,7 @@
 //! What simple names, accesses and calls stand for, as rows that are copied.
 
-ghost use Rattle.std.specs.Prelude.{◌≡◌, List, slice_get};
+ghost use Rattle.std.specs.Prelude.{◌≡◌, List};
 ghost use Rattle.scj_tree.specs.declared.nodes.Node.{Node as Row};
-ghost use Rattle.scj_rules.specs.Types.{class_in};
 ghost use Rattle.scj_rules.specs.TypeRules.{denotes_no_declaration, is_instance_field};
 ghost use Rattle.type_rules.specs.Meanings.{meant};
 
@@ -25,8 +24,7 @@ pub enum NameMeaning {
     Nothing,
 }
 
-/// What is looked up at a node, which hangs on no types: of an access and a call it tells the class that was asked, so
-/// that it says what that class has whatever is asked later.
+/// What is looked up at a node: of an access or a call what a class has, whatever class is asked later.
 #[derive(Clone, Copy, Debug)]
 pub enum NodeMeaning {
     /// What a simple name stands for.
@@ -37,27 +35,6 @@ pub enum NodeMeaning {
     Method(ClassId, MethodRef),
     /// Nothing is looked up, or nothing is found.
     Nothing,
-}
-
-/// The row of a node, if it is among these.
-pub(crate) fn row_of(rows: &[NodeMeaning], id: NodeId) -> Option<NodeMeaning>
-    ensures { result ≡ slice_get rows.now id }
-{
-    match rows.get(id.place()) {
-        Some(row) => Some(*row),
-        None => None,
-    }
-}
-
-/// The class that a name stands for.
-#[tactic(auto, unfolding(crate::specs::Meanings::meant, scj_rules::specs::Types::class_in))]
-pub fn class_in(meaning: &NameMeaning) -> Option<ClassId>
-    ensures { (nodes : List Row) → result ≡ class_in (meant nodes meaning.now) }
-{
-    match meaning {
-        NameMeaning::Class(class) => Some(*class),
-        _ => None,
-    }
 }
 
 /// Whether a name stands for nothing.
@@ -73,8 +50,5 @@ pub fn denotes_no_declaration(meaning: &NameMeaning) -> bool
 pub fn is_instance_field(program: &Program, meaning: &NameMeaning) -> bool
     ensures { result ≡ is_instance_field (meant program.now.nodes meaning.now) }
 {
-    match meaning {
-        NameMeaning::Field(field) => !is_static_field(program, field),
-        _ => false,
-    }
+    matches!(meaning, NameMeaning::Field(field) if !is_static_field(program, field))
 }

@@ -1,56 +1,30 @@
 //! What simple names, accesses and calls stand for, looked up once for each node, behind those that it hangs on.
 
-ghost use Rattle.std.specs.Prelude.{◌≡◌, ◌+◌, ℕ, Option, Some, List, OnOk, IfSome, length, slice_get};
-ghost use Rattle.scj_base.specs.declared.places.Pos.{Pos as Place};
-ghost use Rattle.scj_tree.specs.declared.nodes.Node.TheVariants.{FieldAccess, Call};
+ghost use Rattle.std.specs.Prelude.{◌≡◌, ◌+◌, OnOk, IfSome, length};
 ghost use Rattle.type_rules.specs.Meanings.{IsMeaningAt, AreMeanings};
 
 use crate::known::Known;
 use crate::meanings::NodeMeaning;
-use crate::names::{self, call_receiver, receiver};
-use scj_base::{Memory, Name, NodeId};
-use scj_rules::{Receiver, Ty};
+use crate::names::{call_receiver, meaning, receiver};
+use scj_base::{Memory, NodeId};
+use scj_rules::Ty;
 use scj_tree::{Node, NodeKind};
 use type_words::class_of_receiver;
 
-/// The row of an access of a field of this name, if the receiver has one.
-#[tactic(auto, unfolding(crate::specs::Meanings::IsMeaningAt))]
-fn access_row(known: &Known<'_>, receiver: &Receiver, name: &Name) -> Option<NodeMeaning>
-    ensures { (id : ℕ) (place : Place) (object : ℕ) →
-        slice_get known.now.nodes id ≡ Some (FieldAccess place name.now object) →
-        IfSome result (λ row. IsMeaningAt known.now id row) }
-{
-    let class = class_of_receiver(receiver)?;
-    let field = known.classes().field_named(class, name)?;
-    Some(NodeMeaning::Field(class, field))
-}
-
-/// The row of a call of a method of this name, if the receiver has one.
-#[tactic(auto, unfolding(crate::specs::Meanings::IsMeaningAt))]
-fn call_row(known: &Known<'_>, receiver: &Receiver, name: &Name) -> Option<NodeMeaning>
-    ensures { (id : ℕ) (place : Place) (object : Option ℕ) (arguments : List ℕ) →
-        slice_get known.now.nodes id ≡ Some (Call place name.now object arguments) →
-        IfSome result (λ row. IsMeaningAt known.now id row) }
-{
-    let class = class_of_receiver(receiver)?;
-    let method = known.classes().method_named(class, name)?;
-    Some(NodeMeaning::Method(class, method))
-}
-
 /// The row of a node, looked up.
-#[tactic(auto, unfolding(crate::specs::Meanings::IsMeaningAt))]
+#[tactic(auto, unfolding(crate::specs::Meanings::IsMeaningAt, crate::specs::Meanings::IsMember, crate::specs::Meanings::member_named))]
 fn looked_up(known: &Known<'_>, types: &[Option<Ty>], id: NodeId) -> Option<NodeMeaning>
     ensures { IfSome result (λ row. IsMeaningAt known.now id row) }
 {
     match known.program().get(id)? {
-        Node::SimpleName { name, .. } => {
-            Some(NodeMeaning::Name(names::looked_up(known, id, name.get())))
-        }
+        Node::SimpleName { name, .. } => Some(NodeMeaning::Name(meaning(known, id, name.get()))),
         Node::FieldAccess { name, object, .. } => {
-            access_row(known, &receiver(known, types, *object)?, name.get())
+            let class = class_of_receiver(&receiver(known, types, *object)?)?;
+            Some(NodeMeaning::Field(class, known.classes().field_named(class, name.get())?))
         }
         Node::Call { name, object, .. } => {
-            call_row(known, &call_receiver(known, types, id, object)?, name.get())
+            let class = class_of_receiver(&call_receiver(known, types, id, object)?)?;
+            Some(NodeMeaning::Method(class, known.classes().method_named(class, name.get())?))
         }
         _ => None,
     }
@@ -69,10 +43,7 @@ fn next_row(
 {
     match known.program().kind(id) {
         Some(NodeKind::SimpleName | NodeKind::FieldAccess | NodeKind::Call) => {
-            match looked_up(&known.with_meanings(rows), types, id) {
-                Some(row) => row,
-                None => NodeMeaning::Nothing,
-            }
+            looked_up(&known.with_meanings(rows), types, id).unwrap_or(NodeMeaning::Nothing)
         }
         _ => NodeMeaning::Nothing,
     }

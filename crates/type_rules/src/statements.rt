@@ -4,20 +4,21 @@ ghost use Rattle.std.specs.Prelude.{◌≡◌, ◌++◌, OnOk};
 ghost use Rattle.scj_rules.specs.Definitions.{read};
 ghost use Rattle.scj_rules.specs.Words.{holds};
 ghost use Rattle.scj_rules.specs.Contexts.{declarations_of};
-ghost use Rattle.scj_rules.specs.TypeRules.{superclass_at, misfits_value, misfits_initial_value, misfits_assignment, is_length_target, misfits_condition, fits_result, misfits_result, ends_without_return, has_framework_size, misfits_size, misfits_long, misfits_super_call};
+ghost use Rattle.scj_rules.specs.TypeRules.{superclass_at, misfits_value, misfits_initial_value, misfits_assignment, is_length_target, misfits_condition, misfits_result, ends_without_return, has_framework_size, misfits_long, misfits_super_call};
 ghost use Rattle.type_rules.specs.Told.{declared, types};
 
-use crate::arguments::{constructor_parameters, misfit};
+use crate::arguments::{constructor_parameters, misfit, takes_value};
 use crate::forms::has_form;
-use crate::known::Known;
-use crate::names::{assigns, receiver, type_written, written_type};
-use crate::nodes::At;
+use crate::known::{At, Known};
+use crate::names::{assigns, receiver, written_type};
 use method_rows::result_type;
 use node_views::{place_at, type_at};
 use scj_base::{ClassId, Found, Memory, Name, NodeId, Rule};
-use scj_rules::{Ty, WrittenType, report_if};
+use scj_rules::{Ty, report_if};
 use scj_tree::Node;
-use type_words::{are_same, is_array_value, is_length, is_long, is_size_body, is_void};
+use type_words::{
+    always_returns, are_same, is_array_value, is_length, is_long, is_size_body, is_void,
+};
 
 /// Whether a value can't be assigned to the target, where both have types.
 fn misfits_value(known: &Known<'_>, target: &Option<Ty>, value: &Option<Ty>) -> bool
@@ -33,11 +34,8 @@ fn misfits_value(known: &Known<'_>, target: &Option<Ty>, value: &Option<Ty>) -> 
 pub fn misfits_initial_value(at: &At<'_>, declared_type: NodeId, value: NodeId) -> bool
     ensures { result ≡ misfits_initial_value (declared at.now) (types at.now) declared_type value }
 {
-    misfits_value(
-        at.known,
-        &written_type(at.known, declared_type),
-        &at.type_of(value),
-    )
+    let target = written_type(at.known, declared_type);
+    misfits_value(at.known, &target, &at.type_of(value))
 }
 
 /// Whether the target is the length of an array.
@@ -46,14 +44,12 @@ fn is_length_target(at: &At<'_>, target: NodeId) -> bool
     ensures { result ≡ holds
         (read (declared at.now).nodes (is_length_target (declared at.now) (types at.now)) target) (λ b. b) }
 {
-    match at.known.program().get(target) {
-        Some(Node::FieldAccess { name, object, .. }) => {
-            match receiver(at.known, at.types, *object) {
-                Some(r) => is_array_value(&r) && is_length(name.get()),
-                None => false,
-            }
-        }
-        _ => false,
+    let Some(Node::FieldAccess { name, object, .. }) = at.known.program().get(target) else {
+        return false;
+    };
+    match receiver(at.known, at.types, *object) {
+        Some(r) => is_array_value(&r) && is_length(name.get()),
+        None => false,
     }
 }
 
@@ -74,42 +70,24 @@ pub fn note_condition(found: &mut Vec<Found>, at: &At<'_>, condition: NodeId) ->
     ensures { OnOk result (found.new.items ≡ found.old.items
         ++ misfits_condition (declared at.now) (types at.now) condition) }
 {
-    let misfits = match at.type_of(condition) {
-        Some(t) => !are_same(&t, &Ty::Bool),
-        None => false,
-    };
-    report_if(
-        found,
-        misfits,
-        Rule::T8,
-        place_at(at.known.program(), condition),
-    )
+    let t = at.type_of(condition);
+    let misfits = t.is_some_and(|t| !are_same(&t, &Ty::Bool));
+    let place = place_at(at.known.program(), condition);
+    report_if(found, misfits, Rule::T8, place)
 }
 
-/// Whether a value of the type fits the result. An int fits a result `long`.
-fn fits_result(known: &Known<'_>, result_type: &WrittenType, t: &Ty) -> bool
-    ensures { result ≡ fits_result (declarations_of known.now) result_type.now t.now }
-{
-    if is_long(result_type) {
-        return are_same(t, &Ty::Int);
-    }
-    if is_void(result_type) {
-        return false;
-    }
-    match type_written(known, result_type) {
-        Some(written) => assigns(known, t, &written),
-        None => false,
-    }
-}
-
-/// Whether the value of a `return` doesn't fit the result.
+/// Whether the value of a `return` doesn't fit the result. An int fits a result `long`.
 pub fn misfits_result(at: &At<'_>, value: NodeId) -> bool
     ensures { result ≡ misfits_result (declared at.now) (types at.now) at.now.id value }
 {
-    match at.type_of(value) {
-        Some(t) => !fits_result(at.known, &at.known.result_at(at.id), &t),
-        None => false,
+    let Some(t) = at.type_of(value) else {
+        return false;
+    };
+    let result_type = at.known.result_at(at.id);
+    if is_long(&result_type) {
+        return !are_same(&t, &Ty::Int);
     }
+    !(!is_void(&result_type) && takes_value(at.known, &result_type, &t))
 }
 
 /// Whether a body with a result doesn't always return.
@@ -117,7 +95,8 @@ pub fn misfits_result(at: &At<'_>, value: NodeId) -> bool
 pub fn ends_without_return(known: &Known<'_>, result_type: NodeId, body: NodeId) -> bool
     ensures { result ≡ ends_without_return (declarations_of known.now) result_type body }
 {
-    !is_void(&type_at(known.program(), result_type)) && !known.always_returns(body)
+    let program = known.program();
+    !is_void(&type_at(program, result_type)) && !always_returns(program, known.returns, body)
 }
 
 /// Whether the framework has a method of the name for the class, whose result is `long`.
@@ -130,26 +109,8 @@ pub fn has_framework_size(known: &Known<'_>, class: ClassId, name: &Name) -> boo
     }
 }
 
-/// Whether a method of result `long` isn't one of the framework's size methods, or has another body than such a one.
+/// Whether a method has the result `long`, and isn't one of the framework's size methods or has another body than these.
 #[tactic(auto, unfolding(scj_rules::specs::TypeRules::misfits_size, scj_rules::specs::Contexts::declarations_of))]
-fn misfits_size(known: &Known<'_>, id: NodeId, name: &Name, body: &Option<NodeId>) -> bool
-    ensures { result ≡ misfits_size (declarations_of known.now) id name.now body.now }
-{
-    let is_size = match known.context(id).class {
-        Some(class) => has_framework_size(known, class, name),
-        None => false,
-    };
-    if !is_size {
-        return true;
-    }
-    match body {
-        Some(body) => !is_size_body(known.program(), *body),
-        None => false,
-    }
-}
-
-/// Whether a method has the result `long` and is no size method.
-#[tactic(auto, unfolding(scj_rules::specs::Contexts::declarations_of))]
 pub fn misfits_long(
     known: &Known<'_>,
     id: NodeId,
@@ -159,26 +120,32 @@ pub fn misfits_long(
 ) -> bool
     ensures { result ≡ misfits_long (declarations_of known.now) id name.now result_type body.now }
 {
-    is_long(&type_at(known.program(), result_type)) && misfits_size(known, id, name, body)
+    if !is_long(&type_at(known.program(), result_type)) {
+        return false;
+    }
+    let is_size = match known.context(id).class {
+        Some(class) => has_framework_size(known, class, name),
+        None => false,
+    };
+    match body {
+        Some(body) => !is_size || !is_size_body(known.program(), *body),
+        None => !is_size,
+    }
 }
 
 /// The superclass of the class in which a node stands.
-fn superclass_at(known: &Known<'_>, id: NodeId) -> Option<ClassId>
+pub fn superclass_at(known: &Known<'_>, id: NodeId) -> Option<ClassId>
     ensures { result ≡ superclass_at (declarations_of known.now) id }
 {
-    let class = known.context(id).class?;
-    known.classes().superclass(class)
+    known.classes().superclass(known.context(id).class?)
 }
 
 /// Whether the arguments of a super call don't fit, where no form is due.
 pub fn misfits_super_call(at: &At<'_>, arguments: &[NodeId]) -> bool
     ensures { result ≡ misfits_super_call (declared at.now) (types at.now) at.now.id arguments.now }
 {
-    match superclass_at(at.known, at.id) {
-        Some(superclass) => {
-            !has_form(superclass)
-                && misfit(at, &constructor_parameters(at.known, superclass), arguments)
-        }
-        None => false,
-    }
+    let Some(superclass) = superclass_at(at.known, at.id) else {
+        return false;
+    };
+    !has_form(superclass) && misfit(at, &constructor_parameters(at.known, superclass), arguments)
 }

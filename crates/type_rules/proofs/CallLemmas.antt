@@ -1,0 +1,56 @@
+-- What is broken at a call, where its receiver and its method are told.
+use Rattle.std.proofs.Common.{◌≡◌, ℕ, Bool, true, false, not, ◌&&◌, List, [], ◌++◌, Option, Some, None, is_some, refl, append-nil}
+use Rattle.scj_base.specs.declared.findings.Found.{Found}
+use Rattle.scj_base.specs.declared.findings.Rule.TheVariants.{T3, T5, T6, T13}
+use Rattle.scj_base.specs.declared.places.Pos.{Pos}
+use Rattle.scj_tree.specs.declared.nodes.Node.TheVariants.{Call}
+use Rattle.scj_rules.specs.declared.typing.Receiver.{Receiver}
+use Rattle.scj_rules.specs.Words.{broken, holds}
+use Rattle.scj_rules.specs.Classes.{FoundMethod}
+use Rattle.scj_rules.specs.Contexts.{Declarations}
+use Rattle.scj_rules.specs.Types.{all_types, is_no_reference, call_receiver, called_method}
+use Rattle.scj_rules.specs.TypeRules.{Types, type_breaks, t1, t2, t3, t4, t5, t6, t7, t8, t9, t10, t11, t12, t13, t14, lacks_method, misfits_method, cannot_be_called, lacks_object}
+use Rattle.type_rules.specs.Parameters.{breaks_on}
+
+pub typed_test : {A : Type 0} (o : Option A) (b : Bool) → holds o (λ _. b) ≡ (b && is_some o)
+typed_test None true = refl
+typed_test None false = refl
+typed_test (Some x) true = refl
+typed_test (Some x) false = refl
+
+module _ (p : Declarations) (types : Types) (id : ℕ) (place : Pos) (name : List ℕ) (object : Option ℕ)
+    (arguments : List ℕ) where
+  none : (n l t : Bool) → broken (n && t) T3 place ++ (broken ((not n && true) && t) T5 place
+      ++ (broken (not (not n && true) && false) T6 place
+      ++ (broken ((l && (not (not n && true) && false)) && t) T13 place ++ [])))
+      ≡ broken (n && t) T3 place ++ (broken (not n && t) T5 place ++ [])
+  none true true t = refl
+  none true false t = refl
+  none false true t = refl
+  none false false t = refl
+
+  typed : (b : Bool) → holds (all_types types arguments) (λ _. b) ≡ (b && is_some (all_types types arguments))
+  typed b = typed_test (all_types types arguments) b
+
+  by_method : (r : Receiver) (m : Option FoundMethod) → Some r ≡ call_receiver p types id object →
+      m ≡ called_method p r name →
+      type_breaks p types id (Call place name object arguments) ≡ breaks_on p types id place r m arguments
+  unfolding type_breaks t1 t2 t3 t4 t5 t6 t7 t8 t9 t10 t11 t12 t13 t14 lacks_method misfits_method breaks_on
+  by_method r None h k =
+      let n = is_no_reference r in
+      let apart = lacks_object p id r && (not (not n && true) && false) in
+      rw (← h, ← k) (rw (typed n, typed (not n && true), typed apart) (none n (lacks_object p id r) _))
+  by_method r (Some f) h k =
+      let lacks = not (is_no_reference r) && cannot_be_called p r f in
+      let apart = lacks_object p id r && (not lacks && not f.method.declared.modifiers.is_static) in
+      rw (← h, ← k) (rw (typed (is_no_reference r), typed lacks, typed apart) refl)
+
+  pub call_breaks : (r : Receiver) → Some r ≡ call_receiver p types id object →
+      type_breaks p types id (Call place name object arguments)
+      ≡ breaks_on p types id place r (called_method p r name) arguments
+  call_breaks r h = by_method r (called_method p r name) h refl
+
+  pub no_breaks : (found : List Found) → None ≡ call_receiver p types id object →
+      found ++ type_breaks p types id (Call place name object arguments) ≡ found
+  unfolding type_breaks t1 t2 t3 t4 t5 t6 t7 t8 t9 t10 t11 t12 t13 t14
+  no_breaks found h = rw (← h) (append-nil found)
