@@ -1,3 +1,1 @@
 pub mod ArrayLemmas
-pub mod CallLemmas
-pub mod KindLemmas

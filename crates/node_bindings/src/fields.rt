@@ -1,29 +1,21 @@
 //! What fields, arrays and classes stand for.
 
-ghost use Rattle.std.specs.Prelude.{◌≡◌, ◌+◌, IfOk, None};
-ghost use Rattle.scj_tree.specs.Recursion.{lookup};
-ghost use Rattle.scj_rules.specs.Contexts.{declarations_of};
+ghost use Rattle.std.specs.Prelude.{◌≡◌, ◌+◌, IfOk, None, length, option_and_then};
+ghost use Rattle.scj_rules.specs.declared.typing.FoundField.{FoundField};
+ghost use Rattle.scj_rules.specs.declared.typing.Receiver.TheVariants.{Class as the_class};
+ghost use Rattle.scj_rules.specs.Contexts.{declarations_of, context};
+ghost use Rattle.scj_rules.specs.Types.{accessed_field, receiver};
+ghost use Rattle.scj_rules.specs.Bindings.{array_class, plain_or, field_binding, class_binding, access_binding};
 ghost use Rattle.class_rows.specs.Fields.{found_field};
-ghost use Rattle.node_bindings.specs.Arrays.{array_class_at};
-ghost use Rattle.scj_rules.specs.Bindings.{array_class, field_binding, class_binding, access_binding, second_class};
+ghost use Rattle.type_rules.specs.Told.{declared, types};
 
 use class_rows::fields::is_static_field;
 use class_rows::{Classes, FieldRef};
 use scj_base::{ClassId, Memory, Name, NodeId};
 use scj_rules::{Binding, Receiver, Ty};
-use type_rules::Known;
-use type_rules::names::{field_accessed, told};
-use type_words::{class_of_type, is_array_value, is_length};
-
-/// The sum, if it fits.
-pub fn sum(a: usize, b: u32) -> Result<u32, Memory>
-    ensures { IfOk result (λ n. n ≡ a + b) }
-{
-    if a > 0x7fff_ffff || b > 0x7fff_ffff {
-        return Err(Memory);
-    }
-    Ok(a as u32 + b)
-}
+use type_rules::names::{accessed_field, field_accessed, receiver};
+use type_rules::{At, Known};
+use type_words::{is_array_value, is_length};
 
 /// A class, if there is one.
 pub fn class_binding(class: Option<ClassId>) -> Binding
@@ -52,55 +44,71 @@ pub fn field_binding(classes: &Classes<'_>, field: &FieldRef) -> Binding
     }
 }
 
-/// What an access stands for.
-#[tactic(auto, unfolding(scj_rules::specs::Bindings::access_binding))]
-pub fn access_binding(known: &Known<'_>, id: NodeId, receiver: &Receiver, name: &Name) -> Binding
-    ensures { result ≡ access_binding (declarations_of known.now) receiver.now name.now }
+/// The field of a name in the class where a node stands.
+pub fn field_here(known: &Known<'_>, id: NodeId, name: &Name) -> Binding
+    ensures { let p = declarations_of known.now in
+        result ≡ plain_or (λ (row : FoundField). field_binding p row.field)
+        (option_and_then (λ class. accessed_field p (the_class class) name.now) (context p id).class) }
 {
-    if is_array_value(receiver) && is_length(name) {
-        return Binding::Length;
-    }
-    match field_accessed(known, id, receiver, name) {
+    let Some(class) = known.context(id).class else {
+        return Binding::Plain;
+    };
+    match accessed_field(known, &Receiver::Class(class), name) {
         Some(field) => field_binding(known.classes(), &field),
         None => Binding::Plain,
     }
 }
 
-/// The type of the second argument, where it is a class.
-#[tactic(auto, unfolding(scj_rules::specs::Bindings::second_class))]
-pub fn second_class(types: &[Option<Ty>], arguments: &[NodeId]) -> Option<ClassId>
-    ensures { result ≡ second_class (lookup None types.now) arguments.now }
+/// An access.
+#[tactic(auto, unfolding(scj_rules::specs::Bindings::access_binding))]
+pub fn access_at(at: &At<'_>, object: NodeId, name: &Name) -> Binding
+    ensures { let p = declared at.now in
+        result ≡ plain_or (λ r. access_binding p r name.now) (receiver p (types at.now) object) }
 {
-    match arguments {
-        [_, second] => {
-            let t = told(types, *second)?;
-            class_of_type(&t)
-        }
-        _ => None,
+    let Some(receiver) = receiver(at.known, at.types, object) else {
+        return Binding::Plain;
+    };
+    if is_array_value(&receiver) && is_length(name) {
+        return Binding::Length;
+    }
+    match field_accessed(at.known, at.id, &receiver, name) {
+        Some(field) => field_binding(at.known.classes(), &field),
+        None => Binding::Plain,
     }
 }
 
-/// The class of an array, behind the others: `count` is how many these are.
-#[tactic(auto, unfolding(crate::specs::Arrays::array_class_at))]
-fn array_number(count: usize, t: &Ty) -> Result<Option<ClassId>, Memory>
-    ensures { IfOk result (λ class. class ≡ array_class_at count t.now) }
+/// The sum, if it fits.
+fn sum(a: usize, b: u32) -> Result<u32, Memory>
+    ensures { IfOk result (λ n. n ≡ a + b) }
 {
+    if a > 0x7fff_ffff || b > 0x7fff_ffff {
+        return Err(Memory);
+    }
+    Ok(a as u32 + b)
+}
+
+/// How many names of classes there are: each class has one.
+#[tactic(auto, using(crate::proofs::ArrayLemmas::names_length))]
+fn name_count(classes: &Classes<'_>) -> usize
+    ensures { result ≡ length (declarations_of classes.now).names }
+{
+    classes.count()
+}
+
+/// The class of an array, behind the others.
+#[tactic(auto, unfolding(scj_rules::specs::Bindings::array_class))]
+pub fn array_class(classes: &Classes<'_>, t: &Ty) -> Result<Option<ClassId>, Memory>
+    ensures { IfOk result (λ class. class ≡ array_class (declarations_of classes.now) t.now) }
+{
+    let first = name_count(classes);
     let number = match t {
-        Ty::IntArray => sum(count, 0)?,
-        Ty::BoolArray => sum(count, 1)?,
+        Ty::IntArray => sum(first, 0)?,
+        Ty::BoolArray => sum(first, 1)?,
         Ty::ClassArray(class) => {
-            let two = sum(count, 2)?;
+            let two = sum(first, 2)?;
             sum(two as usize, class.number())?
         }
         _ => return Ok(None),
     };
     Ok(Some(ClassId::at(number)))
-}
-
-/// The class of an array.
-#[tactic(auto, using(crate::proofs::ArrayLemmas::array_class_is))]
-pub fn array_class(classes: &Classes<'_>, t: &Ty) -> Result<Option<ClassId>, Memory>
-    ensures { IfOk result (λ class. class ≡ array_class (declarations_of classes.now) t.now) }
-{
-    array_number(classes.count(), t)
 }

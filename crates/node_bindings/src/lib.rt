@@ -1,10 +1,10 @@
 //! What the nodes of a program stand for.
 #![tactic(auto)]
 
-pub mod calls;
-pub mod fields;
-pub mod kinds;
-pub mod numbers;
-pub mod programs;
+mod calls;
+mod fields;
+mod kinds;
+mod numbers;
+mod programs;
 
 pub use programs::bindings_of;

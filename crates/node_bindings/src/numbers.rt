@@ -1,17 +1,17 @@
 //! What stands for a variable: its number within its member.
 
-ghost use Rattle.std.specs.Prelude.{◌≡◌, ◌==◌, IfOk, position, option_and_then};
+ghost use Rattle.std.specs.Prelude.{◌≡◌, ◌==◌, IfOk, position};
 ghost use Rattle.scj_tree.specs.Recursion.{lookup};
-ghost use Rattle.scj_rules.specs.declared.typing.Binding.TheVariants.{Local as LocalVariable};
 ghost use Rattle.scj_rules.specs.Bindings.{variable_binding};
-ghost use Rattle.scj_rules.specs.Contexts.{declarations_of, context};
+ghost use Rattle.scj_rules.specs.Contexts.{declarations_of};
 ghost use Rattle.scj_rules.specs.LimitRules.{is_variable_of, variables_of};
 ghost use Rattle.node_contexts.specs.Numbers.{numbers_before};
+ghost use Rattle.type_rules.specs.Told.{declared};
 
 use node_views::is_variable;
 use scj_base::{Memory, NodeId};
 use scj_rules::Binding;
-use type_rules::Known;
+use type_rules::{At, Known};
 
 /// Whether a node declares a variable of a member.
 #[tactic(auto, unfolding(scj_rules::specs::Contexts::declarations_of))]
@@ -49,41 +49,23 @@ fn place_of(known: &Known<'_>, numbers: &[u32], member: NodeId, variable: NodeId
     }
 }
 
-/// The place of a variable among those of the member in which a node stands.
-fn place_here(known: &Known<'_>, numbers: &[u32], id: NodeId, variable: NodeId) -> Option<u32>
-    requires { numbers.now ≡ numbers_before (declarations_of known.now) }
-    ensures { result ≡ option_and_then
-        (λ member. position (λ v. v == variable) (variables_of (declarations_of known.now) member))
-        (context (declarations_of known.now) id).member }
-{
-    let member = known.context(id).member?;
-    place_of(known, numbers, member, variable)
-}
-
-/// The local of a number.
-fn local(number: u32) -> Result<Binding, Memory>
-    ensures { IfOk result (λ b. b ≡ LocalVariable number) }
-{
-    if number > 255 {
-        return Err(Memory);
-    }
-    Ok(Binding::Local(number as u8))
-}
-
-/// A variable, by its number among those of its member. A member with more than 256 of them breaks a limit; of those
-/// behind these there is no number, and the answer is that of want of memory.
+/// A variable, by its number among those of the member in which a node stands. A member with more than 256 of them
+/// breaks a limit; of those behind these there is no number, and the answer is that of want of memory.
 #[tactic(auto, unfolding(scj_rules::specs::Bindings::variable_binding))]
-pub fn variable_binding(
-    known: &Known<'_>,
-    numbers: &[u32],
-    id: NodeId,
-    variable: NodeId,
-) -> Result<Binding, Memory>
-    requires { numbers.now ≡ numbers_before (declarations_of known.now) }
-    ensures { IfOk result (λ b. b ≡ variable_binding (declarations_of known.now) id variable) }
+pub fn variable_binding(at: &At<'_>, numbers: &[u32], variable: NodeId) -> Result<Binding, Memory>
+    requires { numbers.now ≡ numbers_before (declared at.now) }
+    ensures { IfOk result (λ b. b ≡ variable_binding (declared at.now) at.now.id variable) }
 {
-    match place_here(known, numbers, id, variable) {
-        Some(number) => local(number),
+    let Some(member) = at.known.context(at.id).member else {
+        return Ok(Binding::Plain);
+    };
+    match place_of(at.known, numbers, member, variable) {
+        Some(number) => {
+            if number > 255 {
+                return Err(Memory);
+            }
+            Ok(Binding::Local(number as u8))
+        }
         None => Ok(Binding::Plain),
     }
 }

@@ -1,12 +1,9 @@
 //! What each node of a program stands for.
 
-ghost use Rattle.std.specs.Prelude.{◌≡◌, [], None, IfOk, OnOk};
-ghost use Rattle.scj_tree.specs.Recursion.{lookup};
+ghost use Rattle.std.specs.Prelude.{◌≡◌, IfOk};
 ghost use Rattle.scj_rules.specs.Contexts.{declarations_of, contexts_in};
 ghost use Rattle.scj_rules.specs.TypeRules.{types_in};
 ghost use Rattle.scj_rules.specs.Bindings.{bindings_in};
-ghost use Rattle.node_contexts.specs.Numbers.{numbers_before};
-ghost use Rattle.node_bindings.specs.Programs.{bound_by};
 
 use crate::kinds::binding_at;
 use node_contexts::Contexts;
@@ -16,30 +13,9 @@ use scj_rules::{Bindings, Ty};
 use std::alloc::Global;
 use type_rules::Known;
 
-/// Tells of each node in turn what it stands for.
-fn bind_all(
-    known: &Known<'_>,
-    numbers: &[u32],
-    types: &[Option<Ty>],
-    bindings: &mut Bindings,
-) -> Result<(), Memory>
-    requires numbers { numbers.now ≡ numbers_before (declarations_of known.now) }
-    requires none { bindings.old ≡ [] }
-    ensures { OnOk result (bindings.new ≡ bound_by (declarations_of known.now) (lookup None types.now)) }
-{
-    let program = known.program();
-    for place in 0..program.len() {
-        let id = NodeId::at(place as u32);
-        let b = binding_at(known, numbers, types, id)?;
-        bindings.add(b)?;
-    }
-    Ok(())
-}
-
 /// What each node stands for, where what is known of the program is at hand. Numbers that fit no more are answered by
 /// want of memory: those of the 257th and later variables of a member, which break a limit, and of 2,147,483,648
-/// classes or methods.
-#[tactic(auto, unfolding(scj_rules::specs::Bindings::bindings_in, crate::specs::Programs::bound_by))]
+/// classes.
 pub fn bindings_of(
     alloc: Global,
     known: &Known<'_>,
@@ -50,8 +26,13 @@ pub fn bindings_of(
     requires types { types.now ≡ types_in (declarations_of known.now) }
     ensures { IfOk result (λ bindings. bindings ≡ bindings_in (declarations_of known.now)) }
 {
-    let numbers = number_variables(alloc, known.program(), contexts)?;
-    let mut bindings = Bindings::with_capacity(alloc, known.program().len())?;
-    bind_all(known, &numbers, types, &mut bindings)?;
+    let program = known.program();
+    let numbers = number_variables(alloc, program, contexts)?;
+    let mut bindings = Bindings::with_capacity(alloc, program.len())?;
+    for place in 0..program.len() {
+        let id = NodeId::at(place as u32);
+        let b = binding_at(known, &numbers, types, id)?;
+        bindings.add(b)?;
+    }
     Ok(bindings)
 }

@@ -1,3 +1,2 @@
 pub mod PassLemmas
-pub mod TypedLemmas
 pub mod ValueLemmas

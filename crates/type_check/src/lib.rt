@@ -1,8 +1,7 @@
 //! The pass that finds the types of the nodes of a program, and what breaks the rules on types.
 #![tactic(auto)]
 
-mod breaks;
-mod notes;
+mod nodes;
 mod types;
 mod values;
 

@@ -3,8 +3,8 @@ use Rattle.scj_tree.specs.Recursion.{lookup, bottom_up, joined_below}
 use Rattle.scj_rules.specs.Contexts.{declarations_of}
 use Rattle.scj_rules.specs.TypeRules.{type_of_next, types_in}
 use Rattle.type_rules.specs.Meanings.{AreMeanings}
-use Rattle.type_check.specs.Passes.{breaks_at}
-use Rattle.type_check.proofs.types.types_and_breaks.Given as goal
+use Rattle.type_check.proofs.PassLemmas.{breaks_at}
+use Rattle.type_check.proofs.types.check_types.Given as goal
 
 -- the types of the nodes so far, what is broken at them, and their rows
 abbrev pub invariant-loop-place : goal.invariant-loop-place
