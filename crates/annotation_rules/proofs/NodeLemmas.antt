@@ -1,15 +1,13 @@
 -- What is broken at all nodes, and that nodes of most kinds break nothing.
-use Rattle.std.proofs.Common.{◌≡◌, ℕ, false, List, [], ◌++◌, append-nil, length, Option, Some, None, option_map, slice_get, refl, sym, ap, ◌∙◌, true≢false}
+use Rattle.std.proofs.Common.{◌≡◌, ℕ, false, List, [], ◌++◌, append-nil, Option, Some, None, option_map, slice_get, refl, sym, ap, ◌∙◌, true≢false}
 use Rattle.scj_base.specs.declared.findings.Found.{Found}
 use Rattle.scj_tree.specs.declared.nodes.Node.{Node}
 use Rattle.scj_tree.specs.declared.nodes.Node.TheVariants.{Class, Field, Method, Parameter, Local, LocalWithValue}
 use Rattle.scj_tree.specs.Kinds.{kind_of}
 use Rattle.scj_tree.specs.Forest.{Forest}
-use Rattle.scj_tree.specs.Recursion.{joined_below}
 use Rattle.scj_rules.specs.Words.{found_at, holds}
 use Rattle.scj_rules.specs.Contexts.{Declarations, declarations_of}
 use Rattle.scj_rules.specs.AnnotationRules.{a1, a2, a3_to_a5, a6_to_a8, a9, annotation_breaks, scoped_declaration_at}
-use Rattle.scj_rules.specs.Phases.{over_nodes}
 use Rattle.annotation_rules.specs.Parts.{may_break}
 
 breaks_nothing : (p : Declarations) (id : ℕ) (node : Node) → false ≡ may_break (kind_of node) →
@@ -33,10 +31,3 @@ nothing_of_kind forest id found h =
         [] ≡ found_at o (annotation_breaks (declarations_of forest) id)
     go None h = refl
     go (Some node) h = sym (breaks_nothing (declarations_of forest) id node h)
-
--- one after the other
-pub nodes_joined : (forest : Forest) → over_nodes (declarations_of forest) (annotation_breaks (declarations_of forest))
-    ≡ joined_below (λ id. found_at (slice_get (declarations_of forest).nodes id)
-    (annotation_breaks (declarations_of forest) id)) (length forest.nodes)
-unfolding over_nodes declarations_of
-nodes_joined forest = refl

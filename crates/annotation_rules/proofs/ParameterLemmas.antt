@@ -1,67 +1,45 @@
 -- The parameters of a method beside those above, number after number.
-use Rattle.std.proofs.Common.{◌≡◌, ℕ, zero, suc, ◌+◌, ◌≤◌, Bool, true, false, ◌||◌, List, [], ◌∷◌, length, drop, slice_get, Some, None, refl, sym, ap, ◌∙◌, arith}
-use Rattle.std.proofs.lemmas.List.{drop_all, drop_more}
-use Rattle.std.proofs.lemmas.Option.{get_or_from_slice_get, slice_get_within}
+use Rattle.std.proofs.Common.{◌≡◌, ◌<◌, ℕ, zero, suc, Bool, true, false, ◌||◌, List, [], ◌∷◌, length, slice_get, Option, Some, None, refl, ◌∙◌, arith, true≢false}
 use Rattle.scj_rules.specs.declared.views.Declared.{Declared}
+use Rattle.scj_rules.specs.Words.{holds}
 use Rattle.scj_rules.specs.Classes.{FoundMethod}
 use Rattle.scj_rules.specs.Contexts.{Declarations}
-use Rattle.scj_rules.specs.AnnotationRules.{parameters_differ}
-use Rattle.annotation_rules.specs.Overrides.{parameter_differs, parameters_from}
-
-drop_there : (xs : List Declared) (i : ℕ) (x : Declared) → slice_get xs i ≡ Some x → drop i xs ≡ x ∷ drop (i + 1) xs
-drop_there xs i x h = drop_more xs i x (slice_get_within xs i x h)
-    ∙ ap (λ (y : Declared). y ∷ drop (i + 1) xs) (get_or_from_slice_get xs i x x h)
-
-drop_past : (xs : List Declared) (i : ℕ) → slice_get xs i ≡ None → drop i xs ≡ []
-drop_past [] i h = drop_all i [] (omega arith)
-drop_past (x ∷ xs) zero h = cc
-drop_past (x ∷ xs) (suc i) h = drop_past xs i h
+use Rattle.scj_rules.specs.StaticScopes.{parameter_scope}
+use Rattle.scj_rules.specs.AnnotationRules.{seen_in, differ, parameters_differ}
+use Rattle.annotation_rules.specs.Parts.{parameters_differ_at}
 
 module _ (p : Declarations) (f g : FoundMethod) where
   abbrev both : List Declared → List Declared → Bool
   both ds es = parameters_differ p f.on f.method g.on g.method ds es
 
-  beside_none : (ds : List Declared) → both ds [] ≡ false
+  abbrev at : List Declared → List Declared → ℕ → Bool
+  at ds es i = holds (slice_get ds i) (λ (d : Declared). holds (slice_get es i) (λ (e : Declared).
+      differ (parameter_scope p f.on f.method d) (seen_in p f.on (parameter_scope p g.on g.method e))))
+
+  found : (ds es : List Declared) (i : ℕ) → true ≡ at ds es i → true ≡ both ds es
   unfolding parameters_differ
-  beside_none [] = refl
-  beside_none (d ∷ ds) = refl
+  found [] es i h = h
+  found (d ∷ ds) [] i h = absurd (true≢false (h ∙ none (slice_get (d ∷ ds) i)))
+    where
+      none : (o : Option Declared) → holds o (λ (d : Declared). false) ≡ false
+      none None = refl
+      none (Some d) = refl
+  found (d ∷ ds) (e ∷ es) zero h = rw (← h) refl
+  found (d ∷ ds) (e ∷ es) (suc i) h = rw (← found ds es i h) (either _)
+    where
+      either : (b : Bool) → true ≡ (b || true)
+      either true = refl
+      either false = refl
 
-  from_here : (i : ℕ) (d e : Declared) (differs : Bool) → Some d ≡ slice_get f.method.parameters i →
-      Some e ≡ slice_get g.method.parameters i → differs ≡ parameter_differs p f g d e
-      → parameters_from p f g i ≡ (differs || parameters_from p f g (i + 1))
-  unfolding parameters_from parameters_differ
-  from_here i d e differs h k t =
-      ap (λ (xs : List Declared). both xs (drop i g.method.parameters)) (drop_there f.method.parameters i d (sym h))
-      ∙ ap (λ (ys : List Declared). both (d ∷ drop (i + 1) f.method.parameters) ys)
-      (drop_there g.method.parameters i e (sym k))
-      ∙ ap (λ (b : Bool). b || parameters_from p f g (i + 1)) (sym t)
+  missing : (ds es : List Declared) → ((i : ℕ) → i < length ds → false ≡ at ds es i) → false ≡ both ds es
+  unfolding parameters_differ
+  missing [] es h = refl
+  missing (d ∷ ds) [] h = refl
+  missing (d ∷ ds) (e ∷ es) h = rw (← h 0 (omega arith)) (missing ds es (λ i l. h (suc i) (omega (arith, l))))
 
-  pub differs_found : (i : ℕ) (d e : Declared) → Some d ≡ slice_get f.method.parameters i →
-      Some e ≡ slice_get g.method.parameters i → true ≡ parameter_differs p f g d e
-      → parameters_from p f g i ≡ parameters_from p f g 0 → true ≡ parameters_from p f g 0
-  differs_found i d e h k t w = sym (from_here i d e true h k t) ∙ w
+  pub differs_found : (i : ℕ) → true ≡ parameters_differ_at p f g i → true ≡ both f.method.parameters g.method.parameters
+  differs_found i h = found f.method.parameters g.method.parameters i h
 
-  pub differs_later : (i : ℕ) (d e : Declared) → Some d ≡ slice_get f.method.parameters i →
-      Some e ≡ slice_get g.method.parameters i → false ≡ parameter_differs p f g d e
-      → parameters_from p f g i ≡ parameters_from p f g 0 → parameters_from p f g (i + 1) ≡ parameters_from p f g 0
-  differs_later i d e h k t w = sym (from_here i d e false h k t) ∙ w
-
-  pub none_above : (i : ℕ) → None ≡ slice_get g.method.parameters i → parameters_from p f g i ≡ parameters_from p f g 0
-      → false ≡ parameters_from p f g 0
-  unfolding parameters_from
-  none_above i h w =
-      sym (ap (both (drop i f.method.parameters)) (drop_past g.method.parameters i (sym h))
-      ∙ beside_none (drop i f.method.parameters)) ∙ w
-
-  pub none_left : (i : ℕ) → length f.method.parameters ≤ i → parameters_from p f g i ≡ parameters_from p f g 0 →
-      false ≡ parameters_from p f g 0
-  unfolding parameters_from parameters_differ
-  none_left i h w =
-      sym (ap (λ (xs : List Declared). both xs (drop i g.method.parameters)) (drop_all i f.method.parameters h)) ∙ w
-
-  pub none_here : (i : ℕ) → None ≡ slice_get f.method.parameters i → parameters_from p f g i ≡ parameters_from p f g 0
-      → false ≡ parameters_from p f g 0
-  unfolding parameters_from parameters_differ
-  none_here i h w =
-      sym (ap (λ (xs : List Declared). both xs (drop i g.method.parameters))
-      (drop_past f.method.parameters i (sym h))) ∙ w
+  pub none_differs : ((i : ℕ) → i < length f.method.parameters → false ≡ parameters_differ_at p f g i)
+      → false ≡ both f.method.parameters g.method.parameters
+  none_differs h = missing f.method.parameters g.method.parameters h

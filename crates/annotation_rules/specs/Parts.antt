@@ -1,28 +1,26 @@
--- The nodes at which a rule on annotations may be broken, and what rules find at the values that are written there.
-use Rattle.std.specs.Prelude.{◌≡◌, Bool, true, false, List, Option}
-use Rattle.scj_base.specs.declared.findings.Found.{Found}
-use Rattle.scj_base.specs.declared.findings.Rule.{Rule}
+-- The nodes at which a rule on annotations may be broken, and the parameters of a method beside those above.
+use Rattle.std.specs.Prelude.{ℕ, Bool, true, false, slice_get}
 use Rattle.scj_tree.specs.declared.kinds.NodeKind.{NodeKind}
-use Rattle.scj_tree.specs.declared.kinds.NodeKind.TheVariants.{Class as class_kind, Field as field_kind, Method as method_kind, Parameter as parameter_kind, Local as local_kind, LocalWithValue as local_with_value_kind}
-use Rattle.scj_rules.specs.declared.scopes.ScopedDeclaration.{ScopedDeclaration}
-use Rattle.scj_rules.specs.declared.scopes.Written.{Written}
-use Rattle.scj_rules.specs.Words.{found_at}
-use Rattle.scj_rules.specs.AnnotationRules.{broken_value}
+use Rattle.scj_tree.specs.declared.kinds.NodeKind.TheVariants.{Class, Field, Method, Parameter, Local, LocalWithValue}
+use Rattle.scj_rules.specs.declared.views.Declared.{Declared}
+use Rattle.scj_rules.specs.Words.{holds}
+use Rattle.scj_rules.specs.Classes.{FoundMethod}
+use Rattle.scj_rules.specs.Contexts.{Declarations}
+use Rattle.scj_rules.specs.StaticScopes.{parameter_scope}
+use Rattle.scj_rules.specs.AnnotationRules.{seen_in, differ}
 
 -- by its kind, a class or a declaration
 unfoldable pub may_break : NodeKind → Bool
-may_break class_kind = true
-may_break field_kind = true
-may_break method_kind = true
-may_break parameter_kind = true
-may_break local_kind = true
-may_break local_with_value_kind = true
+may_break Class = true
+may_break Field = true
+may_break Method = true
+may_break Parameter = true
+may_break Local = true
+may_break LocalWithValue = true
 may_break _ = false
 
--- what a rule finds at the value that is written at a thing, if there is one
-unfoldable pub at_value : (ScopedDeclaration → Written → Bool) → Rule → Option ScopedDeclaration → List Found
-at_value test rule thing = found_at thing (λ t. broken_value t.scope (test t) rule)
-
--- whatever a rule asks, it finds the same at the values that are written at both
-abbrev pub AreAlike : Option ScopedDeclaration → Option ScopedDeclaration → Type 0
-AreAlike a b = (test : ScopedDeclaration → Written → Bool) (rule : Rule) → at_value test rule a ≡ at_value test rule b
+-- the parameters of a number differ, where both methods have one
+abbrev pub parameters_differ_at : Declarations → FoundMethod → FoundMethod → ℕ → Bool
+parameters_differ_at p f g i =
+    holds (slice_get f.method.parameters i) (λ (d : Declared). holds (slice_get g.method.parameters i) (λ (e : Declared).
+    differ (parameter_scope p f.on f.method d) (seen_in p f.on (parameter_scope p g.on g.method e))))

@@ -2,7 +2,6 @@
 #![tactic(auto)]
 
 mod checks;
-mod classes;
 mod overrides;
 mod things;
 

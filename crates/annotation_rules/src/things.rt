@@ -1,117 +1,30 @@
-//! A1 and A9: values that are written at variables, fields and results.
+//! A1 to A5 and A9: the scopes of classes, variables and fields, and the values that are written there.
 
-ghost use Rattle.std.specs.Prelude.{◌≡◌, ◌++◌, option_map, OnOk};
-ghost use Rattle.scj_base.specs.declared.findings.Rule.TheVariants.{A1, A9};
-ghost use Rattle.scj_rules.specs.Views.{DeclaredMethod, method_at, field_at};
-ghost use Rattle.scj_rules.specs.Contexts.{declarations_of, in_class};
-ghost use Rattle.scj_rules.specs.StaticScopes.{is_unknown_scope, contradicts, scoped_result, scoped_field};
-ghost use Rattle.scj_rules.specs.AnnotationRules.{scoped_declaration_at, scoped_variable_at};
-ghost use Rattle.scj_rules.specs.declared.views.Declared.{Declared as Declaration};
-ghost use Rattle.annotation_rules.specs.Parts.{AreAlike, at_value};
+ghost use Rattle.std.specs.Prelude.{◌≡◌, ◌++◌, OnOk};
+ghost use Rattle.scj_base.specs.declared.findings.Rule.TheVariants.{A1, A2, A9};
+ghost use Rattle.scj_rules.specs.Words.{broken, found_at};
+ghost use Rattle.scj_rules.specs.Contexts.{declarations_of};
+ghost use Rattle.scj_rules.specs.ScopeRules.{scope_written_in};
+ghost use Rattle.scj_rules.specs.StaticScopes.{is_unknown_scope, contradicts, scoped_field};
+ghost use Rattle.scj_rules.specs.AnnotationRules.{a1_of_class, has_other_scope, a2_place, broken_value, field_rule, a3_to_a5_of, scoped_variable_at};
 
-use method_rows::declared;
-use node_views::{field_at, variable_at};
-use scj_base::{Found, Memory, NodeId, Rule};
-use scj_rules::{Declared, ScopedDeclaration, Written, report_if};
+use scj_base::{ClassId, Found, Memory, NodeId, Pos, Rule};
+use scj_rules::{ClassScope, Declared, ScopedDeclaration, report_if};
 use scj_tree::Node;
-use static_scopes::{Scoped, contradicts, is_unknown_scope, method_at, scoped_field};
+use static_scopes::{
+    Scoped, contradicts, declaration_scope, is_unknown_scope, misfits, scoped_field,
+};
 
-/// The scope that is written before what is declared.
-fn scope_written(declared: &Declared) -> Option<Written>
-    ensures { result ≡ declared.now.modifiers.scope }
-{
-    let modifiers = declared.modifiers;
-    modifiers.scope
-}
-
-/// The field that a node declares, as a thing, if a scope is written before it.
-#[tactic(auto, unfolding(crate::specs::Parts::at_value))]
-fn field_at_node(scoped: &Scoped, id: NodeId) -> Option<ScopedDeclaration>
-    ensures { let p = declarations_of scoped.now in
-        AreAlike result (in_class p id (λ class. option_map (λ (f : Declaration). scoped_field p class f)
-        (field_at scoped.now.nodes id))) }
-{
-    let context = scoped.context(id);
-    let class = context.class?;
-    match &field_at(scoped.program(), id) {
-        Some(field) => {
-            let _written = scope_written(field)?;
-            Some(scoped_field(scoped.scopes(), class, field))
-        }
-        None => None,
-    }
-}
-
-/// The result of the method that a node declares, as a thing, if a scope is written before it.
-#[tactic(auto, unfolding(crate::specs::Parts::at_value))]
-fn result_at_node(scoped: &Scoped, id: NodeId) -> Option<ScopedDeclaration>
-    ensures { let p = declarations_of scoped.now in
-        AreAlike result (in_class p id (λ class. option_map (λ (m : DeclaredMethod). scoped_result p class m)
-        (method_at scoped.now.nodes id))) }
-{
-    let context = scoped.context(id);
-    let class = context.class?;
-    match &method_at(scoped.program(), class, id) {
-        Some(method) => {
-            let declared = declared(scoped.program(), method);
-            let _written = scope_written(&declared)?;
-            Some(scoped.scoped_result(method))
-        }
-        None => None,
-    }
-}
-
-/// The parameter or local that a node declares, as a thing, if a scope is written before it.
-#[tactic(auto, unfolding(crate::specs::Parts::at_value, scj_rules::specs::AnnotationRules::scoped_variable_at, scj_rules::specs::Contexts::declarations_of))]
-fn variable_at_node(scoped: &Scoped, id: NodeId) -> Option<ScopedDeclaration>
-    ensures { AreAlike result (scoped_variable_at (declarations_of scoped.now) id) }
-{
-    let context = scoped.context(id);
-    let _class = context.class?;
-    let _member = context.member?;
-    match &variable_at(scoped.program(), id) {
-        Some(declared) => {
-            let _written = scope_written(declared)?;
-            scoped.scoped_variable_at(id)
-        }
-        None => None,
-    }
-}
-
-/// The thing that a node declares, if a scope is written before it.
-#[tactic(auto, unfolding(scj_rules::specs::AnnotationRules::scoped_declaration_at, scj_rules::specs::Contexts::declarations_of))]
-fn thing_at(scoped: &Scoped, id: NodeId, node: &Node) -> Option<ScopedDeclaration>
-    ensures unknown { let p = declarations_of scoped.now in
-        at_value (is_unknown_scope p) A1 result ≡ at_value (is_unknown_scope p) A1
-        (scoped_declaration_at p id node.now) }
-    ensures contradiction { let p = declarations_of scoped.now in
-        at_value (contradicts p) A9 result ≡ at_value (contradicts p) A9 (scoped_declaration_at p id node.now) }
-{
-    match node {
-        Node::Field { .. } => field_at_node(scoped, id),
-        Node::Method { .. } => result_at_node(scoped, id),
-        Node::Parameter { .. } | Node::Local { .. } | Node::LocalWithValue { .. } => {
-            variable_at_node(scoped, id)
-        }
-        _ => None,
-    }
-}
-
-/// Notes A1 at the value that is written at the thing of a node, if there is one.
-#[tactic(auto, unfolding(crate::specs::Parts::at_value))]
+/// Notes A1 at the value that is written at a thing, if there is one.
 pub fn note_unknown(
     found: &mut Vec<Found>,
     scoped: &Scoped,
-    id: NodeId,
-    node: &Node,
+    thing: &ScopedDeclaration,
 ) -> Result<(), Memory>
     ensures { let p = declarations_of scoped.now in
-        OnOk result (found.new.items ≡ found.old.items ++ at_value (is_unknown_scope p) A1
-        (scoped_declaration_at p id node.now)) }
+        OnOk result (found.new.items ≡ found.old.items
+        ++ broken_value thing.now.scope (is_unknown_scope p thing.now) A1) }
 {
-    let Some(thing) = &thing_at(scoped, id, node) else {
-        return Ok(());
-    };
     match &thing.scope {
         Some(written) => {
             let test = is_unknown_scope(scoped.scopes(), thing, written);
@@ -121,21 +34,15 @@ pub fn note_unknown(
     }
 }
 
-/// Notes A9 at the value that is written at the thing of a node, if there is one.
-#[tactic(auto, unfolding(crate::specs::Parts::at_value))]
+/// Notes A9 at the value that is written at a thing, if there is one.
 pub fn note_contradiction(
     found: &mut Vec<Found>,
     scoped: &Scoped,
-    id: NodeId,
-    node: &Node,
+    thing: &ScopedDeclaration,
 ) -> Result<(), Memory>
     ensures { let p = declarations_of scoped.now in
-        OnOk result (found.new.items ≡ found.old.items ++ at_value (contradicts p) A9
-        (scoped_declaration_at p id node.now)) }
+        OnOk result (found.new.items ≡ found.old.items ++ broken_value thing.now.scope (contradicts p thing.now) A9) }
 {
-    let Some(thing) = &thing_at(scoped, id, node) else {
-        return Ok(());
-    };
     match &thing.scope {
         Some(written) => {
             let test = contradicts(scoped.scopes(), thing, written);
@@ -143,4 +50,103 @@ pub fn note_contradiction(
         }
         None => Ok(()),
     }
+}
+
+/// Notes A1 and A9 at the parameter or local that a node declares. Most have nothing written before them.
+#[tactic(auto, unfolding(scj_rules::specs::AnnotationRules::scoped_variable_at, scj_rules::specs::Views::variable_of, scj_rules::specs::Contexts::declarations_of))]
+pub fn note_variable(found: &mut Vec<Found>, scoped: &Scoped, id: NodeId) -> Result<(), Memory>
+    ensures { let p = declarations_of scoped.now in let variable = scoped_variable_at p id in
+        OnOk result (found.new.items ≡ found.old.items
+        ++ (found_at variable (λ t. broken_value t.scope (is_unknown_scope p t) A1)
+        ++ found_at variable (λ t. broken_value t.scope (contradicts p t) A9))) }
+{
+    let context = scoped.context(id);
+    let (Some(_), Some(_)) = (context.class, context.member) else {
+        return Ok(());
+    };
+    if let Some(
+        Node::Parameter { flags: None, .. }
+        | Node::Local { flags: None, .. }
+        | Node::LocalWithValue { flags: None, .. },
+    ) = scoped.program().get(id)
+    {
+        return Ok(());
+    }
+    let Some(thing) = &scoped.scoped_variable_at(id) else {
+        return Ok(());
+    };
+    note_unknown(found, scoped, thing)?;
+    note_contradiction(found, scoped, thing)?;
+    Ok(())
+}
+
+/// Notes A1 and A2 at a class that is named at a place.
+#[tactic(auto, unfolding(scj_rules::specs::AnnotationRules::a2_place))]
+pub fn note_class(
+    found: &mut Vec<Found>,
+    scoped: &Scoped,
+    class: ClassId,
+    place: Pos,
+) -> Result<(), Memory>
+    ensures { let p = declarations_of scoped.now in
+        OnOk result (found.new.items ≡ found.old.items
+        ++ (a1_of_class p class ++ broken (has_other_scope p class) A2 (a2_place place (scope_written_in p class)))) }
+{
+    let scopes = scoped.scopes();
+    let written = scopes.scope_written_in(class);
+    let above = match scopes.classes().superclass(class) {
+        Some(above) => scopes.class_scope(above),
+        None => ClassScope::Unannotated,
+    };
+    let implied = scopes.is_implied_immortal(class);
+    let test = scopes.differs_from_above(&written, &above, implied);
+    let Some(value) = &written else {
+        return report_if(found, test, Rule::A2, place);
+    };
+    report_if(
+        found,
+        scopes.has_unknown_scope(&written),
+        Rule::A1,
+        value.place,
+    )?;
+    report_if(found, test, Rule::A2, value.place)?;
+    Ok(())
+}
+
+/// The rule on the scope of a field.
+#[tactic(auto, unfolding(scj_rules::specs::AnnotationRules::field_rule))]
+fn field_rule(class: &ClassScope, is_static: bool) -> Rule
+    ensures { result ≡ field_rule class.now is_static }
+{
+    if is_static {
+        return Rule::A5;
+    }
+    match class {
+        ClassScope::Unannotated => Rule::A4,
+        _ => Rule::A3,
+    }
+}
+
+/// Notes A1, A3 to A5 and A9 at a field of a class.
+#[tactic(auto, unfolding(scj_rules::specs::StaticScopes::misfits_field))]
+pub fn note_field(
+    found: &mut Vec<Found>,
+    scoped: &Scoped,
+    class: ClassId,
+    field: &Declared,
+) -> Result<(), Memory>
+    ensures { let p = declarations_of scoped.now in let t = scoped_field p class field.now in
+        OnOk result (found.new.items ≡ found.old.items
+        ++ (broken_value t.scope (is_unknown_scope p t) A1 ++ (a3_to_a5_of p class field.now
+        ++ broken_value t.scope (contradicts p t) A9))) }
+{
+    let scopes = scoped.scopes();
+    let thing = scoped_field(scopes, class, field);
+    note_unknown(found, scoped, &thing)?;
+    let scope = declaration_scope(scopes, &thing);
+    let test = misfits(scopes, class, thing.is_static, &scope);
+    let rule = field_rule(&scopes.class_scope(class), thing.is_static);
+    report_if(found, test, rule, field.place)?;
+    note_contradiction(found, scoped, &thing)?;
+    Ok(())
 }

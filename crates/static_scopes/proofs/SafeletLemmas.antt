@@ -31,33 +31,28 @@ one_interface test a (x ∷ xs) =
         both false false = refl
     mixed false u v m h = refl
 
+-- where Safelet has a method of the name, the class inherits it that implements Safelet
 pub inherits_is : (p : Declarations) (node : ℕ) (name : List ℕ) (class : ℕ)
-    → inherits_as p (safelet ∷ []) node name class
-    ≡ (has_method_of_node p node name class
-    && (is_among safelet (all_interfaces p.classes class) && is_some (own_method p.classes name safelet)))
+    → true ≡ is_some (own_method p.classes name safelet) → inherits_as p (safelet ∷ []) node name class
+    ≡ (is_among safelet (all_interfaces p.classes class) && has_method_of_node p node name class)
 unfolding inherits_as
-inherits_is p node name class =
+inherits_is p node name class h =
     ap (λ b. b && has_method_of_node p node name class)
-    (one_interface (λ i. is_some (own_method p.classes name i)) safelet (all_interfaces p.classes class))
-    ∙ and_comm (is_among safelet (all_interfaces p.classes class) && is_some (own_method p.classes name safelet))
-    (has_method_of_node p node name class)
+    (one_interface (λ i. is_some (own_method p.classes name i)) safelet (all_interfaces p.classes class)
+    ∙ rw (← h) (and_comm (is_among safelet (all_interfaces p.classes class)) true))
 
 -- no class inherits a method of a name that Safelet doesn't have
 pub none_inherits : (p : Declarations) (m : DeclaredMethod) →
     false ≡ is_some (own_method p.classes m.declared.name safelet) → is_inherited_by_safelet p m ≡ false
-unfolding is_inherited_by_safelet
+unfolding is_inherited_by_safelet inherits_as
 none_inherits p m h = none (numbers_from 0 p.classes)
   where
-    no : (a b : Bool) → (a && (b && false)) ≡ false
-    no true true = refl
-    no true false = refl
-    no false b = refl
-
-    one : (class : ℕ) → inherits_as p (safelet ∷ []) m.declared.node m.declared.name class ≡ false
-    one class = inherits_is p m.declared.node m.declared.name class
-        ∙ rw (← h) (no (has_method_of_node p m.declared.node m.declared.name class)
-        (is_among safelet (all_interfaces p.classes class)))
-
     none : (ids : List ℕ) → list_any (inherits_as p (safelet ∷ []) m.declared.node m.declared.name) ids ≡ false
     none [] = refl
-    none (id ∷ ids) = rw (one id) (none ids)
+    none (class ∷ ids) = rw (
+      one_interface (λ i. is_some (own_method p.classes m.declared.name i)) safelet
+          (all_interfaces p.classes class),
+      ← h,
+      and_comm (is_among safelet (all_interfaces p.classes class)) false,
+    )
+        (none ids)

@@ -2,13 +2,12 @@
 #![tactic(auto)]
 
 mod methods;
-mod names;
-mod runs;
 mod scoped;
 mod things;
 
 pub use methods::{has_other_runs_in, has_unknown_runs_in, method_at};
-pub use names::{are_same_scope, fits, scope_or, substitute};
-pub use runs::{Runs, told};
-pub use scoped::{Scoped, variables_of};
-pub use things::{contradicts, is_unknown_scope, misfits_field, scoped_field};
+pub use scoped::{Runs, Scoped, Variables, told, variables_of};
+pub use things::{
+    are_same_scope, contradicts, declaration_scope, fits, is_unknown_scope, misfits, scope_or,
+    scoped_field, scoped_variable, substitute,
+};

@@ -1,30 +1,40 @@
-//! The static scopes of a program.
+//! The static scopes of a program, and the tables of what is asked of them often.
 
-ghost use Rattle.std.specs.Prelude.{◌≡◌, ◌<◌, ◌^◌, IfOk, IfSome};
-ghost use Rattle.static_scopes.specs.Runs.{scope_of_member, AreVariables};
+ghost use Rattle.std.specs.Prelude.{◌≡◌, None, IfOk, IfSome};
+ghost use Rattle.scj_tree.specs.Recursion.{lookup};
+ghost use Rattle.static_scopes.specs.Runs.{scope_of_member, run_at, AreRuns, AreVariables};
 ghost use Rattle.class_rows.specs.Fields.{found_field};
 ghost use Rattle.method_rows.specs.Methods.{found_method};
-ghost use Rattle.scj_rules.specs.Words.{holds};
-ghost use Rattle.scj_rules.specs.Views.{method_at, field_at, type_at, type_of_node, variable_at, variable_of};
 ghost use Rattle.scj_rules.specs.Contexts.{declarations_of, context, contexts_in};
-ghost use Rattle.scj_rules.specs.StaticScopes.{has_no_scope, this_in, runs_in, current_in, declaration_scope, scoped_variable, scoped_result, parameter_scope, field_scope};
+ghost use Rattle.scj_rules.specs.StaticScopes.{this_in, runs_in, current_in, declaration_scope, scoped_variable, parameter_scope, field_scope};
 ghost use Rattle.scj_rules.specs.AnnotationRules.{scoped_variable_at, result_scope};
-ghost use Rattle.scj_rules.specs.declared.views.Declared.{Declared as Declaration};
 ghost use Rattle.scj_rules.specs.UseRules.{this_at, current_at, variable_scope_at};
 
-use crate::runs::Runs;
-use crate::{methods, names, things};
+use crate::{methods, things};
 use class_rows::FieldRef;
 use class_rows::fields::found_field;
-use method_rows::{MethodRef, MethodSource, declared};
+use method_rows::{MethodRef, MethodSource, declared, result_type};
 use node_contexts::{Contexts, is_static_member};
-use node_views::{is_field, is_method, is_variable, variable_at};
+use node_views::{field_at, is_field, is_method, is_variable, variable_at, variable_type};
 use scj_base::{ClassId, Memory, NodeId};
 use scj_rules::{Context, Declared, Scope, ScopedDeclaration};
-use scj_tree::{Node, Program};
+use scj_tree::Program;
 use scope_tree::Scopes;
 use std::alloc::Global;
+use std::collections::BTreeMap;
 use std::marker::Model;
+
+/// Where the methods of a program run, and its fields lie, by their nodes.
+#[derive(Drop)]
+pub struct Runs {
+    rows: BTreeMap<usize, Option<Scope>>,
+}
+
+/// Where variables lie, by the nodes that declare them.
+#[derive(Drop)]
+pub struct Variables {
+    rows: BTreeMap<usize, Scope>,
+}
 
 /// The static scopes of a program, told of its classes, methods, variables and fields. A contract sees the program.
 #[derive(Drop)]
@@ -32,7 +42,7 @@ pub struct Scoped<'a> {
     scopes: Scopes<'a>,
     contexts: &'a Contexts,
     runs: &'a Runs,
-    variables: &'a [Option<Scope>],
+    variables: Option<&'a Variables>,
 }
 
 impl<'a> Model for Scoped<'a> {
@@ -40,16 +50,15 @@ impl<'a> Model for Scoped<'a> {
 
     ghost Value = { Forest };
 
+    ghost use Rattle.std.specs.Prelude.{option_copied};
     ghost use Rattle.static_scopes.specs.Runs.{AreTablesOf};
 
     ghost view = { λ a. a.scopes };
 
-    ghost invariant = { λ a. AreTablesOf a.scopes a.contexts.now a.runs.now a.variables.now };
+    ghost invariant = { λ a. AreTablesOf a.scopes a.contexts.now a.runs.now (option_copied a.variables) };
 }
 
 impl<'a> Scoped<'a> {
-    ghost use Rattle.static_scopes.specs.Runs.{AreRuns, AreVariables};
-
     /// The static scopes of a program, from its scopes, its contexts, and the table of the scopes in which its methods
     /// run.
     pub fn new(scopes: Scopes<'a>, contexts: &'a Contexts, runs: &'a Runs) -> Scoped<'a>
@@ -61,12 +70,12 @@ impl<'a> Scoped<'a> {
             scopes,
             contexts,
             runs,
-            variables: &[],
+            variables: None,
         }
     }
 
-    /// The same, with the scopes of the variables that the first nodes declare, so that they needn't be looked up.
-    pub fn with_variables(self, variables: &'a [Option<Scope>]) -> Scoped<'a>
+    /// The same, with the scopes of variables, so that they needn't be found anew.
+    pub fn with_variables(self, variables: &'a Variables) -> Scoped<'a>
         requires { AreVariables self variables.now }
         ensures { result ≡ self.entry }
     {
@@ -74,7 +83,7 @@ impl<'a> Scoped<'a> {
             scopes: self.scopes,
             contexts: self.contexts,
             runs: self.runs,
-            variables,
+            variables: Some(variables),
         }
     }
 
@@ -105,14 +114,13 @@ impl<'a> Scoped<'a> {
     pub fn this_in(&self, class: ClassId) -> Option<Scope>
         ensures { result ≡ this_in (declarations_of self.now) class }
     {
-        names::this_in(&self.scopes, class)
+        things::this_in(&self.scopes, class)
     }
 
     /// What the table has of the member that a node declares in a class, if it has a row of it.
     #[tactic(auto, unfolding(crate::specs::Runs::run_at, scj_rules::specs::Contexts::declarations_of))]
     fn told_of(&self, class: ClassId, node: NodeId) -> Option<Option<Scope>>
-        ensures { IfSome result (λ row. row ≡ scope_of_member (declarations_of self.now) class
-            (method_at self.now.nodes node) (field_at self.now.nodes node)) }
+        ensures { IfSome result (λ row. row ≡ scope_of_member (declarations_of self.now) class node) }
     {
         let context = self.context(node);
         if context.class? != class {
@@ -127,7 +135,7 @@ impl<'a> Scoped<'a> {
     }
 
     /// The scope in which a method runs.
-    #[tactic(auto, using(crate::proofs::RunLemmas::own_run), unfolding(method_rows::specs::Methods::found_method, method_rows::specs::Methods::method_from))]
+    #[tactic(auto, unfolding(crate::specs::Runs::scope_of_member, method_rows::specs::Methods::found_method, method_rows::specs::Methods::method_from, scj_rules::specs::Contexts::declarations_of))]
     pub fn runs_in(&self, method: &MethodRef) -> Option<Scope>
         ensures { result ≡ runs_in (declarations_of self.now) (found_method self.now.nodes method.now).on
             (found_method self.now.nodes method.now).method }
@@ -170,25 +178,18 @@ impl<'a> Scoped<'a> {
         self.current_in(context.class?, context.member?)
     }
 
-    /// A method's result as a thing.
-    #[tactic(auto, unfolding(method_rows::specs::Methods::found_method))]
-    pub fn scoped_result(&self, method: &MethodRef) -> ScopedDeclaration
-        ensures { result ≡ scoped_result (declarations_of self.now) (found_method self.now.nodes method.now).on
-            (found_method self.now.nodes method.now).method }
-    {
-        let declared = declared(self.program(), method);
-        let modifiers = declared.modifiers;
-        let current = self.runs_in(method);
-        things::scoped_variable(method.on, &current, modifiers.is_static, &declared)
-    }
-
-    /// The scope of a method's result.
+    /// The scope of a method's result. Most are no references, which the type tells.
+    #[tactic(auto, unfolding(method_rows::specs::Methods::found_method, scj_rules::specs::StaticScopes::declaration_scope))]
     pub fn result_scope(&self, method: &MethodRef) -> Option<Scope>
         ensures { result ≡ result_scope (declarations_of self.now) (found_method self.now.nodes method.now).on
             (found_method self.now.nodes method.now).method }
     {
-        let thing = self.scoped_result(method);
-        things::declaration_scope(&self.scopes, &thing)
+        if things::has_no_scope(&result_type(self.program(), method)) {
+            return None;
+        }
+        let declared = declared(self.program(), method);
+        let is_static = declared.modifiers.is_static;
+        self.scope_in(method.on, &self.runs_in(method), is_static, &declared)
     }
 
     /// The scope of a parameter of a member of a class, where this scope is current.
@@ -217,12 +218,12 @@ impl<'a> Scoped<'a> {
     }
 
     /// The scope of the field for which a row stands.
-    #[tactic(auto, using(crate::proofs::RunLemmas::own_field), unfolding(class_rows::specs::Fields::found_field))]
+    #[tactic(auto, unfolding(crate::specs::Runs::scope_of_member, class_rows::specs::Fields::found_field, scj_rules::specs::Contexts::declarations_of))]
     pub fn field_scope(&self, field: &FieldRef) -> Option<Scope>
         ensures { let f = found_field self.now.nodes field.now in
             result ≡ field_scope (declarations_of self.now) f.on f.field }
     {
-        if is_field(self.program(), field.node) {
+        if !is_method(self.program(), field.node) && is_field(self.program(), field.node) {
             if let Some(row) = self.told_of(field.on, field.node) {
                 return row;
             }
@@ -247,17 +248,15 @@ impl<'a> Scoped<'a> {
         }
     }
 
-    /// The scope of the parameter or local that a node declares, found anew. Nodes of most kinds, and types, tell that
-    /// there is none.
-    #[tactic(auto, using(crate::proofs::VariableLemmas::no_variable, crate::proofs::VariableLemmas::plain_variable))]
+    /// The scope of the parameter or local that a node declares, found anew. Its type may tell that there is none.
+    #[tactic(auto, using(crate::proofs::VariableLemmas::plain_type))]
     fn find_variable_scope(&self, id: NodeId) -> Option<Scope>
         ensures { result ≡ variable_scope_at (declarations_of self.now) id }
     {
-        if !is_variable(self.program(), id) {
-            return None;
-        }
-        if has_plain_type(self.program(), id) {
-            return None;
+        if let Some(declared_type) = &variable_type(self.program(), id) {
+            if things::has_no_scope(declared_type) {
+                return None;
+            }
         }
         match &self.scoped_variable_at(id) {
             Some(thing) => things::declaration_scope(&self.scopes, thing),
@@ -269,62 +268,76 @@ impl<'a> Scoped<'a> {
     pub fn variable_scope(&self, id: NodeId) -> Option<Scope>
         ensures { result ≡ variable_scope_at (declarations_of self.now) id }
     {
-        if let Some(row) = self.variables.get(id.place()) {
-            return *row;
+        if let Some(variables) = self.variables {
+            let place = id.place();
+            if let Some(scope) = variables.rows.get(&place) {
+                return Some(*scope);
+            }
         }
         self.find_variable_scope(id)
     }
 }
 
-/// Whether a node writes a type whose values lie in no area, as `int` or `boolean`; so does a node that writes none.
-#[tactic(auto, unfolding(scj_rules::specs::Views::type_of_node, scj_rules::specs::StaticScopes::has_no_scope))]
-fn is_plain_type(program: &Program, id: NodeId) -> bool
-    ensures { result ≡ has_no_scope (type_at program.now.nodes id) }
+/// What is said of the member that a node declares in its class.
+#[tactic(auto, unfolding(crate::specs::Runs::run_at, crate::specs::Runs::scope_of_member, scj_rules::specs::Contexts::declarations_of))]
+fn run_at(scopes: &Scopes, contexts: &Contexts, id: NodeId) -> Option<Scope>
+    requires { contexts.now ≡ contexts_in scopes.now }
+    ensures { result ≡ run_at (declarations_of scopes.now) id }
 {
-    match program.get(id) {
-        Some(Node::IntType { is_array, .. }) => !*is_array,
-        Some(Node::BooleanType { is_array, .. }) => !*is_array,
-        Some(Node::ClassType { .. }) => false,
-        _ => true,
+    let context = contexts.get(id);
+    let class = context.class?;
+    let program = scopes.classes().program();
+    match (
+        &methods::method_at(program, class, id),
+        &field_at(program, id),
+    ) {
+        (Some(method), _) => methods::runs_in(scopes, class, method),
+        (None, Some(field)) => things::field_scope(scopes, class, field),
+        (None, None) => None,
     }
 }
 
-/// Whether a node declares a parameter or local of type `int` or `boolean`.
-#[tactic(auto, unfolding(scj_rules::specs::Views::variable_of))]
-fn has_plain_type(program: &Program, id: NodeId) -> bool
-    ensures { result ≡ holds (variable_at program.now.nodes id) (λ (d : Declaration). has_no_scope d.declared_type) }
-{
-    match program.get(id) {
-        Some(Node::Parameter { declared_type, .. }) => is_plain_type(program, *declared_type),
-        Some(Node::Local { declared_type, .. }) => is_plain_type(program, *declared_type),
-        Some(Node::LocalWithValue { declared_type, .. }) => is_plain_type(program, *declared_type),
-        _ => false,
+impl Runs {
+    /// Where the methods of a program run, and its fields lie.
+    pub fn of(alloc: Global, scopes: &Scopes, contexts: &Contexts) -> Result<Runs, Memory>
+        requires { contexts.now ≡ contexts_in scopes.now }
+        ensures { IfOk result (λ runs. AreRuns scopes.now runs) }
+    {
+        let program = scopes.classes().program();
+        let mut rows = BTreeMap::new(alloc);
+        for place in 0..program.len() {
+            let id = NodeId::at(place as u32);
+            if is_method(program, id) || is_field(program, id) {
+                rows.insert(place, run_at(scopes, contexts, id))?;
+            }
+        }
+        Ok(Runs { rows })
     }
 }
 
-/// How many nodes there are up to the last one that declares a parameter or local.
-fn variables_end(program: &Program) -> usize
-    ensures { result < 2 ^ 32 }
+/// The scopes of the variables that nodes declare and that have one.
+pub fn variables_of(alloc: Global, scoped: &Scoped) -> Result<Variables, Memory>
+    ensures { IfOk result (λ variables. AreVariables scoped.now variables) }
 {
-    let mut end = 0;
+    let program = scoped.program();
+    let mut rows = BTreeMap::new(alloc);
     for place in 0..program.len() {
-        if is_variable(program, NodeId::at(place as u32)) {
-            end = place + 1;
+        let id = NodeId::at(place as u32);
+        if is_variable(program, id) {
+            if let Some(scope) = scoped.find_variable_scope(id) {
+                rows.insert(place, scope)?;
+            }
         }
     }
-    end
+    Ok(Variables { rows })
 }
 
-/// The scopes of the variables that nodes declare, up to the last of these: a row behind it would take memory and tell
-/// nothing.
-#[tactic(auto, unfolding(scj_tree::specs::Recursion::listed))]
-pub fn variables_of(alloc: Global, scoped: &Scoped) -> Result<Vec<Option<Scope>>, Memory>
-    ensures { IfOk result (λ rows. AreVariables scoped.now rows.items) }
+/// What rows tell of a node.
+pub fn told(rows: &[Option<Scope>], id: NodeId) -> Option<Scope>
+    ensures { result ≡ lookup None rows.now id }
 {
-    let end = variables_end(scoped.program());
-    let mut rows = Vec::with_capacity(alloc, end)?;
-    for place in 0..end {
-        rows.push(scoped.find_variable_scope(NodeId::at(place as u32)))?;
+    match rows.get(id.place()) {
+        Some(scope) => *scope,
+        None => None,
     }
-    Ok(rows)
 }

@@ -1,20 +1,128 @@
-//! The scopes of variables, fields and results.
+//! Static scopes in normal form, one beside another; those that are written by name; and those of variables, fields and
+//! results.
 
 ghost use Rattle.std.specs.Prelude.{◌≡◌, not};
 ghost use Rattle.scj_rules.specs.Words.{holds};
 ghost use Rattle.scj_rules.specs.Contexts.{declarations_of};
-ghost use Rattle.scj_rules.specs.StaticScopes.{class_scope, has_no_scope, type_scope, denotes_nothing, resolve_at, is_unknown_scope, contradicts, is_rightly_scoped, scope_as_written, declaration_scope, scoped_variable, scoped_field, suits_field, misfits_field, field_scope};
+ghost use Rattle.scj_rules.specs.StaticScopes.{are_same_scope, fits, substitute, scope_or, this_in, resolve_name, is_other_scope, written_scope, class_scope, has_no_scope, type_scope, resolve_at, is_unknown_scope, contradicts, declaration_scope, scoped_variable, scoped_field, suits_field, field_scope};
 
-use crate::names::{
-    are_same_scope, is_other_scope, resolve_name, scope_or, this_in, written_scope,
-};
 use scj_base::{ClassId, Name, ScopeId};
 use scj_rules::{ClassScope, Declared, Resolution, Scope, ScopedDeclaration, Written, WrittenType};
 use scope_tree::Scopes;
 
+/// Whether two scopes are the same.
+#[tactic(auto, unfolding(scj_rules::specs::StaticScopes::are_same_scope))]
+pub fn are_same_scope(s: &Scope, t: &Scope) -> bool
+    ensures { result ≡ are_same_scope s.now t.now }
+{
+    match (s, t) {
+        (Scope::Any, Scope::Any) => true,
+        (Scope::This, Scope::This) => true,
+        (Scope::Caller, Scope::Caller) => true,
+        (Scope::In(a), Scope::In(b)) => a == b,
+        _ => false,
+    }
+}
+
+/// Whether a reference of the first scope may go where the second is asked.
+#[tactic(auto, unfolding(scj_rules::specs::StaticScopes::fits))]
+pub fn fits(s: &Scope, t: &Scope) -> bool
+    ensures { result ≡ fits s.now t.now }
+{
+    match (s, t) {
+        (Scope::Any, _) => true,
+        (_, Scope::Any) => true,
+        _ => are_same_scope(s, t),
+    }
+}
+
+/// A callee's scope as its caller sees it, who calls it on an object of one scope and where another is current.
+#[tactic(auto, unfolding(scj_rules::specs::StaticScopes::substitute))]
+pub fn substitute(receiver: &Option<Scope>, current: &Option<Scope>, scope: &Scope) -> Option<Scope>
+    ensures { result ≡ substitute receiver.now current.now scope.now }
+{
+    match scope {
+        Scope::This => *receiver,
+        Scope::Caller => *current,
+        _ => Some(*scope),
+    }
+}
+
+/// Where an object of a class lies: in the class's scope, or in this one where the class is unannotated.
+pub fn scope_or(scope: &ClassScope, other: &Option<Scope>) -> Option<Scope>
+    ensures { result ≡ scope_or scope.now other.now }
+{
+    match scope {
+        ClassScope::Unannotated => *other,
+        ClassScope::Annotated(scope) => Some(Scope::In(*scope)),
+        ClassScope::Unknown => None,
+    }
+}
+
+/// Where the objects of a class lie, as their own methods say it.
+#[tactic(auto, unfolding(scj_rules::specs::StaticScopes::this_in))]
+pub fn this_in(scopes: &Scopes, class: ClassId) -> Option<Scope>
+    ensures { result ≡ this_in (declarations_of scopes.now) class }
+{
+    scope_or(&scopes.class_scope(class), &Some(Scope::This))
+}
+
+/// What a name in an annotation denotes, in a class and where a scope is current.
+#[tactic(auto, unfolding(scj_rules::specs::StaticScopes::resolve_name))]
+pub fn resolve_name(
+    scopes: &Scopes,
+    class: ClassId,
+    current: &Option<Scope>,
+    name: &Name,
+) -> Resolution
+    ensures { result ≡ resolve_name (declarations_of scopes.now) class current.now name.now }
+{
+    let scope = if name.bytes() == b"THIS".as_slice() {
+        this_in(scopes, class)
+    } else if name.bytes() == b"CALLER".as_slice() {
+        *current
+    } else {
+        return match scopes.scope_number(name) {
+            Some(scope) => Resolution::Resolved(Scope::In(scope)),
+            None => Resolution::Unresolved,
+        };
+    };
+    match &scope {
+        Some(scope) => Resolution::Resolved(*scope),
+        None => Resolution::Missing,
+    }
+}
+
+/// The scope that a name denotes, in a class and where a scope is current.
+#[tactic(auto, unfolding(scj_rules::specs::StaticScopes::written_scope))]
+pub fn written_scope(
+    scopes: &Scopes,
+    class: ClassId,
+    current: &Option<Scope>,
+    name: &Name,
+) -> Option<Scope>
+    ensures { result ≡ written_scope (declarations_of scopes.now) class current.now name.now }
+{
+    match &resolve_name(scopes, class, current, name) {
+        Resolution::Resolved(scope) => Some(*scope),
+        Resolution::Missing | Resolution::Unresolved => None,
+    }
+}
+
+/// Whether a name denotes another scope than this one, or nothing; a missing scope differs from none.
+pub fn is_other_scope(resolution: &Resolution, scope: &Scope) -> bool
+    ensures { result ≡ is_other_scope resolution.now scope.now }
+{
+    match resolution {
+        Resolution::Resolved(resolved) => !are_same_scope(resolved, scope),
+        Resolution::Missing => false,
+        Resolution::Unresolved => true,
+    }
+}
+
 /// Whether the values of a type are no references.
 #[tactic(auto, unfolding(scj_rules::specs::StaticScopes::has_no_scope))]
-fn has_no_scope(declared_type: &WrittenType) -> bool
+pub fn has_no_scope(declared_type: &WrittenType) -> bool
     ensures { result ≡ has_no_scope declared_type.now }
 {
     matches!(
@@ -41,25 +149,18 @@ fn type_scope(scopes: &Scopes, declared_type: &WrittenType) -> ClassScope
     }
 }
 
-/// Whether a name denotes nothing in the annotation of a declaration, though it does elsewhere: `THIS` in a static
-/// member of an unannotated class, and `CALLER` on a field.
-#[tactic(auto, unfolding(scj_rules::specs::StaticScopes::denotes_nothing, scj_rules::specs::StaticScopes::is_unannotated))]
-fn denotes_nothing(scopes: &Scopes, thing: &ScopedDeclaration, name: &Name) -> bool
-    ensures { result ≡ denotes_nothing (declarations_of scopes.now) thing.now name.now }
-{
-    if name.bytes() == b"THIS".as_slice() {
-        return thing.is_static
-            && matches!(&scopes.class_scope(thing.class), ClassScope::Unannotated);
-    }
-    name.bytes() == b"CALLER".as_slice() && thing.is_field
-}
-
-/// What a name denotes in the annotation of a declaration.
-#[tactic(auto, unfolding(scj_rules::specs::StaticScopes::resolve_at))]
+/// What a name denotes in the annotation of a declaration: nothing, though it does elsewhere, where it is `THIS` in a
+/// static member of an unannotated class, or `CALLER` on a field.
+#[tactic(auto, unfolding(scj_rules::specs::StaticScopes::resolve_at, scj_rules::specs::StaticScopes::denotes_nothing, scj_rules::specs::StaticScopes::is_unannotated))]
 fn resolve_at(scopes: &Scopes, thing: &ScopedDeclaration, name: &Name) -> Resolution
     ensures { result ≡ resolve_at (declarations_of scopes.now) thing.now name.now }
 {
-    if denotes_nothing(scopes, thing, name) {
+    let denotes_nothing = if name.bytes() == b"THIS".as_slice() {
+        thing.is_static && matches!(&scopes.class_scope(thing.class), ClassScope::Unannotated)
+    } else {
+        name.bytes() == b"CALLER".as_slice() && thing.is_field
+    };
+    if denotes_nothing {
         return Resolution::Unresolved;
     }
     resolve_name(scopes, thing.class, &thing.current, name)
@@ -70,10 +171,10 @@ fn resolve_at(scopes: &Scopes, thing: &ScopedDeclaration, name: &Name) -> Resolu
 pub fn is_unknown_scope(scopes: &Scopes, thing: &ScopedDeclaration, written: &Written) -> bool
     ensures { result ≡ is_unknown_scope (declarations_of scopes.now) thing.now written.now }
 {
-    match &resolve_at(scopes, thing, &written.name) {
-        Resolution::Resolved(_) | Resolution::Missing => false,
-        Resolution::Unresolved => true,
-    }
+    matches!(
+        &resolve_at(scopes, thing, &written.name),
+        Resolution::Unresolved
+    )
 }
 
 /// Whether a written scope contradicts the type of a thing.
@@ -93,42 +194,26 @@ pub fn contradicts(scopes: &Scopes, thing: &ScopedDeclaration, written: &Written
     }
 }
 
-/// Whether what is written at a thing breaks no rule.
-fn is_rightly_scoped(scopes: &Scopes, thing: &ScopedDeclaration) -> bool
-    ensures { result ≡ is_rightly_scoped (declarations_of scopes.now) thing.now }
-{
-    match &thing.scope {
-        Some(written) => {
-            !(is_unknown_scope(scopes, thing, written) || contradicts(scopes, thing, written))
-        }
-        None => true,
-    }
-}
-
-/// The scope of a thing by what is written, or else the default.
-#[tactic(auto, unfolding(scj_rules::specs::StaticScopes::scope_as_written))]
-fn scope_as_written(scopes: &Scopes, thing: &ScopedDeclaration) -> Option<Scope>
-    ensures { result ≡ scope_as_written (declarations_of scopes.now) thing.now }
-{
-    match &thing.scope {
-        Some(written) => written_scope(scopes, thing.class, &thing.current, &written.name),
-        None => thing.default,
-    }
-}
-
 /// The scope of a thing.
-#[tactic(auto, unfolding(scj_rules::specs::StaticScopes::declaration_scope))]
+#[tactic(auto, unfolding(scj_rules::specs::StaticScopes::declaration_scope, scj_rules::specs::StaticScopes::scope_as_written))]
 pub fn declaration_scope(scopes: &Scopes, thing: &ScopedDeclaration) -> Option<Scope>
     ensures { result ≡ declaration_scope (declarations_of scopes.now) thing.now }
 {
     if has_no_scope(&thing.declared_type) {
         return None;
     }
-    if !is_rightly_scoped(scopes, thing) {
+    let scope = type_scope(scopes, &thing.declared_type);
+    let Some(written) = &thing.scope else {
+        return scope_or(&scope, &thing.default);
+    };
+    if is_unknown_scope(scopes, thing, written) {
         return None;
     }
-    let scope = type_scope(scopes, &thing.declared_type);
-    scope_or(&scope, &scope_as_written(scopes, thing))
+    if contradicts(scopes, thing, written) {
+        return None;
+    }
+    let other = written_scope(scopes, thing.class, &thing.current, &written.name);
+    scope_or(&scope, &other)
 }
 
 /// A parameter, a local or a result as a thing.
@@ -193,7 +278,7 @@ fn suits_field(scopes: &Scopes, class: &ClassScope, is_static: bool, scope: &Sco
 }
 
 /// Whether a field of a class that lies in a scope, if in any, may not lie there.
-fn misfits_class(scopes: &Scopes, class: ClassId, is_static: bool, scope: &Option<Scope>) -> bool
+pub fn misfits(scopes: &Scopes, class: ClassId, is_static: bool, scope: &Option<Scope>) -> bool
     ensures { let p = declarations_of scopes.now in
         result ≡ holds scope.now (λ s. not (suits_field p (class_scope p class) is_static s)) }
 {
@@ -203,16 +288,6 @@ fn misfits_class(scopes: &Scopes, class: ClassId, is_static: bool, scope: &Optio
     }
 }
 
-/// Whether a field has another scope than it may have.
-#[tactic(auto, unfolding(scj_rules::specs::StaticScopes::misfits_field))]
-pub fn misfits_field(scopes: &Scopes, class: ClassId, field: &Declared) -> bool
-    ensures { result ≡ misfits_field (declarations_of scopes.now) class field.now }
-{
-    let thing = scoped_field(scopes, class, field);
-    let scope = declaration_scope(scopes, &thing);
-    misfits_class(scopes, class, thing.is_static, &scope)
-}
-
 /// The scope of a field.
 #[tactic(auto, unfolding(scj_rules::specs::StaticScopes::field_scope, scj_rules::specs::StaticScopes::misfits_field))]
 pub fn field_scope(scopes: &Scopes, class: ClassId, field: &Declared) -> Option<Scope>
@@ -220,7 +295,7 @@ pub fn field_scope(scopes: &Scopes, class: ClassId, field: &Declared) -> Option<
 {
     let thing = scoped_field(scopes, class, field);
     let scope = declaration_scope(scopes, &thing);
-    if misfits_class(scopes, class, thing.is_static, &scope) {
+    if misfits(scopes, class, thing.is_static, &scope) {
         return None;
     }
     scope

@@ -1,7 +1,11 @@
-use Rattle.scj_rules.specs.Contexts.{declarations_of}
-use Rattle.scj_rules.specs.UseRules.{variable_scope_at}
-use Rattle.scope_tree.proofs.TreeLemmas.{rows_listed}
+use Rattle.std.proofs.Common.{arith}
+use Rattle.std.proofs.lemmas.Grind.{common_steps}
 use Rattle.static_scopes.proofs.scoped.variables_of.Goals as goal
+use Rattle.static_scopes.proofs.scoped.variables_of.Goals.{then-is_variable+in-Some+in_ok-insert, then-is_variable+in_default, else-is_variable}
 
-pub returns : goal.returns
-returns c = (rows_listed (variable_scope_at (declarations_of c.args.scoped.now)) _ _ c.loop-place.invariant).told
+pub loop-place-preserved : goal.loop-place-preserved
+loop-place-preserved c = λ id scope. elim c.if-is_variable.branch [
+  | then-is_variable+in-Some+in_ok-insert w ↦ grind (arith, common_steps, c.loop-place.invariant id scope)
+  | then-is_variable+in_default w ↦ grind (arith, common_steps, c.loop-place.invariant id scope)
+  | else-is_variable w ↦ grind (arith, common_steps, c.loop-place.invariant id scope)
+]

@@ -3,7 +3,7 @@ use Rattle.scj_tree.specs.Recursion.{joined_below}
 use Rattle.scj_rules.specs.Words.{found_at}
 use Rattle.scj_rules.specs.AnnotationRules.{annotation_breaks}
 use Rattle.scj_rules.specs.Contexts.{declarations_of}
-use Rattle.annotation_rules.proofs.checks.broken_annotations.Given as goal
+use Rattle.annotation_rules.proofs.checks.check_annotations.Given as goal
 
 abbrev pub invariant-loop-place : goal.invariant-loop-place
 invariant-loop-place l = let p = declarations_of l.scoped in

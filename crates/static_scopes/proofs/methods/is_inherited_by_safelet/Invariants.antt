@@ -3,7 +3,7 @@ use Rattle.std.specs.List.{list_any}
 use Rattle.scj_builtins.specs.Framework.{safelet}
 use Rattle.scj_rules.specs.ClassRules.{inherits_as, numbers_from}
 use Rattle.scj_rules.specs.Contexts.{declarations_of}
-use Rattle.static_scopes.proofs.methods.any_inherits.Given as goal
+use Rattle.static_scopes.proofs.methods.is_inherited_by_safelet.Given as goal
 
 abbrev pub invariant-loop-number : goal.invariant-loop-number
 invariant-loop-number l =
