@@ -3,6 +3,7 @@ use Rattle.std.specs.Prelude.{ℕ, Bool, true, false, not, List, [], ◌∷◌, 
 use Rattle.scj_base.specs.declared.findings.Found.{Found}
 use Rattle.scj_base.specs.declared.findings.Rule.TheVariants.{E3, E7, E8}
 use Rattle.scj_base.specs.declared.places.Pos.{Pos}
+use Rattle.scj_tree.specs.Forest.{Forest}
 use Rattle.scj_tree.specs.declared.kinds.NodeKind.{NodeKind}
 use Rattle.scj_tree.specs.declared.kinds.NodeKind.TheVariants.{SuperCall, LocalWithValue, Assign, Return, Cast, Parenthesized, SimpleName, FieldAccess, Call, Element, New, NewArray, Null, This}
 use Rattle.scj_tree.specs.Recursion.{lookup}
@@ -12,12 +13,14 @@ use Rattle.scj_rules.specs.declared.views.Declared.{Declared}
 use Rattle.scj_rules.specs.Words.{broken, found_at, holds, ◌>>=◌}
 use Rattle.scj_rules.specs.Views.{place_at}
 use Rattle.scj_rules.specs.Contexts.{Declarations, declarations_of}
-use Rattle.scj_rules.specs.StaticScopes.{declaration_scope, scoped_variable, substitute}
-use Rattle.scj_rules.specs.Types.{is_reference}
+use Rattle.scj_rules.specs.StaticScopes.{parameter_scope, constructor_parameter_scope, substitute}
+use Rattle.scj_rules.specs.Types.{is_reference, constructor_parameters}
 use Rattle.scj_rules.specs.TypeRules.{Types}
-use Rattle.scj_rules.specs.UseRules.{Scopes, misfit_scope, enters_wrong, executes_wrong, scopes_in, use_breaks}
+use Rattle.scj_rules.specs.UseRules.{Scopes, current_at, misfit_scope, misfit_arguments, e3_of_call, e3_of_constructor, enters_wrong, executes_wrong, scopes_in, use_breaks}
 use Rattle.scj_rules.specs.Phases.{over_nodes}
-use Rattle.runs_in_check.specs.declared.arguments.Callee.{Callee}
+use Rattle.method_rows.specs.Methods.{found_method}
+use Rattle.runs_in_check.specs.declared.calls.Callee.{Callee}
+use Rattle.runs_in_check.specs.declared.calls.Callee.TheVariants.{Method, Constructor}
 use Rattle.runs_in_check.specs.declared.uses.At.{At}
 
 -- ---- a node
@@ -67,27 +70,44 @@ breaks_at p types scopes id = found_at (slice_get p.nodes id) (use_breaks p type
 
 -- ---- a call
 
--- the scope of a parameter as the caller sees it
-unfoldable pub seen_scope : Declarations → Callee → Declared → Option Scope
-seen_scope p callee d =
-    declaration_scope p (scoped_variable callee.class callee.runs_in callee.is_static d)
-    >>= substitute callee.object callee.current
+-- the parameters of what is called
+unfoldable pub parameters_of : Forest → Callee → List Declared
+parameters_of forest (Method m object) = (found_method forest.nodes m).method.parameters
+parameters_of forest (Constructor class object) = constructor_parameters (declarations_of forest).classes class
 
--- a value of a scope doesn't fit a parameter, if there is one
-abbrev pub misfits_parameter : (Declared → Option Scope) → Option Declared → Option Scope → Bool
-misfits_parameter seen parameter value = holds parameter (λ (d : Declared). misfit_scope value (seen d))
+-- the scope of a parameter as the caller sees it
+unfoldable pub seen_scope : At → Callee → Declared → Option Scope
+seen_scope at (Method m object) d =
+    parameter_scope (declared at) (found_method at.uses.now.nodes m).on (found_method at.uses.now.nodes m).method d
+    >>= substitute object (current_at (declared at) at.id)
+seen_scope at (Constructor class object) d =
+    constructor_parameter_scope (declared at) class d >>= substitute object object
 
 -- E3 of an argument, where there is a parameter for it
-unfoldable pub argument_breaks : Declarations → Scopes → (Declared → Option Scope) → Option Declared → ℕ → List Found
-argument_breaks p scopes seen parameter argument =
-    broken (misfits_parameter seen parameter (scopes argument)) E3 (place_at p.nodes argument)
+unfoldable pub argument_breaks : At → Callee → Option Declared → ℕ → List Found
+argument_breaks at callee parameter argument =
+    found_at parameter (λ (d : Declared). broken (misfit_scope (scopes at argument) (seen_scope at callee d)) E3
+    (place_at at.uses.now.nodes argument))
+
+-- E3 of arguments, from a parameter on
+abbrev pub misfits_from : At → Callee → List Declared → List ℕ → List Found
+misfits_from at callee parameters arguments =
+    misfit_arguments (declared at) (scopes at) (seen_scope at callee) parameters arguments
+
+-- E3 of all arguments of a call
+unfoldable pub e3_of : At → Callee → List ℕ → List Found
+e3_of at (Method m object) arguments =
+    e3_of_call (declared at) (scopes at) object (current_at (declared at) at.id) arguments
+    (found_method at.uses.now.nodes m)
+e3_of at (Constructor class object) arguments =
+    e3_of_constructor (declared at) (scopes at) object arguments class
 
 -- E7 and E8 of a call of the framework's method of a number
-unfoldable pub entry_breaks : Declarations → Types → Scopes → ℕ → Pos → ℕ → List ℕ → List Found
-entry_breaks p types scopes id place number (o ∷ r ∷ []) =
-    broken (enters_wrong p types id number r) E7 place
-    ++ (broken (executes_wrong p types scopes number o r) E8 place ++ [])
-entry_breaks p types scopes id place number _ = []
+unfoldable pub entry_breaks : At → Pos → ℕ → List ℕ → List Found
+entry_breaks at place number (o ∷ r ∷ []) =
+    broken (enters_wrong (declared at) (types at) at.id number r) E7 place
+    ++ (broken (executes_wrong (declared at) (types at) (scopes at) number o r) E8 place ++ [])
+entry_breaks at place number _ = []
 
 -- ---- all nodes
 

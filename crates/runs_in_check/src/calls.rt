@@ -1,43 +1,132 @@
 //! What is broken at calls: E2, E3, E7 and E8.
 
-ghost use Rattle.std.specs.Prelude.{◌≡◌, ◌++◌, ◌||◌, not, OnOk, option_map};
-ghost use Rattle.scj_base.specs.declared.findings.Rule.TheVariants.{E2};
+ghost use Rattle.std.specs.Prelude.{◌≡◌, ◌++◌, OnOk, option_map, slice_get};
 ghost use Rattle.scj_tree.specs.declared.nodes.Node.TheVariants.{Call};
+ghost use Rattle.scj_base.specs.declared.findings.Rule.TheVariants.{E2};
 ghost use Rattle.scj_rules.specs.Words.{broken, holds};
 ghost use Rattle.scj_rules.specs.Contexts.{declarations_of};
-ghost use Rattle.scj_rules.specs.UseRules.{current_at, receiver_scope, method_called, misfits_runs_in, misfits_call, e3_of_call, run_of, isnt_in_parent, runs_outside, misfits_entered, misfits_enter, is_named_scope, misfits_area, misfits_execute, use_breaks};
+ghost use Rattle.scj_rules.specs.UseRules.{current_at, receiver_scope, method_called, misfits_call, e3_of_call, run_of, isnt_in_parent, misfits_enter, misfits_execute, use_breaks};
 ghost use Rattle.method_rows.specs.Methods.{found_method};
-ghost use Rattle.runs_in_check.specs.Phase.{declared, types, scopes, entry_breaks};
+ghost use Rattle.runs_in_check.specs.Phase.{declared, types, scopes, parameters_of, seen_scope, argument_breaks, e3_of, entry_breaks};
 
-use crate::arguments::{Callee, note_arguments};
 use crate::scopes::receiver_scope;
 use crate::uses::{At, Uses, is_other, misfit_scope};
 use method_rows::{MethodRef, builtin};
+use node_views::place_at;
 use scj_base::ids::{MANAGED_MEMORY_ENTER_PRIVATE_MEMORY, MANAGED_MEMORY_EXECUTE_IN_AREA_OF};
 use scj_base::{ClassId, Found, Memory, MethodId, Name, NodeId, Pos, Rule, ScopeId};
 use scj_builtins::FRAMEWORK_CLASS_COUNT;
-use scj_rules::{Scope, Ty, report_if};
-use type_rules::arguments::Takes;
-use type_rules::names;
+use scj_rules::{Declared, Scope, Ty, report_if};
+use static_scopes::substitute;
+use type_rules::arguments::{Takes, constructor_parameters};
+use type_rules::{Known, names};
 
-/// Whether a callee may not be called here, by the scope in which it runs.
-#[tactic(auto, unfolding(scj_rules::specs::UseRules::misfits_runs_in))]
-fn misfits_callee(at: &At<'_>, callee: &Callee) -> bool
-    ensures { result ≡ holds callee.now.runs_in (misfits_runs_in (declared at.now) at.now.id callee.now.object) }
+/// What is called, with the scope of the object for which it runs.
+#[derive(Clone, Copy)]
+pub enum Callee {
+    /// A method.
+    Method(MethodRef, Option<Scope>),
+    /// The constructor of a class.
+    Constructor(ClassId, Option<Scope>),
+}
+
+/// The parameter of a number of what is called.
+#[tactic(auto, unfolding(crate::specs::Phase::parameters_of, type_rules::specs::Parameters::taken))]
+fn parameter(known: &Known<'_>, callee: &Callee, i: usize) -> Option<Declared>
+    ensures { result ≡ slice_get (parameters_of known.now callee.now) i }
+{
+    let program = known.program();
+    match callee {
+        Callee::Method(method, _) => method_rows::parameter(program, method, i),
+        Callee::Constructor(class, _) => match &constructor_parameters(known, *class) {
+            Takes::Method(method) => method_rows::parameter(program, method, i),
+            Takes::Listed(parameters) => node_views::parameter(program, *parameters, i),
+        },
+    }
+}
+
+/// The scope of a parameter as the caller sees it.
+#[tactic(auto, unfolding(crate::specs::Phase::seen_scope))]
+fn seen_scope(at: &At<'_>, callee: &Callee, parameter: &Declared) -> Option<Scope>
+    ensures { result ≡ seen_scope at.now callee.now parameter.now }
 {
     let uses = at.uses;
-    let current = uses.scoped.current_at(at.id);
-    match &callee.runs_in {
+    let scoped = &uses.scoped;
+    match callee {
+        Callee::Method(method, object) => {
+            let scope = scoped.parameter_scope(method, parameter)?;
+            substitute(object, &scoped.current_at(at.id), &scope)
+        }
+        Callee::Constructor(class, object) => {
+            let scope = scoped.scope_in(*class, &scoped.this_in(*class), false, parameter)?;
+            substitute(object, object, &scope)
+        }
+    }
+}
+
+/// Notes E3 at an argument, where there is a parameter of its number. What has no scope fits.
+#[tactic(auto, using(crate::proofs::CallLemmas::none_misfits), unfolding(crate::specs::Phase::argument_breaks))]
+fn note_argument(
+    found: &mut Vec<Found>,
+    at: &At<'_>,
+    callee: &Callee,
+    i: usize,
+    argument: NodeId,
+) -> Result<(), Memory>
+    ensures { OnOk result (found.new.items ≡ found.old.items ++ argument_breaks at.now callee.now
+        (slice_get (parameters_of at.now.uses.now callee.now) i) argument) }
+{
+    let value = at.scope_of(argument);
+    if value.is_none() {
+        return Ok(());
+    }
+    let uses = at.uses;
+    match &parameter(&uses.known, callee, i) {
+        Some(parameter) => {
+            let is_wrong = misfit_scope(&value, &seen_scope(at, callee, parameter));
+            let place = place_at(uses.known.program(), argument);
+            report_if(found, is_wrong, Rule::E3, place)
+        }
+        None => Ok(()),
+    }
+}
+
+/// Notes E3 at each argument of a call.
+#[tactic(auto, using(crate::proofs::CallLemmas::arguments_more, crate::proofs::CallLemmas::arguments_all, crate::proofs::CallLemmas::e3_over_arguments))]
+pub fn note_arguments(
+    found: &mut Vec<Found>,
+    at: &At<'_>,
+    callee: &Callee,
+    arguments: &[NodeId],
+) -> Result<(), Memory>
+    ensures { OnOk result (found.new.items ≡ found.old.items ++ e3_of at.now callee.now arguments.now) }
+{
+    for i in 0..arguments.len() {
+        note_argument(found, at, callee, i, arguments[i])?;
+    }
+    Ok(())
+}
+
+/// Whether a user's method may not be called here, by the scope in which it runs.
+#[tactic(auto, unfolding(scj_rules::specs::UseRules::misfits_runs_in))]
+fn misfits_call(at: &At<'_>, object: &Option<NodeId>, method: &MethodRef) -> bool
+    ensures { result ≡ misfits_call (declared at.now) (scopes at.now) at.now.id object.now
+        (found_method at.now.uses.now.nodes method.now) }
+{
+    let uses = at.uses;
+    let scoped = &uses.scoped;
+    match &scoped.runs_in(method) {
         Some(scope) => match scope {
             Scope::Caller => false,
-            Scope::This => misfit_scope(&callee.object, &current),
-            Scope::Any | Scope::In(_) => is_other(&current, scope),
+            Scope::This => misfit_scope(&receiver_scope(at, object), &scoped.current_at(at.id)),
+            Scope::Any | Scope::In(_) => is_other(&scoped.current_at(at.id), scope),
         },
         None => false,
     }
 }
 
 /// Notes E2 and E3 at a call of a user's method.
+#[tactic(auto, unfolding(crate::specs::Phase::e3_of))]
 fn note_user_method(
     found: &mut Vec<Found>,
     at: &At<'_>,
@@ -52,16 +141,8 @@ fn note_user_method(
         ++ e3_of_call p (scopes at.now) (receiver_scope p (scopes at.now) at.now.id object.now)
         (current_at p at.now.id) arguments.now f)) }
 {
-    let uses = at.uses;
-    let callee = Callee {
-        takes: Takes::Method(*method),
-        class: method.on,
-        runs_in: uses.scoped.runs_in(method),
-        is_static: method_rows::is_static(uses.known.program(), method),
-        object: receiver_scope(at, object),
-        current: uses.scoped.current_at(at.id),
-    };
-    report_if(found, misfits_callee(at, &callee), Rule::E2, place)?;
+    report_if(found, misfits_call(at, object, method), Rule::E2, place)?;
+    let callee = Callee::Method(*method, receiver_scope(at, object));
     note_arguments(found, at, &callee, arguments)?;
     Ok(())
 }
@@ -71,24 +152,11 @@ fn run_of(uses: &Uses<'_>, class: ClassId) -> Option<MethodRef>
     ensures { option_map (found_method uses.now.nodes) result ≡ run_of (declarations_of uses.now) class }
 {
     let classes = uses.known.classes();
-    match classes.method_named(class, &Name::new(b"run")) {
-        Some(method) => {
-            if builtin(classes.program(), &method).is_some() {
-                None
-            } else {
-                Some(method)
-            }
-        }
-        None => None,
+    let method = classes.method_named(class, &Name::new(b"run"))?;
+    match builtin(classes.program(), &method) {
+        Some(_) => None,
+        None => Some(method),
     }
-}
-
-/// Whether a method runs neither in `CALLER` nor in the scope.
-fn runs_outside(uses: &Uses<'_>, scope: ScopeId, method: &MethodRef) -> bool
-    ensures { result ≡ runs_outside (declarations_of uses.now) scope (found_method uses.now.nodes method.now) }
-{
-    let runs_in = uses.scoped.runs_in(method);
-    is_other(&runs_in, &Scope::Caller) && is_other(&runs_in, &Scope::In(scope))
 }
 
 /// Whether the parent of a scope isn't the current one.
@@ -101,22 +169,8 @@ fn isnt_in_parent(uses: &Uses<'_>, id: NodeId, scope: ScopeId) -> bool
     }
 }
 
-/// Whether a scope may not be entered here for an object of a class.
-#[tactic(auto, unfolding(scj_rules::specs::UseRules::misfits_entered))]
-fn misfits_entered(uses: &Uses<'_>, id: NodeId, class: ClassId, scope: ScopeId) -> bool
-    ensures { result ≡ misfits_entered (declarations_of uses.now) id class scope }
-{
-    if isnt_in_parent(uses, id, scope) {
-        return true;
-    }
-    match &run_of(uses, class) {
-        Some(method) => runs_outside(uses, scope, method),
-        None => false,
-    }
-}
-
 /// Whether private memory may not be entered here with a value of a type.
-#[tactic(auto, unfolding(scj_rules::specs::UseRules::misfits_enter))]
+#[tactic(auto, unfolding(scj_rules::specs::UseRules::misfits_enter, scj_rules::specs::UseRules::misfits_entered))]
 fn misfits_enter(uses: &Uses<'_>, id: NodeId, t: &Option<Ty>) -> bool
     ensures { result ≡ holds t.now (misfits_enter (declarations_of uses.now) id) }
 {
@@ -126,7 +180,17 @@ fn misfits_enter(uses: &Uses<'_>, id: NodeId, t: &Option<Ty>) -> bool
                 return true;
             }
             match uses.scoped.scopes().defined_by_chain(*class) {
-                Some(scope) => misfits_entered(uses, id, *class, scope),
+                Some(scope) => {
+                    isnt_in_parent(uses, id, scope)
+                        || match &run_of(uses, *class) {
+                            Some(method) => {
+                                let runs_in = uses.scoped.runs_in(method);
+                                is_other(&runs_in, &Scope::Caller)
+                                    && is_other(&runs_in, &Scope::In(scope))
+                            }
+                            None => false,
+                        }
+                }
                 None => true,
             }
         }
@@ -135,29 +199,18 @@ fn misfits_enter(uses: &Uses<'_>, id: NodeId, t: &Option<Ty>) -> bool
     }
 }
 
-/// Whether a method may not be run in the area of an object of this scope.
-#[tactic(auto, unfolding(scj_rules::specs::UseRules::is_named_scope))]
-fn misfits_run(uses: &Uses<'_>, area: &Option<Scope>, method: &MethodRef) -> bool
-    ensures { let p = declarations_of uses.now in
-        result ≡ holds area.now (λ s. not (is_named_scope s)
-        || misfits_area p s (found_method uses.now.nodes method.now)) }
-{
-    match area {
-        Some(Scope::In(scope)) => is_other(&uses.scoped.runs_in(method), &Scope::In(*scope)),
-        Some(_) => true,
-        None => false,
-    }
-}
-
 /// Whether a value of a type may not be run in the area of an object of this scope.
-#[tactic(auto, unfolding(scj_rules::specs::UseRules::misfits_execute))]
+#[tactic(auto, unfolding(scj_rules::specs::UseRules::misfits_execute, scj_rules::specs::UseRules::is_named_scope))]
 fn misfits_execute(uses: &Uses<'_>, area: &Option<Scope>, t: &Option<Ty>) -> bool
     ensures { result ≡ holds t.now (misfits_execute (declarations_of uses.now) area.now) }
 {
     match t {
-        Some(Ty::Class(class)) => match &run_of(uses, *class) {
-            Some(method) => misfits_run(uses, area, method),
-            None => true,
+        Some(Ty::Class(class)) => match (&run_of(uses, *class), area) {
+            (Some(method), Some(Scope::In(scope))) => {
+                is_other(&uses.scoped.runs_in(method), &Scope::In(*scope))
+            }
+            (Some(_), None) => false,
+            _ => true,
         },
         Some(_) => true,
         None => false,
@@ -173,8 +226,7 @@ fn note_entry(
     number: MethodId,
     arguments: &[NodeId],
 ) -> Result<(), Memory>
-    ensures { OnOk result (found.new.items ≡ found.old.items
-        ++ entry_breaks (declared at.now) (types at.now) (scopes at.now) at.now.id place number arguments.now) }
+    ensures { OnOk result (found.new.items ≡ found.old.items ++ entry_breaks at.now place number arguments.now) }
 {
     match arguments {
         [o, r] => {
@@ -219,13 +271,7 @@ pub fn note_call(
     };
     let uses = at.uses;
     match builtin(uses.known.program(), &method) {
-        Some(number) => {
-            note_entry(found, at, place, number, arguments)?;
-            Ok(())
-        }
-        None => {
-            note_user_method(found, at, place, object, arguments, &method)?;
-            Ok(())
-        }
+        Some(number) => note_entry(found, at, place, number, arguments),
+        None => note_user_method(found, at, place, object, arguments, &method),
     }
 }

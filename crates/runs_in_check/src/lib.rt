@@ -1,8 +1,6 @@
 //! The static scopes of expressions, and the checks on uses.
 #![tactic(auto)]
 
-mod arguments;
-mod breaks;
 mod calls;
 mod checks;
 mod scopes;

@@ -5,7 +5,6 @@ ghost use Rattle.scj_tree.specs.declared.nodes.Node.TheVariants.{SimpleName};
 ghost use Rattle.scj_tree.specs.Kinds.{kind_of};
 ghost use Rattle.scj_tree.specs.Recursion.{lookup};
 ghost use Rattle.scj_rules.specs.Words.{holds};
-ghost use Rattle.scj_rules.specs.Classes.{class_number};
 ghost use Rattle.scj_rules.specs.Contexts.{declarations_of};
 ghost use Rattle.scj_rules.specs.Types.{meaning, receiver, call_receiver, accessed_field, called_method};
 ghost use Rattle.scj_rules.specs.TypeRules.{types_in};
@@ -18,7 +17,10 @@ use crate::uses::{At, Uses};
 use class_rows::FieldRef;
 use scj_base::{ClassId, Memory, Name, NodeId, Pos};
 use scj_rules::{Scope, Ty};
-use scj_tree::{Node, NodeKind, Program};
+use scj_tree::NodeKind::{
+    Call, Cast, Element, FieldAccess, New, NewArray, Null, Parenthesized, SimpleName, This,
+};
+use scj_tree::{Node, Program};
 use static_scopes::{scope_or, substitute};
 use std::alloc::Global;
 use type_rules::{NameMeaning, names};
@@ -45,119 +47,25 @@ fn scope_of_field(uses: &Uses<'_>, object: &Option<Scope>, field: &FieldRef) -> 
     substitute(object, &None, &scope)
 }
 
-/// The scope of what a name stands for.
-#[tactic(auto, unfolding(scj_rules::specs::UseRules::scope_of_meaning, type_rules::specs::Meanings::meant))]
-fn scope_of_meaning(uses: &Uses<'_>, id: NodeId, meaning: &NameMeaning) -> Option<Scope>
-    ensures { result ≡ scope_of_meaning (declarations_of uses.now) id (meant uses.now.nodes meaning.now) }
+/// The scope of a class's values, or this one where the class is unannotated.
+#[tactic(auto, unfolding(scj_rules::specs::UseRules::scope_in_class))]
+fn scope_in_class(uses: &Uses<'_>, class: ClassId, other: &Option<Scope>) -> Option<Scope>
+    ensures { result ≡ scope_in_class (declarations_of uses.now) class other.now }
 {
-    match meaning {
-        NameMeaning::Variable(variable) => uses.scoped.variable_scope(*variable),
-        NameMeaning::Field(field) => scope_of_field(uses, &uses.scoped.this_at(id), field),
-        NameMeaning::Class(_) | NameMeaning::Nothing => None,
-    }
-}
-
-/// The scope of a name: of one whose values are no references there is none, as its type tells.
-#[tactic(auto, using(crate::proofs::NodeLemmas::plain_name))]
-fn scope_of_name(at: &At<'_>, place: Pos, name: &Name) -> Option<Scope>
-    requires there { slice_get at.now.uses.now.nodes at.now.id ≡ Some (SimpleName place name.now) }
-    requires types { at.now.types.now ≡ types_in (declared at.now) }
-    ensures { let p = declared at.now in result ≡ scope_of_meaning p at.now.id (meaning p at.now.id name.now) }
-{
-    if at.type_of(at.id).is_some_and(|t| !is_reference(&t)) {
-        return None;
-    }
-    let uses = at.uses;
-    let meaning = names::meaning_there(&uses.known, at.id, place, name);
-    scope_of_meaning(uses, at.id, &meaning)
+    scope_or(&uses.scoped.scopes().class_scope(class), other)
 }
 
 /// The scope in which a new object of a class lies.
-#[tactic(auto, unfolding(scj_rules::specs::UseRules::scope_of_new))]
+#[tactic(auto, unfolding(scj_rules::specs::UseRules::scope_of_new, scj_rules::specs::UseRules::scope_in_class))]
 pub fn scope_of_new(uses: &Uses<'_>, id: NodeId, class: ClassId) -> Option<Scope>
     ensures { result ≡ scope_of_new (declarations_of uses.now) id class }
 {
-    let scope = uses.scoped.scopes().class_scope(class);
-    scope_or(&scope, &uses.scoped.current_at(id))
+    scope_in_class(uses, class, &uses.scoped.current_at(id))
 }
 
-/// The scope of the field that is accessed at an object.
-fn scope_of_access(at: &At<'_>, name: &Name, object: NodeId) -> Option<Scope>
-    ensures { let p = declared at.now in
-        result ≡ option_and_then
-        (λ r. option_and_then (scope_of_field p (scopes at.now object)) (accessed_field p r name.now))
-        (receiver p (types at.now) object) }
-{
-    let uses = at.uses;
-    let receiver = names::receiver(&uses.known, at.types, object)?;
-    match &names::field_accessed(&uses.known, at.id, &receiver, name) {
-        Some(field) => scope_of_field(uses, &at.scope_of(object), field),
-        None => None,
-    }
-}
-
-/// The scope of a call's value.
-#[tactic(auto, unfolding(scj_rules::specs::UseRules::scope_of_call))]
-fn scope_of_value(at: &At<'_>, name: &Name, object: &Option<NodeId>) -> Option<Scope>
-    ensures { let p = declared at.now in
-        result ≡ option_and_then
-        (λ r. option_and_then
-        (scope_of_call p (receiver_scope p (scopes at.now) at.now.id object.now) (current_at p at.now.id))
-        (called_method p r name.now)) (call_receiver p (types at.now) at.now.id object.now) }
-{
-    let uses = at.uses;
-    let receiver = names::call_receiver(&uses.known, at.types, at.id, object)?;
-    match &names::method_called(&uses.known, at.id, &receiver, name) {
-        Some(method) => {
-            let scope = uses.scoped.result_scope(method)?;
-            let current = uses.scoped.current_at(at.id);
-            substitute(&receiver_scope(at, object), &current, &scope)
-        }
-        None => None,
-    }
-}
-
-/// The scope of a new object of a class of this name.
-fn scope_of_made(at: &At<'_>, name: &Name) -> Option<Scope>
-    ensures { let p = declared at.now in
-        result ≡ option_and_then (scope_of_new p at.now.id) (class_number p.names name.now) }
-{
-    let uses = at.uses;
-    let class = uses.known.class_of(name)?;
-    scope_of_new(uses, at.id, class)
-}
-
-/// The scope of an element of an array.
-#[tactic(auto, unfolding(scj_rules::specs::UseRules::scope_of_element, scj_rules::specs::UseRules::scope_in_class))]
-fn scope_of_element(at: &At<'_>, array: NodeId) -> Option<Scope>
-    ensures { result ≡ option_and_then (scope_of_element (declared at.now) (scopes at.now array))
-        (types at.now array) }
-{
-    let uses = at.uses;
-    match &at.type_of(array) {
-        Some(Ty::ClassArray(class)) => {
-            let scope = uses.scoped.scopes().class_scope(*class);
-            scope_or(&scope, &at.scope_of(array))
-        }
-        _ => None,
-    }
-}
-
-/// The scope of a value that is cast to a class of this name.
-#[tactic(auto, unfolding(scj_rules::specs::UseRules::scope_in_class))]
-fn scope_of_cast(at: &At<'_>, name: &Name, operand: NodeId) -> Option<Scope>
-    ensures { let p = declared at.now in
-        result ≡ option_and_then (λ class. scope_in_class p class (scopes at.now operand))
-        (class_number p.names name.now) }
-{
-    let uses = at.uses;
-    let class = uses.known.class_of(name)?;
-    let scope = uses.scoped.scopes().class_scope(class);
-    scope_or(&scope, &at.scope_of(operand))
-}
-
-/// The scope of a node, by what is told of those before it.
-#[tactic(auto, unfolding(scj_rules::specs::UseRules::scope_of))]
+/// The scope of a node, by what is told of those before it. A name whose values are no references has none, as its type
+/// tells.
+#[tactic(auto, using(crate::proofs::NodeLemmas::plain_name), unfolding(scj_rules::specs::UseRules::scope_of, scj_rules::specs::UseRules::scope_of_meaning, type_rules::specs::Meanings::meant, scj_rules::specs::UseRules::scope_of_call, scj_rules::specs::UseRules::scope_of_element))]
 fn scope_of(at: &At<'_>, node: &Node) -> Option<Scope>
     requires there { slice_get at.now.uses.now.nodes at.now.id ≡ Some node.now }
     requires types { at.now.types.now ≡ types_in (declared at.now) }
@@ -168,62 +76,65 @@ fn scope_of(at: &At<'_>, node: &Node) -> Option<Scope>
         Node::This { .. } => uses.scoped.this_at(at.id),
         Node::Null { .. } => Some(Scope::Any),
         Node::Parenthesized { inner, .. } => at.scope_of(*inner),
-        Node::SimpleName { place, name } => scope_of_name(at, *place, name.get()),
-        Node::FieldAccess { name, object, .. } => scope_of_access(at, name.get(), *object),
-        Node::Call { name, object, .. } => scope_of_value(at, name.get(), object),
-        Node::New { name, .. } => scope_of_made(at, name.get()),
+        Node::SimpleName { place, name } => {
+            if at.type_of(at.id).is_some_and(|t| !is_reference(&t)) {
+                return None;
+            }
+            match &names::meaning_there(&uses.known, at.id, *place, name.get()) {
+                NameMeaning::Variable(variable) => uses.scoped.variable_scope(*variable),
+                NameMeaning::Field(field) => {
+                    scope_of_field(uses, &uses.scoped.this_at(at.id), field)
+                }
+                NameMeaning::Class(_) | NameMeaning::Nothing => None,
+            }
+        }
+        Node::FieldAccess { name, object, .. } => {
+            let receiver = names::receiver(&uses.known, at.types, *object)?;
+            let field = names::field_accessed(&uses.known, at.id, &receiver, name.get())?;
+            scope_of_field(uses, &at.scope_of(*object), &field)
+        }
+        Node::Call { name, object, .. } => {
+            let receiver = names::call_receiver(&uses.known, at.types, at.id, object)?;
+            match &names::method_called(&uses.known, at.id, &receiver, name.get()) {
+                Some(method) => {
+                    let scope = uses.scoped.result_scope(method)?;
+                    substitute(
+                        &receiver_scope(at, object),
+                        &uses.scoped.current_at(at.id),
+                        &scope,
+                    )
+                }
+                None => None,
+            }
+        }
+        Node::New { name, .. } => scope_of_new(uses, at.id, uses.known.class_of(name.get())?),
         Node::NewArray { .. } => uses.scoped.current_at(at.id),
-        Node::Element { array, .. } => scope_of_element(at, *array),
-        Node::Cast { name, operand, .. } => scope_of_cast(at, name.get(), *operand),
+        Node::Element { array, .. } => match &at.type_of(*array) {
+            Some(Ty::ClassArray(class)) => scope_in_class(uses, *class, &at.scope_of(*array)),
+            _ => None,
+        },
+        Node::Cast { name, operand, .. } => {
+            let class = uses.known.class_of(name.get())?;
+            scope_in_class(uses, class, &at.scope_of(*operand))
+        }
         _ => None,
     }
 }
 
-/// Whether the node of a number may have a scope, as its kind tells.
-#[tactic(auto, unfolding(crate::specs::Phase::may_have_scope))]
-fn may_have_scope(program: &Program, id: NodeId) -> bool
-    ensures { result ≡ holds (option_map kind_of (slice_get program.now.nodes id)) may_have_scope }
-{
-    matches!(
-        program.kind(id),
-        Some(
-            NodeKind::This
-                | NodeKind::Null
-                | NodeKind::Parenthesized
-                | NodeKind::SimpleName
-                | NodeKind::FieldAccess
-                | NodeKind::Call
-                | NodeKind::New
-                | NodeKind::NewArray
-                | NodeKind::Element
-                | NodeKind::Cast
-        )
-    )
-}
-
 /// The scope of the node of a number, by what is told of those before it. Most have none, which their kinds tell
 /// without a look at them.
-#[tactic(auto, using(crate::proofs::NodeLemmas::scopeless), unfolding(scj_rules::specs::UseRules::scope_of_next, scj_rules::specs::Contexts::declarations_of))]
-fn scope_at<'a>(
-    uses: &'a Uses<'a>,
-    types: &'a [Option<Ty>],
-    scopes: &'a [Option<Scope>],
-    id: NodeId,
-) -> Option<Scope>
-    requires { types.now ≡ types_in (declarations_of uses.now) }
-    ensures { result ≡ scope_of_next (declarations_of uses.now) (lookup None types.now) id (lookup None scopes.now) }
+#[tactic(auto, using(crate::proofs::NodeLemmas::scopeless), unfolding(scj_rules::specs::UseRules::scope_of_next, scj_rules::specs::Contexts::declarations_of, crate::specs::Phase::may_have_scope))]
+fn scope_at(at: &At<'_>) -> Option<Scope>
+    requires { at.now.types.now ≡ types_in (declared at.now) }
+    ensures { result ≡ scope_of_next (declared at.now) (types at.now) at.now.id (scopes at.now) }
 {
+    let uses = at.uses;
     let program = uses.known.program();
-    if !may_have_scope(program, id) {
-        return None;
+    match program.kind(at.id) {
+        Some(This | Null | Parenthesized | SimpleName | FieldAccess)
+        | Some(Call | New | NewArray | Element | Cast) => scope_of(at, program.get(at.id)?),
+        _ => None,
     }
-    let at = At {
-        uses,
-        types,
-        scopes,
-        id,
-    };
-    scope_of(&at, program.get(id)?)
 }
 
 /// The static scope of each node.
@@ -239,7 +150,12 @@ pub fn scopes_of<'a>(
     let count = uses.known.program().len();
     let mut scopes = Vec::with_capacity(alloc, count)?;
     for place in 0..count {
-        let scope = scope_at(&*uses, &*types, &scopes, NodeId::at(place as u32));
+        let scope = scope_at(&At {
+            uses: &*uses,
+            types: &*types,
+            scopes: &scopes,
+            id: NodeId::at(place as u32),
+        });
         scopes.push(scope)?;
     }
     Ok(scopes)

@@ -1,6 +1,5 @@
 pub mod GrammarLaws
 pub mod SampleLaws
-pub mod SourceLaws
 pub mod StandLaws
 pub mod SyntaxLaws
 pub mod UseLemmas

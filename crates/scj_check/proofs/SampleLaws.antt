@@ -1,5 +1,5 @@
 -- The text of a small program is read as its nodes, which break no rule.
-use Rattle.std.proofs.Common.{◌≡◌, ℕ, List, [], ◌∷◌, length, Some, None, refl}
+use Rattle.std.proofs.Common.{◌≡◌, List, [], ◌∷◌, Some, None, refl}
 use Rattle.std.specs.Prelude.{unwrap_or}
 use Rattle.scj_base.specs.Lex.{Lex}
 use Rattle.scj_base.specs.declared.lexemes.Token.{Token}
@@ -13,7 +13,7 @@ use Rattle.scj_lexer.proofs.Computing.{tokens_from, sound, lexer}
 use Rattle.parser_machine.specs.Machine.{answer, start, parsed}
 use Rattle.machine_laws.proofs.Computing.{parser}
 use Rattle.machine_laws.proofs.Soundness.{answer_is_tree}
-use Rattle.scj_rules.specs.Syntax.{Reads, HaveLexemes, FilesRead}
+use Rattle.scj_rules.specs.Syntax.{Reads}
 use Rattle.scj_rules.specs.Syntax.HaveLexemes.{no_text, next_text}
 use Rattle.scj_rules.specs.Syntax.FilesRead.{no_file, next_file}
 use Rattle.scj_rules.specs.Verdicts.{IsReportOf}

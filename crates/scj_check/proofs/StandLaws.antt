@@ -1,5 +1,6 @@
 -- From one text to the next: what is left to read decides what the whole is.
-use Rattle.std.proofs.Common.{◌≡◌, ℕ, suc, ◌+◌, List, [], ◌∷◌, Some, ap, sym, subst, ◌∙◌, drop, drop-cons, slice_get, arith}
+use Rattle.std.proofs.Common.{◌≡◌, ◌≤◌, ℕ, suc, ◌+◌, length, List, [], ◌∷◌, Some, ap, sym, subst, ◌∙◌, drop, drop-cons, slice_get, arith}
+use Rattle.std.proofs.lemmas.List.{drop_all}
 use Rattle.std.proofs.lemmas.Option.{slice_get_within, get_or_from_slice_get}
 use Rattle.scj_base.specs.declared.findings.Found.{Found}
 use Rattle.scj_base.specs.declared.lexemes.Token.{Token}
@@ -18,7 +19,7 @@ use Rattle.scj_check.specs.declared.readings.Reading.{Reading}
 use Rattle.scj_check.specs.declared.readings.Reading.TheVariants.{Read, Broken}
 
 -- what is left from a place on begins with what stands there
-pub rest_at : {X : Type 0} (xs : List X) (k : ℕ) (x : X) → slice_get xs k ≡ Some x → drop k xs ≡ x ∷ drop (k + 1) xs
+rest_at : {X : Type 0} (xs : List X) (k : ℕ) (x : X) → slice_get xs k ≡ Some x → drop k xs ≡ x ∷ drop (k + 1) xs
 rest_at xs k x e =
     let one_more : suc k ≡ k + 1 = omega arith in
     drop-cons xs k x (slice_get_within xs k x e)
@@ -67,18 +68,35 @@ goes_on whole file text rest tokens (Broken found) (Broken again) lexed goes sta
       (stands.grammar (lexemes_of text tokens ∷ rows) (next_text lexed have));
 }
 
-pub with_text : (whole : List (List ℕ)) (file : ℕ) (text : List ℕ) (rest : List (List ℕ)) (before after : Reading) →
-    Stands whole file (text ∷ rest) before → GoesOn file text before after → Stands whole (file + 1) rest after
-with_text whole file text rest before after stands more =
-    goes_on whole file text rest more.tokens before after more.lexed more.goes stands
+-- the same, where the text is the next of the whole
+next_left : (whole : List (List ℕ)) (file : ℕ) (text : List ℕ) (before : Reading) → slice_get whole file ≡ Some text →
+    Stands whole file (drop file whole) before → Stands whole file (text ∷ drop (file + 1) whole) before
+next_left whole file text before there stands =
+    subst (λ (left : List (List ℕ)). Stands whole file left before) (rest_at whole file text there) stands
 
-pub at_a_break : (whole : List (List ℕ)) (file : ℕ) (text : List ℕ) (rest : List (List ℕ)) (before : Reading)
-    (found : Found) → Stands whole file (text ∷ rest) before → BreaksLexemes file text found → BreaksSyntax whole found
-at_a_break whole file text rest (Read program) found stands broken = stands.breaks found (in_lexemes (in_this broken))
-at_a_break whole file text rest (Broken other) found stands broken = stands.lexemes found (in_this broken)
+pub with_text : (whole : List (List ℕ)) (file : ℕ) (text : List ℕ) (before after : Reading) →
+    slice_get whole file ≡ Some text → Stands whole file (drop file whole) before → GoesOn file text before after →
+    Stands whole (file + 1) (drop (file + 1) whole) after
+with_text whole file text before after there stands more =
+    goes_on whole file text (drop (file + 1) whole) more.tokens before after more.lexed more.goes
+    (next_left whole file text before there stands)
 
-pub at_the_end : (whole : List (List ℕ)) (file : ℕ) (reading : Reading) → Stands whole file [] reading →
-    IsReading whole reading
-at_the_end whole file (Read program) stands =
-    stands.reads program (record { lexemes = []; have_lexemes = no_text; files_read = no_file })
-at_the_end whole file (Broken found) stands = stands.grammar [] no_text
+pub at_a_break : (whole : List (List ℕ)) (file : ℕ) (text : List ℕ) (before : Reading) (found : Found) →
+    slice_get whole file ≡ Some text → Stands whole file (drop file whole) before → BreaksLexemes file text found →
+    BreaksSyntax whole found
+at_a_break whole file text before found there stands broken =
+    go before (next_left whole file text before there stands)
+  where
+    go : (before : Reading) → Stands whole file (text ∷ drop (file + 1) whole) before → BreaksSyntax whole found
+    go (Read program) left = left.breaks found (in_lexemes (in_this broken))
+    go (Broken other) left = left.lexemes found (in_this broken)
+
+pub at_the_end : (whole : List (List ℕ)) (file : ℕ) (reading : Reading) → length whole ≤ file →
+    Stands whole file (drop file whole) reading → IsReading whole reading
+at_the_end whole file reading all stands =
+    go reading (subst (λ (left : List (List ℕ)). Stands whole file left reading) (drop_all file whole all) stands)
+  where
+    go : (reading : Reading) → Stands whole file [] reading → IsReading whole reading
+    go (Read program) left =
+        left.reads program (record { lexemes = []; have_lexemes = no_text; files_read = no_file })
+    go (Broken found) left = left.grammar [] no_text

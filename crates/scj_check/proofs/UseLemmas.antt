@@ -39,5 +39,6 @@ pub report_is : (forest : Forest) (annotations uses found : List Found)
     → IsReport (BreaksUseRules forest) found
 report_is forest annotations uses found first second sorted same = record {
   in_order = sorted;
-  exact = (same_then same (same_then (both_same first second) (same_back (phase_parts (declarations_of forest))))).exact;
+  exact =
+      (same_then same (same_then (both_same first second) (same_back (phase_parts (declarations_of forest))))).exact;
 }

@@ -14,19 +14,25 @@ use Rattle.scj_check.specs.declared.verdicts.Verdict.{Verdict}
 use Rattle.scj_check.specs.declared.verdicts.Verdict.TheVariants.{Accepted, Refused}
 use Rattle.scj_check.proofs.SyntaxLaws.{one_program, one_break_told, program_or_break}
 
-one_forest : (texts : List (List ℕ)) (forest other : Forest) → Reads texts forest → Reads texts other → forest ≡ other
-one_forest texts = one_program 0 (forest_of [] []) texts
+pub one_forest : {texts : List (List ℕ)} {forest other : Forest} → Reads texts forest → Reads texts other →
+    forest ≡ other
+one_forest a b = one_program 0 (forest_of [] []) _ _ _ a b
+
+pub one_break : {texts : List (List ℕ)} {one other : Found} → BreaksSyntax texts one → BreaksSyntax texts other →
+    one ≡ other
+one_break a b = one_break_told 0 (forest_of [] []) _ _ _ a b
+
+pub no_break : {texts : List (List ℕ)} {forest : Forest} {found : Found} → Reads texts forest →
+    BreaksSyntax texts found → ⊥
+no_break a b = program_or_break 0 (forest_of [] []) _ _ _ a b
 
 pub one_report_of_texts : {texts : List (List ℕ)} {xs ys : List Found} → IsReportOf texts xs → IsReportOf texts ys →
     xs ≡ ys
-one_report_of_texts {texts} (in_texts {found = f} b) (in_texts {found = g} c) =
-    ap (λ (h : Found). h ∷ []) (one_break_told 0 (forest_of [] []) texts f g b c)
-one_report_of_texts {texts} (in_texts {found = f} b) (in_program {forest = forest} r o) =
-    absurd (program_or_break 0 (forest_of [] []) texts forest f r b)
-one_report_of_texts {texts} (in_program {forest = forest} r o) (in_texts {found = f} b) =
-    absurd (program_or_break 0 (forest_of [] []) texts forest f r b)
-one_report_of_texts {texts} {xs} {ys} (in_program {forest = f} r o) (in_program {forest = g} s p) =
-    one_of_reports f None xs ys o (subst (λ (h : Forest). Reports h None ys) (sym (one_forest texts f g r s)) p)
+one_report_of_texts (in_texts b) (in_texts c) = ap (λ (h : Found). h ∷ []) (one_break b c)
+one_report_of_texts (in_texts b) (in_program r o) = absurd (no_break r b)
+one_report_of_texts (in_program r o) (in_texts b) = absurd (no_break r b)
+one_report_of_texts {texts} {xs} {ys} (in_program {forest = f} r o) (in_program s p) =
+    one_of_reports f None xs ys o (subst (λ (h : Forest). Reports h None ys) (sym (one_forest r s)) p)
 
 -- the verdict on the program of texts is theirs
 pub verdict_of_program : (texts : List (List ℕ)) (forest : Forest) (verdict : Verdict) → Reads texts forest →

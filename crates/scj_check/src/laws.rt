@@ -26,12 +26,14 @@ pub fn no_break_of_a_program()
 {}
 
 /// Texts have one report at most.
+#[tactic(auto, using(crate::proofs::VerdictLaws::one_report_of_texts))]
 pub fn one_report_at_most()
     ensures { (texts : List (List ℕ)) (one other : List Finding) → IsReportOf texts one → IsReportOf texts other →
         one ≡ other }
 {}
 
 /// Some texts have an empty report: they are read as a program that breaks no rule, so that there is a `Checked`.
+#[tactic(auto, using(crate::proofs::SampleLaws::sample_report, crate::proofs::SampleLaws::sample_reads, scj_rules::proofs::RowsOfClasses::safelet_accepted))]
 pub fn a_text_is_accepted()
     ensures report { IsReportOf (arithmetic_text ∷ []) [] }
     ensures program { (program : Forest) × Reads (arithmetic_text ∷ []) program × IsAccepted program }

@@ -34,6 +34,7 @@ pub enum Judgement {
 
 /// Judges a program, phase after phase. What several phases ask is made once: the contexts of the nodes, those that
 /// always return, what names stand for, where methods run, and where variables and fields lie.
+#[tactic(auto, using(scj_rules::proofs::VerdictLemmas::told_of_classes))]
 pub fn judge(alloc: Global, program: &Program) -> Result<Judgement, Memory>
     ensures { IfOk result (λ judgement. IsJudgement program.now judgement) }
 {
@@ -45,6 +46,7 @@ pub fn judge(alloc: Global, program: &Program) -> Result<Judgement, Memory>
     Ok(judge_types(alloc, program, &table, &contexts)?)
 }
 
+#[tactic(auto, using(scj_rules::proofs::VerdictLemmas::told_of_types, crate::proofs::VerdictLaws::accepted_of))]
 fn judge_types(
     alloc: Global,
     program: &Program,
@@ -78,6 +80,7 @@ fn judge_types(
 }
 
 /// The report of a program that breaks no rule of the phases before the scopes.
+#[tactic(auto, using(scj_rules::proofs::VerdictLemmas::told_of_scopes))]
 fn late_report(
     alloc: Global,
     program: &Program,

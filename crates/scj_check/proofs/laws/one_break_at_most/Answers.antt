@@ -1,7 +1,5 @@
-use Rattle.std.proofs.Common.{[]}
-use Rattle.scj_tree.specs.Forest.{forest_of}
-use Rattle.scj_check.proofs.SyntaxLaws.{one_break_told}
+use Rattle.scj_check.proofs.VerdictLaws.{one_break}
 use Rattle.scj_check.proofs.laws.one_break_at_most.Goals as goal
 
 pub returns : goal.returns
-returns c = λ texts one other. one_break_told 0 (forest_of [] []) texts one other
+returns c = λ texts one other a b. one_break a b

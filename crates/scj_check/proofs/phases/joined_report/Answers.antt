@@ -8,4 +8,6 @@ returns c =
     let second = rw c.requires.types at c.in_ok-broken.ensures in
     report_is c.args.known c.in_ok-found.found.items c.in_ok-broken.broken.items c.put_in_order.new.found.items
     (record { exact = first.exact }) (same_lists second) c.put_in_order.ensures.in_order
-    (record { exact = rw (c.in_ok-extend_from_slice.ensures.items, c.deref.ensures.value) at c.put_in_order.ensures.same })
+    (record {
+      exact = rw (c.in_ok-extend_from_slice.ensures.items, c.deref.ensures.value) at c.put_in_order.ensures.same;
+    })

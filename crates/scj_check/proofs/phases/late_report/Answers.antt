@@ -1,11 +1,7 @@
 use Rattle.std.proofs.Common.{arith}
-use Rattle.scj_rules.proofs.VerdictLemmas.{nothing_found, told_of_scopes}
+use Rattle.scj_rules.proofs.VerdictLemmas.{nothing_found}
 use Rattle.scj_check.proofs.VerdictLaws.{report_behind_scopes}
 use Rattle.scj_check.proofs.phases.late_report.Goals as goal
-
-pub returns-then-len-gt0 : goal.returns-then-len-gt0
-returns-then-len-gt0 c =
-    told_of_scopes _ _ (omega arith) c.requires.right_classes c.requires.right_types c.in_ok-tree.ensures.found
 
 pub returns : goal.returns
 returns c =
