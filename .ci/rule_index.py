@@ -16,7 +16,7 @@ PAGE = "docs/RULE_INDEX.md"
 # Where rules are defined: those of lexemes, of the grammar, and all others.
 DEFINED_IN = ("scj_base", "scj_tree", "scj_rules")
 # What names more rules than so is about all of them.
-MOST = 8
+MOST = 16
 
 EDITS = {
     "L1": "scj_lexer/sign_left_out scj_lexer/tab_no_blank",
@@ -25,7 +25,7 @@ EDITS = {
     "L4": "scj_lexer/name_one_shorter",
     "P1": "parser_steps/place_one_token_late parser_steps/token_skipped scj_parser/stops_are_too_deep "
     "scj_check/grammar_break_dropped",
-    "P2": "scj_parser/deep_at_64 scj_parser/first_node_named scj_parser/lower_of_two_operands "
+    "P2": "scj_parser/deep_at_64 scj_parser/first_node_named "
     "scj_parser/super_call_under_no_block",
     "C1": "class_rules/later_class_has_the_name",
     "C2": "class_rules/forbidden_super_by_another_rule",
@@ -35,7 +35,7 @@ EDITS = {
     "C6": "class_rules/parameters_compared_with_themselves symbol_table/names_stay_when_a_class_is_left",
     "C7": "node_views/static_is_abstract class_rules/framework_methods_left_open "
     "symbol_table/open_names_stay_open",
-    "C8": "class_rules/second_safelet_not_named class_table/safelets_left_out "
+    "C8": "class_table/safelets_left_out "
     "class_headers/first_file_left_out",
     "C9": "node_rules/cast_of_any_class node_rules/mission_argument_noted",
     "C10": "class_headers/too_many_either_way "
@@ -69,11 +69,10 @@ EDITS = {
     "A1": "annotation_rules/annotated_variables_passed_over "
     "annotation_rules/contradiction_as_unknown",
     "A2": "annotation_rules/other_scope_in_a_subclass scope_tree/implied_scope_is_unknown",
-    "A3": "static_scopes/field_may_lie_inside static_scopes/field_of_an_unsuited_scope",
-    "A4": "static_scopes/field_of_an_unsuited_scope",
-    "A5": "static_scopes/field_of_an_unsuited_scope",
-    "A6": "annotation_rules/override_may_run_elsewhere annotation_rules/frameworks_count_as_overridden "
-    "annotation_rules/this_is_as_written_above",
+    "A3": "static_scopes/field_may_lie_inside",
+    "A4": "static_scopes/field_may_lie_inside",
+    "A5": "static_scopes/field_may_lie_inside",
+    "A6": "annotation_rules/override_may_run_elsewhere",
     "A7": "annotation_rules/unknown_runs_in_as_other static_scopes/static_method_may_name_this",
     "A8": "static_scopes/nothing_defined_fixes_nothing",
     "A9": "annotation_rules/contradiction_as_unknown static_scopes/unknown_name_as_known_elsewhere",
@@ -90,8 +89,8 @@ EDITS = {
 }
 # Of every rule.
 COMMON = {
-    "the order of a report, and each break once": "scj_check/not_sorted scj_check/first_break_only",
-    "the phases": "scj_check/classes_and_types_together scj_check/scopes_and_uses_together",
+    "the order of a report, and each break once": "scj_check/not_sorted",
+    "the phases": "scj_check/scopes_and_uses_together",
     "the places of the lexemes": "scj_lexer/line_ended_by_carriage_return",
     "the texts of the rules, their codes and their order": "scj_base/another_rule_code scj_base/order_turned",
 }
