@@ -7,11 +7,11 @@ use Rattle.scj_tree.specs.Forest.{Forest, IsForest}
 use Rattle.scj_rules.specs.declared.scopes.Written.{Written}
 use Rattle.scj_rules.specs.Words.{is_among}
 use Rattle.scj_rules.specs.Views.{WrittenClass}
-use Rattle.scj_rules.specs.Classes.{ClassRow, class_number, framework_rows_from, user_row, superclass_written, superclass_in, superclasses, interfaces_in, all_interfaces, is_kind, kinds_of, more_than_one, brings_too_many, with_kinds, is_forbidden_interface, is_forbidden_superclass, forbidden_interfaces, forbidden_supers}
+use Rattle.scj_rules.specs.Classes.{ClassRow, class_number, framework_rows_from, user_row, superclass_written, superclass_in, superclasses, interfaces_in, all_interfaces, kinds, is_kind, kinds_of, more_than_one, brings_too_many, with_kinds, is_forbidden_interface, is_forbidden_superclass, forbidden_interfaces, forbidden_supers}
 use Rattle.scj_rules.specs.ClassRules.{c10}
 use Rattle.scj_rules.specs.Contexts.{Declarations, declarations_of}
 use Rattle.scj_rules.specs.Phases.{IsAccepted}
-use Rattle.scj_rules.proofs.ChainLemmas.{or_cases, same_number}
+use Rattle.scj_rules.proofs.ChainLemmas.{among-front, or_cases, same_number}
 use Rattle.accepted_laws.specs.Sorts.{IsWellSorted}
 use Rattle.accepted_laws.proofs.Breaks.{both_empty}
 use Rattle.accepted_laws.proofs.ClassNumbers.{framework_count}
@@ -161,8 +161,8 @@ in_kinds : (rows : List ClassRow) (class k : ℕ) → is_among k (superclasses r
     Element k (kinds_of rows class)
 unfolding kinds_of
 in_kinds rows class k h kind =
-    in_filter is_kind k (superclasses rows class ++ all_interfaces rows class)
-    (in_left k (superclasses rows class) (all_interfaces rows class) (in_among k (superclasses rows class) h)) kind
+    in_filter (λ j. is_among j (superclasses rows class ++ all_interfaces rows class)) k kinds (in_among k kinds kind)
+    (among-front k (superclasses rows class) (all_interfaces rows class) h)
 
 module _ (forest : Forest) (accepted : IsAccepted forest) (whole : IsForest forest) (sorted : IsWellSorted forest.nodes)
   where

@@ -32,11 +32,11 @@ struct Start {
 }
 
 /// The same areas, in which another job begins.
-fn shared(alloc: Global, open: &OpenAreas) -> Result<OpenAreas, Memory>
-    ensures { IfOk result (λ areas. areas ≡ open.now) }
+fn shared(alloc: Global, outer: &OpenAreas) -> Result<OpenAreas, Memory>
+    ensures { IfOk result (λ areas. areas ≡ outer.now) }
 {
     let mut areas = OpenAreas::new(alloc);
-    let mut rest = open.in_order();
+    let mut rest = outer.in_order();
     while let [area, others @ ..] = rest {
         areas.push(*area)?;
         rest = others;

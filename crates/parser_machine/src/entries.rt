@@ -4,7 +4,7 @@ use scj_base::{NodeId, Pos, SharedName};
 use scj_tree::{FlagSet, NodeList};
 
 /// A production that was begun, with the parts of it that were read.
-#[derive(Debug, Drop)]
+#[derive(Drop)]
 pub enum Entry {
     /// A file.
     FileOpen {

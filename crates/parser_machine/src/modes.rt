@@ -4,7 +4,7 @@ use scj_base::{NodeId, Pos, SharedName};
 use scj_tree::{FlagSet, PostKind};
 
 /// A type without brackets.
-#[derive(Debug, Drop)]
+#[derive(Drop)]
 pub enum ElementType {
     /// `int`.
     Int,
@@ -18,7 +18,7 @@ pub enum ElementType {
 }
 
 /// What was read last and what is awaited: a mode for each place between two lexemes that must be told apart.
-#[derive(Debug, Drop)]
+#[derive(Drop)]
 pub enum Mode {
     /// Nothing was read.
     FileStart,

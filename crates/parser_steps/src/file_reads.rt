@@ -3,7 +3,6 @@
 ghost use Rattle.std.specs.Prelude.{◌≡◌, List, ℕ, Ok, Some, None, option_map};
 ghost use Rattle.parser_machine.specs.Machine.{finished, parsed, start};
 ghost use Rattle.parser_machine.specs.States.{State, at};
-ghost use Rattle.parser_machine.specs.declared.modes.Mode.TheVariants.{FileStart};
 ghost use Rattle.parser_steps.specs.Outcomes.{AllFit, Way, leads, to, up_to, way};
 ghost use Rattle.parser_steps.specs.declared.file_reads.FileRead.TheVariants.{Whole, Stopped, Unfinished};
 ghost use Rattle.scj_base.specs.declared.places.Pos.{Pos as Place};
@@ -47,13 +46,12 @@ fn classes_of(stack: &mut Stack, mode: Mode) -> Option<NodeList>
 }
 
 /// What stands on the stack behind all tokens.
-fn end_of(nodes: &Nodes, stack: &mut Stack, mode: Mode) -> FileRead
-    ensures whole { (ids : List ℕ) → result ≡ Whole ids →
-        finished (at mode stack.old nodes.now.all) ≡ Some (parsed nodes.now.all ids) }
-    ensures unfinished { result ≡ Unfinished → finished (at mode stack.old nodes.now.all) ≡ None }
+fn end_of(stack: &mut Stack, mode: Mode) -> FileRead
+    ensures whole { (nodes : List Node) (ids : List ℕ) → result ≡ Whole ids →
+        finished (at mode stack.old nodes) ≡ Some (parsed nodes ids) }
+    ensures unfinished { (nodes : List Node) → result ≡ Unfinished → finished (at mode stack.old nodes) ≡ None }
     ensures stopped { (p : Place) → result ≡ Stopped p → ⊥ }
 {
-    let _ = nodes;
     match classes_of(stack, mode) {
         Some(classes) => FileRead::Whole(classes),
         None => FileRead::Unfinished,
@@ -61,21 +59,18 @@ fn end_of(nodes: &Nodes, stack: &mut Stack, mode: Mode) -> FileRead
 }
 
 /// What the tokens of a file are, by how far a run came over them.
-fn told_by(
-    nodes: &Nodes,
-    stack: &mut Stack,
-    outcome: Result<Outcome, Memory>,
-) -> Result<FileRead, Memory>
-    ensures whole { (awaited : Way) (ids : List ℕ) → leads outcome nodes.now.all stack.old awaited ≡ awaited →
-        result ≡ Ok (Whole ids) → (st : State) × (awaited ≡ to st) × (finished st ≡ Some (parsed nodes.now.all ids)) }
-    ensures stopped { (awaited : Way) (p : Place) → leads outcome nodes.now.all stack.old awaited ≡ awaited →
-        result ≡ Ok (Stopped p) → awaited ≡ up_to p }
-    ensures unfinished { (awaited : Way) → leads outcome nodes.now.all stack.old awaited ≡ awaited →
+fn told_by(stack: &mut Stack, outcome: Result<Outcome, Memory>) -> Result<FileRead, Memory>
+    ensures whole { (nodes : List Node) (awaited : Way) (ids : List ℕ) →
+        leads outcome nodes stack.old awaited ≡ awaited → result ≡ Ok (Whole ids) →
+        (st : State) × (awaited ≡ to st) × (finished st ≡ Some (parsed nodes ids)) }
+    ensures stopped { (nodes : List Node) (awaited : Way) (p : Place) →
+        leads outcome nodes stack.old awaited ≡ awaited → result ≡ Ok (Stopped p) → awaited ≡ up_to p }
+    ensures unfinished { (nodes : List Node) (awaited : Way) → leads outcome nodes stack.old awaited ≡ awaited →
         result ≡ Ok Unfinished → (st : State) × (awaited ≡ to st) × (finished st ≡ None) }
 {
     match outcome {
         Ok(Outcome::Stopped(pos)) => Ok(FileRead::Stopped(pos)),
-        Ok(Outcome::Ended(mode)) => Ok(end_of(nodes, stack, mode)),
+        Ok(Outcome::Ended(mode)) => Ok(end_of(stack, mode)),
         Err(error) => Err(error),
     }
 }
@@ -102,5 +97,5 @@ pub fn read_file(
         classes: nodes.empty_list(),
     })?;
     let outcome = read(nodes, &mut stack, bytes, tokens);
-    told_by(nodes, &mut stack, outcome)
+    told_by(&mut stack, outcome)
 }

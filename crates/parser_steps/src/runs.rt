@@ -15,7 +15,7 @@ use parser_nodes::views::View;
 use scj_base::{Memory, Pos, SharedName, Token, TokenKind};
 
 /// How far a run comes.
-#[derive(Debug, Drop)]
+#[derive(Drop)]
 pub enum Outcome {
     /// Behind all tokens.
     Ended(Mode),

@@ -1,15 +1,11 @@
 -- An accepted program enters its monitors, where the framework's methods are called on what their types say.
-use Rattle.std.proofs.Common.{◌≡◌, ℕ, zero, suc, ◌+◌, ◌<◌, ◌==◌, nat_lt, true, false, List, [], ◌∷◌, length, map, arith, length-append, Option, Some, None, if◌then◌else◌, refl, sym, ap, ◌∙◌, subst}
+use Rattle.std.proofs.Common.{◌≡◌, ℕ, zero, suc, ◌+◌, ◌<◌, ◌==◌, nat_lt, true, false, List, length, arith, Option, Some, None, if◌then◌else◌, refl, ap, subst}
 use Rattle.std.specs.Prelude.{slice_get}
 use Rattle.std.proofs.lemmas.Bool.Decides.{nat_tests}
-use Rattle.scj_builtins.specs.declared.classes.FrameworkClass.{FrameworkClass}
-use Rattle.scj_builtins.specs.Framework.{framework_classes}
 use Rattle.scj_rules.specs.declared.views.SlotKind.TheVariants.{Number, Truth, Reference}
-use Rattle.scj_rules.specs.Views.{WrittenClass}
-use Rattle.scj_rules.specs.Classes.{framework_rows_from, written_rows, user_row, user_classes, class_names}
 use Rattle.scj_rules.specs.Layout.{element_kind, first_array_class}
 use Rattle.scj_rules.specs.ScopeRules.{is_handler}
-use Rattle.scj_rules.proofs.WithinLemmas.{length-counted}
+use Rattle.scj_rules.proofs.WithinLemmas.{as_many_names}
 use Rattle.scj_tree.specs.Forest.{Forest}
 use Rattle.scj_rules.specs.declared.views.Body.{Body}
 use Rattle.scj_rules.specs.declared.views.Body.TheVariants.{Written, Empty}
@@ -77,33 +73,6 @@ accepted_enters forest a t =
 
 -- ---- a class is no array's
 
-length_framework : (k : ℕ) (xs : List FrameworkClass) → length (framework_rows_from k xs) ≡ length xs
-unfolding framework_rows_from
-length_framework k [] = refl
-length_framework k (x ∷ xs) = ap suc (length_framework (k + 1) xs)
-
-length_mapped : {A B : Type 0} (f : A → B) (xs : List A) → length (map f xs) ≡ length xs
-length_mapped f [] = refl
-length_mapped f (x ∷ xs) = ap suc (length_mapped f xs)
-
-classes_named : (forest : Forest) → length (declarations_of forest).classes ≡ length (declarations_of forest).names
-unfolding declarations_of written_rows class_names
-classes_named forest =
-    let users : List WrittenClass = user_classes forest in
-    let rows =
-    length-append (framework_rows_from 0 framework_classes) (map (user_row forest.nodes (class_names users)) users)
-    in
-    let names = length-append (map (λ (c : FrameworkClass). c.name) framework_classes)
-    (map (λ (c : WrittenClass). c.name) users) in
-    let counted = length-counted (class_names users) (written_rows forest.nodes users) 0
-    (written_rows forest.nodes users) in
-    let a = length_framework 0 framework_classes in
-    let b = length_mapped (λ (c : FrameworkClass). c.name) framework_classes in
-    let c = length_mapped (user_row forest.nodes (class_names users)) users in
-    let d = length_mapped (λ (c : WrittenClass). c.name) users in
-    counted ∙ (rows ∙ (ap (λ n. n + length (map (user_row forest.nodes (class_names users)) users)) (a ∙ sym b)
-    ∙ (ap (λ n. length (map (λ (c : FrameworkClass). c.name) framework_classes) + n) (c ∙ sym d) ∙ sym names)))
-
 pub handler_class : (forest : Forest) (class : ℕ) → class < length (declarations_of forest).classes →
     is_handler (declarations_of forest) class ≡ true → IsHandlerClass (declarations_of forest) class
 unfolding element_kind
@@ -114,7 +83,7 @@ handler_class forest class l h =
       is_no_array = ap (λ b. if b then None else (if class == first_array_class p then Some Number
           else (if class == first_array_class p + 1 then Some Truth
           else (if nat_lt class (first_array_class p + 2 + length p.names) then Some Reference else None))))
-          (named (length p.names) (subst (λ n. class < n) (classes_named forest) l));
+          (named (length p.names) (subst (λ n. class < n) (as_many_names forest) l));
     }
   where
     p : Declarations

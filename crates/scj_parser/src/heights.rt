@@ -6,7 +6,7 @@ ghost use Rattle.scj_tree.specs.Shape.{children, optional};
 ghost use Rattle.scj_parser.specs.HeightRowsSupport.{row, body_height_by, super_height_by, ChildrenWithin};
 
 use scj_base::{Memory, NodeId, Pos};
-use scj_tree::Node;
+use scj_tree::{Node, parts_of};
 use std::alloc::Global;
 
 /// The greatest height that a body may have.
@@ -93,155 +93,17 @@ fn weight(node: &Node) -> u32
 }
 
 /// The greatest height of the children of a node.
-#[tactic(auto, using(crate::proofs::HeightLemmas::highest_append), unfolding(scj_tree::specs::Heights::highest, scj_tree::specs::Shape::children))]
 fn highest_child(heights: &Heights, node: &Node) -> u32
     ensures { result ≡ highest (row heights.now.first heights.now.rows.items) (children node.now) }
 {
-    match node {
-        Node::Class {
-            flags,
-            header,
-            members,
-            ..
-        } => heights.of_optional(*flags).max(
-            heights
-                .of_optional(*header)
-                .max(heights.of_list(members.items())),
-        ),
-        Node::Flags {
-            define_scope,
-            scope,
-            runs_in,
-            ..
-        } => heights.of_optional(*define_scope).max(
-            heights
-                .of_optional(*scope)
-                .max(heights.of_optional(*runs_in)),
-        ),
-        Node::DefineScope { first, second, .. } => heights.of(*first).max(heights.of(*second)),
-        Node::Supers {
-            superclass,
-            interfaces,
-            ..
-        } => heights
-            .of_optional(*superclass)
-            .max(heights.of_list(interfaces.items())),
-        Node::SuperType { argument, .. } => heights.of_optional(*argument),
-        Node::ClassType { argument, .. } => heights.of_optional(*argument),
-        Node::Field {
-            flags,
-            declared_type,
-            value,
-            ..
-        } => heights.of_optional(*flags).max(
-            heights.of(*declared_type).max(heights.of_optional(*value)),
-        ),
-        Node::Method {
-            flags,
-            result_type,
-            parameters,
-            body,
-            ..
-        } => heights.of_optional(*flags).max(
-            heights.of(*result_type).max(
-                heights
-                    .of_optional(*parameters)
-                    .max(heights.of_optional(*body)),
-            ),
-        ),
-        Node::Constructor {
-            flags,
-            parameters,
-            super_call,
-            body,
-            ..
-        } => heights.of_optional(*flags).max(
-            heights
-                .of_optional(*parameters)
-                .max(heights.of_optional(*super_call).max(heights.of(*body))),
-        ),
-        Node::Parameters { list, .. } => heights.of_list(list.items()),
-        Node::Parameter {
-            flags,
-            declared_type,
-            ..
-        } => heights.of_optional(*flags).max(heights.of(*declared_type)),
-        Node::SuperCall { arguments, .. } => heights.of_list(arguments.items()),
-        Node::Block { statements, .. } => heights.of_list(statements.items()),
-        Node::Local {
-            flags,
-            declared_type,
-            ..
-        } => heights.of_optional(*flags).max(heights.of(*declared_type)),
-        Node::LocalWithValue {
-            flags,
-            declared_type,
-            value,
-            ..
-        } => heights
-            .of_optional(*flags)
-            .max(heights.of(*declared_type).max(heights.of(*value))),
-        Node::Assign { target, value, .. } => heights.of(*target).max(heights.of(*value)),
-        Node::ExpressionStatement { expression, .. } => heights.of(*expression),
-        Node::If {
-            condition,
-            then_part,
-            else_part,
-            ..
-        } => heights.of(*condition).max(
-            heights.of(*then_part).max(heights.of_optional(*else_part)),
-        ),
-        Node::While {
-            condition,
-            body,
-            ..
-        } => heights.of(*condition).max(heights.of(*body)),
-        Node::For {
-            first,
-            condition,
-            step,
-            body,
-            ..
-        } => heights.of(*first).max(
-            heights
-                .of(*condition)
-                .max(heights.of(*step).max(heights.of(*body))),
-        ),
-        Node::Return { value, .. } => heights.of_optional(*value),
-        Node::Binary { left, right, .. } => heights.of(*left).max(heights.of(*right)),
-        Node::Unary { operand, .. } => heights.of(*operand),
-        Node::Cast { operand, .. } => heights.of(*operand),
-        Node::Parenthesized { inner, .. } => heights.of(*inner),
-        Node::FieldAccess { object, .. } => heights.of(*object),
-        Node::Call {
-            object,
-            arguments,
-            ..
-        } => heights
-            .of_optional(*object)
-            .max(heights.of_list(arguments.items())),
-        Node::Element { array, index, .. } => heights.of(*array).max(heights.of(*index)),
-        Node::New { arguments, .. } => heights.of_list(arguments.items()),
-        Node::NewArray {
-            element,
-            length,
-            ..
-        } => heights.of(*element).max(heights.of(*length)),
-        Node::ScopeName { .. }
-        | Node::TypeArgument { .. }
-        | Node::IntType { .. }
-        | Node::BooleanType { .. }
-        | Node::VoidType { .. }
-        | Node::LongType { .. }
-        | Node::Empty { .. }
-        | Node::SimpleName { .. }
-        | Node::Text { .. }
-        | Node::Number { .. }
-        | Node::True { .. }
-        | Node::False { .. }
-        | Node::Null { .. }
-        | Node::This { .. } => 0,
-    }
+    let parts = parts_of(node);
+    let last = heights
+        .of_optional(parts.fourth)
+        .max(heights.of_list(parts.list));
+    let later = heights.of_optional(parts.third).max(last);
+    heights
+        .of_optional(parts.first)
+        .max(heights.of_optional(parts.second).max(later))
 }
 
 /// The height of a body; 0 for a node that has none.

@@ -130,10 +130,10 @@ whole-row nodes next (id ∷ ids) last bs l w =
         subst P (sym (reverse-first id (filter (λ v. is_some (variable_at nodes v)) ids) bs))
         (rest (Some id) (id ∷ bs) k longer)
 
-before-same : (v x : ℕ) (ids : List ℕ) → (x == v) ≡ true → those_before v (x ∷ ids) ≡ []
+pub before-same : (v x : ℕ) (ids : List ℕ) → (x == v) ≡ true → those_before v (x ∷ ids) ≡ []
 before-same v x ids e = rw e refl
 
-before-other : (v x : ℕ) (ids : List ℕ) → (x == v) ≡ false → those_before v (x ∷ ids) ≡ x ∷ those_before v ids
+pub before-other : (v x : ℕ) (ids : List ℕ) → (x == v) ≡ false → those_before v (x ∷ ids) ≡ x ∷ those_before v ids
 before-other v x ids e =
     let one : 1 + prefix_len (λ y. not (y == v)) ids ≡ suc (prefix_len (λ y. not (y == v)) ids) = omega arith in
     rw (e, one) refl

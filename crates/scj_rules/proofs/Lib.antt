@@ -4,6 +4,7 @@ pub mod CheckedLemmas
 pub mod Computing
 pub mod ForestTests
 pub mod InScopeLemmas
+pub mod NumberLemmas
 pub mod OrderLemmas
 pub mod ParentLemmas
 pub mod ReportLemmas

@@ -65,7 +65,7 @@ unfolding Origins
 user-origins nodes names class [] = tt
 user-origins nodes names class (c ∷ users) = (of_user c, user-origins nodes names (class + 1) users)
 
-counted-at : (names : List (List ℕ)) (all : List ClassRow) (class : ℕ) (rows : List ClassRow) (k : ℕ) →
+pub counted-at : (names : List (List ℕ)) (all : List ClassRow) (class : ℕ) (rows : List ClassRow) (k : ℕ) →
     slice_get (counted_from names all class rows) k ≡ option_map (counted_row names all (class + k)) (slice_get rows k)
 unfolding counted_from
 counted-at names all class [] k = refl
@@ -496,7 +496,7 @@ module _ (nodes : List Node) (names : List (List ℕ)) (rows : List ClassRow) (o
         go (Some row) e k = by-origin row (origin i row e) e k
 
     face-of : (a i : ℕ) (row : ClassRow) → Origin nodes names a row →
-        is_among i (counted_row names rows a row).interfaces ≡ true → IsFramework i
+        is_among i (counted_row names rows a row).interfaces ≡ true → IsImplemented rows i
     unfolding counted_row framework_row user_row is_well_headed
     face-of a i row (of_framework c) h = absurd (true≢false (sym h))
     face-of a i row (of_user c) h = go (is_well_headed names rows a c) refl h
@@ -504,15 +504,16 @@ module _ (nodes : List Node) (names : List (List ℕ)) (rows : List ClassRow) (o
         go : (t : Bool) → is_well_headed names rows a c ≡ t →
             is_among i
             (if t then user_row nodes names c else record
-            (user_row nodes names c) { superclass = Some object; interfaces = [] }).interfaces ≡ true → IsFramework i
+            (user_row nodes names c) { superclass = Some object; interfaces = [] }).interfaces ≡ true →
+            IsImplemented rows i
         go false e h = absurd (true≢false (sym h))
         go true e h =
             let good = all-three (is_empty (unknown_supers names c)) (not (is_cyclic rows a))
             (is_empty (forbidden_supers names rows c)) e in
-            implemented-is i (header-implemented names rows c good.1.1 i h)
+            header-implemented names rows c good.1.1 i h
 
-    face-is : (a i : ℕ) → is_among i (faces a) ≡ true → IsFramework i
-    face-is a i h =
+    face-implemented : (a i : ℕ) → is_among i (faces a) ≡ true → IsImplemented rows i
+    face-implemented a i h =
         go (slice_get rows a) refl
         (sym
         (ap (λ (o : Option ClassRow). is_among i (elim o as (λ _. List ℕ) [ None ↦ [] | Some row ↦ row.interfaces ]))
@@ -521,9 +522,12 @@ module _ (nodes : List Node) (names : List (List ℕ)) (rows : List ClassRow) (o
         go : (o : Option ClassRow) → slice_get rows a ≡ o →
             is_among i
             (elim (option_map (counted_row names rows a) o) as (λ _. List ℕ) [ None ↦ [] | Some row ↦ row.interfaces ])
-            ≡ true → IsFramework i
+            ≡ true → IsImplemented rows i
         go None e k = absurd (true≢false (sym k))
         go (Some row) e k = face-of a i row (origin a row e) k
+
+    face-is : (a i : ℕ) → is_among i (faces a) ≡ true → IsFramework i
+    face-is a i h = implemented-is i (face-implemented a i h)
 
     framework-step : (i y : ℕ) → IsFramework i → next i ≡ Some y → y ≡ object
     unfolding framework_row
@@ -646,19 +650,38 @@ module _ (nodes : List Node) (names : List (List ℕ)) (rows : List ClassRow) (o
 
 -- ---- the classes of a program
 
-pub subtypes-reached : (forest : Forest) (a b : ℕ) → a < length (declarations_of forest).classes
-    → (is_sub (declarations_of forest).classes a b ≡ true) ↔ Reaches (is_super (declarations_of forest).classes) a b
-unfolding declarations_of written_rows framework_classes
-subtypes-reached forest a b l =
-    let users = user_classes forest in
-    let names = class_names users in
-    let rows = written_rows forest.nodes users in
-    let origins : Origins forest.nodes names 0 rows =
-    origins-append forest.nodes names 0 (framework_rows_from 0 framework_classes)
-    (map (user_row forest.nodes names) users)
-    (framework-origins forest.nodes names 0 framework_classes)
-    (user-origins forest.nodes names (0 + length (framework_rows_from 0 framework_classes)) users) in
-    let first : IsFirst rows = first-of framework_classes (map (user_row forest.nodes names) users) (omega arith) in (
-      sub-reaches forest.nodes names rows origins first (written-stays forest) (counted-stays forest) a b,
-      reaches-sub forest.nodes names rows origins first (written-stays forest) (counted-stays forest) a b l,
-    )
+module _ (forest : Forest) where
+  abbrev all_names : List (List ℕ)
+  all_names = class_names (user_classes forest)
+
+  abbrev users : List ClassRow
+  users = map (user_row forest.nodes all_names) (user_classes forest)
+
+  origins-of : Origins forest.nodes all_names 0 (framework_rows_from 0 framework_classes ++ users)
+  origins-of =
+      origins-append forest.nodes all_names 0 (framework_rows_from 0 framework_classes) users
+      (framework-origins forest.nodes all_names 0 framework_classes)
+      (user-origins forest.nodes all_names (0 + length (framework_rows_from 0 framework_classes)) (user_classes forest))
+
+  first-row : IsFirst (framework_rows_from 0 framework_classes ++ users)
+  unfolding framework_classes
+  first-row = first-of framework_classes users (omega arith)
+
+  -- the interfaces of a class as it counts may be implemented
+  pub interfaces-implemented : (class i : ℕ) →
+      is_among i (interfaces_in (declarations_of forest).classes class) ≡ true →
+      holds (slice_get (declarations_of forest).written i) (λ (row : ClassRow). is_implemented row.kind) ≡ true
+  unfolding declarations_of written_rows framework_classes
+  interfaces-implemented class i h =
+      face-implemented forest.nodes all_names (written_rows forest.nodes (user_classes forest)) origins-of first-row
+      (written-stays forest) (counted-stays forest) class i h
+
+  pub subtypes-reached : (a b : ℕ) → a < length (declarations_of forest).classes
+      → (is_sub (declarations_of forest).classes a b ≡ true) ↔ Reaches (is_super (declarations_of forest).classes) a b
+  unfolding declarations_of written_rows framework_classes
+  subtypes-reached a b l =
+      let rows = written_rows forest.nodes (user_classes forest) in (
+        sub-reaches forest.nodes all_names rows origins-of first-row (written-stays forest) (counted-stays forest) a b,
+        reaches-sub forest.nodes all_names rows origins-of first-row (written-stays forest) (counted-stays forest) a b
+            l,
+      )

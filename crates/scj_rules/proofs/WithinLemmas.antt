@@ -18,7 +18,7 @@ use Rattle.scj_rules.specs.ScopeRules.{immortal_scope, scope_number, scope_of_de
 use Rattle.scj_rules.specs.Chains.{Follows}
 use Rattle.scj_rules.proofs.ChainLemmas.{chain_reaches, or_left, or_right, or_cases, same_number, is_same_number}
 
-position-below : {X : Type 0} (test : X → Bool) (xs : List X) (k : ℕ) → position test xs ≡ Some k → k < length xs
+pub position-below : {X : Type 0} (test : X → Bool) (xs : List X) (k : ℕ) → position test xs ≡ Some k → k < length xs
 position-below test xs k h = go (nat_lt (position_or_len test xs) (length xs)) refl h
   where
     go : (t : Bool) → nat_lt (position_or_len test xs) (length xs) ≡ t →
@@ -86,7 +86,7 @@ unfolding AllWithin user_row
 users-within nodes names [] l = tt
 users-within nodes names (c ∷ users) l = (superclass-within names c.extends l, users-within nodes names users l)
 
-length-framework : (number : ℕ) (cs : List FrameworkClass) → length (framework_rows_from number cs) ≡ length cs
+pub length-framework : (number : ℕ) (cs : List FrameworkClass) → length (framework_rows_from number cs) ≡ length cs
 unfolding framework_rows_from
 length-framework number [] = refl
 length-framework number (c ∷ cs) = ap suc (length-framework (number + 1) cs)
@@ -105,6 +105,25 @@ length-written nodes users =
     length-append (framework_rows_from 0 framework_classes) (map (user_row nodes (class_names users)) users)
     ∙ (let a = length-framework 0 framework_classes in let b = length-map (user_row nodes (class_names users)) users in
     rw (a, b) (sym (length-names users)))
+
+pub length-counted : (names : List (List ℕ)) (all : List ClassRow) (class : ℕ) (rows : List ClassRow) →
+    length (counted_from names all class rows) ≡ length rows
+unfolding counted_from
+length-counted names all class [] = refl
+length-counted names all class (row ∷ rows) = ap suc (length-counted names all (class + 1) rows)
+
+-- each class has a name
+pub as_many_names : (forest : Forest) → length (declarations_of forest).classes ≡ length (declarations_of forest).names
+unfolding declarations_of
+as_many_names forest =
+    let users = user_classes forest in
+    let rows = written_rows forest.nodes users in
+    length-counted (class_names users) rows 0 rows ∙ length-written forest.nodes users
+
+pub user_count : (forest : Forest) → length (declarations_of forest).classes ≡ first_user_class
+    + length (user_classes forest)
+unfolding declarations_of framework_classes
+user_count forest = as_many_names forest ∙ length-names (user_classes forest)
 
 some-names : (users : List WrittenClass) → 0 < length (class_names users)
 unfolding framework_classes
@@ -148,12 +167,6 @@ counted-within n names all class [] l h = tt
 counted-within n names all class (row ∷ rows) l h =
     (counted-row-within n names all class row l h.0, counted-within n names all (class + 1) rows l h.1)
 
-pub length-counted : (names : List (List ℕ)) (all : List ClassRow) (class : ℕ) (rows : List ClassRow) →
-    length (counted_from names all class rows) ≡ length rows
-unfolding counted_from
-length-counted names all class [] = refl
-length-counted names all class (row ∷ rows) = ap suc (length-counted names all (class + 1) rows)
-
 -- the superclasses of the classes of a program, as written and as they count
 pub written-stays : (forest : Forest) → StaysBelow (superclass_in (declarations_of forest).written)
     (length (declarations_of forest).written)
@@ -176,9 +189,7 @@ counted-stays forest =
     stays-below (length (class_names users)) counted
     (counted-within (length (class_names users)) (class_names users) rows 0 rows (some-names users)
     (written-within forest.nodes users)) in
-    let same : length counted ≡ length (class_names users) = length-counted (class_names users) rows 0 rows
-    ∙ length-written forest.nodes users in
-    (let P : ℕ → Type 0 = λ n. StaysBelow (superclass_in counted) n in subst P (sym same) h)
+    (let P : ℕ → Type 0 = λ n. StaysBelow (superclass_in counted) n in subst P (sym (as_many_names forest)) h)
 
 -- ---- the parents of scopes
 
@@ -227,12 +238,10 @@ parent-within p a b h = go (definition_in p a) h
 
 length-classes : (forest : Forest) → length (declarations_of forest).classes ≡ first_user_class + length
     (user_nodes (declarations_of forest))
-unfolding declarations_of framework_classes
+unfolding declarations_of
 length-classes forest =
-    let users = user_classes forest in
-    let rows = written_rows forest.nodes users in
-    length-counted (class_names users) rows 0 rows ∙ length-written forest.nodes users ∙ length-names users
-    ∙ sym (ap (λ (n : ℕ). first_user_class + n) (length-map (λ (c : WrittenClass). c.node) users))
+    user_count forest
+    ∙ sym (ap (λ (n : ℕ). first_user_class + n) (length-map (λ (c : WrittenClass). c.node) (user_classes forest)))
 
 -- the parents of the scopes of a program are numbers of its classes
 pub parents-stay : (forest : Forest) → StaysBelow (parent_scope (declarations_of forest))

@@ -265,13 +265,15 @@ abbrev pub is_cyclic : List ClassRow → ℕ → Bool
 is_cyclic rows class = is_among class (classes_above rows class)
 
 -- the kinds of classes: a class may be of one of them at most
-abbrev pub is_kind : ℕ → Bool
-is_kind class =
-    is_among class (mission ∷ mission_sequencer ∷ periodic_handler ∷ aperiodic_handler ∷ runnable ∷ safelet ∷ [])
+abbrev pub kinds : List ℕ
+kinds = mission ∷ mission_sequencer ∷ periodic_handler ∷ aperiodic_handler ∷ runnable ∷ safelet ∷ []
 
--- the kinds on the chain of a class and among the interfaces of that chain
+abbrev pub is_kind : ℕ → Bool
+is_kind class = is_among class kinds
+
+-- those on the chain of a class and among the interfaces of that chain
 unfoldable pub kinds_of : List ClassRow → ℕ → List ℕ
-kinds_of rows class = filter is_kind (superclasses rows class ++ all_interfaces rows class)
+kinds_of rows class = filter (λ kind. is_among kind (superclasses rows class ++ all_interfaces rows class)) kinds
 
 -- two of the kinds differ
 unfoldable pub more_than_one : List ℕ → Bool

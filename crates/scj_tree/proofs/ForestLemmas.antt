@@ -1,5 +1,7 @@
 -- Forests keep their shape when a node or a file is put last.
-use Rattle.std.proofs.Common.{◌≡◌, ℕ, ◌+◌, ◌<◌, ◌≤◌, ◌^◌, zero, suc, List, [], ◌∷◌, ◌++◌, length, refl, sym, ap, ◌∙◌, arith, slice_get, Some, zero-add, add-zero, append_assoc, length-append, append-nil, subst}
+use Rattle.std.proofs.Common.{◌≡◌, ℕ, ◌+◌, ◌<◌, ◌≤◌, ◌^◌, zero, suc, List, [], ◌∷◌, ◌++◌, length, refl, sym, ap, ◌∙◌, arith, take, slice_get, Some, zero-add, add-zero, append_assoc, length-append, append-nil, subst}
+use Rattle.std.proofs.lemmas.List.{take_more}
+use Rattle.std.proofs.lemmas.Option.{slice_get_within, get_or_from_slice_get}
 use Rattle.scj_tree.specs.declared.nodes.Node.{Node}
 use Rattle.scj_tree.specs.Shape.{children}
 use Rattle.scj_tree.specs.Counts.{times}
@@ -21,6 +23,15 @@ unfolding joined
 joined-append [] yss = refl
 joined-append (xs ∷ xss) yss = ap (λ t. xs ++ t) (joined-append xss yss)
     ∙ sym (append_assoc xs (joined xss) (joined yss))
+
+-- one file's classes more
+pub joined_more : (files : List (List ℕ)) (i : ℕ) (classes ids : List ℕ) → slice_get files i ≡ Some classes →
+    ids ≡ joined (take i files) → ids ++ classes ≡ joined (take (i + 1) files)
+unfolding joined
+joined_more files i classes ids h e =
+    rw e (sym (ap joined (take_more files i classes (slice_get_within files i classes h)
+    ∙ ap (λ t. take i files ++ t ∷ []) (get_or_from_slice_get files i classes classes h))
+    ∙ joined-append (take i files) (classes ∷ []) ∙ ap (λ t. joined (take i files) ++ t) (append-nil classes)))
 
 pub ChildrenFirst-push : (from : ℕ) (ns : List Node) (node : Node) → ChildrenFirst from ns →
     AllBelow (from + length ns) (children node) → ChildrenFirst from (ns ++ node ∷ [])

@@ -1,7 +1,10 @@
 -- The equations of the two recursions over nodes, and that a list made node by node holds what is said of each node.
-use Rattle.std.proofs.Common.{◌≡◌, ℕ, ◌+◌, ◌-◌, ◌<◌, ◌≤◌, zero, suc, List, [], ◌∷◌, ◌++◌, length, refl, sym, ap, ◌∙◌, arith, length-append, nat_lt, true, false, subst, Bool, ◌⊎◌, inl, inr, ⊎_elim}
-use Rattle.scj_tree.specs.Recursion.{below, above, lookup, listed, bottom_up, by_smaller, top_down, by_larger}
+use Rattle.std.proofs.Common.{◌≡◌, ℕ, ◌+◌, ◌-◌, ◌<◌, ◌≤◌, zero, suc, List, [], ◌∷◌, ◌++◌, length, replicate, refl, sym, ap, ◌∙◌, arith, length-append, append_assoc, nat_lt, true, false, subst, Bool, ◌⊎◌, inl, inr, ⊎_elim}
+use Rattle.std.specs.List.{Contains}
+use Rattle.std.proofs.lemmas.Bool.{cases_lt}
 use Rattle.std.proofs.lemmas.Bool.Decides.{nat_tests}
+use Rattle.std.proofs.lemmas.List.Elements.{Contains-append_left, Contains-append_right, Contains-append_cases}
+use Rattle.scj_tree.specs.Recursion.{below, above, lookup, listed, joined_below, bottom_up, by_smaller, top_down, by_larger}
 
 pub lookup-front : {A : Type 0} (default : A) (xs ys : List A) (n : ℕ) → n < length xs →
     lookup default (xs ++ ys) n ≡ lookup default xs n
@@ -20,6 +23,11 @@ pub lookup-behind : {A : Type 0} (default : A) (xs : List A) (n : ℕ) → lengt
 lookup-behind default [] n h = refl
 lookup-behind default (x ∷ xs) zero h = absurd (omega (arith, h))
 lookup-behind default (x ∷ xs) (suc n) h = lookup-behind default xs n (omega (arith, h))
+
+pub lookup-replicate : {A : Type 0} (default : A) (n k : ℕ) → lookup default (replicate n default) k ≡ default
+lookup-replicate default zero k = lookup-behind default [] k (omega arith)
+lookup-replicate default (suc n) zero = refl
+lookup-replicate default (suc n) (suc k) = lookup-replicate default n k
 
 pub length-bottom_up : {A : Type 0} (default : A) (step : ℕ → (ℕ → A) → A) (n : ℕ) →
     length (bottom_up default step n) ≡ n
@@ -162,3 +170,38 @@ bottom_up-is default step n k h =
     below-same default (by_smaller default step) (lookup default (bottom_up default step n)) k
     (λ j l. sym (bottom_up-at default step n j (omega (arith, l, h)))) in
     bottom_up-at default step n k h ∙ by_smaller-is default step k ∙ ap (step k) (λ i j. same j i)
+
+-- one item more
+pub listed_more : {A : Type 0} (f : ℕ → A) (n : ℕ) (said : List A) (v : A) → said ≡ listed f n → v ≡ f n → said ++ v
+    ∷ [] ≡ listed f (n + 1)
+unfolding listed
+listed_more f n said v e h = ap (λ x. said ++ x ∷ []) h ∙ ap (λ xs. xs ++ f n ∷ []) e
+    ∙ ap (listed f) (let g : suc n ≡ n + 1 = omega arith in g)
+
+-- one list more
+pub joined_next : {A : Type 0} (f : ℕ → List A) (n : ℕ) (first : List A) →
+    first ++ joined_below f (n + 1) ≡ (first ++ joined_below f n) ++ f n
+unfolding joined_below
+joined_next f n first = ap (λ m. first ++ joined_below f m) (let count : n + 1 ≡ suc n = omega arith in count)
+    ∙ sym (append_assoc first (joined_below f n) (f n))
+
+-- an element of joined lists stands in one of them
+pub from_joined : {X : Type 0} (f : ℕ → List X) (n : ℕ) (x : X) → Contains (joined_below f n) x → (k : ℕ) × (k < n) ×
+    Contains (f k) x
+unfolding joined_below
+from_joined f zero x h = absurd (let l : h.0 < 0 = h.1 in omega (arith, l))
+from_joined f (suc n) x h =
+    ⊎_elim (λ (e : Contains (joined_below f n) x). let r = from_joined f n x e in
+    (r.0, (let l : r.0 < n = r.1 in omega (arith, l)), r.2))
+    (λ (e : Contains (f n) x). (n, omega arith, e))
+    (Contains-append_cases (joined_below f n) (f n) x h)
+
+pub to_joined : {X : Type 0} (f : ℕ → List X) (n k : ℕ) (x : X) → k < n → Contains (f k) x →
+    Contains (joined_below f n) x
+unfolding joined_below
+to_joined f zero k x l h = absurd (omega (arith, l))
+to_joined f (suc n) k x l h =
+    ⊎_elim (λ (e : k < n). Contains-append_left (joined_below f n) (f n) x (to_joined f n k x e h))
+    (λ (e : n ≤ k). let same : k ≡ n = omega (arith, e, l) in
+    Contains-append_right (joined_below f n) (f n) x (subst (λ m. Contains (f m) x) same h))
+    (cases_lt k n)

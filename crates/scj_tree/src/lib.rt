@@ -2,15 +2,21 @@
 #![tactic(auto)]
 
 pub mod arenas;
+pub mod classes;
 pub mod kinds;
 pub mod lists;
 pub mod nodes;
+pub mod parts;
 pub mod programs;
 pub mod readings;
+pub mod rows;
 
 pub use arenas::Arena;
+pub use classes::class_ids;
 pub use kinds::NodeKind;
 pub use lists::{NodeList, TextBytes};
 pub use nodes::Node;
+pub use parts::{Parts, parts_of};
 pub use programs::Program;
 pub use readings::{FlagSet, PostKind};
+pub use rows::told;

@@ -10,7 +10,7 @@ use std::mem::size_of;
 /// order of the source. `place` is where reports name the node: its first token, but for a binary operator the
 /// operator, for a field access or a call the name, for an element the `[`, for an assignment and for a local
 /// with a value the `=`, for a declaration its name, and for an annotation's value the value.
-#[derive(Debug, Drop)]
+#[derive(Drop)]
 pub enum Node {
     /// A class: `class Name ..{ .. }` (JLS 8.1). `header` is a [`Node::Supers`], there where a superclass or an
     /// interface is written.

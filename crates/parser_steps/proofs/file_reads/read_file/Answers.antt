@@ -13,6 +13,6 @@ returns-clause-whole c = λ ids e.
     let i = lexemes_of c.args.bytes.now c.args.tokens.now in
     let same = ap (λ (s : List Entry). way (at FileStart s c.args.nodes.now.all) i) s in
     let told =
-    c.told_by.ensures.whole (way (at FileStart c.push.new.self c.args.nodes.now.all) i) ids
+    c.told_by.ensures.whole c.read-outcome.new.nodes.all (way (at FileStart c.push.new.self c.args.nodes.now.all) i) ids
     c.read-outcome.ensures.way e in
     (told.0, sym same ∙ told.1, told.2)
