@@ -1,16 +1,15 @@
 -- The parts of a header, the index of names, and what is read of a list element by element.
-use Rattle.std.proofs.Common.{◌≡◌, ◌∙◌, ℕ, cond, List, [], ◌∷◌, map, refl, ap, Option, Some, None, is_some, option_map, option_and_then, ◌+◌, ◌++◌, length, drop, sym, append-nil, slice_get, unwrap_or, if◌then◌else◌, ◌<◌, get_or, take}
+use Rattle.std.proofs.Common.{◌≡◌, ◌∙◌, arith, ℕ, Bool, cond, List, [], ◌∷◌, map, refl, ap, Option, Some, None, is_some, option_map, option_and_then, ◌+◌, length, drop, sym, slice_get, unwrap_or, if◌then◌else◌, ◌<◌, get_or}
+use Rattle.std.specs.Option.{option_or}
 use Rattle.std.specs.List.{filter_map, cons_option, find as first_that, slice_get, position, position_from}
 use Rattle.scj_tree.specs.declared.nodes.Node.{Node}
 use Rattle.scj_tree.specs.declared.nodes.Node.TheVariants.{Constructor}
 use Rattle.scj_rules.specs.declared.scopes.Written.{Written}
 use Rattle.scj_rules.specs.Views.{DeclaredConstructor, constructor_at, constructor_of, WrittenClass, class_at}
 use Rattle.class_headers.specs.Rows.{first_node, interfaces_by, superclass_by, header_by}
-use Rattle.std.proofs.lemmas.List.{at_drop_more, take_more}
-use Rattle.scj_tree.proofs.ForestLemmas.{joined-append}
-use Rattle.std.proofs.lemmas.Option.{slice_get_within, get_or_from_slice_get}
+use Rattle.std.proofs.lemmas.Grind.{common_steps}
+use Rattle.std.proofs.lemmas.List.{at_drop_more}
 use Rattle.scj_builtins.specs.declared.kinds.ClassKind.TheVariants.{Abstract as abstract_class, Concrete as concrete_class}
-use Rattle.scj_tree.specs.Forest.{joined}
 use Rattle.scj_rules.specs.declared.views.Modifiers.{Modifiers}
 use Rattle.class_headers.specs.declared.filling.Header.{Header}
 use Rattle.class_headers.proofs.SoundLemmas.{node_of_class}
@@ -21,23 +20,12 @@ use Rattle.scj_base.specs.Bytes.{is_same}
 pub map_filter_map : {X A B : Type 0} (f : A → B) (g : X → Option A) (xs : List X) →
     filter_map (λ x. option_map f (g x)) xs ≡ map f (filter_map g xs)
 map_filter_map f g [] = refl
-map_filter_map f g (x ∷ xs) = more (g x) (map_filter_map f g xs)
-  where
-    more : (o : Option _) → filter_map (λ y. option_map f (g y)) xs ≡ map f (filter_map g xs) →
-        cons_option (option_map f o) (filter_map (λ y. option_map f (g y)) xs) ≡ map f (cons_option o (filter_map g xs))
-    more None e = e
-    more (Some a) e = ap (λ ys. f a ∷ ys) e
+map_filter_map f g (x ∷ xs) = grind (arith, common_steps, map_filter_map f g xs)
 
 filter_map_then : {X A B : Type 0} (f : A → Option B) (g : X → Option A) (xs : List X) →
     filter_map (λ x. option_and_then f (g x)) xs ≡ filter_map f (filter_map g xs)
 filter_map_then f g [] = refl
-filter_map_then f g (x ∷ xs) = more (g x) (filter_map_then f g xs)
-  where
-    more : (o : Option _) → filter_map (λ y. option_and_then f (g y)) xs ≡ filter_map f (filter_map g xs) →
-        cons_option (option_and_then f o) (filter_map (λ y. option_and_then f (g y)) xs)
-        ≡ filter_map f (cons_option o (filter_map g xs))
-    more None e = e
-    more (Some a) e = ap (cons_option (f a)) e
+filter_map_then f g (x ∷ xs) = grind (arith, common_steps, filter_map_then f g xs)
 
 pub interfaces_are : (find : List ℕ → Option ℕ) (written : ℕ → Option Written) (ids found : List ℕ) (ws : List Written)
     → found ≡ filter_map (λ id. option_and_then (λ (w : Written). find w.name) (written id)) ids →
@@ -61,15 +49,6 @@ first_is nodes (id ∷ ids) =
     first_more nodes id (slice_get nodes id) (filter_map (constructor_at nodes) ids)
     (first_that (λ i. is_some (constructor_at nodes i)) ids) (first_is nodes ids)
 
--- one file's classes more
-pub joined_more : (files : List (List ℕ)) (i : ℕ) (classes ids : List ℕ) → slice_get files i ≡ Some classes →
-    ids ≡ joined (take i files) → ids ++ classes ≡ joined (take (i + 1) files)
-unfolding joined
-joined_more files i classes ids h e =
-    rw e (sym (ap joined (take_more files i classes (slice_get_within files i classes h)
-    ∙ ap (λ t. take i files ++ t ∷ []) (get_or_from_slice_get files i classes classes h))
-    ∙ joined-append (take i files) (classes ∷ []) ∙ ap (λ t. joined (take i files) ++ t) (append-nil classes)))
-
 -- the header of a class from what is read at its node
 abbrev pub parts : List Node → (List ℕ → Option ℕ) → ℕ → Option WrittenClass → Modifiers → Header
 parts nodes find id o m =
@@ -83,20 +62,18 @@ parts nodes find id o m =
           (unwrap_or (option_map (λ (c : WrittenClass). c.members) o) []);
     }
 
-from_parts : (nodes : List Node) (find : List ℕ → Option ℕ) (id : ℕ) (o : Option WrittenClass) → class_at nodes id ≡ o
-    → option_map (parts nodes find id o) (option_map (λ (c : WrittenClass). c.modifiers) o)
-    ≡ option_map (header_by nodes find) o
-unfolding header_by
-from_parts nodes find id None e = refl
-from_parts nodes find id (Some c) e =
-    let place : id ≡ c.node = sym (node_of_class nodes id (slice_get nodes id) c e) in
-    rw (place, first_is nodes c.members) refl
-
 pub parts_are : (nodes : List Node) (find : List ℕ → Option ℕ) (id : ℕ)
     → option_map (parts nodes find id (class_at nodes id))
     (option_map (λ (c : WrittenClass). c.modifiers) (class_at nodes id))
     ≡ option_map (header_by nodes find) (class_at nodes id)
-parts_are nodes find id = from_parts nodes find id (class_at nodes id) refl
+unfolding header_by
+parts_are nodes find id =
+    grind (arith, common_steps, node_of_class nodes id (slice_get nodes id), first_is nodes)
+
+-- one class more where the table has none
+pub one_more_behind : (t : Bool) (class : ℕ) (few before after : Option ℕ) → few ≡ None →
+    after ≡ cond t (Some class) before → option_or few after ≡ cond t (Some class) (option_or few before)
+one_more_behind t class few before after none e = rw none e
 
 -- where those behind a name are numbered, and it gets its number
 pub one_more_numbered : (names : List (List ℕ)) (number next : ℕ) (name other : List ℕ) (before after : Option ℕ) →

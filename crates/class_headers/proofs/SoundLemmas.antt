@@ -1,6 +1,7 @@
 -- The rows of the classes, and the nodes of which they tell.
 use Rattle.std.proofs.Common.{◌≡◌, ℕ, zero, suc, ◌+◌, ◌<◌, ◌≤◌, List, [], ◌∷◌, ◌++◌, length, map, refl, sym, ap, ◌∙◌, subst, arith, Option, Some, None, slice_get, option_map, option_and_then, unwrap_or, nat_lt, if◌then◌else◌}
 use Rattle.std.proofs.lemmas.Bool.Decides.{nat_tests}
+use Rattle.std.proofs.lemmas.Grind.{common_steps}
 use Rattle.std.specs.List.{filter_map, cons_option}
 use Rattle.scj_builtins.specs.declared.classes.FrameworkClass.{FrameworkClass}
 use Rattle.scj_builtins.specs.Framework.{framework_classes}
@@ -10,6 +11,7 @@ use Rattle.scj_tree.specs.Forest.{Forest}
 use Rattle.scj_rules.specs.Views.{WrittenClass, DeclaredMethod, class_at, class_of, field_at, method_at, constructor_at}
 use Rattle.scj_rules.specs.Classes.{ClassRow, user_classes, class_names, class_nodes, written_rows, user_row, framework_row, framework_rows_from, framework_methods_on, first_user_class}
 use Rattle.scj_rules.specs.Contexts.{declarations_of}
+use Rattle.scj_rules.proofs.WithinLemmas.{length-framework}
 use Rattle.class_headers.specs.Members.{class_written}
 
 abbrev pub members_of : Option WrittenClass → List ℕ
@@ -96,11 +98,6 @@ module _ (nodes : List Node) (class : ℕ) (row : ClassRow) where
   row_at users later (c ∷ cs) number (suc i) h k e =
       row_at users later cs (number + 1) i (omega (arith, h)) (omega (arith, k)) e
 
-framework_length : (class : ℕ) (cs : List FrameworkClass) → length (framework_rows_from class cs) ≡ length cs
-unfolding framework_rows_from
-framework_length class [] = refl
-framework_length class (c ∷ cs) = ap suc (framework_length (class + 1) cs)
-
 pub row_sound : (forest : Forest) (class : ℕ) (row : ClassRow) →
     slice_get (declarations_of forest).written class ≡ Some row → IsSound forest.nodes class row
 unfolding declarations_of written_rows user_classes framework_classes
@@ -114,14 +111,11 @@ pub class_at_node : (forest : Forest) (class : ℕ)
     (option_map (λ (c : WrittenClass). c.node) (class_written (declarations_of forest) class)) ≡ class_written
     (declarations_of forest) class
 unfolding class_written
-class_at_node forest class = go (slice_get (declarations_of forest).written class) refl
-  where
-    go : (o : Option ClassRow) → slice_get (declarations_of forest).written class ≡ o
-        → option_and_then (class_at forest.nodes)
-        (option_map (λ (c : WrittenClass). c.node) (option_and_then (λ (row : ClassRow). row.written) o))
-        ≡ option_and_then (λ (row : ClassRow). row.written) o
-    go None e = refl
-    go (Some row) e = (row_sound forest class row e).node
+class_at_node forest class =
+    let sound : (row : ClassRow) → slice_get (declarations_of forest).written class ≡ Some row
+    → option_and_then (class_at forest.nodes) (option_map (λ (c : WrittenClass). c.node) row.written) ≡ row.written =
+    λ row e. (row_sound forest class row e).node in
+    grind (arith, common_steps, sound)
 
 -- the framework's classes are there
 framework_get : (class : ℕ) (xs ys : List ClassRow) → class < length xs → (row : ClassRow) ×
@@ -136,4 +130,4 @@ unfolding declarations_of written_rows framework_classes
 framework_there forest class h =
     framework_get class (framework_rows_from 0 framework_classes)
     (map (user_row forest.nodes (class_names (user_classes forest))) (user_classes forest))
-    (omega (arith, framework_length 0 framework_classes))
+    (omega (arith, length-framework 0 framework_classes))

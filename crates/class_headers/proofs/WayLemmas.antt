@@ -1,12 +1,11 @@
 -- What is met on ways that go on by ways, and that ways that are far enough end where the chain comes back.
-use Rattle.std.proofs.Common.{◌≡◌, ℕ, zero, suc, ◌+◌, ◌-◌, ◌^◌, ◌<◌, ◌≤◌, Bool, true, false, ◌||◌, ◌==◌, true≢false, nat_lt, List, [], ◌∷◌, ◌++◌, length, map, take, get_or, slice_get, bit_or, Option, Some, None, option_and_then, option_map, unwrap_or, refl, sym, ap, ◌∙◌, subst, arith, zero-add, append-nil, inl, inr, ◌⊎◌, ⊎_elim}
-use Rattle.std.specs.Int.{bit_at}
+use Rattle.std.proofs.Common.{◌≡◌, ℕ, zero, suc, ◌+◌, ◌-◌, ◌^◌, ◌<◌, ◌≤◌, Bool, true, false, ◌||◌, ◌==◌, true≢false, nat_lt, List, [], ◌∷◌, ◌++◌, length, map, take, get_or, slice_get, bit_or, Option, Some, None, option_and_then, option_map, unwrap_or, refl, sym, ap, ◌∙◌, subst, arith, zero-add, inl, inr, ◌⊎◌, ⊎_elim}
 use Rattle.std.specs.Int.Bits.{or_zero_r}
 use Rattle.std.specs.List.{list_any, flat_map}
 use Rattle.std.proofs.Math.Nat.{pow-suc}
-use Rattle.std.proofs.lemmas.Bool.{cases_lt, cases_eq}
+use Rattle.std.proofs.lemmas.Bool.{cases_lt}
 use Rattle.std.proofs.lemmas.Bool.Decides.{nat_tests}
-use Rattle.std.proofs.lemmas.List.{map-append, take_more}
+use Rattle.std.proofs.lemmas.Grind.{common_steps}
 use Rattle.std.proofs.lemmas.List.Concat.{flat_map-append}
 use Rattle.std.proofs.lemmas.List.Folds.{Any-from_list_any, list_any_at}
 use Rattle.std.proofs.lemmas.Nat.Bits.{bit_at-zero, bit_at_or, bit_at-lt, bit_at-pow_same, bit_at-pow_other, same_from_bits}
@@ -43,30 +42,19 @@ has_or a b k = grind (arith, nat_tests, bit_at_or a b k, bit_at-lt a k, bit_at-l
 
 has_one : (k x : ℕ) → k < 8 → has_bit (bit_of x) k ≡ (k == x)
 unfolding has_bit bit_of
-has_one k x h =
-    ⊎_elim
-    (λ (e : k ≡ x).
-    let set : bit_at (2 ^ x) k ≡ 1 = ap (bit_at (2 ^ x)) e ∙ bit_at-pow_same x in
-    grind (arith, nat_tests))
-    (λ (apart : k ≡ x → ⊥).
-    let clear : bit_at (2 ^ x) k ≡ 0 = bit_at-pow_other x k apart in
-    let none = bit_at-zero k in
-    grind (arith, nat_tests))
-    (cases_eq k x)
+has_one k x h = grind (arith, nat_tests, bit_at-pow_same x, bit_at-pow_other x k, bit_at-zero k)
 
 has_bits : (k : ℕ) (xs : List ℕ) → k < 8 → has_bit (bits_of xs) k ≡ is_among k xs
 unfolding bits_of
 has_bits k [] h = has_none k
 has_bits k (x ∷ xs) h =
-    has_or (bit_of x) (bits_of xs) k ∙ ap (λ t. t || has_bit (bits_of xs) k) (has_one k x h)
-    ∙ ap (λ t. (k == x) || t) (has_bits k xs h)
+    grind (arith, common_steps, has_or (bit_of x) (bits_of xs) k, has_one k x h, has_bits k xs h)
 
 pub bits_push : (xs : List ℕ) (i x bits bit : ℕ) → i < length xs → x ≡ get_or xs i x → bits ≡ bits_of (take i xs) →
     bit ≡ bit_of x → bit_or bits bit ≡ bits_of (take (i + 1) xs)
 unfolding bits_of
 bits_push xs i x bits bit h e before f =
-    rw (before, f) (sym (ap bits_of (take_more xs i x h ∙ ap (λ y. take i xs ++ y ∷ []) (sym e))
-    ∙ bits-append (take i xs) (x ∷ []) ∙ ap (bit_or (bits_of (take i xs))) (or_zero_r (bit_of x))))
+    grind (arith, common_steps, bits-append (take i xs) (x ∷ []), or_zero_r (bit_of x))
 
 -- ---- lists of lists, and lists that are made number by number
 
@@ -87,9 +75,8 @@ listed-map : {A B : Type 0} (g : A → B) (f : ℕ → A) (h : ℕ → B) (n : �
 unfolding listed
 listed-map g f h zero e = refl
 listed-map g f h (suc n) e =
-    map-append g (listed f n) (f n ∷ [])
-    ∙ ap (λ xs. xs ++ g (f n) ∷ []) (listed-map g f h n (λ k l. e k (omega (arith, l))))
-    ∙ ap (λ x. listed h n ++ x ∷ []) (e n (omega arith))
+    let before : map g (listed f n) ≡ listed h n = listed-map g f h n (λ k l. e k (omega (arith, l))) in
+    grind (arith, common_steps, before, e n (omega arith))
 
 one-listed : {A : Type 0} (p : A → Bool) (f : ℕ → A) (n : ℕ) → list_any p (listed f n) ≡ true → (i : ℕ) × (i < n) ×
     (p (f i) ≡ true)
@@ -140,30 +127,19 @@ module _ (next : ℕ → Option ℕ) where
   abbrev rest : ℕ → Option ℕ → List ℕ
   rest m o = elim o as (λ _. List ℕ) [ None ↦ [] | Some b ↦ chain next m b ]
 
-  climb-on : (m k : ℕ) (o : Option ℕ) → ((b : ℕ) → climb next (m + k) b ≡ option_and_then (climb next k)
-      (climb next m b)) → option_and_then (climb next (m + k)) o ≡ option_and_then (climb next k)
-      (option_and_then (climb next m) o)
-  climb-on m k None later = refl
-  climb-on m k (Some b) later = later b
-
   climb-add : (m k a : ℕ) → climb next (m + k) a ≡ option_and_then (climb next k) (climb next m a)
   unfolding climb
   climb-add zero k a = ap (λ i. climb next i a) (zero-add k)
   climb-add (suc m) k a =
       ap (λ i. climb next i a) (let e : suc m + k ≡ suc (m + k) = omega arith in e)
-      ∙ climb-on m k (next a) (climb-add m k)
-
-  chain-on : (m k : ℕ) (o : Option ℕ) → ((b : ℕ) → chain next (m + k) b ≡ chain next m b ++ rest k (climb next m b)) →
-      rest (m + k) o ≡ rest m o ++ rest k (option_and_then (climb next m) o)
-  chain-on m k None later = refl
-  chain-on m k (Some b) later = later b
+      ∙ grind (arith, common_steps, climb-add m k)
 
   chain-add : (m k a : ℕ) → chain next (m + k) a ≡ chain next m a ++ rest k (climb next m a)
   unfolding chain climb
   chain-add zero k a = ap (λ i. chain next i a) (zero-add k)
   chain-add (suc m) k a =
       ap (λ i. chain next i a) (let e : suc m + k ≡ suc (m + k) = omega arith in e)
-      ∙ ap (λ xs. a ∷ xs) (chain-on m k (next a) (chain-add m k))
+      ∙ grind (arith, common_steps, chain-add m k)
 
   follows_from : (r a b : ℕ) → ((c : ℕ) → climb next r c ≡ Some b → (c ≡ b) ⊎ Follows next c b) → (o : Option ℕ) →
       next a ≡ o → option_and_then (climb next r) o ≡ Some b → Follows next a b
@@ -278,17 +254,10 @@ module _ (next : ℕ → Option ℕ) where
           (rest m (climb next m x)) (from_end m (climb next m x) (λ b e. climb-below m x b h e))
           ∙ (rw (climb-add m m x, chain-add m m x) refl)
 
-      first_from : (x : ℕ) (o : Option ℕ)
-          → ◌≡◌ {A = Way} (record { end = o; above = bit_of x; implemented = bits_of (own x) })
-          (told own (option_and_then (climb next 0) o) (x ∷ rest 0 o))
-      unfolding climb chain bits_of
-      first_from x None = rw (or_zero_r (bit_of x), append-nil (own x)) refl
-      first_from x (Some b) = rw (or_zero_r (bit_of x), append-nil (own x)) refl
-
       pub first_is : (x : ℕ)
           → ◌≡◌ {A = Way} (record { end = next x; above = bit_of x; implemented = bits_of (own x) }) (way next own 1 x)
-      unfolding climb chain
-      first_is x = first_from x (next x)
+      unfolding climb chain bits_of
+      first_is x = grind (arith, common_steps, or_zero_r (bit_of x))
 
       pub doubled_is : (rounds : ℕ) → doubled rounds (listed (way next own 1) n) ≡ listed (way next own (2 ^ rounds)) n
       unfolding doubled

@@ -1,19 +1,11 @@
 -- What is forbidden in the header of a class, where there is one.
-use Rattle.std.specs.Prelude.{◌≡◌, ℕ, List, [], ◌∷◌, Bool, true, not, ◌&&◌, ◌||◌, is_some, slice_get, Option, Some, None, if◌then◌else◌}
-use Rattle.scj_builtins.specs.Framework.{mission, mission_sequencer, periodic_handler, aperiodic_handler, runnable, safelet}
-use Rattle.scj_rules.specs.Words.{is_among, holds}
+use Rattle.std.specs.Prelude.{ℕ, List, [], ◌∷◌, Bool, true, not, ◌&&◌, ◌||◌, is_some, slice_get, Option, Some, None, if◌then◌else◌}
+use Rattle.scj_rules.specs.Words.{holds}
 use Rattle.scj_builtins.specs.declared.kinds.ClassKind.{ClassKind}
 use Rattle.scj_rules.specs.declared.scopes.Written.{Written}
 use Rattle.scj_rules.specs.Views.{WrittenClass}
 use Rattle.scj_rules.specs.Classes.{ClassRow, class_number, kinds_of, brings_too_many, is_extended, is_implemented, unknown_supers, forbidden_supers, is_cyclic, is_empty}
 use Rattle.scj_rules.specs.Contexts.{Declarations}
-
-abbrev pub kinds : List ℕ
-kinds = mission ∷ mission_sequencer ∷ periodic_handler ∷ aperiodic_handler ∷ runnable ∷ safelet ∷ []
-
--- two lists have the same numbers
-pub record AreAlike (xs ys : List ℕ) : Type 0 where
-  pub same : (k : ℕ) → is_among k xs ≡ is_among k ys
 
 abbrev pub is_known : List (List ℕ) → Written → Bool
 is_known names w = is_some (class_number names w.name)

@@ -1,13 +1,12 @@
 -- Ways of some steps from class to superclass, and which of the framework's first classes are met on them, told by the
 -- bits of a number.
-use Rattle.std.specs.Prelude.{◌≡◌, ℕ, zero, suc, ◌^◌, ◌<◌, ◌≤◌, nat_lt, Bool, false, ◌&&◌, ◌==◌, List, [], ◌∷◌, map, length, slice_get, slice_index_or, bit_or, Option, Some, None, option_and_then, unwrap_or, if◌then◌else◌}
+use Rattle.std.specs.Prelude.{◌≡◌, ℕ, zero, suc, ◌^◌, ◌≤◌, nat_lt, Bool, ◌&&◌, ◌==◌, List, [], ◌∷◌, map, length, slice_get, bit_or, Option, Some, None, option_and_then, unwrap_or, if◌then◌else◌}
 use Rattle.std.specs.Int.{bit_at}
-use Rattle.std.specs.List.{list_any}
 use Rattle.scj_tree.specs.Recursion.{listed, lookup}
 use Rattle.scj_rules.specs.Words.{holds}
+use Rattle.scj_rules.specs.Classes.{ClassRow, superclass_in, interfaces_in}
 use Rattle.class_headers.specs.declared.filling.Header.{Header}
 use Rattle.class_headers.specs.declared.ways.Way.{Way}
-use Rattle.class_headers.specs.declared.ways.Marks.{Marks}
 
 -- the bit of a class, where it is one of the first eight
 unfoldable pub bit_of : ℕ → ℕ
@@ -51,28 +50,27 @@ pub record AreDoubled (first : List Way) (steps : ℕ) (ways : List Way) : Type 
   pub far : steps ≤ 2 ^ rounds
   pub are : ways ≡ doubled rounds first
 
--- the superclass and the interfaces by headers and lists of interfaces
+-- the superclass and the interfaces of a class, by headers and lists of interfaces
 abbrev pub above_in : List Header → ℕ → Option ℕ
 above_in rows class = option_and_then (λ (h : Header). h.superclass) (slice_get rows class)
 
 abbrev pub named_in : List (List ℕ) → ℕ → List ℕ
 named_in lists class = unwrap_or (slice_get lists class) []
 
--- the way of one step
-unfoldable pub first_way : List Header → List (List ℕ) → ℕ → Way
-first_way rows lists class =
-    record { end = above_in rows class; above = bit_of class; implemented = bits_of (named_in lists class) }
+-- the way of one step from a class to its superclass
+unfoldable pub first_way : ℕ → Option ℕ → List ℕ → Way
+first_way class superclass interfaces =
+    record { end = superclass; above = bit_of class; implemented = bits_of interfaces }
 
--- the same of each class
-abbrev pub first_ways : List Header → List (List ℕ) → List Way
-first_ways rows lists = listed (first_way rows lists) (length rows)
+abbrev pub way_by : List Header → List (List ℕ) → ℕ → Way
+way_by rows lists class = first_way class (above_in rows class) (named_in lists class)
+
+abbrev pub way_in : List ClassRow → ℕ → Way
+way_in all class = first_way class (superclass_in all class) (interfaces_in all class)
+
+-- the ways of one step from all classes
+abbrev pub first_ways : List ClassRow → List Way
+first_ways all = listed (way_in all) (length all)
 
 abbrev pub ends_at : ℕ → Way → Bool
 ends_at class way = holds way.end (λ end. class == end)
-
--- far ways by these headers and interfaces, and at which classes one of them ends
-pub record AreMarksBy (rows : List Header) (lists : List (List ℕ)) (marks : Marks) : Type 0 where
-  pub ways : AreDoubled (first_ways rows lists) (length marks.ways.items) marks.ways.items
-  pub whole : length marks.cyclic.items ≡ length marks.ways.items
-  pub cyclic : (class : ℕ) → class < length marks.ways.items →
-      slice_index_or marks.cyclic.items class false ≡ list_any (ends_at class) marks.ways.items

@@ -11,7 +11,6 @@ ghost use Rattle.class_headers.specs.Columns.{kind_count};
 ghost use Rattle.class_headers.specs.Ways.{has_bit};
 
 use crate::filling::{Header, Headers};
-use crate::keys::NameKey;
 use crate::ways::{has_bit, interfaces_at, is_marked, superclass_at, way_at};
 use node_views::class_members;
 use scj_base::{ClassId, Name, NodeId};
@@ -69,13 +68,12 @@ impl<'a> WrittenClasses<'a> {
     pub fn class_of(&self, name: &Name) -> Option<ClassId>
         ensures { result ≡ class_number (declarations_of self.now).names name.now }
     {
-        let key = NameKey::of(*name);
-        self.headers.names.get(&key).copied()
+        self.headers.names.class_of(name)
     }
 
     /// The header of a class.
     #[tactic(auto, using(crate::proofs::TableLemmas::header_is))]
-    pub fn header(&self, class: ClassId) -> Option<&'a Header>
+    fn header(&self, class: ClassId) -> Option<&'a Header>
         ensures { option_copied result ≡ option_map header_of (slice_get (declarations_of self.now).written class) }
     {
         self.headers.rows.get(class.number() as usize)
@@ -152,7 +150,7 @@ impl<'a> WrittenClasses<'a> {
     pub fn is_cyclic(&self, class: ClassId) -> bool
         ensures { result ≡ is_cyclic (declarations_of self.now).written class }
     {
-        is_marked(&self.headers.marks.cyclic, class)
+        is_marked(&self.headers.cyclic, class)
     }
 
     /// Whether a class is the kind or stands under it by superclasses.
@@ -160,7 +158,7 @@ impl<'a> WrittenClasses<'a> {
         requires { kind < kind_count }
         ensures { result ≡ is_among kind (superclasses (declarations_of self.now).written class) }
     {
-        has_bit(way_at(&self.headers.marks.ways, class).above, kind)
+        has_bit(way_at(&self.headers.ways, class).above, kind)
     }
 
     /// Whether a class of the chain implements the kind.
@@ -168,7 +166,7 @@ impl<'a> WrittenClasses<'a> {
         requires { kind < kind_count }
         ensures { result ≡ is_among kind (all_interfaces (declarations_of self.now).written class) }
     {
-        has_bit(way_at(&self.headers.marks.ways, class).implemented, kind)
+        has_bit(way_at(&self.headers.ways, class).implemented, kind)
     }
 
     /// The bits of the classes of a chain and of their interfaces.
@@ -178,7 +176,7 @@ impl<'a> WrittenClasses<'a> {
             (superclasses (declarations_of self.now).written class
             ++ all_interfaces (declarations_of self.now).written class) }
     {
-        let way = way_at(&self.headers.marks.ways, class);
+        let way = way_at(&self.headers.ways, class);
         way.above | way.implemented
     }
 }

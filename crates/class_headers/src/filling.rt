@@ -2,23 +2,21 @@
 
 ghost use Rattle.std.specs.Prelude.{◌≡◌, ◌++◌, map, filter_map, option_map, IfOk};
 ghost use Rattle.scj_builtins.specs.Framework.{framework_classes};
-ghost use Rattle.std.specs.HashMap.{get};
-ghost use Rattle.scj_base.specs.Bytes.{is_same};
 ghost use Rattle.scj_rules.specs.Views.{class_at};
 ghost use Rattle.class_headers.specs.declared.filling.Header.{Header as Row};
 ghost use Rattle.class_headers.specs.Rows.{framework_header, header_by, interfaces_at};
+ghost use Rattle.class_headers.specs.ClassNames.{class_named};
 ghost use Rattle.class_headers.specs.Columns.{IsHeadersOf};
 
-use crate::keys::NameKey;
-use crate::names::{class_ids, index_of, names_of};
+use crate::class_names::ClassNames;
+use crate::names::{index_of, names_of};
 use crate::parts::{user_header, user_interfaces};
-use crate::ways::{Marks, marks_in};
+use crate::ways::{Way, ends, ways_in};
 use scj_base::ids::OBJECT;
 use scj_base::{ClassId, Memory, NodeId};
 use scj_builtins::{ClassKind, FrameworkClass, framework_classes};
-use scj_tree::Program;
+use scj_tree::{Program, class_ids};
 use std::alloc::{AllocError, Global};
-use std::collections::HashMap;
 
 /// A class as it is written.
 #[derive(Clone, Copy, Debug)]
@@ -37,13 +35,15 @@ pub struct Header {
 #[derive(Drop)]
 pub struct Headers {
     /// The class of each name.
-    pub names: HashMap<NameKey, ClassId>,
+    pub names: ClassNames,
     /// The classes, each at its number.
     pub rows: Vec<Header>,
     /// The interfaces of each class.
     pub interfaces: Vec<Vec<ClassId>>,
-    /// What is found along the chains.
-    pub marks: Marks,
+    /// Whether the superclasses come back to the class.
+    pub cyclic: Vec<bool>,
+    /// A way from each class that meets all that is on its chain.
+    pub ways: Vec<Way>,
 }
 
 /// The header of a framework class.
@@ -78,11 +78,11 @@ fn framework_headers(alloc: Global) -> Result<Vec<Header>, AllocError>
 fn user_headers(
     alloc: Global,
     program: &Program,
-    names: &HashMap<NameKey, ClassId>,
+    names: &ClassNames,
     ids: &[NodeId],
 ) -> Result<Vec<Header>, AllocError>
     ensures { IfOk result (λ headers. headers.items ≡ filter_map
-        (λ id. option_map (header_by program.now.nodes (get is_same names.now)) (class_at program.now.nodes id))
+        (λ id. option_map (header_by program.now.nodes (class_named names.now)) (class_at program.now.nodes id))
         ids.now) }
 {
     ids.iter()
@@ -94,11 +94,11 @@ fn user_headers(
 fn headers_of(
     alloc: Global,
     program: &Program,
-    names: &HashMap<NameKey, ClassId>,
+    names: &ClassNames,
     ids: &[NodeId],
 ) -> Result<Vec<Header>, Memory>
     ensures { IfOk result (λ headers. headers.items ≡ map framework_header framework_classes ++ filter_map
-        (λ id. option_map (header_by program.now.nodes (get is_same names.now)) (class_at program.now.nodes id))
+        (λ id. option_map (header_by program.now.nodes (class_named names.now)) (class_at program.now.nodes id))
         ids.now) }
 {
     let mut headers = framework_headers(alloc)?;
@@ -112,10 +112,10 @@ fn headers_of(
 fn interfaces(
     alloc: Global,
     program: &Program,
-    names: &HashMap<NameKey, ClassId>,
+    names: &ClassNames,
     node: Option<NodeId>,
 ) -> Result<Vec<ClassId>, Memory>
-    ensures { IfOk result (λ found. found.items ≡ interfaces_at program.now.nodes (get is_same names.now) node) }
+    ensures { IfOk result (λ found. found.items ≡ interfaces_at program.now.nodes (class_named names.now) node) }
 {
     match node {
         Some(node) => {
@@ -131,11 +131,11 @@ fn interfaces(
 fn interfaces_of(
     alloc: Global,
     program: &Program,
-    names: &HashMap<NameKey, ClassId>,
+    names: &ClassNames,
     rows: &[Header],
 ) -> Result<Vec<Vec<ClassId>>, Memory>
     ensures { IfOk result (λ lists. map (λ v. v.items) lists.items
-        ≡ map (λ (h : Row). interfaces_at program.now.nodes (get is_same names.now) h.node) rows.now) }
+        ≡ map (λ (h : Row). interfaces_at program.now.nodes (class_named names.now) h.node) rows.now) }
 {
     let mut lists = Vec::new(alloc);
     for row in rows {
@@ -154,11 +154,13 @@ pub fn headers_in(alloc: Global, program: &Program) -> Result<Headers, Memory>
     let names = index_of(alloc, &all)?;
     let rows = headers_of(alloc, program, &names, &ids)?;
     let interfaces = interfaces_of(alloc, program, &names, &rows)?;
-    let marks = marks_in(alloc, &rows, &interfaces)?;
+    let ways = ways_in(alloc, &rows, &interfaces)?;
+    let cyclic = ends(alloc, &ways)?;
     Ok(Headers {
         names,
         rows,
         interfaces,
-        marks,
+        cyclic,
+        ways,
     })
 }

@@ -5,7 +5,7 @@ use std::hash::{Hash, Hasher};
 use std::marker::Model;
 
 /// A name as a key.
-#[derive(Clone, Copy, Debug)]
+#[derive(Clone, Copy, Debug, PartialEq, Eq)]
 pub struct NameKey {
     name: Name,
 }
@@ -31,39 +31,18 @@ impl NameKey {
     }
 }
 
-impl PartialEq for NameKey {
-    ghost use Rattle.std.specs.Prelude.{◌==◌};
-    ghost use Rattle.std.specs.Cmp.Lexicographic.{pointwise};
-    ghost use Rattle.std.proofs.Common.{rules};
-    ghost use Rattle.std.specs.Cmp.Rules.{comparing};
-
-    ghost eq = { pointwise ◌==◌ };
-
-    ghost laws = { Prim.search (comparing, rules) };
-
-    fn eq(&self, other: &NameKey) -> bool {
-        self.name == other.name
-    }
-}
-
-impl Eq for NameKey {
-    ghost use Rattle.std.proofs.Common.{rules};
-    ghost use Rattle.std.specs.Cmp.Rules.{comparing};
-
-    ghost laws = { Prim.search (comparing, rules) };
-}
-
 impl Hash for NameKey {
-    ghost use Rattle.std.specs.Hash as fed;
+    ghost use Rattle.std.specs.Prelude.{[], ◌∷◌};
     ghost use Rattle.std.proofs.Common.{rules};
     ghost use Rattle.std.specs.Cmp.Rules.{comparing, hashing};
 
-    ghost hash_input = { λ x. fed.slice fed.u8 x };
+    // All bytes in one write: a hasher takes a row of them much faster than one after the other.
+    ghost hash_input = { λ x. x ∷ [] };
 
     ghost respects_eq = { Prim.search (hashing, rules) };
 
     fn hash<H: Hasher>(&self, state: &mut H) {
-        self.name.bytes().hash(state);
+        state.write(self.name.bytes());
     }
 }
 

@@ -3,19 +3,24 @@
 ghost use Rattle.std.specs.Prelude.{◌≡◌, ◌==◌, ◌++◌, not, filter, IfOk, OnOk};
 ghost use Rattle.std.specs.List.{list_any};
 ghost use Rattle.scj_rules.specs.Words.{is_among};
-ghost use Rattle.scj_rules.specs.Classes.{kinds_of, more_than_one, brings_too_many, with_kinds};
+ghost use Rattle.scj_rules.specs.Classes.{kinds, kinds_of, more_than_one, brings_too_many, with_kinds};
 ghost use Rattle.scj_rules.specs.Contexts.{declarations_of};
 ghost use Rattle.class_headers.specs.Ways.{has_bit};
-ghost use Rattle.class_headers.specs.Supers.{AreAlike, kinds};
 
 use crate::classes::WrittenClasses;
-use crate::marks::is_listed;
 use crate::ways::has_bit;
 use scj_base::ids::{
     APERIODIC_EVENT_HANDLER, MISSION, MISSION_SEQUENCER, PERIODIC_EVENT_HANDLER, RUNNABLE, SAFELET,
 };
 use scj_base::{ClassId, Memory};
 use std::alloc::{AllocError, Global};
+
+/// Whether a class stands among these.
+fn is_listed(class: ClassId, classes: &[ClassId]) -> bool
+    ensures { result ≡ is_among class classes.now }
+{
+    classes.iter().any(|other| class == *other)
+}
 
 /// Whether another class stands among these.
 fn has_other(classes: &[ClassId], class: ClassId) -> bool
@@ -87,10 +92,9 @@ fn kinds_in(alloc: Global, bits: u8) -> Result<Vec<ClassId>, AllocError>
 }
 
 impl<'a> WrittenClasses<'a> {
-    /// The kinds of a class, each once.
-    #[tactic(auto, using(crate::proofs::SuperLemmas::kinds_alike))]
+    /// The kinds of a class.
     pub fn kinds_of(&self, alloc: Global, class: ClassId) -> Result<Vec<ClassId>, Memory>
-        ensures { IfOk result (λ kinds. AreAlike kinds.items (kinds_of (declarations_of self.now).written class)) }
+        ensures { IfOk result (λ kinds. kinds.items ≡ kinds_of (declarations_of self.now).written class) }
     {
         let kinds = kinds_in(alloc, self.bits(class))?;
         Ok(kinds)

@@ -2,11 +2,11 @@
 //! kinds, and names that are forbidden.
 #![tactic(auto)]
 
+pub mod class_names;
 pub mod classes;
 pub mod filling;
 pub mod keys;
 pub mod kinds;
-pub mod marks;
 pub mod names;
 pub mod parts;
 pub mod supers;

@@ -1,32 +1,18 @@
 //! The classes of a program in their order, and by their names.
 
 ghost use Rattle.std.specs.Prelude.{◌≡◌, ◌++◌, List, ℕ, map, filter_map, option_map, position, IfOk};
-ghost use Rattle.std.specs.HashMap.{get};
 ghost use Rattle.scj_builtins.specs.declared.classes.FrameworkClass.{FrameworkClass};
 ghost use Rattle.scj_builtins.specs.Framework.{framework_classes};
 ghost use Rattle.scj_base.specs.Bytes.{is_same};
 ghost use Rattle.scj_rules.specs.Views.{WrittenClass, class_at};
-ghost use Rattle.scj_rules.specs.Classes.{class_nodes};
+ghost use Rattle.class_headers.specs.ClassNames.{class_named};
 
-use crate::keys::NameKey;
+use crate::class_names::ClassNames;
 use node_views::class_name;
 use scj_base::{ClassId, Memory, Name, NodeId};
 use scj_builtins::framework_classes;
 use scj_tree::Program;
 use std::alloc::{AllocError, Global};
-use std::collections::HashMap;
-
-/// The nodes of the classes in the order of the sources.
-#[tactic(auto, using(crate::proofs::PartLemmas::joined_more), unfolding(scj_tree::specs::Forest::joined))]
-pub fn class_ids(alloc: Global, program: &Program) -> Result<Vec<NodeId>, Memory>
-    ensures { IfOk result (λ ids. ids.items ≡ class_nodes program.now) }
-{
-    let mut ids = Vec::new(alloc);
-    for file in 0..program.file_count() {
-        ids.extend_from_slice(program.classes(file as u8))?;
-    }
-    Ok(ids)
-}
 
 /// The names of the framework's classes.
 fn framework_names(alloc: Global) -> Result<Vec<Name>, AllocError>
@@ -60,17 +46,17 @@ pub fn names_of(alloc: Global, program: &Program, ids: &[NodeId]) -> Result<Vec<
 }
 
 /// The first place of each name.
-pub fn index_of(alloc: Global, names: &[Name]) -> Result<HashMap<NameKey, ClassId>, Memory>
-    ensures { IfOk result (λ index. (name : List ℕ) → get is_same index name ≡ position (is_same name) names.now) }
+pub fn index_of(alloc: Global, names: &[Name]) -> Result<ClassNames, Memory>
+    ensures { IfOk result (λ index. (name : List ℕ) → class_named index name ≡ position (is_same name) names.now) }
 {
     let mut number = names.len();
     if number > u32::MAX as usize {
         return Err(Memory);
     }
-    let mut index = HashMap::new(alloc);
+    let mut index = ClassNames::new(alloc);
     while number > 0 {
         number -= 1;
-        index.insert(NameKey::of(names[number]), ClassId::at(number as u32))?;
+        index.enter(names[number], ClassId::at(number as u32))?;
     }
     Ok(index)
 }

@@ -4,9 +4,9 @@ ghost use Rattle.std.specs.Prelude.{◌≡◌, ◌++◌, ◌∷◌, ◌&&◌, []
 ghost use Rattle.std.specs.List.{list_all};
 ghost use Rattle.scj_rules.specs.Definitions.{read};
 ghost use Rattle.scj_rules.specs.Views.{class_at, named_super};
-ghost use Rattle.scj_rules.specs.Classes.{kinds_of, with_kinds, forbidden_interfaces};
+ghost use Rattle.scj_rules.specs.Classes.{kinds_of, forbidden_interfaces};
 ghost use Rattle.scj_rules.specs.Contexts.{declarations_of};
-ghost use Rattle.class_headers.specs.Supers.{AreAlike, is_known_if_there, knows_supers, is_nameable, may_be_named, is_forbidden, forbidden_name, kinds_named, forbidden_in, is_well_headed_in};
+ghost use Rattle.class_headers.specs.Supers.{is_known_if_there, knows_supers, is_nameable, may_be_named, is_forbidden, forbidden_name, kinds_named, forbidden_in, is_well_headed_in};
 
 use crate::classes::WrittenClasses;
 use crate::kinds::{add_kinds, brings_too_many};
@@ -67,7 +67,7 @@ impl<'a> WrittenClasses<'a> {
     }
 
     /// Whether all names in the header of the class at a node are known.
-    pub fn knows_supers(&self, node: NodeId) -> bool
+    fn knows_supers(&self, node: NodeId) -> bool
         ensures { result ≡ knows_supers (declarations_of self.now) (class_at self.now.nodes node) }
     {
         let extends = class_extends(self.program(), node);
@@ -85,7 +85,6 @@ impl<'a> WrittenClasses<'a> {
     }
 
     /// Whether a class of these kinds may not be named so behind names of the kinds `there`.
-    #[tactic(auto, using(crate::proofs::SuperLemmas::alike, crate::proofs::SuperLemmas::brings_alike))]
     fn is_forbidden(
         &self,
         class: ClassId,
@@ -93,36 +92,34 @@ impl<'a> WrittenClasses<'a> {
         there: &[ClassId],
         kinds: &[ClassId],
     ) -> bool
-        requires { AreAlike kinds.now (kinds_of (declarations_of self.now).written class) }
+        requires { kinds.now ≡ kinds_of (declarations_of self.now).written class }
         ensures { result ≡ is_forbidden (declarations_of self.now) as_interface there.now class }
     {
         !self.may_be_named(class, as_interface) || brings_too_many(there, kinds)
     }
 
-    /// Puts a name last, where it is forbidden behind names of the kinds `there`, to which those of its class come.
-    #[tactic(auto, using(crate::proofs::SuperLemmas::alike, crate::proofs::SuperLemmas::with_alike), unfolding(crate::specs::Supers::forbidden_name, crate::specs::Supers::kinds_named, scj_rules::specs::Classes::with_kinds))]
+    /// Puts a name last, where it is forbidden behind names of the kinds `there`. The kinds of its class come back.
+    #[tactic(auto, unfolding(crate::specs::Supers::forbidden_name, crate::specs::Supers::kinds_named))]
     fn note_name(
         &self,
         alloc: Global,
         name: Written,
         as_interface: bool,
-        there: &mut Vec<ClassId>,
+        there: &[ClassId],
         found: &mut Vec<Written>,
-    ) -> Result<(), Memory>
+    ) -> Result<Vec<ClassId>, Memory>
         ensures found { OnOk result (found.new.items ≡ found.old.items
-            ++ forbidden_name (declarations_of self.now) as_interface there.old.items name) }
-        ensures there { OnOk result (AreAlike there.new.items
-            (with_kinds there.old.items (kinds_named (declarations_of self.now) name))) }
+            ++ forbidden_name (declarations_of self.now) as_interface there.now name) }
+        ensures kinds { IfOk result (λ kinds. kinds.items ≡ kinds_named (declarations_of self.now) name) }
     {
         match self.class_of(&name.name) {
             Some(class) => {
                 let kinds = self.kinds_of(alloc, class)?;
                 let is_forbidden = self.is_forbidden(class, as_interface, there, &kinds);
                 note_if(is_forbidden, name, found)?;
-                add_kinds(&kinds, there)?;
-                Ok(())
+                Ok(kinds)
             }
-            None => Ok(()),
+            None => Ok(Vec::new(alloc)),
         }
     }
 
@@ -142,7 +139,8 @@ impl<'a> WrittenClasses<'a> {
         let mut others = nodes;
         while let [node, rest @ ..] = others {
             if let Some(name) = named_super(self.program(), *node) {
-                self.note_name(alloc, name, true, there, found)?;
+                let kinds = self.note_name(alloc, name, true, there, found)?;
+                add_kinds(&kinds, there)?;
             }
             others = rest;
         }
@@ -154,14 +152,14 @@ impl<'a> WrittenClasses<'a> {
         ensures { IfOk result
             (λ found. found.items ≡ forbidden_in (declarations_of self.now) (class_at self.now.nodes node)) }
     {
-        let mut there = Vec::new(alloc);
         let mut found = Vec::new(alloc);
         let interfaces = interface_nodes(self.program(), node);
         let Some(name) = class_extends(self.program(), node) else {
+            let mut there = Vec::new(alloc);
             self.note_interfaces(alloc, interfaces, &mut there, &mut found)?;
             return Ok(found);
         };
-        self.note_name(alloc, name, false, &mut there, &mut found)?;
+        let mut there = self.note_name(alloc, name, false, &[], &mut found)?;
         self.note_interfaces(alloc, interfaces, &mut there, &mut found)?;
         Ok(found)
     }

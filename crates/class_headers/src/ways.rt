@@ -1,11 +1,11 @@
 //! What is met on the ways up from the classes as they are written, found for all classes at once by ways of which each
 //! is twice as long as the one before: a chain costs little more where it is long or goes round.
 
-ghost use Rattle.std.specs.Prelude.{◌≡◌, ◌<◌, ◌||◌, ◌==◌, ℕ, List, IfOk, length, map, false, slice_index_or};
+ghost use Rattle.std.specs.Prelude.{◌≡◌, ◌<◌, ◌||◌, ◌==◌, ℕ, IfOk, length, map, false, slice_index_or};
 ghost use Rattle.std.specs.List.{list_any};
-ghost use Rattle.scj_tree.specs.Recursion.{lookup};
+ghost use Rattle.scj_tree.specs.Recursion.{listed, lookup};
 ghost use Rattle.scj_rules.specs.Words.{holds};
-ghost use Rattle.class_headers.specs.Ways.{bit_of, bits_of, has_bit, no_way, way_from, twice, AreDoubled, above_in, named_in, first_way, first_ways, ends_at, AreMarksBy};
+ghost use Rattle.class_headers.specs.Ways.{bit_of, bits_of, has_bit, no_way, way_from, twice, AreDoubled, above_in, named_in, first_way, way_by, ends_at};
 
 use crate::filling::Header;
 use scj_base::{ClassId, Memory};
@@ -20,15 +20,6 @@ pub struct Way {
     pub above: u8,
     /// The bits of their interfaces.
     pub implemented: u8,
-}
-
-/// What is found along the chain of each class.
-#[derive(Drop)]
-pub struct Marks {
-    /// Whether the superclasses come back to the class.
-    pub cyclic: Vec<bool>,
-    /// A way that meets all that is on the chain.
-    pub ways: Vec<Way>,
 }
 
 /// The bit of a class, where it is one of the first eight.
@@ -79,26 +70,32 @@ pub fn interfaces_at(lists: &[Vec<ClassId>], class: usize) -> &[ClassId]
     }
 }
 
-/// The way of one step from a class.
+/// The way of one step from a class to its superclass.
 #[tactic(auto, unfolding(crate::specs::Ways::first_way))]
-fn first_way(rows: &[Header], lists: &[Vec<ClassId>], class: usize) -> Way
-    ensures { result ≡ first_way rows.now (map (λ v. v.items) lists.now) class }
+pub fn first_way(class: usize, superclass: Option<ClassId>, interfaces: &[ClassId]) -> Way
+    ensures { result ≡ first_way class superclass interfaces.now }
 {
     Way {
-        end: superclass_at(rows, class),
+        end: superclass,
         above: bit_of(class),
-        implemented: bits_of(interfaces_at(lists, class)),
+        implemented: bits_of(interfaces),
     }
 }
 
-/// The ways of one step.
+/// The ways of one step from the classes that have these headers and interfaces.
 #[tactic(auto, unfolding(scj_tree::specs::Recursion::listed))]
 fn first_ways(alloc: Global, rows: &[Header], lists: &[Vec<ClassId>]) -> Result<Vec<Way>, Memory>
-    ensures { IfOk result (λ ways. ways.items ≡ first_ways rows.now (map (λ v. v.items) lists.now)) }
+    ensures { IfOk result (λ ways. ways.items
+        ≡ listed (way_by rows.now (map (λ v. v.items) lists.now)) (length rows.now)) }
 {
     let mut ways = Vec::new(alloc);
     for class in 0..rows.len() {
-        ways.push(first_way(rows, lists, class))?;
+        let way = first_way(
+            class,
+            superclass_at(rows, class),
+            interfaces_at(lists, class),
+        );
+        ways.push(way)?;
     }
     Ok(ways)
 }
@@ -157,7 +154,7 @@ fn doubled(alloc: Global, ways: &[Way]) -> Result<Vec<Way>, AllocError>
 
 /// Ways of as many steps as there are classes or more, from those of one step.
 #[tactic(auto, using(crate::proofs::WayLemmas::of_one_step, crate::proofs::WayLemmas::twice_as_far, crate::proofs::WayLemmas::far_enough))]
-fn far_ways(alloc: Global, first: Vec<Way>) -> Result<Vec<Way>, Memory>
+pub fn far_ways(alloc: Global, first: Vec<Way>) -> Result<Vec<Way>, Memory>
     ensures { IfOk result (λ ways. AreDoubled first.items (length ways.items) ways.items) }
 {
     let mut ways = first;
@@ -184,7 +181,7 @@ fn mark(marks: &mut Vec<bool>, class: Option<ClassId>)
 }
 
 /// Marks for the classes where a way ends.
-fn ends(alloc: Global, ways: &[Way]) -> Result<Vec<bool>, Memory>
+pub fn ends(alloc: Global, ways: &[Way]) -> Result<Vec<bool>, Memory>
     ensures whole { IfOk result (λ marks. length marks.items ≡ length ways.now) }
     ensures exact { IfOk result (λ marks. (class : ℕ) → class < length ways.now →
         slice_index_or marks.items class false ≡ list_any (ends_at class) ways.now) }
@@ -196,14 +193,15 @@ fn ends(alloc: Global, ways: &[Way]) -> Result<Vec<bool>, Memory>
     Ok(marks)
 }
 
-/// What is found along the chains of the classes that have these headers and interfaces.
-pub fn marks_in(alloc: Global, rows: &[Header], lists: &[Vec<ClassId>]) -> Result<Marks, Memory>
-    ensures { IfOk result (λ marks. AreMarksBy rows.now (map (λ v. v.items) lists.now) marks) }
+/// Ways from the classes that have these headers and interfaces, which meet all that is on their chains.
+pub fn ways_in(alloc: Global, rows: &[Header], lists: &[Vec<ClassId>]) -> Result<Vec<Way>, Memory>
+    ensures { IfOk result
+        (λ ways. AreDoubled (listed (way_by rows.now (map (λ v. v.items) lists.now)) (length rows.now))
+        (length ways.items) ways.items) }
 {
     let first = first_ways(alloc, rows, lists)?;
     let ways = far_ways(alloc, first)?;
-    let cyclic = ends(alloc, &ways)?;
-    Ok(Marks { cyclic, ways })
+    Ok(ways)
 }
 
 /// Whether a class is marked.

@@ -1,5 +1,6 @@
 -- What a field has that a short row stands for.
-use Rattle.std.proofs.Common.{◌≡◌, ℕ, List, refl, Option, Some, None, true, is_some, slice_get, option_map, option_and_then, unwrap_or}
+use Rattle.std.proofs.Common.{◌≡◌, ℕ, List, refl, arith, Option, Some, None, true, is_some, slice_get, option_map, option_and_then, unwrap_or}
+use Rattle.std.proofs.lemmas.Grind.{common_steps}
 use Rattle.scj_tree.specs.declared.nodes.Node.{Node}
 use Rattle.scj_tree.specs.declared.nodes.Node.TheVariants.{Field}
 use Rattle.scj_rules.specs.declared.views.Declared.{Declared}
@@ -27,9 +28,4 @@ field_there nodes id e = go (slice_get nodes id) e
 
 pub node_of_found : (nodes : List Node) (f : FieldRef) → (found_field nodes f).field.node ≡ f.node
 unfolding found_field
-node_of_found nodes f = go (field_at nodes f.node) (field_there nodes f.node)
-  where
-    go : (o : Option Declared) → (is_some o ≡ true → option_map (λ (d : Declared). d.node) o ≡ Some f.node) →
-        (unwrap_or o (no_field f.node)).node ≡ f.node
-    go None h = refl
-    go (Some d) h = let e : Some d.node ≡ Some f.node = h refl in cc
+node_of_found nodes f = grind (arith, common_steps, field_there nodes f.node)

@@ -1,8 +1,8 @@
-pub mod AboveLemmas
 pub mod BuildingLemmas
 pub mod FieldLemmas
 pub mod InterfaceLemmas
 pub mod MemberLemmas
+pub mod NameLemmas
 pub mod OwnLemmas
 pub mod RowLemmas
 pub mod SoundLemmas

@@ -1,6 +1,6 @@
 -- The members of all classes in one list, and what is entered under their names and nodes.
 use Rattle.std.proofs.Common.{◌≡◌, ℕ, zero, suc, ◌+◌, ◌-◌, ◌<◌, ◌≤◌, ◌==◌, ◌&&◌, nat_lt, Bool, true, false, cond, get_or, List, [], ◌∷◌, ◌++◌, length, drop, map, filter, flat_map, slice_get, Option, Some, None, is_some, option_map, option_and_then, refl, sym, ap, ◌∙◌, arith, append_assoc, if◌then◌else◌}
-use Rattle.std.specs.List.{find, filter_map, cons_option, position, position_from}
+use Rattle.std.specs.List.{find, filter_map, position, position_from}
 use Rattle.std.specs.Option.{option_or}
 use Rattle.std.proofs.lemmas.Bool.{true≢false, false_from_ne_true}
 use Rattle.std.proofs.lemmas.Bool.Decides.{nat_tests}
@@ -106,20 +106,7 @@ fields_listed : (nodes : List Node) (ids : List ℕ) →
     filter (is_member Field nodes) ids ≡ map (λ (f : Declared). f.node) (filter_map (field_at nodes) ids)
 unfolding is_member
 fields_listed nodes [] = refl
-fields_listed nodes (id ∷ ids) = go (field_at nodes id) (field_there nodes id) (fields_listed nodes ids)
-  where
-    rest : List Declared
-    rest = filter_map (field_at nodes) ids
-
-    go : (o : Option Declared) → (is_some o ≡ true → option_map (λ (f : Declared). f.node) o ≡ Some id) →
-        filter (is_member Field nodes) ids ≡ map (λ (f : Declared). f.node) rest
-        → cond (is_some o) (id ∷ filter (is_member Field nodes) ids) (filter (is_member Field nodes) ids)
-        ≡ map (λ (f : Declared). f.node) (cons_option o rest)
-    go None e later = later
-    go (Some f) e later =
-        let same : Some f.node ≡ Some id = e refl in
-        let node : id ≡ f.node = cc in
-        ap (λ (n : ℕ). n ∷ filter (is_member Field nodes) ids) node ∙ ap (λ ns. f.node ∷ ns) later
+fields_listed nodes (id ∷ ids) = grind (arith, common_steps, field_there nodes id, fields_listed nodes ids)
 
 fields_of_users : (nodes : List Node) (users : List WrittenClass)
     → flat_map (λ (c : WrittenClass). filter (is_member Field nodes) c.members) users ≡ flat_map
@@ -339,13 +326,7 @@ from_first test first i [] = refl
 from_first test first i (x ∷ xs) =
     (let e : first + i + 1 ≡ first + (i + 1) = omega arith in
     ap (λ (n : ℕ). cond (test x) (Some (first + i)) (position_from test n xs)) e)
-    ∙ ap (cond (test x) (Some (first + i))) (from_first test first (i + 1) xs) ∙ go (test x)
-  where
-    go : (t : Bool)
-        → cond t (Some (first + i)) (option_map (λ place. first + place) (position_from test (i + 1) xs))
-        ≡ option_map (λ place. first + place) (cond t (Some i) (position_from test (i + 1) xs))
-    go true = refl
-    go false = refl
+    ∙ ap (cond (test x) (Some (first + i))) (from_first test first (i + 1) xs) ∙ grind (arith, common_steps)
 
 pub places_all : {A : Type 0} (test : A → Bool) (first : ℕ) (xs : List A) →
     position_from test (first + 0) xs ≡ option_map (λ place. first + place) (position test xs)

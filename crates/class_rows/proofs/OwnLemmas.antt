@@ -1,6 +1,7 @@
 -- The own members of a class: what is read at the nodes of its members.
-use Rattle.std.proofs.Common.{◌≡◌, ℕ, ◌<◌, ◌≤◌, Bool, true, false, cond, List, [], ◌∷◌, refl, sym, ap, ◌∙◌, Option, Some, None, slice_get, option_map, option_and_then, unwrap_or}
+use Rattle.std.proofs.Common.{◌≡◌, ℕ, ◌<◌, ◌≤◌, List, [], ◌∷◌, refl, sym, ap, ◌∙◌, arith, Option, Some, None, slice_get, option_map, option_and_then, unwrap_or}
 use Rattle.std.specs.List.{find, filter_map, cons_option}
+use Rattle.std.proofs.lemmas.Grind.{common_steps}
 use Rattle.scj_base.specs.Bytes.{is_same}
 use Rattle.scj_tree.specs.declared.nodes.Node.{Node}
 use Rattle.scj_tree.specs.declared.nodes.Node.TheVariants.{Constructor}
@@ -56,27 +57,8 @@ read_first : {A : Type 0} (read : ℕ → Option A) (name_of : A → List ℕ) (
     (find (λ id. holds (option_map name_of (read id)) (is_same name)) ids)
     ≡ find (λ a. is_same name (name_of a)) (filter_map read ids)
 read_first read name_of none name [] = refl
-read_first {A} read name_of none name (id ∷ more) = go (read id) refl (read_first read name_of none name more)
-  where
-    here : ℕ → A
-    here i = unwrap_or (read i) (none i)
-
-    found : Option ℕ
-    found = find (λ i. holds (option_map name_of (read i)) (is_same name)) more
-
-    among : List A → Option A
-    among = find (λ a. is_same name (name_of a))
-
-    pick : (a : A) (t : Bool) → read id ≡ Some a → option_map here found ≡ among (filter_map read more)
-        → option_map here (cond t (Some id) found) ≡ cond t (Some a) (among (filter_map read more))
-    pick a true e later = ap (λ o. Some (unwrap_or o (none id))) e
-    pick a false e later = later
-
-    go : (o : Option A) → read id ≡ o → option_map here found ≡ among (filter_map read more)
-        → option_map here (cond (holds (option_map name_of o) (is_same name)) (Some id) found)
-        ≡ among (cons_option o (filter_map read more))
-    go None e later = later
-    go (Some a) e later = pick a (is_same name (name_of a)) e later
+read_first read name_of none name (id ∷ more) =
+    grind (arith, common_steps, read_first read name_of none name more)
 
 in_row : {A B : Type 0} (f : List A → Option B) → f [] ≡ None → (list : ClassRow → List A) (o : Option ClassRow) →
     f (list_in list o) ≡ option_and_then (λ (row : ClassRow). f (list row)) o

@@ -1,33 +1,18 @@
 -- The rows of the table and the rows of the classes.
-use Rattle.std.proofs.Common.{◌≡◌, ℕ, zero, suc, ◌+◌, List, [], ◌∷◌, length, map, refl, ap, ◌∙◌, arith, add-zero, Option, Some, None, Bool, true, false, slice_get, option_map, option_and_then, unwrap_or, if◌then◌else◌}
-use Rattle.std.proofs.lemmas.Option.{slice_get-map}
+use Rattle.std.proofs.Common.{◌≡◌, ℕ, ◌+◌, List, [], length, refl, sym, ap, ◌∙◌, arith, Option, Some, None, Bool, true, false, not, cond, slice_get, slice_index_or, option_map, option_and_then, if◌then◌else◌}
+use Rattle.std.proofs.lemmas.Bool.Decides.{nat_tests}
+use Rattle.std.proofs.lemmas.Grind.{common_steps}
+use Rattle.std.proofs.lemmas.Option.{slice_get_past}
 use Rattle.scj_builtins.specs.Framework.{object}
 use Rattle.scj_tree.specs.Forest.{Forest}
-use Rattle.scj_rules.specs.Views.{WrittenClass}
-use Rattle.scj_rules.specs.Classes.{ClassRow, counted_from, counted_row, is_well_headed, superclass_in, interfaces_in, user_classes, class_names, written_rows}
+use Rattle.scj_tree.proofs.RecursionLemmas.{listed-at}
+use Rattle.scj_rules.specs.Classes.{ClassRow, counted_row, superclass_in, interfaces_in, user_classes, class_names, written_rows}
 use Rattle.scj_rules.specs.Contexts.{Declarations, declarations_of}
-use Rattle.class_headers.specs.declared.filling.Header.{Header}
-use Rattle.class_headers.specs.Rows.{header_of}
-use Rattle.class_rows.specs.declared.tables.ClassTable.{ClassTable}
-use Rattle.class_rows.specs.Tables.{IsTableOf, has_good_header, is_good_header}
+use Rattle.scj_rules.proofs.SubtypeLemmas.{counted-at}
+use Rattle.scj_rules.proofs.WithinLemmas.{length-counted}
+use Rattle.class_rows.specs.Tables.{AreUnderObject, class_written, has_good_header, is_good_header, is_under_object}
 
 -- a class as it counts
-counted_get : (names : List (List ℕ)) (rows : List ClassRow) (k : ℕ) (xs : List ClassRow) (i : ℕ)
-    → slice_get (counted_from names rows k xs) i ≡ option_map (counted_row names rows (k + i)) (slice_get xs i)
-unfolding counted_from
-counted_get names rows k [] i = refl
-counted_get names rows k (x ∷ xs) zero = rw (add-zero k) refl
-counted_get names rows k (x ∷ xs) (suc i) =
-    counted_get names rows (k + 1) xs i
-    ∙ (let e : k + 1 + i ≡ k + suc i = omega arith in
-    ap (λ n. option_map (counted_row names rows n) (slice_get xs i)) e)
-
-counted_length : (names : List (List ℕ)) (rows : List ClassRow) (k : ℕ) (xs : List ClassRow) →
-    length (counted_from names rows k xs) ≡ length xs
-unfolding counted_from
-counted_length names rows k [] = refl
-counted_length names rows k (x ∷ xs) = ap suc (counted_length names rows (k + 1) xs)
-
 abbrev pub counted : Declarations → ℕ → ClassRow → ClassRow
 counted p class = counted_row p.names p.written class
 
@@ -37,7 +22,7 @@ unfolding declarations_of
 class_get forest class =
     let users = user_classes forest in
     let written = written_rows forest.nodes users in
-    counted_get (class_names users) written 0 written class
+    counted-at (class_names users) written 0 written class
     ∙ (let e : 0 + class ≡ class = omega arith in
     ap (λ n. option_map (counted_row (class_names users) written n) (slice_get written class)) e)
 
@@ -46,7 +31,7 @@ unfolding declarations_of
 class_length forest =
     let users = user_classes forest in
     let written = written_rows forest.nodes users in
-    counted_length (class_names users) written 0 written
+    length-counted (class_names users) written 0 written
 
 -- parts of rows
 -- a row counts as it is written, or under Object without interfaces
@@ -56,13 +41,7 @@ under_object row = record row { superclass = Some object; interfaces = [] }
 pub counted_is : (p : Declarations) (class : ℕ) (row : ClassRow) →
     counted p class row ≡ (if has_good_header p class row then row else under_object row)
 unfolding counted_row is_good_header
-counted_is p class row = go row.written
-  where
-    go : (w : Option WrittenClass)
-        → elim w [ None ↦ row | Some c ↦ if is_well_headed p.names p.written class c then row else under_object row ]
-        ≡ (if is_good_header p class w then row else under_object row)
-    go None = refl
-    go (Some c) = refl
+counted_is p class row = grind (arith, common_steps)
 
 pub kept : {A : Type 0} (f : ClassRow → A) (row : ClassRow) (t : Bool) → f (under_object row) ≡ f row →
     f (if t then row else under_object row) ≡ f row
@@ -84,34 +63,65 @@ as_written f same forest class = ap f (class_get forest class)
     go None = refl
     go (Some row) = keeps (λ (r : ClassRow). f (Some r)) same (declarations_of forest) class row
 
--- what the table has of a class
-pub row_is : (forest : Forest) (table : ClassTable) (class : ℕ) → IsTableOf forest table →
-    slice_get table.columns.rows.items class ≡ option_map header_of (slice_get (declarations_of forest).classes class)
-row_is forest table class t = ap (λ (hs : List Header). slice_get hs class) t.columns.rows_are
-    ∙ slice_get-map header_of (declarations_of forest).classes class
+-- what a class has as it counts is what it has as it is written, or under Object
+as_it_counts : {A : Type 0} (f : Option ClassRow → A) (bad : A) → ((row : ClassRow) → f (Some (under_object row)) ≡ bad)
+    → (forest : Forest) (class : ℕ)
+    → cond (is_under_object (declarations_of forest) class) bad (f (slice_get (declarations_of forest).written class))
+    ≡ f (slice_get (declarations_of forest).classes class)
+unfolding class_written is_good_header
+as_it_counts f bad under forest class =
+    sym (ap f (class_get forest class) ∙ go (slice_get (declarations_of forest).written class))
+  where
+    p : Declarations
+    p = declarations_of forest
 
-superclass_of : (o : Option ClassRow) → option_and_then (λ (h : Header). h.superclass) (option_map header_of o)
-    ≡ option_and_then (λ (row : ClassRow). row.superclass) o
-unfolding header_of
-superclass_of None = refl
-superclass_of (Some row) = refl
+    pick : (t : Bool) (row : ClassRow) → f (Some (if t then row else under_object row)) ≡ cond (not t) bad
+        (f (Some row))
+    pick true row = refl
+    pick false row = under row
 
-pub superclass_is : (forest : Forest) (class : ℕ)
-    → option_and_then (λ (h : Header). h.superclass)
-    (option_map header_of (slice_get (declarations_of forest).classes class))
-    ≡ superclass_in (declarations_of forest).classes class
-superclass_is forest class = superclass_of (slice_get (declarations_of forest).classes class)
+    go : (o : Option ClassRow) → f (option_map (counted p class) o)
+        ≡ cond (not (is_good_header p class (option_and_then (λ (row : ClassRow). row.written) o))) bad (f o)
+    go None = refl
+    go (Some row) = ap (λ (r : ClassRow). f (Some r)) (counted_is p class row) ∙ pick (has_good_header p class row) row
 
-interfaces_of : (o : Option ClassRow) → unwrap_or (option_map (λ (row : ClassRow). row.interfaces) o) [] ≡ elim o
-    [ None ↦ [] | Some row ↦ row.interfaces ]
-interfaces_of None = refl
-interfaces_of (Some row) = refl
+module _ (forest : Forest) (class : ℕ) where
+  abbrev p : Declarations
+  p = declarations_of forest
 
-pub interfaces_are : (forest : Forest) (table : ClassTable) (class : ℕ) → IsTableOf forest table
-    → unwrap_or (slice_get (map (λ v. v.items) table.columns.interfaces.items) class) []
-    ≡ interfaces_in (declarations_of forest).classes class
-interfaces_are forest table class t =
-    ap (λ (o : Option (List ℕ)). unwrap_or o [])
-    (ap (λ (xs : List (List ℕ)). slice_get xs class) t.columns.lists_are
-    ∙ slice_get-map (λ (row : ClassRow). row.interfaces) (declarations_of forest).classes class)
-    ∙ interfaces_of (slice_get (declarations_of forest).classes class)
+  superclass_counts : cond (is_under_object p class) (Some object) (superclass_in p.written class)
+      ≡ superclass_in p.classes class
+  superclass_counts = as_it_counts (option_and_then (λ (row : ClassRow). row.superclass)) (Some object) (λ row. refl)
+      forest class
+
+  interfaces_count : cond (is_under_object p class) [] (interfaces_in p.written class) ≡ interfaces_in p.classes class
+  interfaces_count =
+      as_it_counts (λ (o : Option ClassRow). elim o as (λ _. List ℕ) [ None ↦ [] | Some row ↦ row.interfaces ]) []
+      (λ row. refl) forest class
+
+  pub superclass_under : is_under_object p class ≡ true → Some object ≡ superclass_in p.classes class
+  superclass_under e = ap (λ t. cond t (Some object) (superclass_in p.written class)) (sym e) ∙ superclass_counts
+
+  pub superclass_written : is_under_object p class ≡ false →
+      superclass_in p.written class ≡ superclass_in p.classes class
+  superclass_written e = ap (λ t. cond t (Some object) (superclass_in p.written class)) (sym e) ∙ superclass_counts
+
+  pub interfaces_under : is_under_object p class ≡ true → [] ≡ interfaces_in p.classes class
+  interfaces_under e = ap (λ t. cond t [] (interfaces_in p.written class)) (sym e) ∙ interfaces_count
+
+  pub interfaces_written : is_under_object p class ≡ false →
+      interfaces_in p.written class ≡ interfaces_in p.classes class
+  interfaces_written e = ap (λ t. cond t [] (interfaces_in p.written class)) (sym e) ∙ interfaces_count
+
+  pub kind_is : option_map (λ (row : ClassRow). row.kind) (slice_get p.written class) ≡ option_map
+      (λ (row : ClassRow). row.kind) (slice_get p.classes class)
+  kind_is = sym (as_written (option_map (λ (row : ClassRow). row.kind)) (λ row. refl) forest class)
+
+-- the marks tell which classes count under Object
+pub marked_at : (forest : Forest) (marks : List Bool) (class : ℕ) → AreUnderObject forest marks →
+    slice_index_or marks class false ≡ is_under_object (declarations_of forest) class
+unfolding class_written is_good_header
+marked_at forest marks class e =
+    ap (λ (ms : List Bool). slice_index_or ms class false) e
+    ∙ listed-at false (is_under_object (declarations_of forest)) (length (declarations_of forest).written) class
+    ∙ grind (arith, common_steps, nat_tests, slice_get_past (declarations_of forest).written class)

@@ -1,5 +1,6 @@
 -- What a walk along a chain of classes has left after a step.
 use Rattle.std.proofs.Common.{◌≡◌, ℕ, zero, suc, ◌+◌, List, [], ◌∷◌, ◌++◌, length, refl, sym, ap, ◌∙◌, arith, Option, Some, None}
+use Rattle.std.proofs.lemmas.Grind.{common_steps}
 use Rattle.scj_tree.specs.Forest.{Forest}
 use Rattle.scj_rules.specs.Words.{chain, chain_behind, along, or_else}
 use Rattle.scj_rules.specs.Classes.{superclass_in, classes_above}
@@ -35,17 +36,16 @@ pub walk_behind : (forest : Forest) (class : ℕ) (o : Option ℕ) →
     → chain_from forest (length (declarations_of forest).classes) o ≡ classes_above
     (declarations_of forest).classes class
 unfolding chain_from classes_above chain_behind
-walk_behind forest class o e = go o e
+walk_behind forest class o e =
+    ap (chain_from forest (length (declarations_of forest).classes)) e
+    ∙ go (superclass_in (declarations_of forest).classes class)
   where
-    go : (o : Option ℕ) → o ≡ superclass_in (declarations_of forest).classes class
-        → chain_from forest (length (declarations_of forest).classes) o ≡ elim
-        (superclass_in (declarations_of forest).classes class) [
-          | None ↦ []
-          | Some b ↦ chain (superclass_in (declarations_of forest).classes)
-              (length (declarations_of forest).classes) b
-        ]
-    go None k = rw (← k) refl
-    go (Some b) k = rw (← k) refl
+    go : (o : Option ℕ) → chain_from forest (length (declarations_of forest).classes) o ≡ elim o [
+      | None ↦ []
+      | Some b ↦ chain (superclass_in (declarations_of forest).classes) (length (declarations_of forest).classes) b
+    ]
+    go None = refl
+    go (Some b) = refl
 
 along_at : {A B : Type 0} (f : A → Option B) (x : A) (xs : List A) (o : Option B) → o ≡ f x →
     along f (x ∷ xs) ≡ elim o [ None ↦ along f xs | Some y ↦ Some y ]
@@ -67,10 +67,4 @@ pub along_append : {A B : Type 0} (f : A → Option B) (xs ys : List A) →
     or_else (along f xs) (along f ys) ≡ along f (xs ++ ys)
 unfolding along
 along_append f [] ys = refl
-along_append {A} {B} f (x ∷ xs) ys = go (along_append f xs ys) (f x)
-  where
-    go : or_else (along f xs) (along f ys) ≡ along f (xs ++ ys) → (o : Option B)
-        → or_else (elim o as (λ _. Option B) [ None ↦ along f xs | Some y ↦ Some y ]) (along f ys)
-        ≡ elim o as (λ _. Option B) [ None ↦ along f (xs ++ ys) | Some y ↦ Some y ]
-    go later None = later
-    go later (Some y) = refl
+along_append f (x ∷ xs) ys = grind (arith, common_steps, along_append f xs ys)

@@ -1,19 +1,18 @@
 //! The classes of a program with their look-ups.
 
-ghost use Rattle.std.specs.Prelude.{◌≡◌, ◌<◌, length, slice_get, option_copied, option_map, option_and_then};
+ghost use Rattle.std.specs.Prelude.{◌≡◌, length, slice_get, option_map, option_and_then};
 ghost use Rattle.scj_rules.specs.Views.{DeclaredConstructor, WrittenClass, class_at, constructor_at};
-ghost use Rattle.scj_rules.specs.Classes.{ClassRow, class_number, superclass_in, superclasses, interfaces_in, all_interfaces, is_cyclic};
+ghost use Rattle.scj_rules.specs.Classes.{ClassRow, class_number, superclass_in, interfaces_in, all_interfaces, is_cyclic};
 ghost use Rattle.scj_rules.specs.Words.{is_among};
-ghost use Rattle.scj_builtins.specs.Framework.{mission, safelet};
+ghost use Rattle.scj_builtins.specs.Framework.{safelet};
 ghost use Rattle.scj_rules.specs.Contexts.{declarations_of};
 ghost use Rattle.scj_rules.specs.Types.{constructor_in};
-ghost use Rattle.scj_tree.specs.Recursion.{lookup};
-ghost use Rattle.class_headers.specs.Rows.{header_of};
 
+use crate::counted::{interfaces_of, superclass_of};
 use crate::tables::ClassTable;
-use class_headers::ways::interfaces_at;
-use class_headers::{Header, WrittenClasses};
-use scj_base::ids::{MISSION, SAFELET};
+use class_headers::WrittenClasses;
+use class_headers::ways::is_marked;
+use scj_base::ids::SAFELET;
 use scj_base::{ClassId, Name, NodeId};
 use scj_builtins::ClassKind;
 use scj_tree::Program;
@@ -39,7 +38,7 @@ impl<'a> Model for Classes<'a> {
 }
 
 impl<'a> Classes<'a> {
-    ghost use Rattle.class_rows.specs.Tables.{IsTableOf, class_written, members_in};
+    ghost use Rattle.class_rows.specs.Tables.{IsTableOf, class_written, is_under_object, members_in};
 
     /// The classes of a program, from its table.
     pub fn new(program: &'a Program, table: &'a ClassTable) -> Classes<'a>
@@ -71,6 +70,14 @@ impl<'a> Classes<'a> {
         self.written().count()
     }
 
+    /// How many names of classes there are: each class has one.
+    #[tactic(auto, using(crate::proofs::NameLemmas::names_length))]
+    pub fn name_count(&self) -> usize
+        ensures { result ≡ length (declarations_of self.now).names }
+    {
+        self.count()
+    }
+
     /// The class of a name: the first one that has it.
     pub fn class_of(&self, name: &Name) -> Option<ClassId>
         ensures { result ≡ class_number (declarations_of self.now).names name.now }
@@ -78,22 +85,13 @@ impl<'a> Classes<'a> {
         self.written().class_of(name)
     }
 
-    /// The header of a class as it counts.
-    #[tactic(auto, using(crate::proofs::RowLemmas::row_is))]
-    fn row(&self, class: ClassId) -> Option<&'a Header>
-        ensures { option_copied result ≡ option_map header_of (slice_get (declarations_of self.now).classes class) }
-    {
-        self.table.columns.rows.get(class.number() as usize)
-    }
-
     /// What a class may be used for.
-    #[tactic(auto, using(class_headers::proofs::TableLemmas::kind_of))]
+    #[tactic(auto, using(crate::proofs::RowLemmas::kind_is))]
     pub fn kind(&self, class: ClassId) -> Option<ClassKind>
         ensures { result ≡ option_map (λ (row : ClassRow). row.kind)
             (slice_get (declarations_of self.now).classes class) }
     {
-        let row = self.row(class)?;
-        Some(row.kind)
+        self.written().kind(class)
     }
 
     /// The node of a user class.
@@ -113,42 +111,37 @@ impl<'a> Classes<'a> {
         self.written().members(class)
     }
 
-    /// The superclass as it counts: a class with a forbidden header stands under `Object`.
-    #[tactic(auto, using(crate::proofs::RowLemmas::superclass_is))]
+    /// Whether a class counts as one under `Object`, since something in its header is forbidden.
+    #[tactic(auto, using(crate::proofs::RowLemmas::marked_at))]
+    fn is_under_object(&self, class: ClassId) -> bool
+        ensures { result ≡ is_under_object (declarations_of self.now) class }
+    {
+        is_marked(&self.table.under_object, class)
+    }
+
+    /// The superclass as it counts.
     pub fn superclass(&self, class: ClassId) -> Option<ClassId>
         ensures { result ≡ superclass_in (declarations_of self.now).classes class }
     {
-        let row = self.row(class)?;
-        row.superclass
+        superclass_of(&self.written(), class, self.is_under_object(class))
     }
 
-    /// The interfaces as they count: a class with a forbidden header has none.
-    #[tactic(auto, using(crate::proofs::RowLemmas::interfaces_are))]
+    /// The interfaces as they count.
     pub fn interfaces(&self, class: ClassId) -> &'a [ClassId]
         ensures { result.now ≡ interfaces_in (declarations_of self.now).classes class }
     {
-        interfaces_at(&self.table.columns.interfaces, class.number() as usize)
+        interfaces_of(&self.written(), class, self.is_under_object(class))
     }
 
     /// Whether the superclasses as they are written come back to the class.
     pub fn is_cyclic(&self, class: ClassId) -> bool
-        requires { class < length (declarations_of self.now).classes }
         ensures { result ≡ is_cyclic (declarations_of self.now).written class }
     {
         self.written().is_cyclic(class)
     }
 
-    /// Whether `Mission` stands among the superclasses as they are written.
-    pub fn is_mission_written(&self, class: ClassId) -> bool
-        requires { class < length (declarations_of self.now).classes }
-        ensures { result ≡ is_among mission (superclasses (declarations_of self.now).written class) }
-    {
-        self.written().is_under(class, MISSION)
-    }
-
     /// Whether a class of the chain, as it is written, implements `Safelet`.
     pub fn is_safelet_written(&self, class: ClassId) -> bool
-        requires { class < length (declarations_of self.now).classes }
         ensures { result ≡ is_among safelet (all_interfaces (declarations_of self.now).written class) }
     {
         self.written().implements(class, SAFELET)

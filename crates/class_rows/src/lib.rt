@@ -1,10 +1,9 @@
 //! The classes of a program, and look-ups among them and their members.
 #![tactic(auto)]
 
-pub mod above;
-pub mod building;
 pub mod chains;
 pub mod classes;
+mod counted;
 pub mod fields;
 pub mod lookups;
 pub mod members;

@@ -5,13 +5,13 @@ ghost use Rattle.scj_rules.specs.Words.{along, is_among, or_else};
 ghost use Rattle.scj_rules.specs.Classes.{superclasses, all_interfaces, is_sub, own_field, field_named, own_method, method_named, method_above, framework_row_named, field_nodes, field_number, method_nodes, method_number, first_user_class, is_user_class};
 ghost use Rattle.scj_rules.specs.Contexts.{declarations_of};
 ghost use Rattle.method_rows.specs.Methods.{found_method};
+ghost use Rattle.class_headers.specs.Columns.{kind_count};
 ghost use Rattle.class_rows.specs.Fields.{found_field};
 ghost use Rattle.class_rows.specs.declared.members.MemberKind.TheVariants.{Field, Method};
 ghost use Rattle.class_rows.specs.Members.{first_declared, first_named, IsMembersOf};
 ghost use Rattle.class_rows.specs.Tables.{members_in};
 ghost use Rattle.class_rows.specs.Walks.{is_known, implemented_method};
 
-use crate::above::is_marked_in;
 use crate::chains::Chain;
 use crate::classes::Classes;
 use crate::fields::FieldRef;
@@ -23,6 +23,9 @@ use scj_base::ids::{RUNNABLE, SAFELET};
 use scj_base::{ClassId, FieldId, MethodId, Name, NodeId};
 use scj_builtins::FRAMEWORK_CLASS_COUNT;
 
+/// The numbers of the kinds of classes are below this one.
+const KIND_COUNT: u32 = 7;
+
 /// Whether an interface is one that classes may implement.
 fn is_known(interface: ClassId) -> bool
     ensures { result ≡ is_known interface }
@@ -31,6 +34,14 @@ fn is_known(interface: ClassId) -> bool
 }
 
 impl<'a> Classes<'a> {
+    /// Whether a kind stands on the chain of a class.
+    fn is_of_kind(&self, class: ClassId, kind: ClassId) -> bool
+        requires { kind < kind_count }
+        ensures { result ≡ is_among kind (superclasses (declarations_of self.now).classes class) }
+    {
+        has_bit(way_at(&self.table.ways, class).above, kind)
+    }
+
     /// Whether a class stands on the chain of another.
     fn is_on_chain(&self, class: ClassId, above: ClassId) -> bool
         ensures { result ≡ is_among above (superclasses (declarations_of self.now).classes class) }
@@ -48,20 +59,20 @@ impl<'a> Classes<'a> {
     pub fn is_under(&self, class: ClassId, above: ClassId) -> bool
         ensures { result ≡ is_among above (superclasses (declarations_of self.now).classes class) }
     {
-        let rows = &self.table.above;
-        if (class.number() as usize) < rows.len() {
-            return is_marked_in(rows, class, above);
+        if above.number() < KIND_COUNT {
+            return self.is_of_kind(class, above);
         }
         self.is_on_chain(class, above)
     }
 
-    /// Whether a class of the chain implements the interface. None implements another one than `Runnable` and `Safelet`.
+    /// Whether a class of the chain implements the interface. None implements another one than `Runnable` and
+    /// `Safelet`.
     #[tactic(auto, using(crate::proofs::InterfaceLemmas::known_marked, crate::proofs::InterfaceLemmas::unknown_not_implemented))]
     pub fn implements(&self, class: ClassId, interface: ClassId) -> bool
         ensures { result ≡ is_among interface (all_interfaces (declarations_of self.now).classes class) }
     {
         if is_known(interface) {
-            let way = way_at(&self.table.marks.ways, class);
+            let way = way_at(&self.table.ways, class);
             return has_bit(way.implemented, interface);
         }
         false
@@ -245,8 +256,20 @@ impl<'a> Classes<'a> {
         }
     }
 
-    /// A method that is found, or else that of an interface of the chain.
+    /// The method of a name that an interface of the chain declares.
     #[tactic(auto, using(crate::proofs::InterfaceLemmas::by_runnable, crate::proofs::InterfaceLemmas::by_safelet))]
+    pub fn interface_method(&self, class: ClassId, name: &Name) -> Option<MethodRef>
+        ensures { option_map (found_method self.now.nodes) result ≡ along
+            (own_method (declarations_of self.now).classes name.now)
+            (all_interfaces (declarations_of self.now).classes class) }
+    {
+        match self.implemented_method(class, RUNNABLE, name) {
+            Some(method) => Some(method),
+            None => self.implemented_method(class, SAFELET, name),
+        }
+    }
+
+    /// A method that is found, or else that of an interface of the chain.
     fn or_interface_method(
         &self,
         found: Option<MethodRef>,
@@ -258,12 +281,9 @@ impl<'a> Classes<'a> {
             (along (own_method (declarations_of self.now).classes name.now)
             (all_interfaces (declarations_of self.now).classes class)) }
     {
-        if let Some(method) = found {
-            return Some(method);
-        }
-        match self.implemented_method(class, RUNNABLE, name) {
+        match found {
             Some(method) => Some(method),
-            None => self.implemented_method(class, SAFELET, name),
+            None => self.interface_method(class, name),
         }
     }
 

@@ -74,7 +74,7 @@ fn field_name(program: &Program, id: NodeId) -> Option<Name>
 
 /// The name of the member of the kind at a node.
 #[tactic(auto, unfolding(crate::specs::Members::name_at))]
-fn name_at(program: &Program, kind: MemberKind, id: NodeId) -> Option<Name>
+pub fn name_at(program: &Program, kind: MemberKind, id: NodeId) -> Option<Name>
     ensures { result ≡ name_at kind program.now.nodes id }
 {
     match kind {

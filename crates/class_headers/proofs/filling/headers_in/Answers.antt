@@ -8,10 +8,13 @@ returns c =
       names = c.in_ok-names.names;
       rows = c.in_ok-rows.rows;
       interfaces = c.in_ok-interfaces.interfaces;
-      marks = c.in_ok-marks.marks;
+      cyclic = c.in_ok-cyclic.cyclic;
+      ways = c.in_ok-ways.ways;
     })
     c.in_ok-all.all.items (rw (c.deref.ensures.value, c.in_ok-ids.ensures) at c.in_ok-all.ensures)
     (rw c.deref-2.ensures.value at c.in_ok-names.ensures)
     (rw (c.deref-3.ensures.value, c.in_ok-ids.ensures) at c.in_ok-rows.ensures)
     (rw c.deref-4.ensures.value at c.in_ok-interfaces.ensures)
-    (rw (c.deref-5.ensures.value, c.deref-6.ensures.value) at c.in_ok-marks.ensures)
+    (rw (c.deref-5.ensures.value, c.deref-6.ensures.value) at c.in_ok-ways.ensures)
+    (rw c.deref-7.ensures.value at c.in_ok-cyclic.ensures.whole)
+    (rw c.deref-7.ensures.value at c.in_ok-cyclic.ensures.exact)

@@ -21,11 +21,10 @@ returns c =
     grind (
       arith,
       common_steps,
-      forbidden_with (declarations_of c.args.self.now) (class_at c.args.self.now.nodes c.args.node) c.in-Some.name
-          c.note_name.new.there.items,
+      forbidden_with (declarations_of c.args.self.now) (class_at c.args.self.now.nodes c.args.node) c.in-Some.name,
       c.in-Some.ensures,
-      c.in_ok-note_name.ensures.found,
-      c.in_ok-note_name.ensures.there,
+      c.in_ok-there.ensures.found,
+      c.in_ok-there.ensures.kinds,
       c.in_ok-note_interfaces-2.ensures,
       c.interface_nodes-interfaces.ensures,
     )

@@ -4,14 +4,15 @@ use Rattle.scj_rules.specs.Contexts.{declarations_of}
 use Rattle.class_headers.proofs.SuperLemmas.{one_forbidden, none_forbidden}
 use Rattle.class_headers.proofs.classes.WrittenClasses.note_interfaces.Goals as goal
 
-pub loop-others-preserved-in_ok-note_name : goal.loop-others-preserved-in_ok-note_name
-loop-others-preserved-in_ok-note_name c =
+pub loop-others-preserved-in_ok-add_kinds : goal.loop-others-preserved-in_ok-add_kinds
+loop-others-preserved-in_ok-add_kinds c =
     grind (
       arith,
       common_steps,
       one_forbidden (declarations_of c.args.self.now),
-      c.in_ok-note_name.ensures.found,
-      c.in_ok-note_name.ensures.there,
+      c.in_ok-kinds.ensures.found,
+      c.in_ok-kinds.ensures.kinds,
+      c.in_ok-add_kinds.ensures,
     )
 
 pub returns : goal.returns

@@ -1,6 +1,0 @@
-use Rattle.std.proofs.Common.{◌≡◌, take}
-use Rattle.scj_tree.specs.Forest.{joined}
-use Rattle.class_headers.proofs.names.class_ids.Given as goal
-
-abbrev pub invariant-loop-file : goal.invariant-loop-file
-invariant-loop-file l = l.ids.items ≡ joined (take l.file l.program.files)
