@@ -1,4 +1,3 @@
-pub mod MemberLemmas
 pub mod OpeningLemmas
 pub mod OverrideLemmas
 pub mod RepeatLemmas

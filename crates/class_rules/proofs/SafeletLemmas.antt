@@ -1,6 +1,7 @@
 -- One safelet more.
-use Rattle.std.proofs.Common.{◌≡◌, ◌≤◌, ◌<◌, ℕ, zero, suc, ◌+◌, Bool, true, false, not, if◌then◌else◌, List, [], ◌∷◌, ◌++◌, length, drop, slice_get, Option, Some, None, refl, sym, ap, ◌∙◌, arith, append_assoc, append-nil}
+use Rattle.std.proofs.Common.{◌≡◌, ◌≤◌, ◌<◌, ℕ, zero, suc, ◌+◌, Bool, true, false, not, List, [], ◌∷◌, ◌++◌, length, drop, slice_get, Option, Some, None, refl, sym, ap, ◌∙◌, arith}
 use Rattle.std.specs.List.{cons_option}
+use Rattle.std.proofs.lemmas.Grind.{common_steps}
 use Rattle.std.proofs.lemmas.List.{drop_all}
 use Rattle.scj_base.specs.declared.findings.Found.{Found}
 use Rattle.scj_base.specs.declared.findings.Rule.TheVariants.{C8}
@@ -8,7 +9,7 @@ use Rattle.scj_tree.specs.Forest.{Forest}
 use Rattle.scj_rules.specs.Words.{broken, ◌>>=◌}
 use Rattle.scj_rules.specs.Views.{WrittenClass}
 use Rattle.scj_rules.specs.Classes.{ClassRow}
-use Rattle.scj_rules.specs.ClassRules.{is_safelet, safelets_from, c8_of, c8, first_place}
+use Rattle.scj_rules.specs.ClassRules.{safelets_from, c8_of, c8, first_place}
 use Rattle.scj_rules.specs.Contexts.{Declarations, declarations_of}
 use Rattle.class_rows.specs.Tables.{class_written}
 use Rattle.class_rows.proofs.RowLemmas.{class_length}
@@ -23,23 +24,7 @@ next : (rows : List ClassRow) (class : ℕ) (xs : List ClassRow) (i : ℕ) → i
     (safelets_from rows (class + 1) (drop (i + 1) xs))
 unfolding safelets_from
 next rows class [] i l = absurd (omega (arith, l))
-next rows class (x ∷ xs) zero l = go x.written
-  where
-    others : List WrittenClass
-    others = safelets_from rows (class + 1) xs
-
-    pick : (b : Bool) (c : WrittenClass) →
-        (if b then c ∷ [] else []) ++ others ≡ cons_option (if b then Some c else None) others
-    pick true c = refl
-    pick false c = refl
-
-    go : (w : Option WrittenClass)
-        → elim w as (λ _. List WrittenClass) [
-          | None ↦ others
-          | Some c ↦ (if is_safelet rows class c then c ∷ [] else []) ++ others
-        ] ≡ cons_option (w >>= safelet_if rows class) others
-    go None = refl
-    go (Some c) = pick (is_safelet rows class c) c
+next rows class (x ∷ xs) zero l = grind (arith, common_steps)
 next rows class (x ∷ xs) (suc i) l =
     let n : suc i + 1 ≡ suc (i + 1) = omega arith in rw n (next rows class xs i (omega (arith, l)))
 
@@ -68,25 +53,14 @@ module _ (forest : Forest) (class : ℕ) where
       → after ++ left_from p (class + 1) true ≡ found ++ left_from p class is_seen
   unfolding left_from left_over c8_of
   one_safelet is_seen found after c l h a =
-      let others : List Found = left_over true (left (class + 1)) in
-      ap (λ xs. xs ++ others) a ∙ step is_seen
-      ∙ ap (λ cs. found ++ left_over is_seen cs) (sym (left_next (Some (written_class forest.nodes c)) l h))
-    where
-      step : (is_seen : Bool) → (found ++ broken is_seen C8 c.place) ++ left_over true (left (class + 1))
-          ≡ found ++ left_over is_seen (written_class forest.nodes c ∷ left (class + 1))
-      step true = append_assoc found (record { pos = c.place; rule = C8 } ∷ []) (left_over true (left (class + 1)))
-      step false = ap (λ xs. xs ++ left_over true (left (class + 1))) (append-nil found)
+      let e = left_next (Some (written_class forest.nodes c)) l h in grind (arith, common_steps, a, e)
 
   pub all_noted : (is_seen : Bool) → length p.classes ≤ class →
       left_from p class is_seen ≡ broken (not is_seen) C8 first_place
   unfolding left_from left_over safelets_from c8_of
   all_noted is_seen l =
-      ap (λ rows. left_over is_seen (safelets_from p.written class rows))
-      (drop_all class p.written (omega (arith, l, class_length forest))) ∙ go is_seen
-    where
-      go : (is_seen : Bool) → left_over is_seen [] ≡ broken (not is_seen) C8 first_place
-      go true = refl
-      go false = refl
+      let none = drop_all class p.written (omega (arith, l, class_length forest)) in
+      grind (arith, common_steps, none)
 
 pub all_left : (p : Declarations) → left_from p 0 false ≡ c8 p
 unfolding left_from left_over c8

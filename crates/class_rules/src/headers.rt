@@ -40,7 +40,7 @@ pub fn note_c10(
 
 /// Notes a class that has the name of an earlier one, the names in its header that no class has, and a class whose
 /// superclasses come back to it.
-#[tactic(auto, unfolding(scj_rules::specs::ClassRules::c1, scj_rules::specs::ClassRules::c2, scj_rules::specs::ClassRules::c3), using(crate::proofs::MemberLemmas::one_unknown))]
+#[tactic(auto, unfolding(scj_rules::specs::ClassRules::c1, scj_rules::specs::ClassRules::c2, scj_rules::specs::ClassRules::c3))]
 pub fn note_header(
     found: &mut Vec<Found>,
     classes: &Classes<'_>,

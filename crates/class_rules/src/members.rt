@@ -17,7 +17,7 @@ use scj_tree::Program;
 use symbol_table::SymbolTable;
 
 /// Notes a field that a class above has, too.
-#[tactic(auto, unfolding(crate::specs::Members::hiding), using(crate::proofs::MemberLemmas::there_above))]
+#[tactic(auto, unfolding(crate::specs::Members::hiding))]
 fn note_hiding(
     found: &mut Vec<Found>,
     table: &SymbolTable<'_>,
@@ -52,7 +52,6 @@ pub fn note_hidings(
 }
 
 /// Whether the method at a node has a body and is abstract, or is neither.
-#[tactic(auto, using(crate::proofs::MemberLemmas::abstract_of_source, method_rows::proofs::MethodLemmas::body_of_source))]
 fn has_wrong_body(program: &Program, id: NodeId) -> bool
     ensures { result ≡ has_wrong_body (unwrap_or (method_at program.now.nodes id) no_method) }
 {
@@ -94,7 +93,6 @@ fn note_method(
 }
 
 /// Notes the methods that break a rule: C6, or else C7.
-#[tactic(auto, using(crate::proofs::MemberLemmas::a_method, crate::proofs::MemberLemmas::no_method_here))]
 pub fn note_methods(
     found: &mut Vec<Found>,
     table: &SymbolTable<'_>,

@@ -1,5 +1,5 @@
 -- The chain of Object and of a class right under another one, and what a class has of those above.
-use Rattle.std.proofs.Common.{◌≡◌, ℕ, zero, suc, ◌<◌, ◌≤◌, List, [], ◌∷◌, ◌++◌, length, flat_map, slice_get, Option, None, Some, refl, ap, ◌∙◌, arith, option_and_then, ◌+◌, reverse, filter, filter_map, sym, subst}
+use Rattle.std.proofs.Common.{◌≡◌, ℕ, zero, suc, ◌<◌, ◌≤◌, List, [], ◌∷◌, length, slice_get, Option, None, Some, ap, ◌∙◌, arith, option_and_then, ◌+◌, filter, filter_map, sym}
 use Rattle.std.proofs.lemmas.List.{length-map}
 use Rattle.std.proofs.lemmas.Grind.{common_steps}
 use Rattle.scj_builtins.specs.Framework.{framework_classes, object, object_name, class_row}
@@ -8,25 +8,19 @@ use Rattle.scj_tree.specs.Forest.{Forest}
 use Rattle.scj_rules.specs.Words.{chain, chain_behind}
 use Rattle.scj_rules.specs.Classes.{ClassRow, all_interfaces, classes_above, framework_row, framework_rows_from, interfaces_in, superclass_in, superclasses, written_rows, first_user_class, instance_fields, own_instance_fields}
 use Rattle.scj_rules.specs.Contexts.{declarations_of}
+use Rattle.scj_rules.proofs.WithinLemmas.{user_count}
 use Rattle.scj_rules.specs.Views.{field_at}
 use Rattle.class_rows.specs.Tables.{is_good_header, class_written, members_in}
 use Rattle.class_rows.proofs.RowLemmas.{class_get, counted_is}
 use Rattle.class_rows.proofs.OwnLemmas.{fields_at}
-use Rattle.class_rows.proofs.SoundLemmas.{framework_there, members_of, row_sound}
+use Rattle.class_rows.proofs.SoundLemmas.{framework_there, row_sound}
 use Rattle.symbol_table.specs.Scopes.{IsNext, rows_of, IsPath, IsUnder, classes_of, is_instance, nearest_level, object_level, root_under}
 use Rattle.symbol_table.specs.declared.levels.Level.{Level}
-
-abbrev behind : (ℕ → Option ℕ) → ℕ → Option ℕ → List ℕ
-behind next bound o = elim o as (λ _. List ℕ) [ None ↦ [] | Some b ↦ chain next bound b ]
 
 -- ---- Object
 
 abbrev object_row : ClassRow
 object_row = framework_row object (class_row object object_name concrete_class)
-
-some_row : (rows : List ClassRow) (row : ClassRow) → slice_get rows 0 ≡ Some row → 0 < length rows
-some_row [] row e = cc
-some_row (x ∷ rows) row e = omega arith
 
 module _ (forest : Forest) where
   object_at : slice_get (rows_of forest) object ≡ Some object_row
@@ -40,22 +34,19 @@ module _ (forest : Forest) where
 
   pub object_chain : superclasses (rows_of forest) object ≡ object ∷ []
   unfolding superclasses chain
-  object_chain = go (length (rows_of forest)) (some_row (rows_of forest) object_row object_at)
+  object_chain = go (length (rows_of forest)) (omega (arith, user_count forest))
     where
       go : (n : ℕ) → 0 < n → chain (superclass_in (rows_of forest)) n object ≡ object ∷ []
       go zero h = absurd (omega (arith, h))
-      go (suc n) h = ap (λ (o : Option ℕ). object ∷ behind (superclass_in (rows_of forest)) n o) no_superclass
+      go (suc n) h = grind (arith, common_steps, no_superclass)
 
   pub none_above : classes_above (rows_of forest) object ≡ []
   unfolding classes_above chain_behind
-  none_above = ap (behind (superclass_in (rows_of forest)) (length (rows_of forest))) no_superclass
+  none_above = grind (arith, common_steps, no_superclass)
 
   pub object_bare : all_interfaces (rows_of forest) object ≡ []
   unfolding all_interfaces framework_row
-  object_bare =
-      ap (flat_map (interfaces_in (rows_of forest))) object_chain
-      ∙ ap (λ (o : Option ClassRow). elim o as (λ _. List ℕ) [ None ↦ [] | Some row ↦ row.interfaces ] ++ [])
-      object_at
+  object_bare = grind (arith, common_steps, object_chain, object_at)
 
 -- ---- a class right under another one
 
@@ -63,12 +54,7 @@ chain_short : (next : ℕ → Option ℕ) (m a : ℕ) → length (chain next (su
     chain next m a ≡ chain next (suc m) a
 unfolding chain
 chain_short next zero a h = absurd (omega (arith, h))
-chain_short next (suc m) a h = go (λ b k. chain_short next m b k) (next a) h
-  where
-    go : ((b : ℕ) → length (chain next (suc m) b) ≤ m → chain next m b ≡ chain next (suc m) b) → (o : Option ℕ) →
-        length (a ∷ behind next (suc m) o) ≤ suc m → a ∷ behind next m o ≡ a ∷ behind next (suc m) o
-    go ih None k = refl
-    go ih (Some b) k = ap (λ (xs : List ℕ). a ∷ xs) (ih b (omega (arith, k)))
+chain_short next (suc m) a h = grind (arith, common_steps, chain_short next m)
 
 module _ (rows : List ClassRow) (above count class : ℕ) (n : IsNext rows above count class) where
   pub next_chain : length (superclasses rows above) ≡ count → superclasses rows class ≡ class ∷ superclasses rows above
@@ -79,12 +65,12 @@ module _ (rows : List ClassRow) (above count class : ℕ) (n : IsNext rows above
           chain (superclass_in rows) m class ≡ class ∷ chain (superclass_in rows) m above
       go zero h k = absurd (omega (arith, h))
       go (suc m) h k =
-          ap (λ (o : Option ℕ). class ∷ behind (superclass_in rows) m o) n.superclass
-          ∙ ap (λ (xs : List ℕ). class ∷ xs) (chain_short (superclass_in rows) m above (omega (arith, h, k)))
+          let short = chain_short (superclass_in rows) m above (omega (arith, h, k)) in
+          grind (arith, common_steps, n.superclass, short)
 
   pub next_above : classes_above rows class ≡ superclasses rows above
   unfolding classes_above chain_behind superclasses
-  next_above = ap (behind (superclass_in rows) (length rows)) n.superclass
+  next_above = grind (arith, common_steps, n.superclass)
 
 -- the instance fields that a class declares
 pub fields_of_class : (forest : Forest) (class : ℕ) →
@@ -99,9 +85,7 @@ pub no_members : (forest : Forest) (class : ℕ) → class < first_user_class �
 unfolding members_in class_written
 no_members forest class h =
     let there = framework_there forest class h in
-    ap (λ (o : Option ClassRow). members_of (elim o as (λ _. Option _) [ None ↦ None | Some row ↦ row.written ]))
-    there.1
-    ∙ ap members_of ((row_sound forest class there.0 there.1).framework h)
+    grind (arith, common_steps, there.1, (row_sound forest class there.0 there.1).framework h)
 
 -- ---- a class with those above it
 
@@ -109,10 +93,9 @@ pub object_under : (forest : Forest) → IsUnder (rows_of forest) object_level [
 unfolding instance_fields
 object_under forest =
     let rows = rows_of forest in
+    let members = no_members forest object (omega arith) in
     let none : own_instance_fields rows object ≡ [] =
-    fields_of_class forest object
-    ∙ ap (λ (ids : List ℕ). filter is_instance (filter_map (field_at forest.nodes) ids))
-    (no_members forest object (omega arith)) in
+    grind (arith, common_steps, fields_of_class forest object, members) in
     record {
       chain = object_chain forest;
       behind = none_above forest;
@@ -134,29 +117,18 @@ module _ (forest : Forest) (above level : Level) (behind : List ℕ) (count : �
   chain_is : superclasses rows level.class ≡ level.class ∷ those
   chain_is = next_chain rows above.class count level.class n (ap length u.chain ∙ sym d)
 
-  interfaces_are : all_interfaces rows level.class
-      ≡ interfaces_in rows level.class ++ all_interfaces rows above.class
-  unfolding all_interfaces
-  interfaces_are = ap (flat_map (interfaces_in rows)) chain_is
-
-  count_is : length (instance_fields rows level.class)
-      ≡ length (own_instance_fields rows level.class) + length (instance_fields rows above.class)
-  unfolding instance_fields
-  count_is =
-      ap (λ (xs : List ℕ). length (flat_map (own_instance_fields rows) (reverse xs))) chain_is
-      ∙ grind (arith, common_steps)
-
   level_is : Some level.root ≡ root_under above (interfaces_in rows level.class) level.class →
       level.field_count ≡ length (own_instance_fields rows level.class) + above.field_count →
       IsUnder rows level (above.class ∷ behind)
+  unfolding instance_fields all_interfaces
   level_is r c =
       record {
         chain = chain_is ∙ ap (λ (xs : List ℕ). level.class ∷ xs) u.chain;
         behind = next_above rows above.class count level.class n ∙ u.chain;
         split = grind (arith, common_steps, r, chain_is, u.split, object_chain forest);
         root = grind (arith, common_steps, r, chain_is, u.root, object_chain forest);
-        bare = grind (arith, common_steps, r, interfaces_are, u.bare, object_bare forest);
-        count = c ∙ ap (λ k. length (own_instance_fields rows level.class) + k) u.count ∙ sym count_is;
+        bare = grind (arith, common_steps, r, chain_is, u.bare, object_bare forest);
+        count = grind (arith, common_steps, c, u.count, chain_is);
       }
 
 module _ (forest : Forest) (level : Level) where
@@ -174,7 +146,5 @@ module _ (forest : Forest) (level : Level) where
   next_is [] above count e p d n r c = cc
   next_is (l ∷ path) above count e p d n r c =
       let same : l ≡ above = cc in
-      let P : Level → Type 0 = λ x. IsUnder (rows_of forest) x (classes_of path) in
-      let Q : Level → Type 0 = λ x. IsUnder (rows_of forest) level (x.class ∷ classes_of path) in
-      subst Q (sym same) (level_is forest above level (classes_of path) count (subst P same p.0) n
+      rw same (level_is forest above level (classes_of path) count (rw same at p.0) n
       (omega (arith, d, length-map path (λ (x : Level). x.class))) r c)

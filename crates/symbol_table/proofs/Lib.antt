@@ -2,4 +2,3 @@ pub mod LevelLemmas
 pub mod LookLemmas
 pub mod NameLemmas
 pub mod OpenLemmas
-pub mod OpeningLemmas

@@ -1,5 +1,5 @@
 -- What is found along classes by the members that are entered, and what a scope tells of the class that it is at.
-use Rattle.std.proofs.Common.{◌≡◌, ℕ, ◌≤◌, Bool, true, false, cond, List, [], ◌∷◌, find, map, filter, Option, None, Some, refl, sym, ap, ◌∙◌, arith, option_map, ◌<◌, ◌++◌, option_and_then}
+use Rattle.std.proofs.Common.{◌≡◌, ℕ, ◌≤◌, Bool, true, false, List, [], ◌∷◌, find, map, filter, Option, refl, sym, ap, ◌∙◌, arith, option_map, ◌<◌, ◌++◌, option_and_then}
 use Rattle.std.proofs.lemmas.Bool.{true≢false}
 use Rattle.std.proofs.lemmas.Bool.Decides.{nat_tests}
 use Rattle.std.proofs.lemmas.Grind.{common_steps}
@@ -10,7 +10,6 @@ use Rattle.scj_tree.specs.Forest.{Forest}
 use Rattle.scj_rules.specs.Words.{along, holds, or_else, chain_behind, is_among}
 use Rattle.scj_rules.specs.Classes.{first_user_class, is_user_class, own_field, own_method, ClassRow, FoundMethod, all_interfaces, classes_above, field_named, framework_row_named, method_above, method_named, superclass_in, superclasses}
 use Rattle.scj_rules.specs.Contexts.{declarations_of}
-use Rattle.method_rows.specs.Methods.{found_method}
 use Rattle.class_rows.specs.declared.members.MemberKind.{MemberKind}
 use Rattle.class_rows.specs.declared.members.MemberKind.TheVariants.{Field, Method}
 use Rattle.class_rows.specs.declared.fields.FieldRef.{FieldRef as Member}
@@ -29,11 +28,6 @@ pub along_front : {B : Type 0} (f : ℕ → Option B) (x : ℕ) (xs : List ℕ) 
     along f (x ∷ xs) ≡ or_else (f x) (along f xs)
 unfolding along
 along_front f x xs = grind (arith, common_steps)
-
-map_twice : {A B C : Type 0} (f : B → C) (g : A → B) (o : Option A) →
-    option_map f (option_map g o) ≡ option_map (λ x. f (g x)) o
-map_twice f g None = refl
-map_twice f g (Some x) = refl
 
 find_mapped : {A B : Type 0} (test : B → Bool) (f : A → B) (xs : List A) →
     find test (map f xs) ≡ option_map f (find (λ x. test (f x)) xs)
@@ -55,18 +49,12 @@ module _ (kind : MemberKind) (forest : Forest) (name : List ℕ) where
     along_kept : (classes : List ℕ) → along f (filter keep classes) ≡ option_map g (nearest_of classes)
     unfolding along
     along_kept [] = refl
-    along_kept (c ∷ cs) = go (keep c) refl (along_kept cs)
-      where
-        test : Member → Bool
-        test m = holds (name_at kind forest.nodes m.node) (is_same name)
-
-        go : (t : Bool) → keep c ≡ t → along f (filter keep cs) ≡ option_map g (nearest_of cs) →
-            along f (cond t (c ∷ filter keep cs) (filter keep cs)) ≡ option_map g (nearest_of (c ∷ cs))
-        go false e later = rw (none c e) later
-        go true e later =
-            let own = find_mapped test (member c) (members_in (declarations_of forest) c) in
-            let both = find-append test (members_on forest c) (members_of forest cs) in
-            grind (arith, common_steps, later, here c e, along_front f c (filter keep cs), own, both)
+    along_kept (c ∷ cs) =
+        let test : Member → Bool = λ m. holds (name_at kind forest.nodes m.node) (is_same name) in
+        let own = find_mapped test (member c) (members_in (declarations_of forest) c) in
+        let both = find-append test (members_on forest c) (members_of forest cs) in
+        let front = along_front f c (filter keep cs) in
+        grind (arith, common_steps, along_kept cs, here c, none c, front, own, both)
 
 module _ (forest : Forest) (name : List ℕ) where
   pub fields_along : (classes : List ℕ) →
@@ -87,18 +75,11 @@ module _ (forest : Forest) (name : List ℕ) where
   methods_along =
       along_kept Method forest name (own_method (rows_of forest) name) (found_at forest.nodes) is_user_class
       (λ class e. let l : first_user_class ≤ class = grind (arith, nat_tests, e) in
-      sym (declared_row_is forest class name _ l refl) ∙ map_twice (found_method forest.nodes) _ (named class)
-      ∙ sym (map_twice (found_at forest.nodes) (member class) (named class)))
+      let row = declared_row_is forest class name (first_named Method forest.nodes name
+      (members_in (declarations_of forest) class)) l refl in grind (arith, common_steps, row))
       (λ class e. no_members forest class (grind (arith, nat_tests, e)))
-    where
-      named : ℕ → Option ℕ
-      named class = first_named Method forest.nodes name (members_in (declarations_of forest) class)
 
 -- ---- what a scope tells
-
-or_else_assoc : {B : Type 0} (a b c : Option B) → or_else (or_else a b) c ≡ or_else a (or_else b c)
-or_else_assoc None b c = refl
-or_else_assoc (Some y) b c = refl
 
 -- a framework class is among the framework's, where it is among all
 among_framework : (k : ℕ) → k < first_user_class → (xs : List ℕ) →
@@ -154,9 +135,7 @@ module _ (forest : Forest) (scope : Scope) (s : IsScope forest scope) where
         grind (arith, common_steps, whole, s.under.root, s.under.bare)
 
     users_above : along own_at (filter is_user_class above) ≡ nearest
-    users_above =
-        methods_along forest name above
-        ∙ ap (option_map (found_at forest.nodes)) (sym (s.above.methods.nearest name))
+    users_above = grind (arith, common_steps, methods_along forest name above, s.above.methods.nearest name)
 
     pub above_is : first_user_class ≤ at → method_above rows at name
         ≡ or_else nearest (framework_row_named rows at name)

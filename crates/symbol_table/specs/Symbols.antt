@@ -2,10 +2,10 @@
 use Rattle.std.specs.Prelude.{ℕ, Bool, List, filter, flat_map}
 use Rattle.std.specs.List.{list_any}
 use Rattle.scj_tree.specs.Forest.{Forest}
-use Rattle.scj_rules.specs.Words.{holds}
 use Rattle.scj_rules.specs.Views.{DeclaredMethod}
-use Rattle.scj_rules.specs.Classes.{ClassRow, FoundMethod, is_user_class, superclasses, method_named}
-use Rattle.scj_rules.specs.ClassRules.{own_abstract_methods}
+use Rattle.scj_rules.specs.Classes.{ClassRow, is_user_class, superclasses}
+use Rattle.scj_rules.specs.ClassRules.{own_abstract_methods, is_left_open}
+use Rattle.scj_rules.specs.Contexts.{Declarations}
 
 -- the classes of a program, at one of them
 pub record AtClass : Type 0 where
@@ -23,11 +23,6 @@ unfoldable pub declared_abstract_methods : List ClassRow → ℕ → List Declar
 declared_abstract_methods rows class =
     flat_map (own_abstract_methods rows) (filter is_user_class (superclasses rows class))
 
--- the method that a class has of this name is abstract
-unfoldable pub stays_abstract : List ClassRow → ℕ → DeclaredMethod → Bool
-stays_abstract rows class m =
-    holds (method_named rows class m.declared.name) (λ (f : FoundMethod). is_abstract f.method)
-
--- one of these methods isn't implemented on the chain
-unfoldable pub leaves_declared_open : List ClassRow → ℕ → Bool
-leaves_declared_open rows class = list_any (stays_abstract rows class) (declared_abstract_methods rows class)
+-- one of these methods isn't implemented in the class
+unfoldable pub leaves_declared_open : Declarations → ℕ → Bool
+leaves_declared_open p class = list_any (is_left_open p class) (declared_abstract_methods p.classes class)

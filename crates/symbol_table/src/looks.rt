@@ -1,19 +1,15 @@
 //! Look-ups of members, and of the classes above.
 
 ghost use Rattle.std.specs.Prelude.{◌≡◌, ◌<◌, option_and_then, option_map};
-ghost use Rattle.scj_rules.specs.Words.{along};
-ghost use Rattle.scj_rules.specs.Classes.{all_interfaces, field_named, first_user_class, framework_row_named, is_sub, method_above, method_named, own_method, superclass_in};
+ghost use Rattle.scj_rules.specs.Classes.{field_named, first_user_class, framework_row_named, is_sub, method_above, method_named, superclass_in};
 ghost use Rattle.scj_rules.specs.Contexts.{declarations_of};
 ghost use Rattle.method_rows.specs.Methods.{found_method};
 ghost use Rattle.class_rows.specs.Fields.{found_field};
-ghost use Rattle.class_rows.specs.Walks.{implemented_method};
 ghost use Rattle.symbol_table.specs.Names.{as_method};
-ghost use Rattle.symbol_table.specs.Scopes.{rows_of};
 
 use crate::table::SymbolTable;
-use class_rows::{Classes, FieldRef};
+use class_rows::FieldRef;
 use method_rows::{MethodRef, MethodSource};
-use scj_base::ids::{RUNNABLE, SAFELET};
 use scj_base::{ClassId, Name};
 use scj_builtins::FRAMEWORK_CLASS_COUNT;
 
@@ -24,35 +20,6 @@ pub(crate) fn as_method(member: FieldRef) -> MethodRef
     MethodRef {
         on: member.on,
         source: MethodSource::Declared(member.node),
-    }
-}
-
-/// The method of a name that an interface declares, where the class implements it.
-fn implemented_method(
-    classes: &Classes<'_>,
-    class: ClassId,
-    interface: ClassId,
-    name: &Name,
-) -> Option<MethodRef>
-    ensures { option_map (found_method classes.now.nodes) result
-        ≡ implemented_method (rows_of classes.now) class name.now interface }
-{
-    if classes.implements(class, interface) {
-        classes.own_method(interface, name)
-    } else {
-        None
-    }
-}
-
-/// The method of a name that an interface of the chain declares.
-#[tactic(auto, using(class_rows::proofs::InterfaceLemmas::by_runnable, class_rows::proofs::InterfaceLemmas::by_safelet))]
-fn interface_method(classes: &Classes<'_>, class: ClassId, name: &Name) -> Option<MethodRef>
-    ensures { option_map (found_method classes.now.nodes) result
-        ≡ along (own_method (rows_of classes.now) name.now) (all_interfaces (rows_of classes.now) class) }
-{
-    match implemented_method(classes, class, RUNNABLE, name) {
-        Some(method) => Some(method),
-        None => implemented_method(classes, class, SAFELET, name),
     }
 }
 
@@ -75,7 +42,7 @@ impl<'a> SymbolTable<'a> {
     {
         match self.classes.method_named(self.scope.level.root, name) {
             Some(method) => Some(method),
-            None => interface_method(&self.classes, self.scope.level.class, name),
+            None => self.classes.interface_method(self.scope.level.class, name),
         }
     }
 

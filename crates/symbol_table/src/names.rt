@@ -1,19 +1,16 @@
 //! The members of the classes that are entered, with the nearest of each name.
 
-ghost use Rattle.std.specs.Prelude.{◌≡◌, ◌++◌, ◌∷◌, [], ℕ, List, None, Some, if◌then◌else◌, option_map, OnOk};
+ghost use Rattle.std.specs.Prelude.{◌≡◌, ◌++◌, ◌∷◌, [], ℕ, List, None, Some, if◌then◌else◌, OnOk};
 ghost use Rattle.std.specs.HashMap.{get};
 ghost use Rattle.scj_base.specs.Bytes.{is_same};
-ghost use Rattle.scj_rules.specs.declared.views.Declared.{Declared};
-ghost use Rattle.scj_rules.specs.Views.{field_at};
 ghost use Rattle.class_rows.specs.declared.fields.FieldRef.{FieldRef as Row};
-ghost use Rattle.class_rows.specs.Members.{name_at};
 ghost use Rattle.symbol_table.specs.Names.{if_abstract, members_on, AreNamed};
 
 use class_headers::NameKey;
-use class_rows::members::MemberKind;
+use class_rows::members::{MemberKind, name_at};
 use class_rows::{Classes, FieldRef as Member};
-use node_views::{field_written, is_abstract_method, method_name};
-use scj_base::{ClassId, Memory, Name, NodeId};
+use node_views::is_abstract_method;
+use scj_base::{ClassId, Memory, Name};
 use scj_tree::Program;
 use std::alloc::Global;
 use std::collections::HashMap;
@@ -27,27 +24,6 @@ pub struct Names {
     pub abstracts: HashMap<NameKey, Member>,
     /// Which was the nearest of its name when each was entered, the last at the end.
     pub before: Vec<Option<Member>>,
-}
-
-/// The name of the field at a node.
-fn field_name(program: &Program, id: NodeId) -> Option<Name>
-    ensures { result ≡ option_map (λ (f : Declared). f.name) (field_at program.now.nodes id) }
-{
-    match field_written(program, id) {
-        Some(written) => Some(written.name),
-        None => None,
-    }
-}
-
-/// The name of the member of a kind at a node.
-#[tactic(auto, unfolding(class_rows::specs::Members::name_at))]
-fn name_at(program: &Program, kind: MemberKind, id: NodeId) -> Option<Name>
-    ensures { result ≡ name_at kind program.now.nodes id }
-{
-    match kind {
-        MemberKind::Field => field_name(program, id),
-        MemberKind::Method => method_name(program, id),
-    }
 }
 
 /// A member, where it is an abstract method.

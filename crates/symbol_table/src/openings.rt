@@ -38,7 +38,6 @@ impl<'a> SymbolTable<'a> {
     }
 
     /// Whether a member is an abstract method, and the one of its name that the class has is abstract, too.
-    #[tactic(auto, using(crate::proofs::OpenLemmas::left_at, crate::proofs::OpenLemmas::not_abstract))]
     fn leaves_at(&self, node: NodeId) -> bool
         ensures { result ≡ leaves_at self.now.forest.nodes (rows_of self.now.forest) self.now.class node }
     {
@@ -74,7 +73,7 @@ impl<'a> SymbolTable<'a> {
     /// members.
     #[tactic(auto, using(crate::proofs::OpenLemmas::leaves_by_own))]
     pub fn leaves_declared_open(&self) -> bool
-        ensures { result ≡ leaves_declared_open (declarations_of self.now.forest).classes self.now.class }
+        ensures { result ≡ leaves_declared_open (declarations_of self.now.forest) self.now.class }
     {
         self.leaves_own() || self.leaves_one(&self.scope.above.methods.abstracts)
     }

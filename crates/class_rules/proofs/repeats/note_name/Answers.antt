@@ -1,9 +1,5 @@
-use Rattle.std.proofs.Common.{refl}
 use Rattle.class_rules.proofs.RepeatLemmas.{name_noted}
 use Rattle.class_rules.proofs.repeats.note_name.Goals as goal
-
-pub returns-in_default : goal.returns-in_default
-returns-in_default c = λ others. rw c.in_default.is refl
 
 pub returns : goal.returns
 returns c =
