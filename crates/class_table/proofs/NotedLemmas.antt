@@ -1,5 +1,5 @@
 -- What is found at classes, in whatever order.
-use Rattle.std.proofs.Common.{Option, ◌≡◌, ◌⊎◌, inl, inr, ⊎_elim, ◌<◌, ◌≤◌, ℕ, zero, suc, ◌+◌, ◌==◌, Bool, true, false, List, [], ◌∷◌, ◌++◌, length, set, replicate, flat_map, refl, sym, ◌∙◌, subst, arith}
+use Rattle.std.proofs.Common.{Option, ◌≡◌, ◌⊎◌, inl, inr, ⊎_elim, ◌<◌, ◌≤◌, ℕ, ◌==◌, Bool, true, false, List, [], ◌∷◌, ◌++◌, length, set, flat_map, refl, sym, ◌∙◌, subst}
 use Rattle.std.specs.List.{Contains}
 use Rattle.std.proofs.lemmas.Bool.{cases_eq, cases_lt, or_cases, or_left, or_right}
 use Rattle.std.proofs.lemmas.List.{get_or-set_other}
@@ -7,26 +7,21 @@ use Rattle.std.proofs.lemmas.List.Elements.{Contains-append_left, Contains-appen
 use Rattle.std.proofs.lemmas.Option.{slice_get_past}
 use Rattle.scj_base.specs.declared.findings.Found.{Found}
 use Rattle.scj_tree.specs.Forest.{Forest}
-use Rattle.scj_tree.specs.Recursion.{lookup}
+use Rattle.scj_tree.specs.Recursion.{lookup, joined_below}
+use Rattle.scj_tree.proofs.RecursionLemmas.{from_joined, to_joined}
 use Rattle.scj_rules.specs.Words.{is_among, found_at}
 use Rattle.scj_rules.specs.Classes.{ClassRow}
-use Rattle.scj_rules.specs.ClassRules.{numbers_from}
 use Rattle.scj_rules.specs.Contexts.{declarations_of}
 use Rattle.scj_rules.specs.Phases.{at_class, over_classes}
 use Rattle.scj_rules.proofs.ChainLemmas.{same_number, is_same_number}
+use Rattle.scj_rules.proofs.NumberLemmas.{joined_all}
 use Rattle.scj_rules.proofs.ReportLemmas.{none_contained}
 use Rattle.class_rules.specs.Parts.{class_found}
 use Rattle.node_rules.specs.Findings.{FindSame}
-use Rattle.node_rules.proofs.FindingLemmas.{same_lists, both_same}
+use Rattle.node_rules.proofs.FindingLemmas.{same_lists, same_then, both_same}
 use Rattle.class_table.specs.Noted.{broken_at_class, HasEach}
 
 -- ---- marks
-
-pub none_marked : (n class : ℕ) → lookup false (replicate n false) class ≡ false
-none_marked zero zero = refl
-none_marked zero (suc class) = refl
-none_marked (suc n) zero = refl
-none_marked (suc n) (suc class) = none_marked n class
 
 pub marked_before : (marks : List Bool) (at class : ℕ) → lookup false (set marks at true) class ≡ true →
     (class ≡ at) ⊎ (lookup false marks class ≡ true)
@@ -36,16 +31,6 @@ marked_before marks at class h =
     (cases_eq class at)
 
 -- ---- the classes one after the other
-
-among_numbers : {A : Type 0} (n k : ℕ) (xs : List A) → n ≤ k → k < n + length xs →
-    is_among k (numbers_from n xs) ≡ true
-unfolding numbers_from
-among_numbers n k [] l m = absurd (omega (arith, l, m))
-among_numbers n k (x ∷ xs) l m =
-    ⊎_elim (λ (e : k ≡ n). or_left (k == n) (is_among k (numbers_from (n + 1) xs)) (is_same_number k n e))
-    (λ (apart : k ≡ n → ⊥). or_right (k == n) (is_among k (numbers_from (n + 1) xs))
-    (among_numbers (n + 1) k xs (omega (arith, l, apart)) (omega (arith, m))))
-    (cases_eq k n)
 
 module _ (f : ℕ → List Found) (x : Found) where
   found_from : (ks : List ℕ) → Contains (flat_map f ks) x → (k : ℕ) × (is_among k ks ≡ true) × Contains (f k) x
@@ -83,16 +68,17 @@ module _ (forest : Forest) where
       (slice_get_past rows k l) h)))
       (cases_lt k (length rows))
 
-  pub each_noted : (before found : List Found) (order : List ℕ) → HasEach forest order → found ≡ before ++ flat_map broken order →
+  pub each_noted : (before found : List Found) (order : List ℕ) → HasEach forest order → found ≡ before
+      ++ flat_map broken order →
       FindSame found (before ++ over_classes (declarations_of forest) (class_found (declarations_of forest)))
   unfolding over_classes
   each_noted before found order h e =
-      let all : List ℕ = numbers_from 0 rows in
-      rw e (both_same (same_lists refl) (record {
+      let each : FindSame (flat_map broken order) (joined_below broken (length rows)) =
+      record {
         exact = λ x. (
           (λ k. let r = found_from broken x order k in
-              let l : r.0 < length rows = is_class r.0 x r.2 in
-              found_in broken x all r.0 (among_numbers 0 r.0 rows (omega arith) (omega (arith, l))) r.2),
-          (λ k. let r = found_from broken x all k in found_in broken x order r.0 (h r.0 (is_class r.0 x r.2)) r.2),
+              to_joined broken (length rows) r.0 x (is_class r.0 x r.2) r.2),
+          (λ k. let r = from_joined broken (length rows) x k in found_in broken x order r.0 (h r.0 r.1) r.2),
         );
-      }))
+      } in
+      rw e (both_same (same_lists refl) (same_then each (same_lists (sym (joined_all broken rows)))))

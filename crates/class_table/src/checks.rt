@@ -1,7 +1,8 @@
 //! The table of the classes, and the report of the rules on classes and members.
 
 ghost use Rattle.std.specs.Prelude.{◌≡◌, IfOk};
-ghost use Rattle.scj_rules.specs.Contexts.{contexts_in};
+ghost use Rattle.node_contexts.specs.Numbers.{numbers_before};
+ghost use Rattle.scj_rules.specs.Contexts.{contexts_in, declarations_of};
 ghost use Rattle.scj_rules.specs.Phases.{BreaksClassRules};
 ghost use Rattle.scj_rules.specs.Report.{IsReport};
 ghost use Rattle.class_rows.specs.Tables.{IsTableOf};
@@ -17,13 +18,15 @@ use scj_tree::Program;
 use std::alloc::Global;
 
 /// The table of the classes of a program, and the breaks of the rules on classes and members and of the limits, in the
-/// order of a report; by the contexts of its nodes, which later phases ask too.
+/// order of a report; by the contexts of its nodes and the numbers of its variables, which later phases ask too.
 pub fn build(
     alloc: Global,
     program: &Program,
     contexts: &Contexts,
+    numbers: &[u32],
 ) -> Result<(ClassTable, Vec<Found>), Memory>
-    requires { contexts.now ≡ contexts_in program.now }
+    requires contexts { contexts.now ≡ contexts_in program.now }
+    requires numbers { numbers.now ≡ numbers_before (declarations_of program.now) }
     ensures table { IfOk result (λ built. IsTableOf program.now built.0) }
     ensures report { IfOk result (λ built. IsReport (BreaksClassRules program.now) built.1.items) }
 {
@@ -32,7 +35,7 @@ pub fn build(
     let mut found = Vec::new(alloc);
     note_c8(&mut found, &classes)?;
     note_classes(alloc, &mut found, &classes)?;
-    note_nodes(alloc, &mut found, &classes, contexts)?;
+    note_nodes(&mut found, &classes, contexts, numbers)?;
     put_in_order(&mut found);
     Ok((table, found))
 }

@@ -1,19 +1,20 @@
 -- The variables of a member, one node after the other, and the place of each among them.
-use Rattle.std.proofs.Common.{◌≡◌, ◌≢◌, ℕ, ◌+◌, ◌<◌, zero, suc, List, [], ◌∷◌, ◌++◌, length, filter, replicate, refl, sym, ap, ◌∙◌, arith, Option, Some, None, Bool, true, false, ◌&&◌, if◌then◌else◌, ◌==◌, nat_lt, position, set, is_some, option_and_then, slice_get, ⊎_elim, append-nil, append_assoc, length-append}
+use Rattle.std.proofs.Common.{◌≡◌, ◌≢◌, ℕ, ◌+◌, ◌<◌, zero, suc, List, [], ◌∷◌, ◌++◌, length, filter, flat_map, replicate, refl, sym, ap, ◌∙◌, arith, Option, Some, None, Bool, true, false, ◌&&◌, if◌then◌else◌, ◌==◌, nat_lt, position, set, is_some, option_and_then, slice_get, ⊎_elim, append-nil, length-append}
 use Rattle.std.proofs.lemmas.Bool.{lt-ltb, eq-eqb, ne_eqb, cases_eq}
 use Rattle.std.proofs.lemmas.Bool.Decides.{nat_tests}
 use Rattle.std.proofs.lemmas.Option.{slice_get_within}
 use Rattle.std.proofs.lemmas.List.{get_or-set_same, get_or-set_other}
 use Rattle.scj_tree.specs.declared.nodes.Node.{Node}
-use Rattle.scj_tree.specs.Recursion.{lookup, listed, joined_below}
-use Rattle.scj_tree.proofs.RecursionLemmas.{listed-at}
+use Rattle.scj_tree.specs.Recursion.{lookup, joined_below}
+use Rattle.scj_tree.proofs.RecursionLemmas.{listed-at, lookup-replicate}
 use Rattle.scj_rules.specs.Words.{holds, or_else}
 use Rattle.scj_rules.specs.Views.{variable_at, variable_of}
 use Rattle.scj_rules.specs.ClassRules.{numbers_from}
 use Rattle.scj_rules.specs.LimitRules.{is_variable_of, variables_of}
 use Rattle.scj_rules.specs.Contexts.{Declarations, context}
+use Rattle.scj_rules.proofs.NumberLemmas.{joined_all}
 use Rattle.node_contexts.specs.Numbers.{owner_of, count_below, number_before, numbers_before, AreCounted}
-use Rattle.node_contexts.proofs.ListLemmas.{position-push, replicated}
+use Rattle.node_contexts.proofs.ListLemmas.{position-push}
 
 -- ---- the numbers that pass a test, one after the other
 
@@ -21,30 +22,20 @@ use Rattle.node_contexts.proofs.ListLemmas.{position-push, replicated}
 abbrev pub one : (ℕ → Bool) → ℕ → List ℕ
 one test id = if test id then id ∷ [] else []
 
-filtered_from : {A : Type 0} (test : ℕ → Bool) (first : ℕ) (xs : List A)
-    → joined_below (one test) first ++ filter test (numbers_from first xs) ≡ joined_below (one test) (first + length xs)
-unfolding joined_below numbers_from
-filtered_from test first [] = append-nil (joined_below (one test) first)
-    ∙ (let e : first ≡ first + 0 = omega arith in ap (joined_below (one test)) e)
-filtered_from test first (x ∷ xs) =
-    let e : (first + 1) + length xs ≡ first + suc (length xs) = omega arith in
-    let next : first + 1 ≡ suc first = omega arith in
-    ap (λ ys. joined_below (one test) first ++ ys) (front (test first))
-    ∙ sym (append_assoc (joined_below (one test) first) (one test first) (filter test (numbers_from (first + 1) xs)))
-    ∙ ap (λ n. joined_below (one test) n ++ filter test (numbers_from (first + 1) xs)) (sym next)
-    ∙ filtered_from test (first + 1) xs ∙ ap (joined_below (one test)) e
+filtered : (test : ℕ → Bool) (ids : List ℕ) → filter test ids ≡ flat_map (one test) ids
+filtered test [] = refl
+filtered test (id ∷ ids) = go (test id) (filtered test ids)
   where
-    front : (b : Bool) →
-        (if b then first ∷ filter test (numbers_from (first + 1) xs) else filter test (numbers_from (first + 1) xs))
-        ≡ (if b then first ∷ [] else []) ++ filter test (numbers_from (first + 1) xs)
-    front true = refl
-    front false = refl
+    go : (b : Bool) → filter test ids ≡ flat_map (one test) ids →
+        (if b then id ∷ filter test ids else filter test ids) ≡ (if b then id ∷ [] else []) ++ flat_map (one test) ids
+    go true e = ap (λ rest. id ∷ rest) e
+    go false e = e
 
 pub variables_are : (p : Declarations) (member : ℕ) →
     variables_of p member ≡ joined_below (one (is_variable_of p member)) (length p.nodes)
-unfolding variables_of joined_below
-variables_are p member = filtered_from (is_variable_of p member) 0 p.nodes
-    ∙ (let e : 0 + length p.nodes ≡ length p.nodes = omega arith in ap (joined_below (one (is_variable_of p member))) e)
+unfolding variables_of
+variables_are p member = filtered (is_variable_of p member) (numbers_from 0 p.nodes)
+    ∙ joined_all (one (is_variable_of p member)) p.nodes
 
 pub counted : (test : ℕ → Bool) (n : ℕ) → length (joined_below (one test) n) ≡ count_below test n
 unfolding joined_below count_below
@@ -56,68 +47,58 @@ counted test (suc n) = length-append (joined_below (one test) n) (one test n)
     go true = refl
     go false = refl
 
--- ---- the place of a number among them
+pub all_counted : (p : Declarations) (member : ℕ) →
+    length (variables_of p member) ≡ count_below (is_variable_of p member) (length p.nodes)
+all_counted p member =
+    ap (λ (ids : List ℕ). length ids) (variables_are p member) ∙ counted (is_variable_of p member) (length p.nodes)
 
--- those below n, and the place of v among them
-abbrev passed : (ℕ → Bool) → ℕ → List ℕ
-passed test n = joined_below (one test) n
+-- ---- the place of a number among them
 
 abbrev place_below : (ℕ → Bool) → ℕ → ℕ → Option ℕ
 place_below test v n = position (λ o. o == v) (joined_below (one test) n)
 
-placed_next : (test : ℕ → Bool) (v n : ℕ)
-    → place_below test v n ≡ (if nat_lt v n && test v then Some (count_below test v) else None)
-    → place_below test v (suc n) ≡ (if nat_lt v (suc n) && test v then Some (count_below test v) else None)
+-- with one number more
+placed_next : (test : ℕ → Bool) (v n : ℕ) → place_below test v (suc n)
+    ≡ or_else (place_below test v n) (if test n && (n == v) then Some (count_below test n) else None)
 unfolding joined_below
-placed_next test v n before = ⊎_elim here apart (cases_eq n v)
+placed_next test v n = go (test n)
   where
-    first : position (λ o. o == v) (passed test n) ≡ None → (b : Bool) →
-        position (λ o. o == v) (passed test n ++ (if b then n ∷ [] else []))
-        ≡ (if b && (n == v) then Some (count_below test n) else None)
-    first none true = position-push (λ o. o == v) (passed test n) n
-        ∙ ap (λ o. or_else o (if n == v then Some (length (passed test n)) else None)) none
-        ∙ ap (λ k. if n == v then Some k else None) (counted test n)
-    first none false = ap (position (λ o. o == v)) (append-nil (passed test n)) ∙ none
+    none : (o : Option ℕ) → o ≡ or_else o None
+    none None = refl
+    none (Some k) = refl
 
-    here : n ≡ v → position (λ o. o == v) (passed test n ++ one test n)
-        ≡ (if nat_lt v (suc n) && test v then Some (count_below test v) else None)
-    here e =
-        let past : nat_lt v n ≡ false = grind (arith, nat_tests) in
-        let reached : nat_lt v (suc n) ≡ true = grind (arith, nat_tests) in
-        let none : position (λ o. o == v) (passed test n) ≡ None = before
-        ∙ ap (λ t. if t && test v then Some (count_below test v) else None) past in
-        first none (test n) ∙ ap (λ t. if test n && t then Some (count_below test n) else None) (eq-eqb n v e)
-        ∙ go (test n) ∙ ap (λ k. if test k then Some (count_below test k) else None) e
-        ∙ ap (λ t. if t && test v then Some (count_below test v) else None) (sym reached)
-      where
-        go : (b : Bool) → (if b && true then Some (count_below test n) else None)
-            ≡ (if b then Some (count_below test n) else None)
-        go true = refl
-        go false = refl
+    go : (b : Bool) → position (λ o. o == v) (joined_below (one test) n ++ (if b then n ∷ [] else []))
+        ≡ or_else (place_below test v n) (if b && (n == v) then Some (count_below test n) else None)
+    go true = position-push (λ o. o == v) (joined_below (one test) n) n
+        ∙ ap (λ k. or_else (place_below test v n) (if n == v then Some k else None)) (counted test n)
+    go false = ap (position (λ o. o == v)) (append-nil (joined_below (one test) n)) ∙ none (place_below test v n)
 
-    apart : n ≢ v → position (λ o. o == v) (passed test n ++ one test n)
-        ≡ (if nat_lt v (suc n) && test v then Some (count_below test v) else None)
-    apart ne =
-        let same : nat_lt v n ≡ nat_lt v (suc n) = grind (arith, nat_tests) in
-        go (test n) ∙ before ∙ ap (λ t. if t && test v then Some (count_below test v) else None) same
-      where
-        keep : (o : Option ℕ) → or_else o None ≡ o
-        keep None = refl
-        keep (Some k) = refl
+and_this : (b : Bool) (k : ℕ) → (if b && true then Some k else None) ≡ (if b then Some k else None)
+and_this true k = refl
+and_this false k = refl
 
-        go : (b : Bool) → position (λ o. o == v) (passed test n ++ (if b then n ∷ [] else [])) ≡ position (λ o. o == v)
-            (passed test n)
-        go true = position-push (λ o. o == v) (passed test n) n
-            ∙ ap (λ t. or_else (position (λ o. o == v) (passed test n))
-            (if t then Some (length (passed test n)) else None)) (ne_eqb n v ne)
-            ∙ keep (position (λ o. o == v) (passed test n))
-        go false = ap (position (λ o. o == v)) (append-nil (passed test n))
+not_this : (t b : Bool) (k c : ℕ) →
+    or_else (if t then Some k else None) (if b && false then Some c else None) ≡ (if t then Some k else None)
+not_this true b k c = refl
+not_this false true k c = refl
+not_this false false k c = refl
 
 placed : (test : ℕ → Bool) (v n : ℕ)
     → place_below test v n ≡ (if nat_lt v n && test v then Some (count_below test v) else None)
 unfolding joined_below
 placed test v zero = let t : nat_lt v 0 ≡ false = grind (arith, nat_tests) in rw t refl
-placed test v (suc n) = placed_next test v n (placed test v n)
+placed test v (suc n) =
+    placed_next test v n
+    ∙ ap (λ o. or_else o (if test n && (n == v) then Some (count_below test n) else None)) (placed test v n)
+    ∙ ⊎_elim
+    (λ (e : n ≡ v).
+    let past : nat_lt v n ≡ false = grind (arith, nat_tests) in
+    let reached : nat_lt v (suc n) ≡ true = grind (arith, nat_tests) in
+    rw (past, reached, e, eq-eqb v v refl) (and_this (test v) (count_below test v)))
+    (λ (ne : n ≢ v).
+    let same : nat_lt v (suc n) ≡ nat_lt v n = grind (arith, nat_tests) in
+    rw (same, ne_eqb n v ne) (not_this (nat_lt v n && test v) (test n) (count_below test v) (count_below test n)))
+    (cases_eq n v)
 
 -- ---- the variables of a member
 
@@ -155,11 +136,26 @@ owned p id m = go (is_some (variable_at p.nodes id)) (context p id).member
     go true None h = cc
     go true (Some k) h = (let same : k ≡ m = grind (arith, nat_tests) in ap (λ x. Some x) same)
 
+-- the table holds of each node what is counted before it
+pub number_at : (p : Declarations) (id : ℕ) → number_before p id ≡ lookup 0 (numbers_before p) id
+unfolding numbers_before
+number_at p id = sym (listed-at 0 (number_before p) (length p.nodes) id ∙ go (owner_of p id) refl)
+  where
+    either : (b : Bool) → ◌≡◌ {A = ℕ} (if b then 0 else 0) 0
+    either true = refl
+    either false = refl
+
+    go : (o : Option ℕ) → owner_of p id ≡ o →
+        (if nat_lt id (length p.nodes) then number_before p id else 0) ≡ number_before p id
+    go None e =
+        let none : number_before p id ≡ 0 = number_is p id None e in
+        rw none (either (nat_lt id (length p.nodes)))
+    go (Some member) e = rw (lt-ltb id (length p.nodes) (within p id member e)) refl
+
 -- the place of a variable among those of a member
 pub place_is : (p : Declarations) (member variable : ℕ) (numbers : List ℕ) → numbers ≡ numbers_before p
     → position (λ v. v == variable) (variables_of p member)
     ≡ (if is_variable_of p member variable then Some (lookup 0 numbers variable) else None)
-unfolding numbers_before
 place_is p member variable numbers e =
     ap (position (λ v. v == variable)) (variables_are p member)
     ∙ placed (is_variable_of p member) variable (length p.nodes) ∙ go (is_variable_of p member variable) refl
@@ -177,7 +173,7 @@ place_is p member variable numbers e =
         let owner = owned p variable member t in
         let there = lt-ltb variable (length p.nodes) (within p variable member owner) in
         let is_told : lookup 0 numbers variable ≡ number_before p variable =
-        ap (λ ns. lookup 0 ns variable) e ∙ listed-at 0 (number_before p) (length p.nodes) variable ∙ (rw there refl) in
+        ap (λ ns. lookup 0 ns variable) e ∙ sym (number_at p variable) in
         rw there (ap (λ n. Some n) (sym (is_told ∙ number_is p variable (Some member) owner)))
 
 -- ---- counting on
@@ -222,10 +218,4 @@ one_more p id member counts e l h = record { at = λ m. ⊎_elim (same m) (other
 
 pub none_counted : (p : Declarations) (n : ℕ) (counts : List ℕ) → counts ≡ replicate n 0 → AreCounted p 0 counts
 unfolding count_below
-none_counted p n counts e = record { at = λ m. ap (λ cs. lookup 0 cs m) e ∙ replicated 0 n m }
-
-pub listed_more : {A : Type 0} (f : ℕ → A) (n : ℕ) (said : List A) (v : A) → said ≡ listed f n → v ≡ f n → said ++ v
-    ∷ [] ≡ listed f (n + 1)
-unfolding listed
-listed_more f n said v e h = ap (λ x. said ++ x ∷ []) h ∙ ap (λ xs. xs ++ f n ∷ []) e
-    ∙ ap (listed f) (let g : suc n ≡ n + 1 = omega arith in g)
+none_counted p n counts e = record { at = λ m. ap (λ cs. lookup 0 cs m) e ∙ lookup-replicate 0 n m }

@@ -1,4 +1,3 @@
 pub mod CountLemmas
 pub mod ListLemmas
 pub mod StepLemmas
-pub mod VariableLemmas

@@ -1,51 +1,46 @@
 -- Lists of numbers of nodes, and rows that are written for some of them.
-use Rattle.std.proofs.Common.{◌≡◌, ◌≢◌, ◌⊎◌, ℕ, ◌+◌, ◌-◌, ◌<◌, ◌≤◌, zero, suc, List, [], ◌∷◌, ◌++◌, length, take, drop, replicate, set, get_or, refl, sym, ap, ◌∙◌, arith, Option, Some, None, Bool, true, false, not, if◌then◌else◌, ◌==◌, nat_lt, cond, option_map, position, ⊎_elim, append-nil, append_assoc, slice_get}
+use Rattle.std.proofs.Common.{◌≡◌, ◌≢◌, ◌⊎◌, ℕ, ◌+◌, ◌-◌, ◌<◌, ◌≤◌, List, [], ◌∷◌, ◌++◌, length, take, set, get_or, refl, sym, ap, ◌∙◌, arith, Option, Some, None, Bool, true, false, not, if◌then◌else◌, ◌==◌, nat_lt, cond, option_map, position, ⊎_elim, length-append}
 use Rattle.std.specs.List.{position_or_len}
-use Rattle.std.proofs.lemmas.Bool.{cases_lt, lt-ltb, le-ltb, eq-eqb, ne_eqb, cases_eq}
-use Rattle.std.proofs.lemmas.List.{take_all, take_more, get_or-set_same, get_or-set_other, drop_more, drop_all}
-use Rattle.std.proofs.lemmas.Option.{slice_get_within, get_or_from_slice_get}
-use Rattle.scj_tree.specs.Forest.{joined}
+use Rattle.std.proofs.lemmas.Bool.{cases_lt, eq-eqb, ne_eqb, cases_eq}
+use Rattle.std.proofs.lemmas.Bool.Decides.{nat_tests}
+use Rattle.std.proofs.lemmas.List.Folds.{position_or_len_push}
+use Rattle.std.proofs.lemmas.List.Sums.{prefix_len-le-length}
+use Rattle.std.proofs.lemmas.List.{take_all, take_more, get_or-set_same, get_or-set_other}
 use Rattle.scj_tree.specs.Recursion.{lookup}
-use Rattle.scj_tree.proofs.RecursionLemmas.{lookup-behind}
 use Rattle.scj_rules.specs.Words.{or_else}
 use Rattle.scj_rules.specs.Contexts.{number_of_class}
 use Rattle.scj_rules.specs.Classes.{first_user_class}
 
-pub position-cons : (p : ℕ → Bool) (x : ℕ) (xs : List ℕ) →
-    position p (x ∷ xs) ≡ (if p x then Some 0 else option_map (λ k. 1 + k) (position p xs))
-position-cons p x xs = go (p x)
+-- the place of the first item that passes, where n of m items stand before it and one more is put behind them
+pushed : (n m : ℕ) (b : Bool) → n ≤ m
+    → cond (nat_lt (cond (n == m) (m + cond b 0 1) n) (m + 1)) (Some (cond (n == m) (m + cond b 0 1) n)) None
+    ≡ or_else (cond (nat_lt n m) (Some n) None) (if b then Some m else None)
+pushed n m b le =
+    ⊎_elim
+    (λ (l : n < m).
+    let apart : (n == m) ≡ false = grind (arith, nat_tests) in
+    let before : nat_lt n m ≡ true = grind (arith, nat_tests) in
+    let still : nat_lt n (m + 1) ≡ true = grind (arith, nat_tests) in
+    rw (apart, before, still) refl)
+    (λ (g : m ≤ n).
+    let same : (n == m) ≡ true = grind (arith, nat_tests) in
+    let behind : nat_lt n m ≡ false = grind (arith, nat_tests) in
+    rw (same, behind) (last b))
+    (cases_lt n m)
   where
-    tail : (a n : ℕ) → cond (nat_lt (1 + a) (suc n)) (Some (1 + a)) None ≡ option_map (λ k. 1 + k)
-        (cond (nat_lt a n) (Some a) None)
-    tail a n = ⊎_elim (λ (l : a < n). rw (lt-ltb (1 + a) (suc n) (omega (arith, l)), lt-ltb a n l) refl)
-        (λ (m : n ≤ a). rw (le-ltb (1 + a) (suc n) (omega (arith, m)), le-ltb a n m) refl) (cases_lt a n)
-
-    go : (b : Bool) → cond (nat_lt (cond (not b) (1 + position_or_len p xs) 0) (suc (length xs)))
-        (Some (cond (not b) (1 + position_or_len p xs) 0)) None
-        ≡ (if b then Some 0 else option_map (λ k. 1 + k) (position p xs))
-    go true = rw (lt-ltb 0 (suc (length xs)) (omega arith)) refl
-    go false = tail (position_or_len p xs) (length xs)
+    last : (b : Bool) →
+        cond (nat_lt (m + cond b 0 1) (m + 1)) (Some (m + cond b 0 1)) None ≡ (if b then Some m else None)
+    last true =
+        let here : m + 0 ≡ m = omega arith in
+        let within : nat_lt m (m + 1) ≡ true = grind (arith, nat_tests) in
+        rw (here, within) refl
+    last false = let past : nat_lt (m + 1) (m + 1) ≡ false = grind (arith, nat_tests) in rw past refl
 
 pub position-push : (q : ℕ → Bool) (xs : List ℕ) (y : ℕ) →
     position q (xs ++ y ∷ []) ≡ or_else (position q xs) (if q y then Some (length xs) else None)
-position-push q [] y = position-cons q y [] ∙ go (q y)
-  where
-    go : (b : Bool) → (if b then Some 0 else option_map (λ k. 1 + k) None) ≡ (if b then Some 0 else None)
-    go true = refl
-    go false = refl
-position-push q (x ∷ xs) y =
-    position-cons q x (xs ++ y ∷ [])
-    ∙ ap (λ o. if q x then Some 0 else option_map (λ k. 1 + k) o) (position-push q xs y)
-    ∙ go (q x) (position q xs) (q y)
-    ∙ ap (λ o. or_else o (if q y then Some (suc (length xs)) else None)) (sym (position-cons q x xs))
-  where
-    go : (b : Bool) (o : Option ℕ) (c : Bool) →
-        (if b then Some 0 else option_map (λ k. 1 + k) (or_else o (if c then Some (length xs) else None)))
-        ≡ or_else (if b then Some 0 else option_map (λ k. 1 + k) o) (if c then Some (suc (length xs)) else None)
-    go true o c = refl
-    go false (Some k) c = refl
-    go false None true = (let e : 1 + length xs ≡ suc (length xs) = omega arith in ap (λ k. Some k) e)
-    go false None false = refl
+position-push q xs y =
+    rw (position_or_len_push q xs y, length-append xs (y ∷ []))
+    (pushed (position_or_len q xs) (length xs) (q y) (prefix_len-le-length (λ x. not (q x)) xs))
 
 -- the number of a class among so many, and what is told of others
 abbrev pub number_among : List ℕ → Option ℕ → ℕ → Option ℕ
@@ -93,22 +88,3 @@ numbered_last rest node class numbers id some read l e =
     ap (λ x. take n rest ++ x ∷ []) read ∙ sym (take_more rest n node (omega (arith, some)))
     ∙ take_all (n + 1) rest (omega (arith, some)) in
     numbered (take n rest) node class numbers id l e ∙ ap (λ ids. number_among ids (lookup None numbers id) id) split
-
-pub replicated : {A : Type 0} (d : A) (n m : ℕ) → lookup d (replicate n d) m ≡ d
-replicated d zero m = lookup-behind d [] m (omega arith)
-replicated d (suc n) zero = refl
-replicated d (suc n) (suc m) = replicated d n m
-
--- a file more
-pub joined_more : (files : List (List ℕ)) (i : ℕ) (file xs : List ℕ) → slice_get files i ≡ Some file → (xs ++ file)
-    ++ joined (drop (i + 1) files) ≡ xs ++ joined (drop i files)
-unfolding joined
-joined_more files i file xs h =
-    let e : drop i files ≡ file ∷ drop (i + 1) files =
-    drop_more files i file (slice_get_within files i file h)
-    ∙ ap (λ t. t ∷ drop (i + 1) files) (get_or_from_slice_get files i file file h) in
-    rw e (append_assoc xs file (joined (drop (i + 1) files)))
-
-pub joined_all : (files : List (List ℕ)) (i : ℕ) (xs : List ℕ) → length files ≤ i → xs ++ joined (drop i files) ≡ xs
-unfolding joined
-joined_all files i xs h = rw (drop_all i files h) (append-nil xs)

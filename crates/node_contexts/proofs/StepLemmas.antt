@@ -1,16 +1,12 @@
 -- The contexts of the nodes of a forest, parent after parent from the last one down, and child after child.
-use Rattle.std.proofs.Common.{◌≡◌, ◌≢◌, ℕ, ◌+◌, ◌<◌, ◌≤◌, ◌==◌, List, [], ◌∷◌, ◌++◌, length, set, take, refl, sym, ap, ◌∙◌, subst, arith, Option, Some, None, Bool, true, false, not, ◌||◌, if◌then◌else◌, slice_get, replicate, is_some, append_assoc, ◌⊎◌, ⊎_elim}
-use Rattle.std.specs.List.{prefix_len}
-use Rattle.std.proofs.Math.Seq.{take-append_seam}
+use Rattle.std.proofs.Common.{◌≡◌, ◌≢◌, ℕ, ◌+◌, ◌<◌, ◌≤◌, ◌==◌, List, [], ◌∷◌, ◌++◌, length, set, refl, sym, ap, ◌∙◌, subst, arith, Option, Some, None, Bool, true, false, ◌||◌, if◌then◌else◌, slice_get, replicate, is_some, append_assoc, ◌⊎◌, ⊎_elim}
 use Rattle.std.proofs.lemmas.Bool.{cases_Bool, cases_eq, cases_lt, eq-eqb, ne_eqb, true≢false}
 use Rattle.std.proofs.lemmas.Bool.Decides.{nat_tests}
 use Rattle.std.proofs.lemmas.List.{get_or-replicate, get_or-set_same, get_or-set_other, length-replicate, length-set, ext_get_or}
 use Rattle.std.proofs.lemmas.Option.{slice_get_within, same_Some}
 use Rattle.scj_tree.specs.declared.nodes.Node.{Node}
-use Rattle.scj_tree.specs.declared.nodes.Node.TheVariants.{ScopeName}
 use Rattle.scj_tree.specs.Counts.{times}
 use Rattle.scj_tree.specs.Forest.{Forest, IsForest, joined}
-use Rattle.scj_tree.specs.Kinds.{kind_of}
 use Rattle.scj_tree.specs.Shape.{children}
 use Rattle.scj_tree.specs.Recursion.{lookup}
 use Rattle.scj_tree.proofs.RecursionLemmas.{length-top_down}
@@ -19,26 +15,15 @@ use Rattle.scj_rules.specs.Words.{is_among}
 use Rattle.scj_rules.specs.Views.{variable_at}
 use Rattle.scj_rules.specs.Contexts.{outermost, parent_in, child_context, context_of, contexts_in, object_of, last_variable, declared_before, those_before, parameter_nodes}
 use Rattle.scj_rules.specs.declared.contexts.Context.{Context}
+use Rattle.scj_rules.proofs.InScopeLemmas.{before-same, before-other}
 use Rattle.scj_rules.proofs.ParentLemmas.{child-is, child-less, children_apart, no-parent, parent-is, times-among}
+use Rattle.scj_rules.proofs.WithinLemmas.{position-below}
 use Rattle.node_contexts.specs.declared.kinds.Knows.{Knows}
 use Rattle.node_contexts.specs.declared.kinds.Knows.TheVariants.{InTurn, Parameters}
 use Rattle.node_contexts.specs.declared.rows.Family.{Family}
-use Rattle.node_contexts.specs.Steps.{is_leaf_kind, declared_by, declared_behind, last_at, last_behind, of_child, shared, IsFamily, AreTold, AreSpread}
-
--- the kind of a node tells whether it has children
-shown : (node : Node) → (if is_leaf_kind (Some (kind_of node)) then [] else children node) ≡ children node
-unfolding is_leaf_kind kind_of children
-shown (ScopeName place name) = refl
-shown _ = refl
-
-pub leaf : (node : Node) → is_leaf_kind (Some (kind_of node)) ≡ true → children node ≡ []
-leaf node h = sym (shown node) ∙ ap (λ b. if b then [] else children node) h
+use Rattle.node_contexts.specs.Steps.{declared_by, declared_behind, last_at, last_behind, of_child, shared, AreTold, AreSpread}
 
 -- ---- parent after parent
-
-first-node : (nodes : List Node) (j : ℕ) → j < length nodes → Node
-first-node [] j l = absurd (omega (arith, l))
-first-node (n ∷ nodes) j l = n
 
 module _ (forest : Forest) (whole : IsForest forest) where
   abbrev nodes : List Node
@@ -56,7 +41,7 @@ module _ (forest : Forest) (whole : IsForest forest) where
       omega (arith, child-less forest whole q k is.node is.there is.among)) refl
 
   -- a parent more, before its children
-  pub begun : (k : ℕ) (node : Node) (rows : List Context) → slice_get nodes k ≡ Some node →
+  begun : (k : ℕ) (node : Node) (rows : List Context) → slice_get nodes k ≡ Some node →
       AreTold forest (k + 1) [] rows → AreTold forest k (children node) rows
   begun k node rows there t =
       record { whole = t.whole; exact = λ id l above other. t.exact id l (λ q e. later id q other e (above q e)) refl }
@@ -71,6 +56,7 @@ module _ (forest : Forest) (whole : IsForest forest) where
 
   pub started : (rows : List Context) → rows ≡ replicate (length nodes) outermost →
       AreTold forest (length nodes) [] rows
+  unfolding parent_in
   started rows e =
       record {
         whole = ap length e ∙ length-replicate (length nodes) outermost;
@@ -83,8 +69,7 @@ module _ (forest : Forest) (whole : IsForest forest) where
           → parent_in nodes id ≡ o → lookup outermost all id ≡ outermost
       none id l above None f = no-parent forest whole id l f
       none id l above (Some q) f =
-          let is = parent-is forest whole id q f (first-node nodes id l) in
-          absurd (omega (arith, above q f, slice_get_within nodes q is.node is.there))
+          absurd (omega (arith, above q f, position-below (λ (n : Node). is_among id (children n)) nodes q f))
 
   pub ended : (rows : List Context) → AreTold forest 0 [] rows → rows ≡ contexts_in forest
   unfolding contexts_in
@@ -96,46 +81,47 @@ module _ (forest : Forest) (whole : IsForest forest) where
 -- ---- child after child
 
 -- before the first child
-pub spread_first : (forest : Forest) (parent : ℕ) (node : Node) (family : Family) (rest : List ℕ) (known : Option ℕ)
-    (rows : List Context) → IsFamily forest parent node family → rest ≡ children node
+pub spread_first : (forest : Forest) → IsForest forest → (parent : ℕ) (node : Node) (family : Family) (rest : List ℕ)
+    (known : Option ℕ) (above : Context) (rows : List Context) → slice_get forest.nodes parent ≡ Some node
+    → AreTold forest (parent + 1) [] rows → family.base ≡ shared (joined forest.files) parent node above
+    → above ≡ lookup outermost rows parent → family.object ≡ object_of node
+    → ((child : ℕ) → declared_before forest.nodes node child ≡ declared_by forest.nodes
+    (children node) family.knows child)
+    → rest ≡ children node
     → known ≡ last_variable forest.nodes family.base.last (declared_behind forest.nodes family.knows [])
-    → AreTold forest (parent + 1) [] rows → AreSpread forest parent node family rest known rows
-spread_first forest parent node family rest known rows f e k t =
+    → AreSpread forest parent node family rest known rows
+spread_first forest whole parent node family rest known above rows there t b a o k e l =
     record {
-      shared = f;
+      shared = record {
+        whole = whole;
+        there = there;
+        base = b ∙ ap (shared (joined forest.files) parent node) (a ∙ own forest whole parent node rows there t);
+        object = o;
+        knows = k;
+      };
       done = [];
       parts = e;
-      is_last = k;
-      told = subst (λ ids. AreTold forest parent ids rows) (sym e)
-          (begun forest f.whole parent node rows f.there t);
+      is_last = l;
+      told = subst (λ ids. AreTold forest parent ids rows) (sym e) (begun forest whole parent node rows there t);
     }
 
 among-middle : (done rest : List ℕ) (c : ℕ) → is_among c (done ++ c ∷ rest) ≡ true
-among-middle [] rest c = rw (eq-eqb c c refl) refl
-among-middle (x ∷ done) rest c = ap (λ b. (c == x) || b) (among-middle done rest c) ∙ go (c == x)
-  where
-    go : (b : Bool) → (b || true) ≡ true
-    go true = refl
-    go false = refl
+among-middle [] rest c = grind (arith, nat_tests)
+among-middle (x ∷ done) rest c = grind (arith, nat_tests, among-middle done rest c)
 
-prefix-at : (done rest : List ℕ) (c : ℕ) → times c (done ++ c ∷ rest) ≤ 1 →
-    prefix_len (λ other. not (other == c)) (done ++ c ∷ rest) ≡ length done
+-- the children before one
+those_before-at : (done rest : List ℕ) (c : ℕ) → times c (done ++ c ∷ rest) ≤ 1 →
+    those_before c (done ++ c ∷ rest) ≡ done
 unfolding times
-prefix-at [] rest c once = rw (eq-eqb c c refl) refl
-prefix-at (x ∷ done) rest c once =
+those_before-at [] rest c once = before-same c c rest (eq-eqb c c refl)
+those_before-at (x ∷ done) rest c once =
     let inside : 1 ≤ times c (done ++ c ∷ rest) = times-among c (done ++ c ∷ rest) (among-middle done rest c) in
     ⊎_elim (λ (same : (c == x) ≡ true). let once' = rw same at once in absurd (omega (arith, once', inside)))
     (λ (other : (c == x) ≡ false).
     let apart : (x == c) ≡ false = grind (arith, nat_tests) in
     let later : times c (done ++ c ∷ rest) ≤ 1 = omega (arith, once) in
-    rw apart (omega (arith, prefix-at done rest c later)))
+    before-other c x (done ++ c ∷ rest) apart ∙ ap (λ ids. x ∷ ids) (those_before-at done rest c later))
     (cases_Bool (c == x))
-
--- the children before one
-those_before-at : (done rest : List ℕ) (c : ℕ) → times c (done ++ c ∷ rest) ≤ 1 →
-    those_before c (done ++ c ∷ rest) ≡ done
-those_before-at done rest c once = ap (λ n. take n (done ++ c ∷ rest)) (prefix-at done rest c once)
-    ∙ take-append_seam done (c ∷ rest)
 
 last_variable-push : (arena : List Node) (known : Option ℕ) (ids : List ℕ) (x : ℕ) →
     last_variable arena known
@@ -170,25 +156,13 @@ at-is arena (Parameters (Some list)) ids done before known child k b = go (child
     go false = k
 
 -- the context of a child, from what all children share
-child-parts : (arena : List Node) (classes : List ℕ) (parent : ℕ) (node : Node) (above : Context) (child : ℕ)
-    → of_child (shared classes parent node above) (object_of node)
-    (last_variable arena (shared classes parent node above).last (declared_before arena node child)) child
-    ≡ child_context arena classes parent node above child
-unfolding child_context shared
-child-parts arena classes parent node above child = refl
-
 child-from : (arena : List Node) (classes : List ℕ) (parent : ℕ) (node : Node) (above base : Context)
     (object : Option ℕ) (known : List ℕ) (child : ℕ)
     → base ≡ shared classes parent node above → object ≡ object_of node → known ≡ declared_before arena node child
     → of_child base object (last_variable arena base.last known) child ≡ child_context arena classes parent node above
     child
-child-from arena classes parent node above base object known child e f g =
-    ap (λ (b : Context). of_child b object (last_variable arena b.last known) child) e
-    ∙ ap (λ (o : Option ℕ). of_child (shared classes parent node above) o
-    (last_variable arena (shared classes parent node above).last known) child) f
-    ∙ ap (λ (k : List ℕ). of_child (shared classes parent node above) (object_of node)
-    (last_variable arena (shared classes parent node above).last k) child) g
-    ∙ child-parts arena classes parent node above child
+unfolding child_context shared
+child-from arena classes parent node above base object known child e f g = rw (e, f, g) refl
 
 -- a child more
 pub spread_next : (forest : Forest) (parent : ℕ) (node : Node) (family : Family) (rest : List ℕ)

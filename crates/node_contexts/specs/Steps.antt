@@ -1,19 +1,17 @@
 -- What the kind of a node says of the contexts of its children, and the contexts as far as they are told: parent after
 -- parent from the last one down, and child after child.
-use Rattle.std.specs.Prelude.{◌≡◌, ℕ, ◌<◌, ◌≤◌, Bool, true, false, ◌||◌, ◌==◌, List, [], ◌++◌, length, slice_get, Option, Some, None, if◌then◌else◌, is_some}
+use Rattle.std.specs.Prelude.{◌≡◌, ℕ, ◌<◌, ◌≤◌, false, ◌||◌, ◌==◌, List, [], ◌∷◌, ◌++◌, length, slice_get, Option, Some, None, if◌then◌else◌, is_some}
 use Rattle.scj_tree.specs.declared.nodes.Node.{Node}
-use Rattle.scj_tree.specs.declared.kinds.NodeKind.{NodeKind}
-use Rattle.scj_tree.specs.declared.kinds.NodeKind.TheVariants.{ScopeName, TypeArgument, IntType, BooleanType, VoidType, LongType, Empty, SimpleName, Text, Number, True, False, Null, This}
 use Rattle.scj_tree.specs.Forest.{Forest, IsForest, joined}
 use Rattle.scj_tree.specs.Recursion.{lookup}
 use Rattle.scj_tree.specs.Shape.{children}
-use Rattle.scj_base.specs.Bytes.{is_same}
 use Rattle.scj_rules.specs.Definitions.{read}
-use Rattle.scj_rules.specs.Words.{holds, or_else, is_among, chain}
+use Rattle.scj_rules.specs.Words.{holds, or_else, is_among}
 use Rattle.scj_rules.specs.Views.{variable_at}
-use Rattle.scj_rules.specs.declared.views.Declared.{Declared}
 use Rattle.scj_rules.specs.declared.contexts.Context.{Context}
-use Rattle.scj_rules.specs.Contexts.{outermost, number_of_class, is_member, is_super_call, object_of, last_variable, parameter_nodes, those_before, parameters_before, declared_before, parent_in, contexts_in, Declarations, variable_before}
+use Rattle.scj_rules.specs.Contexts.{outermost, number_of_class, is_member, is_super_call, object_of, last_variable, parameter_nodes, those_before, parameters_before, declared_before, parent_in, contexts_in}
+use Rattle.node_contexts.specs.declared.kinds.Few.{Few}
+use Rattle.node_contexts.specs.declared.kinds.Few.TheVariants.{Nothing, One, Two, Listed, More}
 use Rattle.node_contexts.specs.declared.kinds.Knows.{Knows}
 use Rattle.node_contexts.specs.declared.kinds.Knows.TheVariants.{InTurn, Parameters}
 use Rattle.node_contexts.specs.declared.rows.Family.{Family}
@@ -55,6 +53,20 @@ shared classes parent node above =
 abbrev pub of_child : Context → Option ℕ → Option ℕ → ℕ → Context
 of_child base object last child = record base { last = last; before_dot = holds object (λ o. o == child) }
 
+-- a node has these children, of which none stands before a dot, and this is what they know
+pub record HasFew (node : Node) (ids : List ℕ) (knows : Knows) : Type 0 where
+  pub parts : children node ≡ ids
+  pub object : object_of node ≡ None
+  pub known : (nodes : List Node) (child : ℕ) → declared_before nodes node child ≡ declared_by nodes (children node)
+      knows child
+
+abbrev pub IsFew : Node → Few → Type 0
+IsFew node Nothing = HasFew node [] (Parameters None)
+IsFew node (One child) = HasFew node (child ∷ []) (Parameters None)
+IsFew node (Two first second) = HasFew node (first ∷ second ∷ []) (Parameters None)
+IsFew node (Listed list) = HasFew node list.now InTurn
+IsFew node More = Unit {0}
+
 -- this is what the children of a node share
 pub record IsFamily (forest : Forest) (parent : ℕ) (node : Node) (family : Family) : Type 0 where
   pub whole : IsForest forest
@@ -79,30 +91,3 @@ pub record AreSpread (forest : Forest) (parent : ℕ) (node : Node) (family : Fa
   pub parts : done ++ rest ≡ children node
   pub is_last : known ≡ last_variable forest.nodes family.base.last (declared_behind forest.nodes family.knows done)
   pub told : AreTold forest parent rest rows
-
--- the node declares a variable of the name
-abbrev pub declares : List Node → List ℕ → ℕ → Bool
-declares nodes name id = holds (variable_at nodes id) (λ (d : Declared). is_same name d.name)
-
--- the variables from one on, the last first: at most so many
-abbrev pub on_from : Declarations → ℕ → Option ℕ → List ℕ
-on_from p bound None = []
-on_from p bound (Some last) = chain (variable_before p) bound last
-
--- nodes of the kind have no children
-unfoldable pub is_leaf_kind : Option NodeKind → Bool
-is_leaf_kind (Some ScopeName) = true
-is_leaf_kind (Some TypeArgument) = true
-is_leaf_kind (Some IntType) = true
-is_leaf_kind (Some BooleanType) = true
-is_leaf_kind (Some VoidType) = true
-is_leaf_kind (Some LongType) = true
-is_leaf_kind (Some Empty) = true
-is_leaf_kind (Some SimpleName) = true
-is_leaf_kind (Some Text) = true
-is_leaf_kind (Some Number) = true
-is_leaf_kind (Some True) = true
-is_leaf_kind (Some False) = true
-is_leaf_kind (Some Null) = true
-is_leaf_kind (Some This) = true
-is_leaf_kind _ = false

@@ -1,25 +1,14 @@
 //! The numbers of the classes of a program, by their nodes.
 
-ghost use Rattle.std.specs.Prelude.{◌≡◌, ◌<◌, ◌++◌, ℕ, None, Some, IfOk, OnOk, length, replicate, set};
+ghost use Rattle.std.specs.Prelude.{◌≡◌, ◌<◌, ℕ, None, Some, IfOk, OnOk, length, replicate, set};
 ghost use Rattle.scj_tree.specs.Forest.{joined};
 ghost use Rattle.scj_tree.specs.Recursion.{lookup};
 ghost use Rattle.scj_rules.specs.Contexts.{number_of_class};
 
 use scj_base::{ClassId, Memory, NodeId};
 use scj_builtins::FRAMEWORK_CLASS_COUNT;
-use scj_tree::Program;
+use scj_tree::{Program, class_ids};
 use std::alloc::Global;
-
-/// The nodes of the classes: file after file, in the order of the sources.
-fn class_nodes(alloc: Global, program: &Program) -> Result<Vec<NodeId>, Memory>
-    ensures { IfOk result (λ all. all.items ≡ joined program.now.files) }
-{
-    let mut all = Vec::new(alloc);
-    for file in 0..program.file_count() {
-        all.extend_from_slice(program.classes(file as u8))?;
-    }
-    Ok(all)
-}
 
 /// So many nodes without numbers.
 fn unnumbered(alloc: Global, count: usize) -> Result<Vec<Option<ClassId>>, Memory>
@@ -47,7 +36,7 @@ pub fn class_numbers(alloc: Global, program: &Program) -> Result<Vec<Option<Clas
     ensures exact { IfOk result
         (λ numbers. (id : ℕ) → lookup None numbers.items id ≡ number_of_class (joined program.now.files) id) }
 {
-    let all = class_nodes(alloc, program)?;
+    let all = class_ids(alloc, program)?;
     if all.len() > (u32::MAX - FRAMEWORK_CLASS_COUNT) as usize {
         return Err(Memory);
     }

@@ -4,10 +4,10 @@
 pub mod class_numbers;
 pub mod contexts;
 mod kinds;
+mod members;
 pub mod numbers;
 mod packed;
 mod rows;
-pub mod variables;
 
 pub use contexts::Contexts;
-pub use variables::{has_object, is_static_member, variable_named};
+pub use members::is_static_member;

@@ -1,7 +1,8 @@
 //! The numbers of variables within their members.
 
-ghost use Rattle.std.specs.Prelude.{◌≡◌, ◌+◌, ◌<◌, IfOk, OnOk, length, set, replicate};
+ghost use Rattle.std.specs.Prelude.{◌≡◌, ◌+◌, ◌<◌, ℕ, IfOk, OnOk, length, set, replicate};
 ghost use Rattle.scj_tree.specs.Recursion.{lookup};
+ghost use Rattle.scj_rules.specs.Bodies.{locals};
 ghost use Rattle.scj_rules.specs.Contexts.{declarations_of, contexts_in};
 ghost use Rattle.node_contexts.specs.Numbers.{owner_of, number_before, numbers_before, AreCounted};
 
@@ -25,7 +26,7 @@ pub fn owner_of(program: &Program, contexts: &Contexts, id: NodeId) -> Option<No
 
 /// No variable is counted yet.
 #[tactic(auto, using(crate::proofs::CountLemmas::none_counted))]
-pub fn none_counted(alloc: Global, program: &Program) -> Result<Vec<u32>, Memory>
+fn none_counted(alloc: Global, program: &Program) -> Result<Vec<u32>, Memory>
     ensures { IfOk result (λ counts. AreCounted (declarations_of program.now) 0 counts.items) }
 {
     let counts = zeros(alloc, program.len())?;
@@ -59,7 +60,7 @@ fn count_one(counts: &mut Vec<u32>, member: NodeId) -> Result<u32, Memory>
 }
 
 /// Counts a node, and tells how many variables of its member stand before it, if it declares one.
-pub fn count(
+fn count(
     program: &Program,
     contexts: &Contexts,
     counts: &mut Vec<u32>,
@@ -79,7 +80,27 @@ pub fn count(
     }
 }
 
-/// The number of each variable within its member.
+/// The number of each variable within its member, and how many variables each member has.
+pub fn count_variables(
+    alloc: Global,
+    program: &Program,
+    contexts: &Contexts,
+) -> Result<(Vec<u32>, Vec<u32>), Memory>
+    requires { contexts.now ≡ contexts_in program.now }
+    ensures numbers { IfOk result (λ all. all.0.items ≡ numbers_before (declarations_of program.now)) }
+    ensures counts { IfOk result
+        (λ all. (member : ℕ) → lookup 0 all.1.items member ≡ locals (declarations_of program.now) member) }
+{
+    let mut counts = none_counted(alloc, program)?;
+    let mut numbers = Vec::with_capacity(alloc, program.len())?;
+    for place in 0..program.len() {
+        let number = count(program, contexts, &mut counts, NodeId::at(place as u32))?;
+        numbers.push(number)?;
+    }
+    Ok((numbers, counts))
+}
+
+/// The number of each variable alone.
 pub fn number_variables(
     alloc: Global,
     program: &Program,
@@ -88,11 +109,6 @@ pub fn number_variables(
     requires { contexts.now ≡ contexts_in program.now }
     ensures { IfOk result (λ numbers. numbers.items ≡ numbers_before (declarations_of program.now)) }
 {
-    let mut counts = none_counted(alloc, program)?;
-    let mut numbers = Vec::with_capacity(alloc, program.len())?;
-    for place in 0..program.len() {
-        let number = count(program, contexts, &mut counts, NodeId::at(place as u32))?;
-        numbers.push(number)?;
-    }
+    let (numbers, _counts) = count_variables(alloc, program, contexts)?;
     Ok(numbers)
 }

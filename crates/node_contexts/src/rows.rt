@@ -9,11 +9,11 @@ ghost use Rattle.scj_rules.specs.Contexts.{outermost, last_variable, number_of_c
 ghost use Rattle.node_contexts.specs.Packed.{told};
 ghost use Rattle.node_contexts.specs.Steps.{of_child, declared_behind, last_at, last_behind, AreTold, AreSpread};
 
-use crate::kinds::{Knows, Parts, is_leaf, known_to, object_of, parts_of};
+use crate::kinds::{Few, Knows, few_of, known_to, object_of};
 use crate::packed::{PackedContext, kept_node};
 use node_views::is_variable;
 use scj_base::{ClassId, Memory, NodeId};
-use scj_tree::{Node, Program};
+use scj_tree::{Node, Parts, Program, parts_of, told};
 
 /// What the children of a node share.
 #[derive(Clone, Copy)]
@@ -27,10 +27,7 @@ pub struct Family {
 pub fn row_at(rows: &[PackedContext], id: NodeId) -> PackedContext
     ensures { result ≡ lookup outermost rows.now id }
 {
-    match rows.get(id.place()) {
-        Some(row) => *row,
-        None => PackedContext::outermost(),
-    }
+    told(rows, PackedContext::outermost(), id)
 }
 
 /// The last of these nodes that declares a variable, if one does, and else the one that is known before them.
@@ -60,8 +57,7 @@ fn first_known(program: &Program, knows: &Knows, before: u32) -> Result<u32, Mem
             Some(Node::Parameters { list, .. }) => last_among(program, list.items(), before),
             _ => Ok(before),
         },
-        Knows::Parameters(None) => Ok(before),
-        Knows::InTurn => Ok(before),
+        Knows::Parameters(None) | Knows::InTurn => Ok(before),
     }
 }
 
@@ -77,8 +73,7 @@ fn last_at(family: &Family, known: u32, child: NodeId) -> u32
                 known
             }
         }
-        Knows::Parameters(None) => known,
-        Knows::InTurn => known,
+        Knows::Parameters(None) | Knows::InTurn => known,
     }
 }
 
@@ -194,6 +189,31 @@ fn put_parts(
     Ok(last)
 }
 
+/// Writes the rows of the children of a node of any kind.
+fn spread_more(
+    program: &Program,
+    class: Option<ClassId>,
+    parent: NodeId,
+    node: &Node,
+    rows: &mut Vec<PackedContext>,
+) -> Result<(), Memory>
+    requires whole { IsForest program.now }
+    requires there { slice_get program.now.nodes parent ≡ Some node.now }
+    requires number { class ≡ number_of_class (joined program.now.files) parent }
+    requires told { AreTold program.now (parent + 1) [] rows.old.items }
+    ensures { OnOk result (AreTold program.now parent [] rows.new.items) }
+{
+    let base = row_at(rows, parent).shared(class, parent, node)?;
+    let family = Family {
+        base,
+        object: object_of(node),
+        knows: known_to(node),
+    };
+    let known = first_known(program, &family.knows, base.last())?;
+    put_parts(program, rows, &family, known, &parts_of(node))?;
+    Ok(())
+}
+
 /// Writes the rows of the children of a node. `class` is its number, if it is a class.
 pub fn spread_children(
     program: &Program,
@@ -208,16 +228,42 @@ pub fn spread_children(
     requires told { AreTold program.now (parent + 1) [] rows.old.items }
     ensures { OnOk result (AreTold program.now parent [] rows.new.items) }
 {
-    if is_leaf(program, parent) {
-        return Ok(());
-    }
-    let base = row_at(rows, parent).shared(class, parent, node)?;
-    let family = Family {
-        base,
-        object: object_of(node),
-        knows: known_to(node),
+    let None = class else {
+        return spread_more(program, class, parent, node, rows);
     };
-    let known = first_known(program, &family.knows, base.last())?;
-    put_parts(program, rows, &family, known, &parts_of(node))?;
-    Ok(())
+    match few_of(node) {
+        Few::Nothing => Ok(()),
+        Few::One(child) => {
+            let base = row_at(rows, parent).shared(None, parent, node)?;
+            let family = Family {
+                base,
+                object: None,
+                knows: Knows::Parameters(None),
+            };
+            put(program, rows, &family, base.last(), child)?;
+            Ok(())
+        }
+        Few::Two(first, second) => {
+            let base = row_at(rows, parent).shared(None, parent, node)?;
+            let family = Family {
+                base,
+                object: None,
+                knows: Knows::Parameters(None),
+            };
+            let known = put(program, rows, &family, base.last(), first)?;
+            put(program, rows, &family, known, second)?;
+            Ok(())
+        }
+        Few::Listed(list) => {
+            let base = row_at(rows, parent).shared(None, parent, node)?;
+            let family = Family {
+                base,
+                object: None,
+                knows: Knows::InTurn,
+            };
+            put_all(program, rows, &family, base.last(), list)?;
+            Ok(())
+        }
+        Few::More => spread_more(program, None, parent, node, rows),
+    }
 }

@@ -1,33 +1,10 @@
 -- Lists of findings that are joined from others.
-use Rattle.std.proofs.Common.{◌≡◌, ℕ, zero, suc, ◌+◌, ◌<◌, ◌≤◌, List, ◌++◌, refl, sym, ap, ◌∙◌, subst, arith, ⊎_elim, append_assoc}
+use Rattle.std.proofs.Common.{◌≡◌, ℕ, zero, suc, List, ◌++◌, refl, sym, subst, ⊎_elim, append_assoc}
 use Rattle.std.specs.List.{Contains}
 use Rattle.std.proofs.lemmas.List.Elements.{Contains-append_left, Contains-append_right, Contains-append_cases}
-use Rattle.std.proofs.lemmas.Bool.{cases_lt}
 use Rattle.scj_base.specs.declared.findings.Found.{Found}
 use Rattle.scj_tree.specs.Recursion.{joined_below}
-use Rattle.scj_rules.proofs.ReportLemmas.{none_contained}
 use Rattle.node_rules.specs.Findings.{FindSame}
-
--- an element of joined lists stands in one of them
-pub from_joined : {X : Type 0} (f : ℕ → List X) (n : ℕ) (x : X) → Contains (joined_below f n) x → (k : ℕ) × (k < n) ×
-    Contains (f k) x
-unfolding joined_below
-from_joined f zero x h = absurd (none_contained x h)
-from_joined f (suc n) x h =
-    ⊎_elim (λ (e : Contains (joined_below f n) x). let r = from_joined f n x e in
-    (r.0, (let l : r.0 < n = r.1 in omega (arith, l)), r.2))
-    (λ (e : Contains (f n) x). (n, omega arith, e))
-    (Contains-append_cases (joined_below f n) (f n) x h)
-
-pub to_joined : {X : Type 0} (f : ℕ → List X) (n k : ℕ) (x : X) → k < n → Contains (f k) x →
-    Contains (joined_below f n) x
-unfolding joined_below
-to_joined f zero k x l h = absurd (omega (arith, l))
-to_joined f (suc n) k x l h =
-    ⊎_elim (λ (e : k < n). Contains-append_left (joined_below f n) (f n) x (to_joined f n k x e h))
-    (λ (e : n ≤ k). let same : k ≡ n = omega (arith, e, l) in
-    Contains-append_right (joined_below f n) (f n) x (subst (λ m. Contains (f m) x) same h))
-    (cases_lt k n)
 
 pub same_lists : {xs ys : List Found} → xs ≡ ys → FindSame xs ys
 same_lists e =
@@ -71,10 +48,3 @@ joined_parts all first second (suc n) parts =
         same_then (same_lists (let e : (a ++ b) ++ (c ++ d) ≡ a ++ ((b ++ c) ++ d) = simp append_assoc refl in e))
         (same_then (both_same (same_lists refl) (both_same (swapped b c) (same_lists refl)))
         (same_lists (let e : a ++ ((c ++ b) ++ d) ≡ (a ++ c) ++ (b ++ d) = simp append_assoc refl in e)))
-
--- one list more
-pub joined_next : {A : Type 0} (f : ℕ → List A) (n : ℕ) (first : List A) →
-    first ++ joined_below f (n + 1) ≡ (first ++ joined_below f n) ++ f n
-unfolding joined_below
-joined_next f n first = ap (λ m. first ++ joined_below f m) (let count : n + 1 ≡ suc n = omega arith in count)
-    ∙ sym (append_assoc first (joined_below f n) (f n))

@@ -1,8 +1,7 @@
 -- Methods that a class inherits as those of an interface.
-use Rattle.std.proofs.Common.{◌≡◌, ℕ, zero, suc, ◌+◌, ◌≤◌, ◌<◌, Bool, false, ◌&&◌, ◌||◌, List, [], ◌∷◌, length, drop, refl, sym, ap, ◌∙◌, arith, is_some}
+use Rattle.std.proofs.Common.{◌≡◌, ℕ, Bool, false, ◌&&◌, ◌||◌, List, [], ◌∷◌, refl, sym, ap, arith, is_some}
 use Rattle.std.specs.List.{list_any}
 use Rattle.std.proofs.lemmas.Bool.Decides.{nat_tests}
-use Rattle.std.proofs.lemmas.List.{drop_all}
 use Rattle.std.proofs.lemmas.List.Folds.{list_any_none}
 use Rattle.scj_builtins.specs.Framework.{runnable, safelet}
 use Rattle.scj_rules.specs.Words.{is_among}
@@ -15,24 +14,6 @@ either_interface : (test : ℕ → Bool) (a b : ℕ) (xs : List ℕ) →
     list_any (λ i. is_among i (a ∷ b ∷ []) && test i) xs ≡ ((test a && is_among a xs) || (test b && is_among b xs))
 either_interface test a b [] = grind (arith, nat_tests)
 either_interface test a b (x ∷ xs) = grind (arith, nat_tests, either_interface test a b xs)
-
--- the numbers from one on, and from the next
-pub numbers_next : {A : Type 0} (q : ℕ → Bool) (k : ℕ) (xs : List A) → k < length xs →
-    list_any q (numbers_from k (drop k xs)) ≡ (q k || list_any q (numbers_from (k + 1) (drop (k + 1) xs)))
-unfolding numbers_from
-numbers_next {A} q k xs l = go k xs l k
-  where
-    go : (i : ℕ) (xs : List A) → i < length xs → (k : ℕ) →
-        list_any q (numbers_from k (drop i xs)) ≡ (q k || list_any q (numbers_from (k + 1) (drop (i + 1) xs)))
-    go i [] l k = absurd (omega (arith, l))
-    go zero (x ∷ xs) l k = refl
-    go (suc i) (x ∷ xs) l k = let n : suc i + 1 ≡ suc (i + 1) = omega arith in go i xs (omega (arith, l)) k
-        ∙ ap (λ m. q k || list_any q (numbers_from (k + 1) (drop m (x ∷ xs)))) (sym n)
-
-pub numbers_end : {A : Type 0} (q : ℕ → Bool) (k : ℕ) (xs : List A) → length xs ≤ k →
-    false ≡ list_any q (numbers_from k (drop k xs))
-unfolding numbers_from
-numbers_end {A} q k xs l = ap (λ (ys : List A). list_any q (numbers_from k ys)) (sym (drop_all k xs l))
 
 pub inherits_is : (p : Declarations) (node : ℕ) (name : List ℕ) (class : ℕ)
     → inherits_as p (safelet ∷ runnable ∷ []) node name class

@@ -9,6 +9,7 @@ use Rattle.std.proofs.lemmas.Option.{slice_get_past}
 use Rattle.scj_base.specs.declared.findings.Found.{Found}
 use Rattle.scj_base.specs.declared.findings.Rule.TheVariants.{K2}
 use Rattle.scj_tree.specs.Recursion.{joined_below}
+use Rattle.scj_tree.proofs.RecursionLemmas.{from_joined, to_joined}
 use Rattle.scj_rules.specs.declared.views.Declared.{Declared}
 use Rattle.scj_rules.specs.Words.{found_at, broken, holds}
 use Rattle.scj_rules.specs.Views.{variable_at}
@@ -21,7 +22,6 @@ use Rattle.node_contexts.specs.Numbers.{owner_of, count_below, number_before}
 use Rattle.node_contexts.proofs.CountLemmas.{one, variables_are, counted, tested, owned, number_is}
 use Rattle.node_rules.specs.Findings.{FindSame}
 use Rattle.node_rules.specs.Nodes.{broken_at_variable, late_at}
-use Rattle.node_rules.proofs.FindingLemmas.{from_joined, to_joined}
 
 -- ---- K2 at a member, node after node
 

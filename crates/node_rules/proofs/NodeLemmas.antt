@@ -1,5 +1,5 @@
 -- What is noted at the nodes is what the rules find there.
-use Rattle.std.proofs.Common.{◌≡◌, ◌∙◌, ℕ, ◌+◌, nat_le, Bool, ◌&&◌, false, List, [], ◌++◌, length, slice_get, Option, Some, None, option_map, refl, sym, ap, append_assoc, append-nil, if◌then◌else◌}
+use Rattle.std.proofs.Common.{◌≡◌, ◌∙◌, ℕ, nat_le, Bool, ◌&&◌, false, List, [], ◌++◌, length, slice_get, Option, Some, None, option_map, refl, sym, ap, append_assoc, append-nil, if◌then◌else◌}
 use Rattle.scj_base.specs.declared.findings.Found.{Found}
 use Rattle.scj_tree.specs.declared.nodes.Node.{Node}
 use Rattle.scj_tree.specs.declared.nodes.Node.TheVariants.{Class, Method, Constructor}
@@ -17,8 +17,7 @@ use Rattle.scj_rules.specs.Contexts.{Declarations, context, declarations_of}
 use Rattle.scj_rules.specs.Phases.{over_nodes}
 use Rattle.node_views.specs.Kinds.{is_variable_kind}
 use Rattle.node_views.proofs.KindLemmas.{variable_kind}
-use Rattle.node_contexts.specs.Numbers.{owner_of, number_before, AreCounted}
-use Rattle.node_contexts.proofs.CountLemmas.{none_more}
+use Rattle.node_contexts.specs.Numbers.{owner_of, number_before}
 use Rattle.node_rules.specs.Findings.{FindSame}
 use Rattle.node_rules.specs.Nodes.{parameter_limit, broken_at_variable, found_there, late_at, noted_at, nodes_broken, is_asked_kind}
 use Rattle.node_rules.proofs.FindingLemmas.{same_lists, same_then, same_back, both_same, swapped, joined_parts}
@@ -58,9 +57,6 @@ module _ (forest : Forest) (id : ℕ) (h : is_asked_kind (option_map kind_of (sl
       sym (ap (λ fs. before ++ fs) (ap (λ fs. fs ++ late_at p id) (otherwise _ _ _ (asked p id _) h)
       ∙ ap (λ o. if holds o (is_callable p.nodes) && nat_le most_locals (number_before p id)
       then broken_at_variable p.nodes id else []) no_owner) ∙ append-nil before)
-
-  pub uncounted : (counts : List ℕ) → AreCounted p id counts → AreCounted p (id + 1) counts
-  uncounted counts are = none_more p id counts no_owner are
 
 -- the limits at a node
 limits_split : (p : Declarations) (id : ℕ) (node : Node) → slice_get p.nodes id ≡ Some node →

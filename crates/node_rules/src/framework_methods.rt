@@ -46,7 +46,7 @@ fn inherits(
 }
 
 /// Whether some class inherits the method at a node as one of Safelet or Runnable.
-#[tactic(auto, using(crate::proofs::InheritingLemmas::numbers_next, crate::proofs::InheritingLemmas::numbers_end, crate::proofs::InheritingLemmas::none_inherits))]
+#[tactic(auto, using(scj_rules::proofs::NumberLemmas::numbers_next, scj_rules::proofs::NumberLemmas::numbers_end, crate::proofs::InheritingLemmas::none_inherits))]
 fn is_inherited(classes: &Classes<'_>, node: NodeId, name: &Name) -> Result<bool, Memory>
     ensures { IfOk result
         (λ is_inherited. is_inherited ≡ list_any

@@ -1,8 +1,8 @@
 //! What is broken at the nodes of a program.
 
-ghost use Rattle.std.specs.Prelude.{◌≡◌, ◌+◌, ◌++◌, OnOk};
+ghost use Rattle.std.specs.Prelude.{◌≡◌, ◌++◌, OnOk};
 ghost use Rattle.scj_rules.specs.Contexts.{contexts_in, declarations_of};
-ghost use Rattle.node_contexts.specs.Numbers.{AreCounted};
+ghost use Rattle.node_contexts.specs.Numbers.{numbers_before};
 ghost use Rattle.node_rules.specs.Findings.{FindSame};
 ghost use Rattle.node_rules.specs.Nodes.{found_there, noted_at, nodes_broken, is_asked_kind};
 
@@ -14,12 +14,10 @@ use crate::misplaced::{
 use crate::types::{names_no_class, names_no_mission, note_element, note_type};
 use class_rows::Classes;
 use node_contexts::Contexts;
-use node_contexts::numbers::{count, none_counted};
 use node_views::modifiers_at;
 use scj_base::{Found, Memory, NodeId, Rule};
 use scj_rules::report_if;
-use scj_tree::{Node, NodeKind};
-use std::alloc::Global;
+use scj_tree::{Node, NodeKind, told};
 
 /// Whether the rules on single nodes ask nodes of this kind.
 #[tactic(auto, unfolding(crate::specs::Nodes::is_asked_kind))]
@@ -143,51 +141,42 @@ fn note_asked(
     }
 }
 
-/// Notes what is broken at a node, and counts the variable that it declares. Most nodes are of kinds that no rule asks,
-/// so their kind is looked at first.
-#[tactic(auto, using(crate::proofs::NodeLemmas::unasked, crate::proofs::NodeLemmas::uncounted), unfolding(crate::specs::Nodes::noted_at, crate::specs::Nodes::late_at))]
+/// Notes what is broken at a node. Most nodes are of kinds that no rule asks, so their kind is looked at first.
+#[tactic(auto, using(crate::proofs::NodeLemmas::unasked))]
 fn note_node(
     found: &mut Vec<Found>,
     classes: &Classes<'_>,
     contexts: &Contexts,
-    counts: &mut Vec<u32>,
+    numbers: &[u32],
     id: NodeId,
 ) -> Result<(), Memory>
     requires contexts { contexts.now ≡ contexts_in classes.now }
-    requires counted { AreCounted (declarations_of classes.now) id counts.old.items }
-    ensures found { OnOk result (found.new.items ≡ found.old.items ++ noted_at (declarations_of classes.now) id) }
-    ensures counted { OnOk result (AreCounted (declarations_of classes.now) (id + 1) counts.new.items) }
+    requires numbers { numbers.now ≡ numbers_before (declarations_of classes.now) }
+    ensures { OnOk result (found.new.items ≡ found.old.items ++ noted_at (declarations_of classes.now) id) }
 {
     let program = classes.program();
     if !is_asked_kind(&program.kind(id)) {
         return Ok(());
     }
     note_asked(found, classes, contexts, id)?;
-    let number = count(program, contexts, counts, id)?;
-    note_late(found, program, contexts, id, number)?;
+    note_late(found, program, contexts, id, told(numbers, 0, id))?;
     Ok(())
 }
 
-/// Notes what is broken at the nodes.
-#[tactic(auto, using(crate::proofs::FindingLemmas::joined_next), unfolding(scj_tree::specs::Recursion::joined_below))]
+/// Notes what is broken at the nodes, by the numbers of their variables.
+#[tactic(auto, using(scj_tree::proofs::RecursionLemmas::joined_next), unfolding(scj_tree::specs::Recursion::joined_below))]
 pub fn note_nodes(
-    alloc: Global,
     found: &mut Vec<Found>,
     classes: &Classes<'_>,
     contexts: &Contexts,
+    numbers: &[u32],
 ) -> Result<(), Memory>
-    requires { contexts.now ≡ contexts_in classes.now }
+    requires contexts { contexts.now ≡ contexts_in classes.now }
+    requires numbers { numbers.now ≡ numbers_before (declarations_of classes.now) }
     ensures { OnOk result (FindSame found.new.items (found.old.items ++ nodes_broken (declarations_of classes.now))) }
 {
-    let mut counts = none_counted(alloc, classes.program())?;
     for place in 0..classes.program().len() {
-        note_node(
-            found,
-            classes,
-            contexts,
-            &mut counts,
-            NodeId::at(place as u32),
-        )?;
+        note_node(found, classes, contexts, numbers, NodeId::at(place as u32))?;
     }
     Ok(())
 }

@@ -2,14 +2,15 @@ use Rattle.std.proofs.Common.{◌≡◌, ◌==◌, ◌∙◌, ⊎_elim, get_or, 
 use Rattle.std.proofs.lemmas.Bool.{true≢false}
 use Rattle.std.proofs.lemmas.List.Folds.{list_any_at}
 use Rattle.scj_tree.specs.Recursion.{lookup}
+use Rattle.scj_tree.proofs.RecursionLemmas.{lookup-replicate}
 use Rattle.scj_rules.proofs.ChainLemmas.{is_same_number}
-use Rattle.class_table.proofs.NotedLemmas.{none_marked, marked_before}
+use Rattle.class_table.proofs.NotedLemmas.{marked_before}
 use Rattle.class_table.proofs.classes.marks_of.Goals as goal
 
 pub loop-class-init : goal.loop-class-init
 loop-class-init c =
     λ class h. absurd (true≢false (sym h ∙ ap (λ marks. lookup false marks class)
-    (c.in_ok-marks.ensures.items_if_clones_equal (λ y e. e)) ∙ none_marked _ class))
+    (c.in_ok-marks.ensures.items_if_clones_equal (λ y e. e)) ∙ lookup-replicate false _ class))
 
 pub loop-class-preserved : goal.loop-class-preserved
 loop-class-preserved c =

@@ -1,8 +1,9 @@
 use Rattle.std.proofs.Common.{◌≤◌, ◌-◌, List, ℕ, Option, None, arith, ap, ◌∙◌, length, length-set}
 use Rattle.std.proofs.lemmas.List.{length-replicate, length-take-le}
 use Rattle.scj_tree.specs.Recursion.{lookup}
+use Rattle.scj_tree.proofs.RecursionLemmas.{lookup-replicate}
 use Rattle.scj_rules.specs.Contexts.{number_of_class}
-use Rattle.node_contexts.proofs.ListLemmas.{none_among, numbered_last, replicated}
+use Rattle.node_contexts.proofs.ListLemmas.{none_among, numbered_last}
 use Rattle.node_contexts.proofs.class_numbers.class_numbers.Goals as goal
 
 pub loop-rest-init : goal.loop-rest-init
@@ -11,7 +12,8 @@ loop-rest-init c =
       within = omega arith;
       whole = ap length c.in_ok-numbers.ensures ∙ length-replicate c.len-2.result None ∙ c.len-2.ensures.value;
       exact = λ id. none_among c.as_slice-rest.result.now (lookup None c.in_ok-numbers.numbers.items id) id
-          (ap (λ (ns : List (Option ℕ)). lookup None ns id) c.in_ok-numbers.ensures ∙ replicated None c.len-2.result id)
+          (ap (λ (ns : List (Option ℕ)). lookup None ns id) c.in_ok-numbers.ensures
+          ∙ lookup-replicate None c.len-2.result id)
           ∙ ap (λ (ids : List ℕ). number_of_class ids id) (c.as_slice-rest.ensures.value ∙ c.in_ok-all.ensures);
     }
 

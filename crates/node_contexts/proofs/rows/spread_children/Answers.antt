@@ -1,42 +1,64 @@
-use Rattle.std.proofs.Common.{◌≡◌, ℕ, List, [], ap, sym, ◌∙◌, option_map, subst}
+use Rattle.std.proofs.Common.{None, [], ◌∷◌, ap, sym, ◌∙◌, refl}
 use Rattle.scj_tree.specs.Forest.{joined}
-use Rattle.scj_tree.specs.Kinds.{kind_of}
 use Rattle.scj_tree.specs.Recursion.{lookup}
-use Rattle.scj_rules.specs.Contexts.{outermost, contexts_in, last_variable}
-use Rattle.node_contexts.specs.Steps.{is_leaf_kind, declared_behind, shared, IsFamily, AreTold}
-use Rattle.node_contexts.specs.declared.rows.Family.{Family}
-use Rattle.node_contexts.proofs.StepLemmas.{leaf, own, begun, spread_first}
+use Rattle.scj_rules.specs.Contexts.{outermost, last_variable}
+use Rattle.node_contexts.specs.Steps.{shared}
+use Rattle.node_contexts.specs.declared.kinds.Knows.TheVariants.{InTurn, Parameters}
+use Rattle.node_contexts.proofs.StepLemmas.{spread_first}
 use Rattle.node_contexts.proofs.rows.spread_children.Goals as goal
 
-pub returns-then-is_leaf : goal.returns-then-is_leaf
-returns-then-is_leaf c =
-    let none = leaf c.args.node.now
-    (ap (λ o. is_leaf_kind (option_map kind_of o)) (sym c.requires.there) ∙ sym c.is_leaf.ensures ∙ c.if-is_leaf.true)
-    in
-    let P : List ℕ → Type 0 = λ rest. AreTold c.args.program.now c.args.parent rest c.args.rows.now.items in
-    subst P none (begun c.args.program.now c.requires.whole c.args.parent c.args.node.now c.args.rows.now.items
-    c.requires.there c.requires.told)
+pub returns-in-Nothing : goal.returns-in-Nothing
+unfolding last_variable
+returns-in-Nothing c =
+    let a = c.args in
+    let few = c.in-Nothing.ensures in
+    let above = lookup outermost a.rows.now.items a.parent in
+    let base = shared (joined a.program.now.files) a.parent a.node.now above in
+    (spread_first a.program.now c.requires.whole a.parent a.node.now
+    (record { base = base; object = None; knows = Parameters None }) [] base.last above a.rows.now.items
+    c.requires.there c.requires.told refl refl (sym few.object) (few.known a.program.now.nodes) (sym few.parts)
+    refl).told
 
-pub returns : goal.returns
-returns c =
-    let forest = c.args.program.now in
-    let node = c.args.node.now in
-    let rows = c.args.rows.now.items in
-    let classes : List ℕ = joined forest.files in
-    let family : Family =
-    record { base = c.in_ok-base.base; object = c.object_of.result; knows = c.known_to.result } in
-    let above : c.row_at.result ≡ lookup outermost (contexts_in forest) c.args.parent = c.row_at.ensures
-    ∙ ap (λ rs. lookup outermost rs c.args.parent) c.deref.ensures.value
-    ∙ own forest c.requires.whole c.args.parent node rows c.requires.there c.requires.told in
-    let is : IsFamily forest c.args.parent node family =
-    record {
-      whole = c.requires.whole;
-      there = c.requires.there;
-      base = c.in_ok-base.ensures classes c.requires.number ∙ ap (shared classes c.args.parent node) above;
-      object = c.object_of.ensures;
-      knows = λ child. c.known_to.ensures forest.nodes child;
-    } in
-    (c.in_ok-put_parts.ensures c.args.parent node
-    (spread_first forest c.args.parent node family _ _ rows is c.parts_of.ensures
-    (c.in_ok-known.ensures ∙ ap (λ o. last_variable forest.nodes o (declared_behind forest.nodes c.known_to.result []))
-    c.last.ensures) c.requires.told)).told
+pub returns-in_ok-put-in-One : goal.returns-in_ok-put-in-One
+unfolding last_variable
+returns-in_ok-put-in-One c =
+    let a = c.args in
+    let few = c.in-One.ensures in
+    let s = spread_first a.program.now c.requires.whole a.parent a.node.now
+    (record { base = c.in_ok-base-in-One.base; object = None; knows = Parameters None }) _ _ c.row_at.result
+    a.rows.now.items
+    c.requires.there c.requires.told
+    (c.in_ok-base-in-One.ensures (joined a.program.now.files) (sym c.in-None.is ∙ c.requires.number))
+    (c.row_at.ensures ∙ ap (λ rs. lookup outermost rs a.parent) c.deref.ensures.value) (sym few.object)
+    (few.known a.program.now.nodes) (sym few.parts) c.last.ensures in
+    (c.in_ok-put-in-One.ensures a.parent a.node.now [] s).told
+
+pub returns-in_ok-put-in-Two : goal.returns-in_ok-put-in-Two
+unfolding last_variable
+returns-in_ok-put-in-Two c =
+    let a = c.args in
+    let few = c.in-Two.ensures in
+    let s = spread_first a.program.now c.requires.whole a.parent a.node.now
+    (record { base = c.in_ok-base-in-Two.base; object = None; knows = Parameters None }) _ _ c.row_at-in-Two.result
+    a.rows.now.items
+    c.requires.there c.requires.told
+    (c.in_ok-base-in-Two.ensures (joined a.program.now.files) (sym c.in-None.is ∙ c.requires.number))
+    (c.row_at-in-Two.ensures ∙ ap (λ rs. lookup outermost rs a.parent) c.deref-in-Two.ensures.value) (sym few.object)
+    (few.known a.program.now.nodes) (sym few.parts) c.last-in-Two.ensures in
+    (c.in_ok-put-in-Two.ensures a.parent a.node.now [] (c.in_ok-known-in-Two.ensures a.parent a.node.now
+    (c.in-Two.second ∷ []) s)).told
+
+pub returns-in_ok-put_all-in-Listed : goal.returns-in_ok-put_all-in-Listed
+unfolding last_variable
+returns-in_ok-put_all-in-Listed c =
+    let a = c.args in
+    let few = c.in-Listed.ensures in
+    let s = spread_first a.program.now c.requires.whole a.parent a.node.now
+    (record { base = c.in_ok-base-in-Listed.base; object = None; knows = InTurn }) _ _ c.row_at-in-Listed.result
+    a.rows.now.items
+    c.requires.there c.requires.told
+    (c.in_ok-base-in-Listed.ensures (joined a.program.now.files) (sym c.in-None.is ∙ c.requires.number))
+    (c.row_at-in-Listed.ensures ∙ ap (λ rs. lookup outermost rs a.parent) c.deref-in-Listed.ensures.value)
+    (sym few.object)
+    (few.known a.program.now.nodes) (sym few.parts) c.last-in-Listed.ensures in
+    (c.in_ok-put_all-in-Listed.ensures a.parent a.node.now s).told

@@ -2,7 +2,7 @@ use Rattle.std.proofs.Common.{◌≡◌}
 use Rattle.scj_tree.specs.Recursion.{listed}
 use Rattle.scj_rules.specs.Contexts.{declarations_of}
 use Rattle.node_contexts.specs.Numbers.{number_before, AreCounted}
-use Rattle.node_contexts.proofs.numbers.number_variables.Given as goal
+use Rattle.node_contexts.proofs.numbers.count_variables.Given as goal
 
 -- the nodes so far are counted
 abbrev pub invariant-loop-place : goal.invariant-loop-place

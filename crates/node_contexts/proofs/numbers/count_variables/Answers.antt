@@ -1,9 +1,11 @@
-use Rattle.std.proofs.Common.{◌≡◌, ◌+◌, length, ap, ◌∙◌, subst, arith}
+use Rattle.std.proofs.Common.{◌≡◌, ◌+◌, length, ap, sym, ◌∙◌, subst, arith}
 use Rattle.scj_tree.specs.Recursion.{listed}
+use Rattle.scj_tree.proofs.RecursionLemmas.{listed_more}
 use Rattle.scj_rules.specs.Contexts.{declarations_of}
-use Rattle.node_contexts.specs.Numbers.{number_before, numbers_before, AreCounted}
-use Rattle.node_contexts.proofs.CountLemmas.{listed_more}
-use Rattle.node_contexts.proofs.numbers.number_variables.Goals as goal
+use Rattle.scj_rules.specs.LimitRules.{is_variable_of}
+use Rattle.node_contexts.specs.Numbers.{count_below, number_before, numbers_before, AreCounted}
+use Rattle.node_contexts.proofs.CountLemmas.{all_counted}
+use Rattle.node_contexts.proofs.numbers.count_variables.Goals as goal
 
 pub loop-place-init : goal.loop-place-init
 unfolding listed
@@ -26,6 +28,11 @@ loop-place-preserved c =
 pub returns : goal.returns
 unfolding numbers_before declarations_of
 returns c =
+    let p = declarations_of c.args.program.now in
     let full : c.loop-place.place ≡ length c.args.program.now.nodes =
     omega (arith, c.loop-place-test.false, c.loop-place.auto.place-end, c.len-place-end.ensures.value) in
-    c.loop-place.invariant.numbered ∙ ap (listed (number_before (declarations_of c.args.program.now))) full
+    record {
+      numbers = c.loop-place.invariant.numbered ∙ ap (listed (number_before p)) full;
+      counts = λ member. c.loop-place.invariant.counted.at member
+          ∙ ap (count_below (is_variable_of p member)) full ∙ sym (all_counted p member);
+    }
