@@ -1,5 +1,5 @@
 -- The parameters of a method beside those above, number after number.
-use Rattle.std.proofs.Common.{◌≡◌, ◌<◌, ℕ, zero, suc, Bool, true, false, ◌||◌, List, [], ◌∷◌, length, slice_get, Option, Some, None, refl, ◌∙◌, arith, true≢false}
+use Rattle.std.proofs.Common.{◌≡◌, ◌<◌, ℕ, zero, suc, Bool, true, false, List, [], ◌∷◌, length, slice_get, refl, arith}
 use Rattle.scj_rules.specs.declared.views.Declared.{Declared}
 use Rattle.scj_rules.specs.Words.{holds}
 use Rattle.scj_rules.specs.Classes.{FoundMethod}
@@ -19,17 +19,10 @@ module _ (p : Declarations) (f g : FoundMethod) where
   found : (ds es : List Declared) (i : ℕ) → true ≡ at ds es i → true ≡ both ds es
   unfolding parameters_differ
   found [] es i h = h
-  found (d ∷ ds) [] i h = absurd (true≢false (h ∙ none (slice_get (d ∷ ds) i)))
-    where
-      none : (o : Option Declared) → holds o (λ (d : Declared). false) ≡ false
-      none None = refl
-      none (Some d) = refl
+  found (d ∷ ds) [] zero h = h
+  found (d ∷ ds) [] (suc i) h = grind (arith, h, found ds [] i h)
   found (d ∷ ds) (e ∷ es) zero h = rw (← h) refl
-  found (d ∷ ds) (e ∷ es) (suc i) h = rw (← found ds es i h) (either _)
-    where
-      either : (b : Bool) → true ≡ (b || true)
-      either true = refl
-      either false = refl
+  found (d ∷ ds) (e ∷ es) (suc i) h = grind (arith, found ds es i h)
 
   missing : (ds es : List Declared) → ((i : ℕ) → i < length ds → false ≡ at ds es i) → false ≡ both ds es
   unfolding parameters_differ
@@ -37,7 +30,8 @@ module _ (p : Declarations) (f g : FoundMethod) where
   missing (d ∷ ds) [] h = refl
   missing (d ∷ ds) (e ∷ es) h = rw (← h 0 (omega arith)) (missing ds es (λ i l. h (suc i) (omega (arith, l))))
 
-  pub differs_found : (i : ℕ) → true ≡ parameters_differ_at p f g i → true ≡ both f.method.parameters g.method.parameters
+  pub differs_found : (i : ℕ) → true ≡ parameters_differ_at p f g i →
+      true ≡ both f.method.parameters g.method.parameters
   differs_found i h = found f.method.parameters g.method.parameters i h
 
   pub none_differs : ((i : ℕ) → i < length f.method.parameters → false ≡ parameters_differ_at p f g i)

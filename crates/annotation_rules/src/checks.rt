@@ -1,103 +1,80 @@
-//! All rules on annotations, node after node.
+//! All rules on annotations, at a node.
 
-ghost use Rattle.std.specs.Prelude.{◌≡◌, ◌++◌, IfOk, OnOk, option_map, slice_get};
-ghost use Rattle.scj_tree.specs.Kinds.{kind_of};
-ghost use Rattle.scj_rules.specs.Words.{found_at, holds};
-ghost use Rattle.scj_rules.specs.Contexts.{declarations_of};
-ghost use Rattle.scj_rules.specs.AnnotationRules.{annotation_breaks};
-ghost use Rattle.scj_rules.specs.Phases.{over_nodes, IsFound};
-ghost use Rattle.scj_rules.specs.Report.{IsReport};
-ghost use Rattle.annotation_rules.specs.Parts.{may_break};
+ghost use Rattle.std.specs.Prelude.{◌≡◌, ◌++◌, OnOk, option_map};
+ghost use Rattle.scj_rules.specs.Words.{found_at};
+ghost use Rattle.scj_base.specs.declared.findings.Rule.TheVariants.{A1, A9};
+ghost use Rattle.scj_rules.specs.Views.{field_at, method_at};
+ghost use Rattle.scj_rules.specs.Contexts.{declarations_of, context, in_class};
+ghost use Rattle.scj_rules.specs.StaticScopes.{is_unknown_scope, contradicts, scoped_field, scoped_result};
+ghost use Rattle.scj_rules.specs.AnnotationRules.{broken_value, a3_to_a5_of, a6_of, a7_and_a8_of, annotation_breaks};
 
 use crate::overrides::note_method;
 use crate::things::{note_class, note_field, note_variable};
 use node_views::field_at;
+use program_facts::Facts;
 use scj_base::{Found, Memory, NodeId};
-use scj_rules::put_in_order;
-use scj_tree::{Node, NodeKind};
-use static_scopes::{Scoped, method_at};
-use std::alloc::Global;
+use scj_tree::Node;
+use static_scopes::method_at;
 
-/// Notes what is broken at a node.
-#[tactic(auto, unfolding(scj_rules::specs::AnnotationRules::annotation_breaks, scj_rules::specs::AnnotationRules::a1, scj_rules::specs::AnnotationRules::a2, scj_rules::specs::AnnotationRules::a3_to_a5, scj_rules::specs::AnnotationRules::a6_to_a8, scj_rules::specs::AnnotationRules::a9, scj_rules::specs::AnnotationRules::scoped_declaration_at, scj_rules::specs::Contexts::declarations_of))]
-fn note_annotation(
-    found: &mut Vec<Found>,
-    scoped: &Scoped,
-    id: NodeId,
-    node: &Node,
-) -> Result<(), Memory>
-    ensures { OnOk result (found.new.items ≡ found.old.items
-        ++ annotation_breaks (declarations_of scoped.now) id node.now) }
+/// Notes what is broken at the field that a node declares.
+#[tactic(auto, unfolding(scj_rules::specs::Contexts::declarations_of))]
+fn note_field_at(found: &mut Vec<Found>, facts: &Facts, id: NodeId) -> Result<(), Memory>
+    ensures { let p = declarations_of facts.now in
+        let thing = in_class p id (λ class. option_map (scoped_field p class) (field_at p.nodes id)) in
+        OnOk result (found.new.items ≡ found.old.items
+        ++ (found_at thing (λ t. broken_value t.scope (is_unknown_scope p t) A1)
+        ++ (found_at (context p id).class (λ class. found_at (field_at p.nodes id) (a3_to_a5_of p class))
+        ++ found_at thing (λ t. broken_value t.scope (contradicts p t) A9)))) }
 {
-    let program = scoped.program();
-    let context = scoped.context(id);
-    match node {
-        Node::Class { place, name, .. } => match scoped.scopes().classes().class_of(name.get()) {
-            Some(class) => note_class(found, scoped, class, *place),
-            None => Ok(()),
-        },
-        Node::Field { .. } => match (context.class, &field_at(program, id)) {
-            (Some(class), Some(field)) => note_field(found, scoped, class, field),
-            _ => Ok(()),
-        },
-        Node::Method { .. } => match context.class {
-            Some(class) => match &method_at(program, class, id) {
-                Some(method) => note_method(found, scoped, method),
-                None => Ok(()),
-            },
-            None => Ok(()),
-        },
-        Node::Parameter { .. } | Node::Local { .. } | Node::LocalWithValue { .. } => {
-            note_variable(found, scoped, id)
-        }
+    let context = facts.context(id);
+    match (context.class, &field_at(facts.program(), id)) {
+        (Some(class), Some(field)) => note_field(found, facts, class, field),
         _ => Ok(()),
     }
 }
 
-/// Whether a rule on annotations may be broken at the node of a number, as its kind tells.
-#[tactic(auto, unfolding(crate::specs::Parts::may_break))]
-fn may_break(scoped: &Scoped, id: NodeId) -> bool
-    ensures { result ≡ holds (option_map kind_of (slice_get scoped.now.nodes id)) may_break }
+/// Notes what is broken at the method that a node declares.
+#[tactic(auto, unfolding(scj_rules::specs::Contexts::declarations_of))]
+fn note_method_at(found: &mut Vec<Found>, facts: &Facts, id: NodeId) -> Result<(), Memory>
+    ensures { let p = declarations_of facts.now in
+        let thing = in_class p id (λ class. option_map (scoped_result p class) (method_at p.nodes id)) in
+        OnOk result (found.new.items ≡ found.old.items
+        ++ (found_at thing (λ t. broken_value t.scope (is_unknown_scope p t) A1)
+        ++ (found_at (context p id).class
+        (λ class. found_at (method_at p.nodes id) (λ m. a6_of p class m ++ a7_and_a8_of p class m))
+        ++ found_at thing (λ t. broken_value t.scope (contradicts p t) A9)))) }
 {
-    matches!(
-        scoped.program().kind(id),
-        Some(
-            NodeKind::Class
-                | NodeKind::Field
-                | NodeKind::Method
-                | NodeKind::Parameter
-                | NodeKind::Local
-                | NodeKind::LocalWithValue
-        )
-    )
-}
-
-/// Notes what is broken at the node of a number. Nodes of most kinds break nothing, and aren't looked at.
-#[tactic(auto, using(crate::proofs::NodeLemmas::nothing_of_kind), unfolding(scj_rules::specs::Contexts::declarations_of))]
-fn note_node(found: &mut Vec<Found>, scoped: &Scoped, id: NodeId) -> Result<(), Memory>
-    ensures { let p = declarations_of scoped.now in
-        OnOk result (found.new.items ≡ found.old.items ++ found_at (slice_get p.nodes id) (annotation_breaks p id)) }
-{
-    if !may_break(scoped, id) {
+    let context = facts.context(id);
+    let Some(class) = context.class else {
         return Ok(());
-    }
-    match scoped.program().get(id) {
-        Some(node) => note_annotation(found, scoped, id, node),
+    };
+    match &method_at(facts.program(), class, id) {
+        Some(method) => note_method(found, facts, method),
         None => Ok(()),
     }
 }
 
-/// The breaks of the rules on annotations, in the order of a report; by the static scopes of the program, which the
-/// checks on uses ask too.
-#[tactic(auto, unfolding(scj_tree::specs::Recursion::joined_below, scj_rules::specs::Contexts::declarations_of))]
-pub fn check_annotations(alloc: Global, scoped: &Scoped) -> Result<Vec<Found>, Memory>
-    ensures { let p = declarations_of scoped.now in
-        IfOk result (λ found. IsReport (IsFound (over_nodes p (annotation_breaks p))) found.items) }
+/// Notes what is broken at a node.
+#[tactic(auto, unfolding(scj_rules::specs::AnnotationRules::annotation_breaks, scj_rules::specs::AnnotationRules::a1, scj_rules::specs::AnnotationRules::a2, scj_rules::specs::AnnotationRules::a3_to_a5, scj_rules::specs::AnnotationRules::a6_to_a8, scj_rules::specs::AnnotationRules::a9, scj_rules::specs::AnnotationRules::scoped_declaration_at, scj_rules::specs::Contexts::declarations_of))]
+pub fn note_annotation(
+    found: &mut Vec<Found>,
+    facts: &Facts,
+    id: NodeId,
+    node: &Node,
+) -> Result<(), Memory>
+    ensures { OnOk result (found.new.items ≡ found.old.items
+        ++ annotation_breaks (declarations_of facts.now) id node.now) }
 {
-    let mut found = Vec::new(alloc);
-    for place in 0..scoped.program().len() {
-        note_node(&mut found, scoped, NodeId::at(place as u32))?;
+    match node {
+        Node::Parameter { .. } | Node::Local { .. } | Node::LocalWithValue { .. } => {
+            note_variable(found, facts, id)
+        }
+        Node::Field { .. } => note_field_at(found, facts, id),
+        Node::Method { .. } => note_method_at(found, facts, id),
+        Node::Class { place, name, .. } => match facts.class_of(name.get()) {
+            Some(class) => note_class(found, facts, class, *place),
+            None => Ok(()),
+        },
+        _ => Ok(()),
     }
-    put_in_order(&mut found);
-    Ok(found)
 }

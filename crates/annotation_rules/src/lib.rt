@@ -5,4 +5,4 @@ mod checks;
 mod overrides;
 mod things;
 
-pub use checks::check_annotations;
+pub use checks::note_annotation;

@@ -11,20 +11,22 @@ ghost use Rattle.annotation_rules.specs.Parts.{parameters_differ_at};
 
 use crate::things::{note_contradiction, note_unknown};
 use method_rows::{MethodRef, declared, parameter, parameter_count};
+use program_facts::Facts;
 use scj_base::{ClassId, Found, Memory, Rule};
 use scj_builtins::FRAMEWORK_CLASS_COUNT;
 use scj_rules::{Scope, report_if};
 use static_scopes::{
-    Scoped, are_same_scope, has_other_runs_in, has_unknown_runs_in, scoped_variable,
+    are_same_scope, has_other_runs_in, has_unknown_runs_in, parameter_scope, result_scope, runs_in,
+    scoped_variable, this_in,
 };
 
 /// Whether a scope and the one above are there and aren't the same, as a class sees them.
 #[tactic(auto, unfolding(scj_rules::specs::AnnotationRules::seen_in, scj_rules::specs::StaticScopes::are_same_scope))]
-fn differ(scoped: &Scoped, class: ClassId, own: &Option<Scope>, above: &Option<Scope>) -> bool
-    ensures { result ≡ differ own.now (seen_in (declarations_of scoped.now) class above.now) }
+fn differ(facts: &Facts, class: ClassId, own: &Option<Scope>, above: &Option<Scope>) -> bool
+    ensures { result ≡ differ own.now (seen_in (declarations_of facts.now) class above.now) }
 {
     let above = match above {
-        Some(Scope::This) => scoped.this_in(class),
+        Some(Scope::This) => this_in(facts, class),
         _ => *above,
     };
     match (own, &above) {
@@ -35,22 +37,22 @@ fn differ(scoped: &Scoped, class: ClassId, own: &Option<Scope>, above: &Option<S
 
 /// Whether the parameters of a number have other scopes, where both methods have one.
 #[tactic(auto, unfolding(method_rows::specs::Methods::found_method))]
-fn parameters_differ_at(scoped: &Scoped, method: &MethodRef, above: &MethodRef, i: usize) -> bool
-    ensures { let f = found_method scoped.now.nodes method.now in let g = found_method scoped.now.nodes above.now in
-        result ≡ parameters_differ_at (declarations_of scoped.now) f g i }
+fn parameters_differ_at(facts: &Facts, method: &MethodRef, above: &MethodRef, i: usize) -> bool
+    ensures { let f = found_method facts.now.nodes method.now in let g = found_method facts.now.nodes above.now in
+        result ≡ parameters_differ_at (declarations_of facts.now) f g i }
 {
-    let program = scoped.program();
+    let program = facts.program();
     match (
         &parameter(program, method, i),
         &parameter(program, above, i),
     ) {
         (Some(own), Some(other)) => {
-            let own = scoped.parameter_scope(method, own);
+            let own = parameter_scope(facts, method, own);
             differ(
-                scoped,
+                facts,
                 method.on,
                 &own,
-                &scoped.parameter_scope(above, other),
+                &parameter_scope(facts, above, other),
             )
         }
         _ => false,
@@ -59,13 +61,13 @@ fn parameters_differ_at(scoped: &Scoped, method: &MethodRef, above: &MethodRef, 
 
 /// Whether parameters have other scopes than those above.
 #[tactic(auto, using(crate::proofs::ParameterLemmas::differs_found, crate::proofs::ParameterLemmas::none_differs))]
-fn parameters_differ(scoped: &Scoped, method: &MethodRef, above: &MethodRef) -> bool
-    ensures { let f = found_method scoped.now.nodes method.now in let g = found_method scoped.now.nodes above.now in
-        result ≡ parameters_differ (declarations_of scoped.now) f.on f.method g.on g.method f.method.parameters
+fn parameters_differ(facts: &Facts, method: &MethodRef, above: &MethodRef) -> bool
+    ensures { let f = found_method facts.now.nodes method.now in let g = found_method facts.now.nodes above.now in
+        result ≡ parameters_differ (declarations_of facts.now) f.on f.method g.on g.method f.method.parameters
         g.method.parameters }
 {
-    for i in 0..parameter_count(scoped.program(), method) {
-        if parameters_differ_at(scoped, method, above, i) {
+    for i in 0..parameter_count(facts.program(), method) {
+        if parameters_differ_at(facts, method, above, i) {
             return true;
         }
     }
@@ -74,34 +76,33 @@ fn parameters_differ(scoped: &Scoped, method: &MethodRef, above: &MethodRef) -> 
 
 /// Whether a method has other scopes than the one above.
 #[tactic(auto, unfolding(scj_rules::specs::AnnotationRules::scopes_differ, method_rows::specs::Methods::found_method))]
-fn scopes_differ(scoped: &Scoped, method: &MethodRef, above: &MethodRef) -> bool
-    ensures { let f = found_method scoped.now.nodes method.now in let g = found_method scoped.now.nodes above.now in
-        result ≡ scopes_differ (declarations_of scoped.now) f.on f.method g.on g.method }
+fn scopes_differ(facts: &Facts, method: &MethodRef, above: &MethodRef) -> bool
+    ensures { let f = found_method facts.now.nodes method.now in let g = found_method facts.now.nodes above.now in
+        result ≡ scopes_differ (declarations_of facts.now) f.on f.method g.on g.method }
 {
     let class = method.on;
-    let own = scoped.runs_in(method);
-    let other = scoped.runs_in(above);
-    let result = scoped.result_scope(method);
-    let result_above = scoped.result_scope(above);
-    differ(scoped, class, &own, &other)
-        || (parameters_differ(scoped, method, above)
-            || differ(scoped, class, &result, &result_above))
+    let own = runs_in(facts, method);
+    let other = runs_in(facts, above);
+    let result = result_scope(facts, method);
+    let result_above = result_scope(facts, above);
+    differ(facts, class, &own, &other)
+        || (parameters_differ(facts, method, above) || differ(facts, class, &result, &result_above))
 }
 
 /// Whether a method that isn't static has other scopes than the one of a user class that it overrides.
 #[tactic(auto, unfolding(method_rows::specs::Methods::found_method))]
-fn overrides_scopes(scoped: &Scoped, method: &MethodRef) -> bool
-    ensures { let f = found_method scoped.now.nodes method.now in
-        result ≡ overrides_scopes (declarations_of scoped.now) f.on f.method }
+fn overrides_scopes(facts: &Facts, method: &MethodRef) -> bool
+    ensures { let f = found_method facts.now.nodes method.now in
+        result ≡ overrides_scopes (declarations_of facts.now) f.on f.method }
 {
-    let program = scoped.program();
+    let program = facts.program();
     if method_rows::is_static(program, method) {
         return false;
     }
     let name = method_rows::name(program, method);
-    match &scoped.scopes().classes().method_above(method.on, &name) {
+    match &facts.classes().method_above(method.on, &name) {
         Some(above) => {
-            above.on.number() >= FRAMEWORK_CLASS_COUNT && scopes_differ(scoped, method, above)
+            above.on.number() >= FRAMEWORK_CLASS_COUNT && scopes_differ(facts, method, above)
         }
         None => false,
     }
@@ -109,31 +110,26 @@ fn overrides_scopes(scoped: &Scoped, method: &MethodRef) -> bool
 
 /// Notes A1, A6 to A8 and A9 at a method.
 #[tactic(auto, unfolding(scj_rules::specs::AnnotationRules::a6_of, scj_rules::specs::AnnotationRules::a7_and_a8_of, method_rows::specs::Methods::found_method))]
-pub fn note_method(
-    found: &mut Vec<Found>,
-    scoped: &Scoped,
-    method: &MethodRef,
-) -> Result<(), Memory>
-    ensures { let f = found_method scoped.now.nodes method.now in let p = declarations_of scoped.now in
+pub fn note_method(found: &mut Vec<Found>, facts: &Facts, method: &MethodRef) -> Result<(), Memory>
+    ensures { let f = found_method facts.now.nodes method.now in let p = declarations_of facts.now in
         let t = scoped_result p f.on f.method in
         OnOk result (found.new.items ≡ found.old.items ++ (broken_value t.scope (is_unknown_scope p t) A1
         ++ ((a6_of p f.on f.method ++ a7_and_a8_of p f.on f.method)
         ++ broken_value t.scope (contradicts p t) A9))) }
 {
-    let declared = declared(scoped.program(), method);
+    let declared = declared(facts.program(), method);
     let modifiers = declared.modifiers;
-    let scopes = scoped.scopes();
-    let current = scoped.runs_in(method);
+    let current = runs_in(facts, method);
     let thing = scoped_variable(method.on, &current, modifiers.is_static, &declared);
-    note_unknown(found, scoped, &thing)?;
-    let is_other = overrides_scopes(scoped, method);
+    note_unknown(found, facts, &thing)?;
+    let is_other = overrides_scopes(facts, method);
     report_if(found, is_other, Rule::A6, declared.place)?;
     if let Some(written) = &modifiers.runs_in {
-        let is_unknown = has_unknown_runs_in(scopes, method, written);
+        let is_unknown = has_unknown_runs_in(facts, method, written);
         report_if(found, is_unknown, Rule::A7, written.place)?;
-        let is_other = has_other_runs_in(scopes, method.on, method, written);
+        let is_other = has_other_runs_in(facts, method.on, method, written);
         report_if(found, is_other, Rule::A8, written.place)?;
     }
-    note_contradiction(found, scoped, &thing)?;
+    note_contradiction(found, facts, &thing)?;
     Ok(())
 }

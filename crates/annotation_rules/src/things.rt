@@ -8,26 +8,30 @@ ghost use Rattle.scj_rules.specs.ScopeRules.{scope_written_in};
 ghost use Rattle.scj_rules.specs.StaticScopes.{is_unknown_scope, contradicts, scoped_field};
 ghost use Rattle.scj_rules.specs.AnnotationRules.{a1_of_class, has_other_scope, a2_place, broken_value, field_rule, a3_to_a5_of, scoped_variable_at};
 
+use program_facts::Facts;
 use scj_base::{ClassId, Found, Memory, NodeId, Pos, Rule};
 use scj_rules::{ClassScope, Declared, ScopedDeclaration, report_if};
 use scj_tree::Node;
+use scope_tree::scopes::{
+    class_scope, differs_from_above, has_unknown_scope, is_implied_immortal, scope_written_in,
+};
 use static_scopes::{
-    Scoped, contradicts, declaration_scope, is_unknown_scope, misfits, scoped_field,
+    contradicts, declaration_scope, is_unknown_scope, misfits, scoped_field, scoped_variable_at,
 };
 
 /// Notes A1 at the value that is written at a thing, if there is one.
 pub fn note_unknown(
     found: &mut Vec<Found>,
-    scoped: &Scoped,
+    facts: &Facts,
     thing: &ScopedDeclaration,
 ) -> Result<(), Memory>
-    ensures { let p = declarations_of scoped.now in
+    ensures { let p = declarations_of facts.now in
         OnOk result (found.new.items ≡ found.old.items
         ++ broken_value thing.now.scope (is_unknown_scope p thing.now) A1) }
 {
     match &thing.scope {
         Some(written) => {
-            let test = is_unknown_scope(scoped.scopes(), thing, written);
+            let test = is_unknown_scope(facts, thing, written);
             report_if(found, test, Rule::A1, written.place)
         }
         None => Ok(()),
@@ -37,16 +41,33 @@ pub fn note_unknown(
 /// Notes A9 at the value that is written at a thing, if there is one.
 pub fn note_contradiction(
     found: &mut Vec<Found>,
-    scoped: &Scoped,
+    facts: &Facts,
     thing: &ScopedDeclaration,
 ) -> Result<(), Memory>
-    ensures { let p = declarations_of scoped.now in
+    ensures { let p = declarations_of facts.now in
         OnOk result (found.new.items ≡ found.old.items ++ broken_value thing.now.scope (contradicts p thing.now) A9) }
 {
     match &thing.scope {
         Some(written) => {
-            let test = contradicts(scoped.scopes(), thing, written);
+            let test = contradicts(facts, thing, written);
             report_if(found, test, Rule::A9, written.place)
+        }
+        None => Ok(()),
+    }
+}
+
+/// Notes A1 and A9 at the parameter or local that a node declares.
+fn note_flagged(found: &mut Vec<Found>, facts: &Facts, id: NodeId) -> Result<(), Memory>
+    ensures { let p = declarations_of facts.now in let variable = scoped_variable_at p id in
+        OnOk result (found.new.items ≡ found.old.items
+        ++ (found_at variable (λ t. broken_value t.scope (is_unknown_scope p t) A1)
+        ++ found_at variable (λ t. broken_value t.scope (contradicts p t) A9))) }
+{
+    match &scoped_variable_at(facts, id) {
+        Some(thing) => {
+            note_unknown(found, facts, thing)?;
+            note_contradiction(found, facts, thing)?;
+            Ok(())
         }
         None => Ok(()),
     }
@@ -54,13 +75,13 @@ pub fn note_contradiction(
 
 /// Notes A1 and A9 at the parameter or local that a node declares. Most have nothing written before them.
 #[tactic(auto, unfolding(scj_rules::specs::AnnotationRules::scoped_variable_at, scj_rules::specs::Views::variable_of, scj_rules::specs::Contexts::declarations_of))]
-pub fn note_variable(found: &mut Vec<Found>, scoped: &Scoped, id: NodeId) -> Result<(), Memory>
-    ensures { let p = declarations_of scoped.now in let variable = scoped_variable_at p id in
+pub fn note_variable(found: &mut Vec<Found>, facts: &Facts, id: NodeId) -> Result<(), Memory>
+    ensures { let p = declarations_of facts.now in let variable = scoped_variable_at p id in
         OnOk result (found.new.items ≡ found.old.items
         ++ (found_at variable (λ t. broken_value t.scope (is_unknown_scope p t) A1)
         ++ found_at variable (λ t. broken_value t.scope (contradicts p t) A9))) }
 {
-    let context = scoped.context(id);
+    let context = facts.context(id);
     let (Some(_), Some(_)) = (context.class, context.member) else {
         return Ok(());
     };
@@ -68,44 +89,38 @@ pub fn note_variable(found: &mut Vec<Found>, scoped: &Scoped, id: NodeId) -> Res
         Node::Parameter { flags: None, .. }
         | Node::Local { flags: None, .. }
         | Node::LocalWithValue { flags: None, .. },
-    ) = scoped.program().get(id)
+    ) = facts.program().get(id)
     {
         return Ok(());
     }
-    let Some(thing) = &scoped.scoped_variable_at(id) else {
-        return Ok(());
-    };
-    note_unknown(found, scoped, thing)?;
-    note_contradiction(found, scoped, thing)?;
-    Ok(())
+    note_flagged(found, facts, id)
 }
 
 /// Notes A1 and A2 at a class that is named at a place.
 #[tactic(auto, unfolding(scj_rules::specs::AnnotationRules::a2_place))]
 pub fn note_class(
     found: &mut Vec<Found>,
-    scoped: &Scoped,
+    facts: &Facts,
     class: ClassId,
     place: Pos,
 ) -> Result<(), Memory>
-    ensures { let p = declarations_of scoped.now in
+    ensures { let p = declarations_of facts.now in
         OnOk result (found.new.items ≡ found.old.items
         ++ (a1_of_class p class ++ broken (has_other_scope p class) A2 (a2_place place (scope_written_in p class)))) }
 {
-    let scopes = scoped.scopes();
-    let written = scopes.scope_written_in(class);
-    let above = match scopes.classes().superclass(class) {
-        Some(above) => scopes.class_scope(above),
+    let written = scope_written_in(facts, class);
+    let above = match facts.classes().superclass(class) {
+        Some(above) => class_scope(facts, above),
         None => ClassScope::Unannotated,
     };
-    let implied = scopes.is_implied_immortal(class);
-    let test = scopes.differs_from_above(&written, &above, implied);
+    let implied = is_implied_immortal(facts, class);
+    let test = differs_from_above(facts, &written, &above, implied);
     let Some(value) = &written else {
         return report_if(found, test, Rule::A2, place);
     };
     report_if(
         found,
-        scopes.has_unknown_scope(&written),
+        has_unknown_scope(facts, &written),
         Rule::A1,
         value.place,
     )?;
@@ -131,22 +146,21 @@ fn field_rule(class: &ClassScope, is_static: bool) -> Rule
 #[tactic(auto, unfolding(scj_rules::specs::StaticScopes::misfits_field))]
 pub fn note_field(
     found: &mut Vec<Found>,
-    scoped: &Scoped,
+    facts: &Facts,
     class: ClassId,
     field: &Declared,
 ) -> Result<(), Memory>
-    ensures { let p = declarations_of scoped.now in let t = scoped_field p class field.now in
+    ensures { let p = declarations_of facts.now in let t = scoped_field p class field.now in
         OnOk result (found.new.items ≡ found.old.items
         ++ (broken_value t.scope (is_unknown_scope p t) A1 ++ (a3_to_a5_of p class field.now
         ++ broken_value t.scope (contradicts p t) A9))) }
 {
-    let scopes = scoped.scopes();
-    let thing = scoped_field(scopes, class, field);
-    note_unknown(found, scoped, &thing)?;
-    let scope = declaration_scope(scopes, &thing);
-    let test = misfits(scopes, class, thing.is_static, &scope);
-    let rule = field_rule(&scopes.class_scope(class), thing.is_static);
+    let thing = scoped_field(facts, class, field);
+    note_unknown(found, facts, &thing)?;
+    let scope = declaration_scope(facts, &thing);
+    let test = misfits(facts, class, thing.is_static, &scope);
+    let rule = field_rule(&class_scope(facts, class), thing.is_static);
     report_if(found, test, rule, field.place)?;
-    note_contradiction(found, scoped, &thing)?;
+    note_contradiction(found, facts, &thing)?;
     Ok(())
 }

@@ -4,12 +4,14 @@ ghost use Rattle.std.specs.Prelude.{◌≤◌, length};
 
 use class_rows::{ClassTable, Classes};
 use node_contexts::Contexts;
+use node_contexts::numbers::number_variables;
+use program_facts::Facts;
 use scj_base::ids::{OBJECT, RUNNABLE};
 use scj_base::{ClassId, Found, Name, NodeId, Pos, Rule, ScopeId};
 use scj_check::{Reading, Sources, read};
 use scj_rules::ClassScope;
 use scj_tree::Program;
-use scope_tree::Scopes;
+use scope_tree::scopes::{class_scope, defined_by_chain, is_outer};
 use std::test::Fail;
 
 // The program of one file.
@@ -95,7 +97,8 @@ fn are(found: &[Found], expected: &[(u32, u32, Rule)]) -> bool {
 fn a_member_of_a_class_is_reported(rt: HostRuntime) -> Result<(), Fail> {
     let program = program_of(&rt, "class A { int x; int x; }")?;
     let contexts = Contexts::of(rt.alloc(), &program)?;
-    let (_table, found) = class_table::build(rt.alloc(), &program, &contexts)?;
+    let numbers = number_variables(rt.alloc(), &program, &contexts)?;
+    let (_table, found) = class_table::build(rt.alloc(), &program, &contexts, &numbers)?;
     assert!(rt; are(&found, &[(1, 1, Rule::C8), (1, 22, Rule::C4)]));
     Ok(())
 }
@@ -110,7 +113,11 @@ fn classes_that_may_define_no_scope_are_found(rt: HostRuntime) -> Result<(), Fai
     let alloc = rt.alloc();
     let program = program_of(&rt, THREE)?;
     let table = ClassTable::of(alloc, &program)?;
-    let (tree, found) = scope_tree::build(alloc, &program, &table)?;
+    let contexts = Contexts::of(alloc, &program)?;
+    let classes = Classes::new(&program, &table);
+    let names = scope_tree::names_of(alloc, &classes)?;
+    let facts = Facts::new(classes, &contexts, &names);
+    let (tree, found) = scope_tree::build(alloc, &facts)?;
     let expected = [
         (1, 19, Rule::S4),
         (1, 31, Rule::S3),
@@ -122,11 +129,12 @@ fn classes_that_may_define_no_scope_are_found(rt: HostRuntime) -> Result<(), Fai
     ];
     assert!(rt; are(&found, &expected));
     let first = ScopeId::at(16);
-    let scopes = Scopes::new(&program, &table, &tree);
-    assert!(rt; scopes.defined_by_chain(ClassId::at(16)) == Some(first));
-    assert!(rt; scopes.defined_by_chain(ClassId::at(18)) == None);
-    assert!(rt; matches!(scopes.class_scope(ClassId::at(16)), ClassScope::Unannotated));
-    assert!(rt; scopes.is_outer(ScopeId::IMMORTAL, first));
-    assert!(rt; !scopes.is_outer(ScopeId::at(17), first));
+    let facts = facts.with_tree(&tree);
+    assert!(rt; defined_by_chain(&facts, ClassId::at(16)) == Some(first));
+    assert!(rt; defined_by_chain(&facts, ClassId::at(18)) == None);
+    let scope = class_scope(&facts, ClassId::at(16));
+    assert!(rt; matches!(scope, ClassScope::Unannotated));
+    assert!(rt; is_outer(&facts, ScopeId::IMMORTAL, first));
+    assert!(rt; !is_outer(&facts, ScopeId::at(17), first));
     Ok(())
 }

@@ -1,1 +1,1 @@
-pub mod ArrayLemmas
+pub mod KindLemmas

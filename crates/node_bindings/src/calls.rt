@@ -4,13 +4,13 @@ ghost use Rattle.std.specs.Prelude.{◌≡◌};
 ghost use Rattle.scj_rules.specs.Types.{call_receiver, called_method};
 ghost use Rattle.scj_rules.specs.Bindings.{plain_or, second_class, called_on, target, method_binding};
 ghost use Rattle.method_rows.specs.Methods.{found_method};
-ghost use Rattle.type_rules.specs.Told.{declared, types};
+ghost use Rattle.program_facts.specs.Told.{declared, types};
 
 use method_rows::{MethodRef, builtin, is_static, node, result_type};
+use program_facts::At;
 use scj_base::ids::MANAGED_MEMORY;
 use scj_base::{ClassId, MethodId, Name, NodeId};
 use scj_rules::{Binding, Receiver, Target};
-use type_rules::At;
 use type_rules::names::{call_receiver, method_called};
 use type_words::{class_of_receiver, class_of_type, is_void};
 
@@ -31,13 +31,13 @@ fn second_class(at: &At<'_>, arguments: &[NodeId]) -> Option<ClassId>
 /// The class on which a method is called.
 #[tactic(auto, unfolding(scj_rules::specs::Bindings::called_on, method_rows::specs::Methods::found_method))]
 fn called_on(at: &At<'_>, receiver: &Receiver, method: &MethodRef, arguments: &[NodeId]) -> ClassId
-    ensures { result ≡ called_on (types at.now) receiver.now (found_method at.now.known.now.nodes method.now)
+    ensures { result ≡ called_on (types at.now) receiver.now (found_method at.now.facts.now.nodes method.now)
         arguments.now }
 {
     if method.on == MANAGED_MEMORY {
         return second_class(at, arguments).unwrap_or(method.on);
     }
-    if is_static(at.known.program(), method) {
+    if is_static(at.facts.program(), method) {
         return method.on;
     }
     class_of_receiver(receiver).unwrap_or(method.on)
@@ -52,11 +52,11 @@ fn target(
     arguments: &[NodeId],
     id: MethodId,
 ) -> Target
-    ensures { result ≡ target (types at.now) receiver.now (found_method at.now.known.now.nodes method.now)
+    ensures { result ≡ target (types at.now) receiver.now (found_method at.now.facts.now.nodes method.now)
         arguments.now id }
 {
     let on = called_on(at, receiver, method, arguments);
-    let gives = !is_void(&result_type(at.known.program(), method));
+    let gives = !is_void(&result_type(at.facts.program(), method));
     Target { id, on, gives }
 }
 
@@ -69,13 +69,13 @@ fn method_binding(
     arguments: &[NodeId],
 ) -> Binding
     ensures { result ≡ method_binding (declared at.now) (types at.now) receiver.now arguments.now
-        (found_method at.now.known.now.nodes method.now) }
+        (found_method at.now.facts.now.nodes method.now) }
 {
-    let program = at.known.program();
+    let program = at.facts.program();
     if let Some(number) = builtin(program, method) {
         return Binding::Builtin(target(at, receiver, method, arguments, number));
     }
-    let Some(number) = at.known.classes().method_number(node(program, method)) else {
+    let Some(number) = at.facts.classes().method_number(node(program, method)) else {
         return Binding::Plain;
     };
     let aim = target(at, receiver, method, arguments, number);
@@ -97,10 +97,10 @@ pub fn call_binding(
         result ≡ plain_or (λ r. plain_or (method_binding p (types at.now) r arguments.now) (called_method p r name.now))
         (call_receiver p (types at.now) at.now.id object.now) }
 {
-    let Some(receiver) = call_receiver(at.known, at.types, at.id, object) else {
+    let Some(receiver) = call_receiver(at, object) else {
         return Binding::Plain;
     };
-    match method_called(at.known, at.id, &receiver, name) {
+    match method_called(at, &receiver, name) {
         Some(method) => method_binding(at, &receiver, &method, arguments),
         None => Binding::Plain,
     }

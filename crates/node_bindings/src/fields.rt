@@ -1,20 +1,20 @@
 //! What fields, arrays and classes stand for.
 
-ghost use Rattle.std.specs.Prelude.{◌≡◌, ◌+◌, IfOk, None, length, option_and_then};
+ghost use Rattle.std.specs.Prelude.{◌≡◌, ◌+◌, IfOk, None, option_and_then};
 ghost use Rattle.scj_rules.specs.declared.typing.FoundField.{FoundField};
 ghost use Rattle.scj_rules.specs.declared.typing.Receiver.TheVariants.{Class as the_class};
 ghost use Rattle.scj_rules.specs.Contexts.{declarations_of, context};
 ghost use Rattle.scj_rules.specs.Types.{accessed_field, receiver};
 ghost use Rattle.scj_rules.specs.Bindings.{array_class, plain_or, field_binding, class_binding, access_binding};
 ghost use Rattle.class_rows.specs.Fields.{found_field};
-ghost use Rattle.type_rules.specs.Told.{declared, types};
+ghost use Rattle.program_facts.specs.Told.{declared, types};
 
 use class_rows::fields::is_static_field;
 use class_rows::{Classes, FieldRef};
+use program_facts::{At, Facts};
 use scj_base::{ClassId, Memory, Name, NodeId};
 use scj_rules::{Binding, Receiver, Ty};
-use type_rules::names::{accessed_field, field_accessed, receiver};
-use type_rules::{At, Known};
+use type_rules::names::{field_accessed, receiver};
 use type_words::{is_array_value, is_length};
 
 /// A class, if there is one.
@@ -45,16 +45,17 @@ pub fn field_binding(classes: &Classes<'_>, field: &FieldRef) -> Binding
 }
 
 /// The field of a name in the class where a node stands.
-pub fn field_here(known: &Known<'_>, id: NodeId, name: &Name) -> Binding
-    ensures { let p = declarations_of known.now in
+#[tactic(auto, unfolding(scj_rules::specs::Types::class_of_receiver))]
+pub fn field_here(facts: &Facts<'_>, id: NodeId, name: &Name) -> Binding
+    ensures { let p = declarations_of facts.now in
         result ≡ plain_or (λ (row : FoundField). field_binding p row.field)
         (option_and_then (λ class. accessed_field p (the_class class) name.now) (context p id).class) }
 {
-    let Some(class) = known.context(id).class else {
+    let Some(class) = facts.context(id).class else {
         return Binding::Plain;
     };
-    match accessed_field(known, &Receiver::Class(class), name) {
-        Some(field) => field_binding(known.classes(), &field),
+    match facts.classes().field_named(class, name) {
+        Some(field) => field_binding(facts.classes(), &field),
         None => Binding::Plain,
     }
 }
@@ -65,14 +66,14 @@ pub fn access_at(at: &At<'_>, object: NodeId, name: &Name) -> Binding
     ensures { let p = declared at.now in
         result ≡ plain_or (λ r. access_binding p r name.now) (receiver p (types at.now) object) }
 {
-    let Some(receiver) = receiver(at.known, at.types, object) else {
+    let Some(receiver) = receiver(at, object) else {
         return Binding::Plain;
     };
     if is_array_value(&receiver) && is_length(name) {
         return Binding::Length;
     }
-    match field_accessed(at.known, at.id, &receiver, name) {
-        Some(field) => field_binding(at.known.classes(), &field),
+    match field_accessed(at, &receiver, name) {
+        Some(field) => field_binding(at.facts.classes(), &field),
         None => Binding::Plain,
     }
 }
@@ -87,20 +88,12 @@ fn sum(a: usize, b: u32) -> Result<u32, Memory>
     Ok(a as u32 + b)
 }
 
-/// How many names of classes there are: each class has one.
-#[tactic(auto, using(crate::proofs::ArrayLemmas::names_length))]
-fn name_count(classes: &Classes<'_>) -> usize
-    ensures { result ≡ length (declarations_of classes.now).names }
-{
-    classes.count()
-}
-
 /// The class of an array, behind the others.
 #[tactic(auto, unfolding(scj_rules::specs::Bindings::array_class))]
 pub fn array_class(classes: &Classes<'_>, t: &Ty) -> Result<Option<ClassId>, Memory>
     ensures { IfOk result (λ class. class ≡ array_class (declarations_of classes.now) t.now) }
 {
-    let first = name_count(classes);
+    let first = classes.name_count();
     let number = match t {
         Ty::IntArray => sum(first, 0)?,
         Ty::BoolArray => sum(first, 1)?,

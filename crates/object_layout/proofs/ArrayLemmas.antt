@@ -1,36 +1,10 @@
--- How many classes have names, and the classes of arrays behind these.
-use Rattle.std.proofs.Common.{◌≡◌, ℕ, ◌+◌, ◌-◌, ◌<◌, ◌≤◌, ◌==◌, List, length, map, refl, sym, ap, ◌∙◌, arith, Some, None, Bool, true, false, not, ◌||◌, nat_lt, if◌then◌else◌, length-append}
+-- The classes of arrays, behind those that have names.
+use Rattle.std.proofs.Common.{◌≡◌, ℕ, ◌+◌, ◌-◌, ◌<◌, ◌≤◌, ◌==◌, length, refl, ap, arith, Some, None, Bool, true, false, not, ◌||◌, nat_lt, if◌then◌else◌}
 use Rattle.std.proofs.lemmas.Bool.Decides.{nat_tests}
 use Rattle.std.proofs.lemmas.Bool.{lt-ltb}
-use Rattle.std.proofs.lemmas.List.{length-map}
-use Rattle.scj_builtins.specs.Framework.{framework_classes}
-use Rattle.scj_builtins.specs.declared.classes.FrameworkClass.{FrameworkClass}
-use Rattle.scj_tree.specs.Forest.{Forest, IsForest}
-use Rattle.scj_rules.specs.Views.{WrittenClass}
-use Rattle.scj_rules.specs.Classes.{class_names, class_nodes, user_classes, first_user_class}
-use Rattle.scj_rules.specs.Contexts.{Declarations, declarations_of}
+use Rattle.scj_rules.specs.Contexts.{Declarations}
 use Rattle.scj_rules.specs.Layout.{element_kind, class_of_elements}
-use Rattle.scope_tree.proofs.UserLemmas.{nodes_of_users, class_count}
 use Rattle.object_layout.specs.Arrays.{kind_behind, class_behind}
-
-names_count : (users : List WrittenClass) → length (class_names users) ≡ first_user_class + length users
-unfolding class_names framework_classes
-names_count users =
-    let a = length-append (map (λ (c : FrameworkClass). c.name) framework_classes)
-    (map (λ (c : WrittenClass). c.name) users) in
-    let b = length-map users (λ (c : WrittenClass). c.name) in
-    rw a (rw b refl)
-
-pub as_many_names : (forest : Forest) → IsForest forest → length (declarations_of forest).classes
-    ≡ length (declarations_of forest).names
-unfolding declarations_of user_classes
-as_many_names forest whole =
-    let users : List WrittenClass = user_classes forest in
-    let n : length (map (λ (c : WrittenClass). c.node) users) ≡ length users =
-    length-map users (λ (c : WrittenClass). c.node) in
-    let m : length (map (λ (c : WrittenClass). c.node) users) ≡ length (class_nodes forest) =
-    ap (λ (ids : List ℕ). length ids) (nodes_of_users forest.nodes (class_nodes forest) whole.classes) in
-    class_count forest whole ∙ ap (λ (k : ℕ). first_user_class + k) (sym m ∙ n) ∙ sym (names_count users)
 
 module _ (p : Declarations) (class count : ℕ) (named : count ≡ length p.names) where
   pub no_array : class < count → element_kind p class ≡ None

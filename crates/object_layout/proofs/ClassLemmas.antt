@@ -3,14 +3,14 @@ use Rattle.std.proofs.Common.{◌≡◌, ℕ, ◌+◌, ◌<◌, ◌≤◌, List,
 use Rattle.std.proofs.lemmas.Bool.Decides.{nat_tests}
 use Rattle.std.proofs.lemmas.Bool.{cases_lt, cases_eq}
 use Rattle.std.proofs.lemmas.List.{get_or-set_same, get_or-set_other}
-use Rattle.scj_tree.specs.Forest.{Forest, IsForest}
+use Rattle.scj_tree.specs.Forest.{Forest, IsForest, joined}
 use Rattle.scj_tree.specs.Recursion.{lookup}
+use Rattle.scj_tree.proofs.RecursionLemmas.{lookup-behind, length-top_down}
 use Rattle.scj_rules.specs.Classes.{class_nodes, user_classes}
-use Rattle.scj_rules.specs.Contexts.{Declarations, declarations_of, outermost, context, number_of_class}
+use Rattle.scj_rules.specs.Contexts.{Declarations, declarations_of, outermost, contexts_in, context_of, context, number_of_class}
 use Rattle.scj_rules.specs.Bodies.{class_at_node, class_of_body}
 use Rattle.scope_tree.proofs.UserLemmas.{nodes_of_users}
 use Rattle.object_layout.specs.BodyTables.{class_known}
-use Rattle.object_layout.proofs.LocalLemmas.{context_past}
 
 module _ (forest : Forest) (whole : IsForest forest) where
   abbrev p : Declarations
@@ -21,6 +21,17 @@ module _ (forest : Forest) (whole : IsForest forest) where
   unfolding declarations_of user_classes
   number_at node =
       ap (λ ids. number_of_class ids node) (nodes_of_users forest.nodes (class_nodes forest) whole.classes)
+
+  -- nothing is known behind the last node
+  context_past : (id : ℕ) → length forest.nodes ≤ id → context p id ≡ outermost
+  unfolding declarations_of contexts_in
+  context_past id l =
+      lookup-behind outermost (contexts_in forest) id
+      (omega (
+        arith,
+        l,
+        length-top_down outermost (context_of forest.nodes (joined forest.files)) 0 (length forest.nodes),
+      ))
 
   -- the class of each node, before contexts are known
   pub known_first : (body : ℕ) → number_of_class (class_nodes forest) body ≡ class_known p 0 body
@@ -33,7 +44,7 @@ module _ (forest : Forest) (whole : IsForest forest) where
   known_last n body e = ⊎_elim
       (λ (l : body < n). let t : nat_lt body n ≡ true = grind (arith, nat_tests) in rw t refl)
       (λ (m : n ≤ body). let t : nat_lt body n ≡ false = grind (arith, nat_tests) in
-      let past : context p body ≡ outermost = context_past forest whole body (omega (arith, m, e)) in
+      let past : context p body ≡ outermost = context_past body (omega (arith, m, e)) in
       rw (t, past) refl)
       (cases_lt body n)
 

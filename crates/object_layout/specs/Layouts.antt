@@ -1,9 +1,9 @@
 -- What the tables of a layout hold.
 use Rattle.std.specs.Prelude.{◌≡◌}
 use Rattle.scj_tree.specs.Forest.{Forest}
-use Rattle.scj_rules.specs.Contexts.{declarations_of}
+use Rattle.scj_rules.specs.Contexts.{declarations_of, contexts_in}
 use Rattle.scj_rules.specs.Bodies.{safelet_class}
-use Rattle.scope_tree.specs.Trees.{IsTreeOf}
+use Rattle.program_facts.specs.Tables.{IsNaming, IsTreeOf}
 use Rattle.object_layout.specs.BodyTables.{IsBodyTableOf}
 use Rattle.object_layout.specs.FieldTables.{IsFieldTableOf}
 use Rattle.object_layout.specs.Objects.{IsObjectTableOf}
@@ -11,6 +11,8 @@ use Rattle.object_layout.specs.declared.tables.Tables.{Tables}
 
 -- the tables are those of the program
 pub record AreTablesOf (forest : Forest) (tables : Tables) : Type 0 where
+  pub contexts : tables.contexts ≡ contexts_in forest
+  pub names : IsNaming (declarations_of forest) tables.names
   pub scopes : IsTreeOf forest tables.scopes
   pub bodies : IsBodyTableOf forest tables.bodies
   pub fields : IsFieldTableOf forest tables.fields

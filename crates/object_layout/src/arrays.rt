@@ -5,7 +5,6 @@ ghost use Rattle.scj_rules.specs.Contexts.{declarations_of};
 ghost use Rattle.scj_rules.specs.Layout.{element_kind, class_of_elements};
 ghost use Rattle.object_layout.specs.Arrays.{kind_behind, class_behind};
 
-use crate::classes::node_count;
 use class_rows::Classes;
 use scj_base::ClassId;
 use scj_rules::SlotKind;
@@ -41,21 +40,12 @@ fn class_behind(place: u32, count: usize) -> Option<ClassId>
     None
 }
 
-/// How many classes have names.
-#[tactic(auto, using(crate::proofs::ArrayLemmas::as_many_names))]
-fn named_count(classes: &Classes) -> usize
-    ensures { result ≡ length (declarations_of classes.now).names }
-{
-    let _count = node_count(classes);
-    classes.count()
-}
-
 /// What the elements of an array of this class hold.
 #[tactic(auto, using(crate::proofs::ArrayLemmas::no_array, crate::proofs::ArrayLemmas::kind_of_array))]
 pub fn element_kind(classes: &Classes, class: ClassId) -> Option<SlotKind>
     ensures { result ≡ element_kind (declarations_of classes.now) class }
 {
-    let count = named_count(classes);
+    let count = classes.name_count();
     let number = class.number() as usize;
     if number < count {
         return None;
@@ -68,7 +58,7 @@ pub fn element_kind(classes: &Classes, class: ClassId) -> Option<SlotKind>
 pub fn class_of_elements(classes: &Classes, class: ClassId) -> Option<ClassId>
     ensures { result ≡ class_of_elements (declarations_of classes.now) class }
 {
-    let count = named_count(classes);
+    let count = classes.name_count();
     let number = class.number();
     if (number as usize) < count {
         return None;

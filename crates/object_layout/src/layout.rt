@@ -10,16 +10,16 @@ ghost use Rattle.scj_rules.specs.Layout.{class_of_elements, element_kind, field_
 ghost use Rattle.object_layout.specs.Fields.{kind_of_field, static_row};
 ghost use Rattle.object_layout.specs.ObjectTables.{nodes_of_fields};
 
-use crate::body_tables::{class_at, count_at};
 use crate::fields::StaticField;
 use crate::object_tables::{hidden_in, kinds_in, literals_in, slot_in, slots_in};
 use crate::tables::{Tables, tables_of};
 use crate::{arrays, bodies, classes, field_tables, parts, sizes};
 use class_rows::{ClassTable, Classes};
+use program_facts::Facts;
 use scj_base::{ClassId, FieldId, Memory, MethodId, Name, NodeId, Pos, ScopeId};
 use scj_rules::{Body, Checked, SlotKind};
-use scj_tree::Program;
-use scope_tree::Scopes;
+use scj_tree::{Program, told};
+use scope_tree::scopes::defined_by_chain;
 use std::alloc::Global;
 use std::marker::Model;
 
@@ -27,7 +27,6 @@ use std::marker::Model;
 #[derive(Drop)]
 pub struct Layout<'a> {
     classes: Classes<'a>,
-    table: &'a ClassTable,
     tables: Tables,
 }
 
@@ -36,12 +35,11 @@ impl<'a> Model for Layout<'a> {
 
     ghost Value = { Forest };
 
-    ghost use Rattle.class_rows.specs.Tables.{IsTableOf};
     ghost use Rattle.object_layout.specs.Layouts.{AreTablesOf};
 
     ghost view = { λ a. a.classes };
 
-    ghost invariant = { λ a. IsTableOf a.classes a.table.now × AreTablesOf a.classes a.tables };
+    ghost invariant = { λ a. AreTablesOf a.classes a.tables };
 }
 
 impl<'a> Layout<'a> {
@@ -56,13 +54,9 @@ impl<'a> Layout<'a> {
         requires { IsTableOf checked.now.program table.now }
         ensures { IfOk result (λ layout. layout ≡ checked.now.program) }
     {
-        let program = checked.program();
-        let tables = tables_of(alloc, program, table)?;
-        Ok(Layout {
-            classes: Classes::new(program, table),
-            table,
-            tables,
-        })
+        let classes = Classes::new(checked.program(), table);
+        let tables = tables_of(alloc, &classes)?;
+        Ok(Layout { classes, tables })
     }
 
     /// The program.
@@ -132,14 +126,14 @@ impl<'a> Layout<'a> {
     pub fn locals(&self, body: NodeId) -> u32
         ensures { result ≡ locals (declarations_of self.now) body }
     {
-        count_at(&self.tables.bodies.locals, body)
+        told(self.tables.bodies.locals.as_slice(), 0, body)
     }
 
     /// The class in which a body stands.
     pub fn class_of_body(&self, body: NodeId) -> Option<ClassId>
         ensures { result ≡ class_of_body (declarations_of self.now) body }
     {
-        class_at(&self.tables.bodies.classes, body)
+        told(self.tables.bodies.classes.as_slice(), None, body)
     }
 
     /// Whether a body is a synchronized method's (JLS 8.4.3.6).
@@ -153,8 +147,9 @@ impl<'a> Layout<'a> {
     pub fn private_scope(&self, class: ClassId) -> Option<ScopeId>
         ensures { result ≡ defined_by_chain (declarations_of self.now) class }
     {
-        let scopes = Scopes::new(self.program(), self.table, &self.tables.scopes);
-        scopes.defined_by_chain(class)
+        let tables = &self.tables;
+        let facts = Facts::new(self.classes.again(), &tables.contexts, &tables.names);
+        defined_by_chain(&facts.with_tree(&tables.scopes), class)
     }
 
     /// The bytes of the memory that a mission's or the safelet's class declares (JSR 302: Mission, Safelet).

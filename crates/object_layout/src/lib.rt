@@ -9,7 +9,6 @@ mod classes;
 mod field_tables;
 pub mod fields;
 pub mod layout;
-mod locals;
 mod object_tables;
 mod objects;
 mod parts;

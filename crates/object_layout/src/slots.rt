@@ -9,6 +9,7 @@ ghost use Rattle.object_layout.specs.Slots.{HasPlaces};
 
 use crate::objects::ObjectRow;
 use scj_base::NodeId;
+use scj_tree::told;
 
 /// Notes the place of a field.
 fn note_place(places: &mut Vec<u32>, field: NodeId, place: u32) {
@@ -29,22 +30,12 @@ pub fn note_places(places: &mut Vec<u32>, fields: &[NodeId]) {
     }
 }
 
-/// The place that the table has for a field.
-fn place_at(places: &[u32], field: NodeId) -> u32
-    ensures { result ≡ lookup 0 places.now field }
-{
-    match places.get(field.place()) {
-        Some(place) => *place,
-        None => 0,
-    }
-}
-
 /// Whether the table has the places of all these fields.
 fn has_places(places: &[u32], fields: &[NodeId]) -> bool
     ensures { OnTrue result (HasPlaces places.now fields.now) }
 {
     for k in 0..fields.len() {
-        if place_at(places, fields[k]) as usize != k {
+        if told(places, 0, fields[k]) as usize != k {
             return false;
         }
     }
@@ -79,7 +70,7 @@ fn place_by_table(fields: &[NodeId], places: &[u32], field: NodeId) -> Option<us
     ensures value { result ≡ position (λ other. field == other) fields.now }
     ensures within { IfSome result (λ place. place < length fields.now) }
 {
-    let place = place_at(places, field) as usize;
+    let place = told(places, 0, field) as usize;
     if place >= fields.len() {
         return None;
     }

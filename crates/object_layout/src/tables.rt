@@ -1,24 +1,29 @@
 //! The tables of a layout.
 
-ghost use Rattle.std.specs.Prelude.{IfOk};
-ghost use Rattle.class_rows.specs.Tables.{IsTableOf};
-ghost use Rattle.scope_tree.specs.Trees.{IsTreeOf};
+ghost use Rattle.std.specs.Prelude.{◌≡◌, IfOk};
+ghost use Rattle.scj_rules.specs.Contexts.{contexts_in, declarations_of};
+ghost use Rattle.program_facts.specs.Tables.{IsNaming, IsTreeOf};
 ghost use Rattle.object_layout.specs.Layouts.{AreTablesOf};
 
 use crate::body_tables::{BodyTable, body_table};
 use crate::field_tables::{FieldTable, field_table};
 use crate::object_tables::{ObjectTable, object_table};
 use crate::safelets::safelet_class;
-use class_rows::{ClassTable, Classes};
+use class_rows::Classes;
+use node_contexts::Contexts;
+use program_facts::{Facts, ScopeNames, ScopeTree};
 use scj_base::{ClassId, Memory};
-use scj_tree::Program;
-use scope_tree::{ScopeTree, build};
+use scope_tree::{build, names_of};
 use std::alloc::Global;
 
 /// What is told of a program before it runs.
 #[derive(Drop)]
 pub struct Tables {
-    /// The scopes.
+    /// The contexts of the nodes.
+    pub(crate) contexts: Contexts,
+    /// The scopes by their names.
+    pub(crate) names: ScopeNames,
+    /// The tree of the scopes.
     pub(crate) scopes: ScopeTree,
     /// What is asked of bodies.
     pub(crate) bodies: BodyTable,
@@ -30,27 +35,34 @@ pub struct Tables {
     pub(crate) safelet: Option<ClassId>,
 }
 
-/// The tree of the scopes.
-fn scopes_of(alloc: Global, program: &Program, table: &ClassTable) -> Result<ScopeTree, Memory>
-    requires { IsTableOf program.now table.now }
-    ensures { IfOk result (λ tree. IsTreeOf program.now tree) }
+/// The scopes by their names, and their tree.
+fn scopes_of(
+    alloc: Global,
+    classes: &Classes,
+    contexts: &Contexts,
+) -> Result<(ScopeNames, ScopeTree), Memory>
+    requires { contexts.now ≡ contexts_in classes.now }
+    ensures names { IfOk result (λ made. IsNaming (declarations_of classes.now) made.0) }
+    ensures tree { IfOk result (λ made. IsTreeOf classes.now made.1) }
 {
-    let (tree, _found) = build(alloc, program, table)?;
-    Ok(tree)
+    let names = names_of(alloc, classes)?;
+    let (tree, _found) = build(alloc, &Facts::new(classes.again(), contexts, &names))?;
+    Ok((names, tree))
 }
 
 /// The tables of a program.
-pub fn tables_of(alloc: Global, program: &Program, table: &ClassTable) -> Result<Tables, Memory>
-    requires { IsTableOf program.now table.now }
-    ensures { IfOk result (λ tables. AreTablesOf program.now tables) }
+pub fn tables_of(alloc: Global, classes: &Classes) -> Result<Tables, Memory>
+    ensures { IfOk result (λ tables. AreTablesOf classes.now tables) }
 {
-    let classes = Classes::new(program, table);
-    let scopes = scopes_of(alloc, program, table)?;
-    let bodies = body_table(alloc, &classes)?;
-    let fields = field_table(alloc, &classes)?;
-    let objects = object_table(alloc, &classes)?;
-    let safelet = safelet_class(&classes)?;
+    let contexts = Contexts::of(alloc, classes.program())?;
+    let (names, scopes) = scopes_of(alloc, classes, &contexts)?;
+    let bodies = body_table(alloc, classes, &contexts)?;
+    let fields = field_table(alloc, classes)?;
+    let objects = object_table(alloc, classes)?;
+    let safelet = safelet_class(classes)?;
     Ok(Tables {
+        contexts,
+        names,
         scopes,
         bodies,
         fields,

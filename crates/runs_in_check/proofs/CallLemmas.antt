@@ -1,6 +1,6 @@
 -- Calls and assignments by their parts: each argument in turn with the parameter of its number, and what is broken at a
 -- call by the method that it invokes.
-use Rattle.std.proofs.Common.{◌≡◌, ◌+◌, ◌<◌, ◌≤◌, ◌++◌, ℕ, zero, suc, Bool, false, List, [], ◌∷◌, length, drop, get_or, Option, None, Some, slice_get, refl, sym, ap, ◌∙◌, arith, append-nil, append_assoc}
+use Rattle.std.proofs.Common.{◌≡◌, ◌+◌, ◌<◌, ◌≤◌, ◌++◌, ℕ, zero, suc, Bool, false, List, [], ◌∷◌, length, drop, get_or, Option, None, Some, slice_get, refl, ap, ◌∙◌, arith, append-nil, append_assoc}
 use Rattle.std.proofs.lemmas.List.{drop_all, drop_more}
 use Rattle.scj_base.specs.declared.findings.Found.{Found}
 use Rattle.scj_base.specs.declared.findings.Rule.{Rule}
@@ -8,14 +8,18 @@ use Rattle.scj_base.specs.declared.findings.Rule.TheVariants.{E2}
 use Rattle.scj_base.specs.declared.places.Pos.{Pos}
 use Rattle.scj_tree.specs.declared.nodes.Node.TheVariants.{Call}
 use Rattle.scj_rules.specs.declared.views.Declared.{Declared}
-use Rattle.scj_rules.specs.Words.{broken, found_at}
+use Rattle.scj_rules.specs.declared.typing.Scope.{Scope}
+use Rattle.scj_rules.specs.declared.typing.Receiver.{Receiver}
+use Rattle.scj_rules.specs.Words.{broken, found_at, ◌>>=◌}
 use Rattle.scj_rules.specs.Classes.{FoundMethod}
 use Rattle.scj_rules.specs.Contexts.{declarations_of}
-use Rattle.scj_rules.specs.UseRules.{current_at, receiver_scope, method_called, misfit_arguments, misfits_call, e3_of_call, e3_of_constructor, e1, e2, e3, e4_and_e5, e6, e7, e8, e9, e10, use_breaks}
+use Rattle.scj_rules.specs.Types.{call_receiver, called_method}
+use Rattle.scj_rules.specs.UseRules.{current_at, receiver_scope, scope_of, scope_of_call, method_called, misfit_arguments, misfits_call, e3_of_call, e3_of_constructor, e1, e2, e3, e4_and_e5, e6, e7, e8, e9, e10, use_breaks}
 use Rattle.runs_in_check.specs.declared.calls.Callee.{Callee}
 use Rattle.runs_in_check.specs.declared.calls.Callee.TheVariants.{Method, Constructor}
-use Rattle.runs_in_check.specs.declared.uses.At.{At}
-use Rattle.runs_in_check.specs.Phase.{declared, types, scopes, parameters_of, seen_scope, argument_breaks, misfits_from, e3_of, entry_breaks}
+use Rattle.program_facts.specs.declared.told.At.{At}
+use Rattle.program_facts.specs.Told.{declared, types, scopes}
+use Rattle.runs_in_check.specs.Phase.{parameters_of, seen_scope, argument_breaks, misfits_from, e3_of, entry_breaks}
 
 -- an assignment of a value that fits breaks nothing
 pub right_assign : (test : Bool) (o : Option Rule) (place : Pos) → false ≡ test →
@@ -49,14 +53,7 @@ module _ (at : At) (callee : Callee) where
       ≡ found ++ misfits_from at callee (drop i ds) (drop i ids)
   arguments_more found ds ids i id l e =
       let next : i + 1 ≡ suc i = omega arith in
-      let ids_are : drop i ids ≡ id ∷ drop (i + 1) ids =
-      drop_more ids i id l ∙ ap (λ x. x ∷ drop (i + 1) ids) (sym e) in
-      append_assoc found (argument_breaks at callee (slice_get ds i) id) _
-      ∙ ap (λ (fs : List Found). found ++ fs)
-      (ap (λ n. argument_breaks at callee (slice_get ds i) id ++ misfits_from at callee (drop n ds) (drop (i + 1) ids))
-      next
-      ∙ sym (step ds i id (drop (i + 1) ids))
-      ∙ ap (λ (xs : List ℕ). misfits_from at callee (drop i ds) xs) (sym ids_are))
+      rw (drop_more ids i id l, ← e, step ds i id (drop (i + 1) ids), next) (append_assoc found _ _)
 
   past : (ds : List Declared) → misfits_from at callee ds [] ≡ []
   unfolding misfit_arguments
@@ -72,7 +69,7 @@ module _ (at : At) (callee : Callee) where
 -- ---- calls
 
 pub e3_over_arguments : (at : At) (callee : Callee) (ids : List ℕ) →
-    e3_of at callee ids ≡ misfits_from at callee (parameters_of at.uses.now callee) ids
+    e3_of at callee ids ≡ misfits_from at callee (parameters_of at.facts.now callee) ids
 unfolding e3_of e3_of_call e3_of_constructor parameters_of seen_scope
 e3_over_arguments at (Method m object) ids = refl
 e3_over_arguments at (Constructor class object) ids = refl
@@ -103,3 +100,31 @@ module _ (at : At) (place : Pos) (name : List ℕ) (object : Option ℕ) where
   unfolding use_breaks e1 e2 e3 e4_and_e5 e6 e7 e8 e9 e10 entry_breaks
   framework_call f number (o ∷ r ∷ []) h k = rw (← h, ← k) refl
   framework_call f number _ h k = rw (← h, ← k) refl
+
+  abbrev scope_there : List ℕ → Option Scope
+  scope_there ids = scope_of (declared at) (types at) (scopes at) at.id (Call place name object ids)
+
+  abbrev of_method : FoundMethod → Option Scope
+  of_method =
+      scope_of_call (declared at) (receiver_scope (declared at) (scopes at) at.id object)
+      (current_at (declared at) at.id)
+
+  scope_is : (o : Option FoundMethod) (ids : List ℕ) →
+      o ≡ method_called (declared at) (types at) at.id object name → (o >>= of_method) ≡ scope_there ids
+  unfolding scope_of
+  scope_is o ids h =
+      ap (λ (f : Option FoundMethod). f >>= of_method) h ∙ joined (call_receiver (declared at) (types at) at.id object)
+    where
+      joined : (r : Option Receiver)
+          → ((r >>= (λ r. called_method (declared at) r name)) >>= of_method)
+          ≡ (r >>= (λ r. called_method (declared at) r name >>= of_method))
+      joined None = refl
+      joined (Some r) = refl
+
+  pub no_scope_called : (ids : List ℕ) →
+      None ≡ method_called (declared at) (types at) at.id object name → None ≡ scope_there ids
+  no_scope_called ids h = scope_is None ids h
+
+  pub scope_called : (f : FoundMethod) (ids : List ℕ) →
+      Some f ≡ method_called (declared at) (types at) at.id object name → of_method f ≡ scope_there ids
+  scope_called f ids h = scope_is (Some f) ids h

@@ -1,25 +1,27 @@
 //! What is broken at calls: E2, E3, E7 and E8.
 
-ghost use Rattle.std.specs.Prelude.{◌≡◌, ◌++◌, OnOk, option_map, slice_get};
+ghost use Rattle.std.specs.Prelude.{◌≡◌, ◌++◌, IfOk, OnOk, option_map, slice_get};
 ghost use Rattle.scj_tree.specs.declared.nodes.Node.TheVariants.{Call};
 ghost use Rattle.scj_base.specs.declared.findings.Rule.TheVariants.{E2};
 ghost use Rattle.scj_rules.specs.Words.{broken, holds};
 ghost use Rattle.scj_rules.specs.Contexts.{declarations_of};
-ghost use Rattle.scj_rules.specs.UseRules.{current_at, receiver_scope, method_called, misfits_call, e3_of_call, run_of, isnt_in_parent, misfits_enter, misfits_execute, use_breaks};
+ghost use Rattle.scj_rules.specs.UseRules.{current_at, receiver_scope, method_called, misfits_call, e3_of_call, run_of, isnt_in_parent, misfits_enter, misfits_execute, scope_of, use_breaks};
 ghost use Rattle.method_rows.specs.Methods.{found_method};
-ghost use Rattle.runs_in_check.specs.Phase.{declared, types, scopes, parameters_of, seen_scope, argument_breaks, e3_of, entry_breaks};
+ghost use Rattle.program_facts.specs.Told.{declared, types, scopes};
+ghost use Rattle.runs_in_check.specs.Phase.{parameters_of, seen_scope, argument_breaks, e3_of, entry_breaks};
 
-use crate::scopes::receiver_scope;
-use crate::uses::{At, Uses, is_other, misfit_scope};
+use crate::scopes::{is_other, misfit_scope, receiver_scope, scope_of_call};
 use method_rows::{MethodRef, builtin};
 use node_views::place_at;
+use program_facts::{At, Facts};
 use scj_base::ids::{MANAGED_MEMORY_ENTER_PRIVATE_MEMORY, MANAGED_MEMORY_EXECUTE_IN_AREA_OF};
 use scj_base::{ClassId, Found, Memory, MethodId, Name, NodeId, Pos, Rule, ScopeId};
 use scj_builtins::FRAMEWORK_CLASS_COUNT;
 use scj_rules::{Declared, Scope, Ty, report_if};
-use static_scopes::substitute;
+use scope_tree::scopes::{defined_by_chain, parent_scope};
+use static_scopes::{current_at, parameter_scope, runs_in, scope_in, substitute, this_in};
 use type_rules::arguments::{Takes, constructor_parameters};
-use type_rules::{Known, names};
+use type_rules::names;
 
 /// What is called, with the scope of the object for which it runs.
 #[derive(Clone, Copy)]
@@ -32,13 +34,13 @@ pub enum Callee {
 
 /// The parameter of a number of what is called.
 #[tactic(auto, unfolding(crate::specs::Phase::parameters_of, type_rules::specs::Parameters::taken))]
-fn parameter(known: &Known<'_>, callee: &Callee, i: usize) -> Option<Declared>
-    ensures { result ≡ slice_get (parameters_of known.now callee.now) i }
+fn parameter(facts: &Facts<'_>, callee: &Callee, i: usize) -> Option<Declared>
+    ensures { result ≡ slice_get (parameters_of facts.now callee.now) i }
 {
-    let program = known.program();
+    let program = facts.program();
     match callee {
         Callee::Method(method, _) => method_rows::parameter(program, method, i),
-        Callee::Constructor(class, _) => match &constructor_parameters(known, *class) {
+        Callee::Constructor(class, _) => match &constructor_parameters(facts, *class) {
             Takes::Method(method) => method_rows::parameter(program, method, i),
             Takes::Listed(parameters) => node_views::parameter(program, *parameters, i),
         },
@@ -50,15 +52,14 @@ fn parameter(known: &Known<'_>, callee: &Callee, i: usize) -> Option<Declared>
 fn seen_scope(at: &At<'_>, callee: &Callee, parameter: &Declared) -> Option<Scope>
     ensures { result ≡ seen_scope at.now callee.now parameter.now }
 {
-    let uses = at.uses;
-    let scoped = &uses.scoped;
+    let facts = at.facts;
     match callee {
         Callee::Method(method, object) => {
-            let scope = scoped.parameter_scope(method, parameter)?;
-            substitute(object, &scoped.current_at(at.id), &scope)
+            let scope = parameter_scope(facts, method, parameter)?;
+            substitute(object, &current_at(facts, at.id), &scope)
         }
         Callee::Constructor(class, object) => {
-            let scope = scoped.scope_in(*class, &scoped.this_in(*class), false, parameter)?;
+            let scope = scope_in(facts, *class, &this_in(facts, *class), false, parameter)?;
             substitute(object, object, &scope)
         }
     }
@@ -74,17 +75,17 @@ fn note_argument(
     argument: NodeId,
 ) -> Result<(), Memory>
     ensures { OnOk result (found.new.items ≡ found.old.items ++ argument_breaks at.now callee.now
-        (slice_get (parameters_of at.now.uses.now callee.now) i) argument) }
+        (slice_get (parameters_of at.now.facts.now callee.now) i) argument) }
 {
     let value = at.scope_of(argument);
     if value.is_none() {
         return Ok(());
     }
-    let uses = at.uses;
-    match &parameter(&uses.known, callee, i) {
+    let facts = at.facts;
+    match &parameter(facts, callee, i) {
         Some(parameter) => {
             let is_wrong = misfit_scope(&value, &seen_scope(at, callee, parameter));
-            let place = place_at(uses.known.program(), argument);
+            let place = place_at(facts.program(), argument);
             report_if(found, is_wrong, Rule::E3, place)
         }
         None => Ok(()),
@@ -111,15 +112,14 @@ pub fn note_arguments(
 #[tactic(auto, unfolding(scj_rules::specs::UseRules::misfits_runs_in))]
 fn misfits_call(at: &At<'_>, object: &Option<NodeId>, method: &MethodRef) -> bool
     ensures { result ≡ misfits_call (declared at.now) (scopes at.now) at.now.id object.now
-        (found_method at.now.uses.now.nodes method.now) }
+        (found_method at.now.facts.now.nodes method.now) }
 {
-    let uses = at.uses;
-    let scoped = &uses.scoped;
-    match &scoped.runs_in(method) {
+    let facts = at.facts;
+    match &runs_in(facts, method) {
         Some(scope) => match scope {
             Scope::Caller => false,
-            Scope::This => misfit_scope(&receiver_scope(at, object), &scoped.current_at(at.id)),
-            Scope::Any | Scope::In(_) => is_other(&scoped.current_at(at.id), scope),
+            Scope::This => misfit_scope(&receiver_scope(at, object), &current_at(facts, at.id)),
+            Scope::Any | Scope::In(_) => is_other(&current_at(facts, at.id), scope),
         },
         None => false,
     }
@@ -135,7 +135,7 @@ fn note_user_method(
     arguments: &[NodeId],
     method: &MethodRef,
 ) -> Result<(), Memory>
-    ensures { let p = declared at.now in let f = found_method at.now.uses.now.nodes method.now in
+    ensures { let p = declared at.now in let f = found_method at.now.facts.now.nodes method.now in
         OnOk result (found.new.items ≡ found.old.items
         ++ (broken (misfits_call p (scopes at.now) at.now.id object.now f) E2 place
         ++ e3_of_call p (scopes at.now) (receiver_scope p (scopes at.now) at.now.id object.now)
@@ -148,10 +148,10 @@ fn note_user_method(
 }
 
 /// The user's `run` of a class.
-fn run_of(uses: &Uses<'_>, class: ClassId) -> Option<MethodRef>
-    ensures { option_map (found_method uses.now.nodes) result ≡ run_of (declarations_of uses.now) class }
+fn run_of(facts: &Facts<'_>, class: ClassId) -> Option<MethodRef>
+    ensures { option_map (found_method facts.now.nodes) result ≡ run_of (declarations_of facts.now) class }
 {
-    let classes = uses.known.classes();
+    let classes = facts.classes();
     let method = classes.method_named(class, &Name::new(b"run"))?;
     match builtin(classes.program(), &method) {
         Some(_) => None,
@@ -160,33 +160,32 @@ fn run_of(uses: &Uses<'_>, class: ClassId) -> Option<MethodRef>
 }
 
 /// Whether the parent of a scope isn't the current one.
-fn isnt_in_parent(uses: &Uses<'_>, id: NodeId, scope: ScopeId) -> bool
-    ensures { result ≡ isnt_in_parent (declarations_of uses.now) id scope }
+fn isnt_in_parent(facts: &Facts<'_>, id: NodeId, scope: ScopeId) -> bool
+    ensures { result ≡ isnt_in_parent (declarations_of facts.now) id scope }
 {
-    match uses.scoped.scopes().parent_scope(scope) {
-        Some(parent) => is_other(&uses.scoped.current_at(id), &Scope::In(parent)),
+    match parent_scope(facts, scope) {
+        Some(parent) => is_other(&current_at(facts, id), &Scope::In(parent)),
         None => false,
     }
 }
 
 /// Whether private memory may not be entered here with a value of a type.
 #[tactic(auto, unfolding(scj_rules::specs::UseRules::misfits_enter, scj_rules::specs::UseRules::misfits_entered))]
-fn misfits_enter(uses: &Uses<'_>, id: NodeId, t: &Option<Ty>) -> bool
-    ensures { result ≡ holds t.now (misfits_enter (declarations_of uses.now) id) }
+fn misfits_enter(facts: &Facts<'_>, id: NodeId, t: &Option<Ty>) -> bool
+    ensures { result ≡ holds t.now (misfits_enter (declarations_of facts.now) id) }
 {
     match t {
         Some(Ty::Class(class)) => {
             if class.number() < FRAMEWORK_CLASS_COUNT {
                 return true;
             }
-            match uses.scoped.scopes().defined_by_chain(*class) {
+            match defined_by_chain(facts, *class) {
                 Some(scope) => {
-                    isnt_in_parent(uses, id, scope)
-                        || match &run_of(uses, *class) {
+                    isnt_in_parent(facts, id, scope)
+                        || match &run_of(facts, *class) {
                             Some(method) => {
-                                let runs_in = uses.scoped.runs_in(method);
-                                is_other(&runs_in, &Scope::Caller)
-                                    && is_other(&runs_in, &Scope::In(scope))
+                                let run = runs_in(facts, method);
+                                is_other(&run, &Scope::Caller) && is_other(&run, &Scope::In(scope))
                             }
                             None => false,
                         }
@@ -201,13 +200,13 @@ fn misfits_enter(uses: &Uses<'_>, id: NodeId, t: &Option<Ty>) -> bool
 
 /// Whether a value of a type may not be run in the area of an object of this scope.
 #[tactic(auto, unfolding(scj_rules::specs::UseRules::misfits_execute, scj_rules::specs::UseRules::is_named_scope))]
-fn misfits_execute(uses: &Uses<'_>, area: &Option<Scope>, t: &Option<Ty>) -> bool
-    ensures { result ≡ holds t.now (misfits_execute (declarations_of uses.now) area.now) }
+fn misfits_execute(facts: &Facts<'_>, area: &Option<Scope>, t: &Option<Ty>) -> bool
+    ensures { result ≡ holds t.now (misfits_execute (declarations_of facts.now) area.now) }
 {
     match t {
-        Some(Ty::Class(class)) => match (&run_of(uses, *class), area) {
+        Some(Ty::Class(class)) => match (&run_of(facts, *class), area) {
             (Some(method), Some(Scope::In(scope))) => {
-                is_other(&uses.scoped.runs_in(method), &Scope::In(*scope))
+                is_other(&runs_in(facts, method), &Scope::In(*scope))
             }
             (Some(_), None) => false,
             _ => true,
@@ -231,10 +230,10 @@ fn note_entry(
     match arguments {
         [o, r] => {
             let enters = number == MANAGED_MEMORY_ENTER_PRIVATE_MEMORY
-                && misfits_enter(at.uses, at.id, &at.type_of(*r));
+                && misfits_enter(at.facts, at.id, &at.type_of(*r));
             report_if(found, enters, Rule::E7, place)?;
             let executes = number == MANAGED_MEMORY_EXECUTE_IN_AREA_OF
-                && misfits_execute(at.uses, &at.scope_of(*o), &at.type_of(*r));
+                && misfits_execute(at.facts, &at.scope_of(*o), &at.type_of(*r));
             report_if(found, executes, Rule::E8, place)?;
             Ok(())
         }
@@ -244,16 +243,18 @@ fn note_entry(
 
 /// The method that a call invokes.
 fn method_called(at: &At<'_>, name: &Name, object: &Option<NodeId>) -> Option<MethodRef>
-    ensures { option_map (found_method at.now.uses.now.nodes) result ≡ method_called (declared at.now) (types at.now)
+    ensures { option_map (found_method at.now.facts.now.nodes) result ≡ method_called (declared at.now) (types at.now)
         at.now.id object.now name.now }
 {
-    let uses = at.uses;
-    let receiver = names::call_receiver(&uses.known, at.types, at.id, object)?;
-    names::method_called(&uses.known, at.id, &receiver, name)
+    // The proof wants the type named that a receiver may hold.
+    let _types: &[Option<Ty>] = at.types;
+    let receiver = names::call_receiver(at, object)?;
+    names::method_called(at, &receiver, name)
 }
 
-/// Notes what is broken at a call: E2 and E3 of a user's method, and E7 and E8 of one of the framework's.
-#[tactic(auto, using(crate::proofs::CallLemmas::no_call, crate::proofs::CallLemmas::user_call, crate::proofs::CallLemmas::framework_call))]
+/// Notes what is broken at a call, E2 and E3 of a user's method and E7 and E8 of one of the framework's, and tells the
+/// scope of what the method gives.
+#[tactic(auto, using(crate::proofs::CallLemmas::no_call, crate::proofs::CallLemmas::user_call, crate::proofs::CallLemmas::framework_call, crate::proofs::CallLemmas::no_scope_called, crate::proofs::CallLemmas::scope_called))]
 pub fn note_call(
     found: &mut Vec<Found>,
     at: &At<'_>,
@@ -261,17 +262,20 @@ pub fn note_call(
     name: &Name,
     object: &Option<NodeId>,
     arguments: &[NodeId],
-) -> Result<(), Memory>
-    ensures { OnOk result (found.new.items ≡ found.old.items
+) -> Result<Option<Scope>, Memory>
+    ensures scope { IfOk result (λ scope. scope ≡ scope_of (declared at.now) (types at.now) (scopes at.now) at.now.id
+        (Call place name.now object.now arguments.now)) }
+    ensures found { OnOk result (found.new.items ≡ found.old.items
         ++ use_breaks (declared at.now) (types at.now) (scopes at.now) at.now.id
         (Call place name.now object.now arguments.now)) }
 {
     let Some(method) = method_called(at, name, object) else {
-        return Ok(());
+        return Ok(None);
     };
-    let uses = at.uses;
-    match builtin(uses.known.program(), &method) {
-        Some(number) => note_entry(found, at, place, number, arguments),
-        None => note_user_method(found, at, place, object, arguments, &method),
+    let facts = at.facts;
+    match builtin(facts.program(), &method) {
+        Some(number) => note_entry(found, at, place, number, arguments)?,
+        None => note_user_method(found, at, place, object, arguments, &method)?,
     }
+    Ok(scope_of_call(at, object, &method))
 }

@@ -3,8 +3,7 @@
 
 mod calls;
 mod checks;
+mod nodes;
 mod scopes;
-mod uses;
 
 pub use checks::check_uses;
-pub use uses::Uses;

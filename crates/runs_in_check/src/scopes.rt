@@ -1,162 +1,131 @@
-//! The static scope of each expression.
+//! The static scopes of expressions, kind by kind, and scopes beside each other, where some may be missing.
 
-ghost use Rattle.std.specs.Prelude.{◌≡◌, None, Some, IfOk, option_map, option_and_then, slice_get};
+ghost use Rattle.std.specs.Prelude.{◌≡◌, Some, not, option_and_then, slice_get};
 ghost use Rattle.scj_tree.specs.declared.nodes.Node.TheVariants.{SimpleName};
-ghost use Rattle.scj_tree.specs.Kinds.{kind_of};
-ghost use Rattle.scj_tree.specs.Recursion.{lookup};
 ghost use Rattle.scj_rules.specs.Words.{holds};
 ghost use Rattle.scj_rules.specs.Contexts.{declarations_of};
-ghost use Rattle.scj_rules.specs.Types.{meaning, receiver, call_receiver, accessed_field, called_method};
-ghost use Rattle.scj_rules.specs.TypeRules.{types_in};
-ghost use Rattle.scj_rules.specs.UseRules.{current_at, receiver_scope, scope_of_field, scope_of_meaning, scope_of_new, scope_in_class, scope_of_call, scope_of_element, scope_of, scope_of_next, scopes_in};
+ghost use Rattle.scj_rules.specs.Types.{meaning, receiver, accessed_field};
+ghost use Rattle.scj_rules.specs.StaticScopes.{are_same_scope};
+ghost use Rattle.scj_rules.specs.UseRules.{current_at, misfit_scope, receiver_scope, scope_of_field, scope_of_meaning, scope_of_new, scope_in_class, scope_of_call, scope_of_element};
 ghost use Rattle.class_rows.specs.Fields.{found_field};
-ghost use Rattle.type_rules.specs.Meanings.{meant};
-ghost use Rattle.runs_in_check.specs.Phase.{declared, types, scopes, may_have_scope};
+ghost use Rattle.method_rows.specs.Methods.{found_method};
+ghost use Rattle.program_facts.specs.Meanings.{meant};
+ghost use Rattle.program_facts.specs.Told.{declared, types, scopes};
 
-use crate::uses::{At, Uses};
 use class_rows::FieldRef;
-use scj_base::{ClassId, Memory, Name, NodeId, Pos};
+use method_rows::MethodRef;
+use program_facts::{At, Facts, NameMeaning};
+use scj_base::{ClassId, Name, NodeId, Pos};
 use scj_rules::{Scope, Ty};
-use scj_tree::NodeKind::{
-    Call, Cast, Element, FieldAccess, New, NewArray, Null, Parenthesized, SimpleName, This,
+use scope_tree::scopes::class_scope;
+use static_scopes::{
+    are_same_scope, current_at, field_scope, fits, result_scope, scope_or, substitute, this_at,
+    variable_scope,
 };
-use scj_tree::{Node, Program};
-use static_scopes::{scope_or, substitute};
-use std::alloc::Global;
-use type_rules::{NameMeaning, names};
-use type_words::is_reference;
+use type_rules::names;
+
+/// Whether a value's scope doesn't fit the one that is asked.
+pub fn misfit_scope(value: &Option<Scope>, target: &Option<Scope>) -> bool
+    ensures { result ≡ misfit_scope value.now target.now }
+{
+    match (value, target) {
+        (Some(s), Some(t)) => !fits(s, t),
+        _ => false,
+    }
+}
+
+/// Whether there is a scope, and it is another than this one.
+pub fn is_other(scope: &Option<Scope>, other: &Scope) -> bool
+    ensures { result ≡ holds scope.now (λ s. not (are_same_scope s other.now)) }
+{
+    scope.is_some_and(|s| !are_same_scope(&s, other))
+}
 
 /// The scope of a receiver: of the value, or of `this`.
 #[tactic(auto, unfolding(scj_rules::specs::UseRules::receiver_scope))]
 pub fn receiver_scope(at: &At<'_>, object: &Option<NodeId>) -> Option<Scope>
     ensures { result ≡ receiver_scope (declared at.now) (scopes at.now) at.now.id object.now }
 {
-    let uses = at.uses;
+    let facts = at.facts;
     match object {
         Some(object) => at.scope_of(*object),
-        None => uses.scoped.this_at(at.id),
+        None => this_at(facts, at.id),
     }
 }
 
 /// A field's scope, with that of its object for THIS.
 #[tactic(auto, unfolding(scj_rules::specs::UseRules::scope_of_field))]
-fn scope_of_field(uses: &Uses<'_>, object: &Option<Scope>, field: &FieldRef) -> Option<Scope>
-    ensures { result ≡ scope_of_field (declarations_of uses.now) object.now (found_field uses.now.nodes field.now) }
+fn scope_of_field(facts: &Facts<'_>, object: &Option<Scope>, field: &FieldRef) -> Option<Scope>
+    ensures { result ≡ scope_of_field (declarations_of facts.now) object.now (found_field facts.now.nodes field.now) }
 {
-    let scope = uses.scoped.field_scope(field)?;
+    let scope = field_scope(facts, field)?;
     substitute(object, &None, &scope)
 }
 
 /// The scope of a class's values, or this one where the class is unannotated.
 #[tactic(auto, unfolding(scj_rules::specs::UseRules::scope_in_class))]
-fn scope_in_class(uses: &Uses<'_>, class: ClassId, other: &Option<Scope>) -> Option<Scope>
-    ensures { result ≡ scope_in_class (declarations_of uses.now) class other.now }
+pub fn scope_in_class(facts: &Facts<'_>, class: ClassId, other: &Option<Scope>) -> Option<Scope>
+    ensures { result ≡ scope_in_class (declarations_of facts.now) class other.now }
 {
-    scope_or(&uses.scoped.scopes().class_scope(class), other)
+    scope_or(&class_scope(facts, class), other)
 }
 
 /// The scope in which a new object of a class lies.
 #[tactic(auto, unfolding(scj_rules::specs::UseRules::scope_of_new, scj_rules::specs::UseRules::scope_in_class))]
-pub fn scope_of_new(uses: &Uses<'_>, id: NodeId, class: ClassId) -> Option<Scope>
-    ensures { result ≡ scope_of_new (declarations_of uses.now) id class }
+pub fn scope_of_new(facts: &Facts<'_>, id: NodeId, class: ClassId) -> Option<Scope>
+    ensures { result ≡ scope_of_new (declarations_of facts.now) id class }
 {
-    scope_in_class(uses, class, &uses.scoped.current_at(id))
+    scope_in_class(facts, class, &current_at(facts, id))
 }
 
-/// The scope of a node, by what is told of those before it. A name whose values are no references has none, as its type
-/// tells.
-#[tactic(auto, using(crate::proofs::NodeLemmas::plain_name), unfolding(scj_rules::specs::UseRules::scope_of, scj_rules::specs::UseRules::scope_of_meaning, type_rules::specs::Meanings::meant, scj_rules::specs::UseRules::scope_of_call, scj_rules::specs::UseRules::scope_of_element))]
-fn scope_of(at: &At<'_>, node: &Node) -> Option<Scope>
-    requires there { slice_get at.now.uses.now.nodes at.now.id ≡ Some node.now }
-    requires types { at.now.types.now ≡ types_in (declared at.now) }
-    ensures { result ≡ scope_of (declared at.now) (types at.now) (scopes at.now) at.now.id node.now }
+/// The scope of a simple name.
+#[tactic(auto, unfolding(scj_rules::specs::UseRules::scope_of_meaning, program_facts::specs::Meanings::meant))]
+pub fn scope_of_name(at: &At<'_>, place: Pos, name: &Name) -> Option<Scope>
+    requires { slice_get at.now.facts.now.nodes at.now.id ≡ Some (SimpleName place name.now) }
+    ensures { let p = declared at.now in result ≡ scope_of_meaning p at.now.id (meaning p at.now.id name.now) }
 {
-    let uses = at.uses;
-    match node {
-        Node::This { .. } => uses.scoped.this_at(at.id),
-        Node::Null { .. } => Some(Scope::Any),
-        Node::Parenthesized { inner, .. } => at.scope_of(*inner),
-        Node::SimpleName { place, name } => {
-            if at.type_of(at.id).is_some_and(|t| !is_reference(&t)) {
-                return None;
-            }
-            match &names::meaning_there(&uses.known, at.id, *place, name.get()) {
-                NameMeaning::Variable(variable) => uses.scoped.variable_scope(*variable),
-                NameMeaning::Field(field) => {
-                    scope_of_field(uses, &uses.scoped.this_at(at.id), field)
-                }
-                NameMeaning::Class(_) | NameMeaning::Nothing => None,
-            }
-        }
-        Node::FieldAccess { name, object, .. } => {
-            let receiver = names::receiver(&uses.known, at.types, *object)?;
-            let field = names::field_accessed(&uses.known, at.id, &receiver, name.get())?;
-            scope_of_field(uses, &at.scope_of(*object), &field)
-        }
-        Node::Call { name, object, .. } => {
-            let receiver = names::call_receiver(&uses.known, at.types, at.id, object)?;
-            match &names::method_called(&uses.known, at.id, &receiver, name.get()) {
-                Some(method) => {
-                    let scope = uses.scoped.result_scope(method)?;
-                    substitute(
-                        &receiver_scope(at, object),
-                        &uses.scoped.current_at(at.id),
-                        &scope,
-                    )
-                }
-                None => None,
-            }
-        }
-        Node::New { name, .. } => scope_of_new(uses, at.id, uses.known.class_of(name.get())?),
-        Node::NewArray { .. } => uses.scoped.current_at(at.id),
-        Node::Element { array, .. } => match &at.type_of(*array) {
-            Some(Ty::ClassArray(class)) => scope_in_class(uses, *class, &at.scope_of(*array)),
-            _ => None,
-        },
-        Node::Cast { name, operand, .. } => {
-            let class = uses.known.class_of(name.get())?;
-            scope_in_class(uses, class, &at.scope_of(*operand))
-        }
+    let facts = at.facts;
+    match &names::meaning_there(facts, at.id, place, name) {
+        NameMeaning::Variable(variable) => variable_scope(facts, *variable),
+        NameMeaning::Field(field) => scope_of_field(facts, &this_at(facts, at.id), field),
+        NameMeaning::Class(_) | NameMeaning::Nothing => None,
+    }
+}
+
+/// The scope of the field that an access names.
+pub fn scope_of_access(at: &At<'_>, name: &Name, object: NodeId) -> Option<Scope>
+    ensures { let p = declared at.now in result ≡ option_and_then (λ r. option_and_then
+        (scope_of_field p (scopes at.now object)) (accessed_field p r name.now)) (receiver p (types at.now) object) }
+{
+    let facts = at.facts;
+    // The proof wants the type named that a receiver may hold.
+    let _types: &[Option<Ty>] = at.types;
+    let receiver = names::receiver(at, object)?;
+    let field = names::field_accessed(at, &receiver, name)?;
+    scope_of_field(facts, &at.scope_of(object), &field)
+}
+
+/// The scope of what a method gives that is called here.
+#[tactic(auto, unfolding(scj_rules::specs::UseRules::scope_of_call))]
+pub fn scope_of_call(at: &At<'_>, object: &Option<NodeId>, method: &MethodRef) -> Option<Scope>
+    ensures { let p = declared at.now in result ≡ scope_of_call p
+        (receiver_scope p (scopes at.now) at.now.id object.now) (current_at p at.now.id)
+        (found_method at.now.facts.now.nodes method.now) }
+{
+    let facts = at.facts;
+    let scope = result_scope(facts, method)?;
+    let object = receiver_scope(at, object);
+    substitute(&object, &current_at(facts, at.id), &scope)
+}
+
+/// The scope of an array's element.
+#[tactic(auto, unfolding(scj_rules::specs::UseRules::scope_of_element))]
+pub fn scope_of_element(at: &At<'_>, array: NodeId) -> Option<Scope>
+    ensures { result ≡ option_and_then
+        (scope_of_element (declared at.now) (scopes at.now array)) (types at.now array) }
+{
+    match &at.type_of(array) {
+        Some(Ty::ClassArray(class)) => scope_in_class(at.facts, *class, &at.scope_of(array)),
         _ => None,
     }
-}
-
-/// The scope of the node of a number, by what is told of those before it. Most have none, which their kinds tell
-/// without a look at them.
-#[tactic(auto, using(crate::proofs::NodeLemmas::scopeless), unfolding(scj_rules::specs::UseRules::scope_of_next, scj_rules::specs::Contexts::declarations_of, crate::specs::Phase::may_have_scope))]
-fn scope_at(at: &At<'_>) -> Option<Scope>
-    requires { at.now.types.now ≡ types_in (declared at.now) }
-    ensures { result ≡ scope_of_next (declared at.now) (types at.now) at.now.id (scopes at.now) }
-{
-    let uses = at.uses;
-    let program = uses.known.program();
-    match program.kind(at.id) {
-        Some(This | Null | Parenthesized | SimpleName | FieldAccess)
-        | Some(Call | New | NewArray | Element | Cast) => scope_of(at, program.get(at.id)?),
-        _ => None,
-    }
-}
-
-/// The static scope of each node.
-#[tactic(auto, using(crate::proofs::NodeLemmas::scopes_are), unfolding(scj_tree::specs::Recursion::bottom_up))]
-pub fn scopes_of<'a>(
-    alloc: Global,
-    uses: &'a Uses<'a>,
-    types: &'a [Option<Ty>],
-) -> Result<Vec<Option<Scope>>, Memory>
-    requires { types.now ≡ types_in (declarations_of uses.now) }
-    ensures { IfOk result (λ scopes. scopes.items ≡ scopes_in (declarations_of uses.now) (lookup None types.now)) }
-{
-    let count = uses.known.program().len();
-    let mut scopes = Vec::with_capacity(alloc, count)?;
-    for place in 0..count {
-        let scope = scope_at(&At {
-            uses: &*uses,
-            types: &*types,
-            scopes: &scopes,
-            id: NodeId::at(place as u32),
-        });
-        scopes.push(scope)?;
-    }
-    Ok(scopes)
 }

@@ -2,5 +2,4 @@ pub mod GrammarLaws
 pub mod SampleLaws
 pub mod StandLaws
 pub mod SyntaxLaws
-pub mod UseLemmas
 pub mod VerdictLaws

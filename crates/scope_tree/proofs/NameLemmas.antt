@@ -1,9 +1,9 @@
 -- The scopes by their names, from the last class on.
-use Rattle.std.proofs.Common.{◌≡◌, ℕ, suc, ◌+◌, ◌-◌, ◌<◌, ◌≤◌, Bool, true, false, cond, List, ◌∷◌, length, drop, get_or, find, slice_get, Option, Some, None, refl, sym, ap, ◌∙◌, arith, ⊎_elim, if◌then◌else◌, option_and_then}
+use Rattle.std.proofs.Common.{◌≡◌, ℕ, suc, ◌+◌, ◌-◌, ◌<◌, ◌≤◌, true, List, ◌∷◌, length, drop, get_or, slice_get, Option, Some, None, refl, sym, ap, ◌∙◌, arith, ⊎_elim, if◌then◌else◌, option_and_then}
 use Rattle.std.proofs.Math.Seq.{drop-cons}
 use Rattle.std.specs.Cmp.Lexicographic.{slice_cmp}
 use Rattle.std.specs.Ordering.{nat_cmp, is_eq}
-use Rattle.std.proofs.lemmas.Bool.{true≢false, cases_lt}
+use Rattle.std.proofs.lemmas.Bool.{cases_lt}
 use Rattle.std.proofs.lemmas.List.{drop_all}
 use Rattle.std.proofs.lemmas.Cmp.{nat_list_eq_equiv}
 use Rattle.std.proofs.lemmas.Map.Text.{is_eq-slice_cmp}
@@ -16,7 +16,7 @@ use Rattle.scj_rules.specs.Definitions.{is_reserved, first_definition, definitio
 use Rattle.scj_rules.specs.Classes.{class_nodes, first_user_class}
 use Rattle.scj_rules.specs.Contexts.{Declarations, declarations_of}
 use Rattle.scj_rules.specs.ScopeRules.{definition_in, scope_of_definition}
-use Rattle.scope_tree.specs.Trees.{entered}
+use Rattle.program_facts.specs.Tables.{entered}
 use Rattle.scope_tree.proofs.UserLemmas.{class_count, definition_at_place, no_definition_below, scope_at_place}
 
 same-true : (xs ys : List ℕ) → is_same xs ys ≡ true → xs ≡ ys
@@ -38,20 +38,9 @@ in_front_first : (scope : Definition → Option ℕ) (class : ℕ) (d : Definiti
     ≡ option_and_then scope (first_definition (d ∷ ds) name)
 unfolding first_definition
 in_front_first scope class d ds name h =
-    go (is_reserved d.scope.name) (is_reserved name) (is_same name d.scope.name) (find (λ (e : Definition). is_same name e.scope.name) ds)
-    (λ e. ap is_reserved (same-true name d.scope.name e))
-  where
-    go : (taken reserved same : Bool) (o : Option Definition) → (same ≡ true → reserved ≡ taken)
-        → (if taken then option_and_then scope (if reserved then None else o)
-        else (if same then Some class else option_and_then scope (if reserved then None else o)))
-        ≡ option_and_then scope (if reserved then None else cond same (Some d) o)
-    go true true same o e = refl
-    go true false true o e = absurd (true≢false (sym (e refl)))
-    go true false false o e = refl
-    go false true true o e = absurd (true≢false (e refl))
-    go false true false o e = refl
-    go false false true o e = sym h
-    go false false false o e = refl
+    let like : is_same name d.scope.name ≡ true → is_reserved name ≡ is_reserved d.scope.name =
+    λ e. ap is_reserved (same-true name d.scope.name e) in
+    grind (arith, h, like)
 
 module _ (forest : Forest) (whole : IsForest forest) where
   abbrev p : Declarations
@@ -63,11 +52,7 @@ module _ (forest : Forest) (whole : IsForest forest) where
   unfolding definitions_in first_definition
   none_from n found name e none =
       let l : length (class_nodes forest) ≤ n - first_user_class = omega (arith, e, class_count forest whole) in
-      rw (drop_all (n - first_user_class) (class_nodes forest) l) (none ∙ go (is_reserved name))
-    where
-      go : (t : Bool) → ◌≡◌ {A = Option ℕ} None (option_and_then (scope_of_definition p) (if t then None else None))
-      go true = refl
-      go false = refl
+      grind (arith, drop_all (n - first_user_class) (class_nodes forest) l, none)
 
   -- one class more
   pub entered_from : (m n : ℕ) (found : Option ℕ) (name : List ℕ) → m ≡ n + 1 → m ≤ length p.classes →
@@ -103,13 +88,9 @@ module _ (forest : Forest) (whole : IsForest forest) where
           let here : drop (n - first_user_class) ids ≡ x ∷ drop (suc k) ids = ap (λ i. drop i ids) (sym same)
           ∙ drop-cons ids k 0 inside in
           let next : m - first_user_class ≡ suc k = omega (arith, e, f) in
-          let later : found ≡ option_and_then (scope_of_definition p)
-          (first_definition (definitions_in forest.nodes (drop (suc k) ids)) name) =
-          before ∙ ap (λ i. option_and_then (scope_of_definition p)
-          (first_definition (definitions_in forest.nodes (drop i ids)) name)) next in
-          let written : definition_in p n ≡ definition_of forest.nodes x = ap (definition_in p) f
-          ∙ definition_at_place forest whole k x there in
-          rw (here, written, later) (go k x f there (drop (suc k) ids) (definition_of forest.nodes x) refl)
+          let written = definition_at_place forest whole k x there in
+          let behind = go k x f there (drop (suc k) ids) (definition_of forest.nodes x) refl in
+          grind (arith, here, next, before, f, written, behind)
 
   pub all_from : (name : List ℕ) → scope_from forest 0 name
       ≡ option_and_then (scope_of_definition p) (first_definition p.scopes name)

@@ -1,5 +1,5 @@
 -- What the rules on scopes find at the classes, number after number.
-use Rattle.std.proofs.Common.{◌≡◌, ℕ, suc, ◌+◌, List, [], ◌∷◌, ◌++◌, length, flat_map, refl, sym, ap, ◌∙◌, arith, append_assoc, append-nil, slice_get, Option, Some, None, option_map, option_and_then}
+use Rattle.std.proofs.Common.{◌≡◌, ℕ, suc, ◌+◌, List, [], ◌∷◌, ◌++◌, length, flat_map, refl, sym, ap, ◌∙◌, arith, append_assoc, append-nil, Option, Some, None, option_map}
 use Rattle.scj_base.specs.declared.findings.Found.{Found}
 use Rattle.scj_base.specs.declared.findings.Rule.TheVariants.{S6}
 use Rattle.scj_base.specs.declared.places.Pos.{Pos}
@@ -37,40 +37,15 @@ pub missing_at : (p : Declarations) (class : ℕ) (o : Option WrittenClass) (m :
     → broken (lacks_scope p class m.is_abstract) S6 place ≡ found_at o (s6 p class)
 unfolding s6
 missing_at p class None m place h k = cc
-missing_at p class (Some c) m place h k =
-    let same : m ≡ c.modifiers = cc in
-    let here : place ≡ c.place = cc in
-    rw (same, here) refl
+missing_at p class (Some c) m place h k = grind (arith, h, k)
 
 none_written : (p : Declarations) (class : ℕ) → user_class_in p.classes class ≡ None → definition_breaks p class ≡ []
 unfolding definition_breaks definition_in
 none_written p class e = rw e refl
 
 -- what is found at a class in its two parts: where it isn't a user class, it writes no definition
-parts_of : (p : Declarations) (class : ℕ)
+pub parts_of : (p : Declarations) (class : ℕ)
     → definition_breaks p class ++ found_at (user_class_in p.classes class) (s6 p class)
     ≡ at_class p (λ class row c. scope_breaks p class c) class
 unfolding at_class scope_breaks
-parts_of p class = go (slice_get p.classes class) refl
-  where
-    inside : (o : Option WrittenClass) → user_class_in p.classes class ≡ o
-        → definition_breaks p class ++ found_at o (s6 p class)
-        ≡ found_at o (λ (c : WrittenClass). definition_breaks p class ++ s6 p class c)
-    inside None e = rw (none_written p class e) refl
-    inside (Some c) e = refl
-
-    go : (o : Option ClassRow) → slice_get p.classes class ≡ o
-        → definition_breaks p class ++ found_at (option_and_then (λ (row : ClassRow). row.written) o) (s6 p class)
-        ≡ found_at o (λ (row : ClassRow). found_at row.written
-        (λ (c : WrittenClass). definition_breaks p class ++ s6 p class c))
-    go None e = inside None (ap (option_and_then (λ (row : ClassRow). row.written)) e)
-    go (Some row) e = inside row.written (ap (option_and_then (λ (row : ClassRow). row.written)) e)
-
-pub parts_at : (p : Declarations) (class : ℕ) (found written noted : List Found)
-    → noted ≡ written ++ found_at (user_class_in p.classes class) (s6 p class)
-    → written ≡ found ++ definition_breaks p class
-    → noted ≡ found ++ at_class p (λ class row c. scope_breaks p class c) class
-parts_at p class found written noted h e =
-    let last = found_at (user_class_in p.classes class) (s6 p class) in
-    h ∙ ap (λ t. t ++ last) e ∙ append_assoc found (definition_breaks p class) last
-    ∙ ap (λ t. found ++ t) (parts_of p class)
+parts_of p class = grind (arith, none_written p class)

@@ -1,7 +1,7 @@
 -- The user classes of a program at their numbers, and the definitions that they write.
-use Rattle.std.proofs.Common.{◌≡◌, ℕ, zero, suc, ◌+◌, ◌-◌, ◌<◌, ◌≤◌, Bool, true, false, not, cond, List, [], ◌∷◌, ◌++◌, length, map, find, filter_map, slice_get, position, Option, Some, None, option_map, option_and_then, refl, sym, ap, ◌∙◌, arith, ⊎_elim, nat_lt, length-append, ◌==◌, ◌||◌, if◌then◌else◌}
+use Rattle.std.proofs.Common.{◌≡◌, ℕ, zero, suc, ◌+◌, ◌-◌, ◌<◌, ◌≤◌, Bool, List, [], ◌∷◌, ◌++◌, length, map, find, filter_map, slice_get, position, Option, Some, None, option_map, option_and_then, refl, sym, ap, ◌∙◌, arith, ⊎_elim, length-append, ◌==◌, ◌||◌, if◌then◌else◌}
 use Rattle.std.specs.List.{position_or_len}
-use Rattle.std.proofs.lemmas.Bool.{cases_lt, eq-eqb, ne_eqb, true≢false}
+use Rattle.std.proofs.lemmas.Bool.{cases_lt, eq-eqb}
 use Rattle.std.proofs.lemmas.List.{length-map}
 use Rattle.std.proofs.lemmas.List.Folds.{list_any_at}
 use Rattle.std.proofs.lemmas.Bool.Decides.{nat_tests}
@@ -19,7 +19,6 @@ use Rattle.scj_rules.specs.Views.{WrittenClass, class_at, class_of}
 use Rattle.scj_rules.specs.Classes.{ClassRow, class_nodes, user_classes, class_names, user_row, framework_rows_from, written_rows, first_user_class}
 use Rattle.scj_rules.specs.Contexts.{Declarations, declarations_of, number_of_class}
 use Rattle.scj_rules.specs.ScopeRules.{definition_in, scope_of_definition}
-use Rattle.scj_rules.proofs.ChainLemmas.{same_number}
 use Rattle.class_rows.specs.Tables.{class_written}
 use Rattle.class_rows.proofs.RowLemmas.{as_written, class_length}
 use Rattle.class_rows.proofs.SoundLemmas.{row_sound}
@@ -130,64 +129,35 @@ found_definition : (nodes : List Node) (ids : List ℕ) (node : ℕ) → find (i
 unfolding definitions_in
 found_definition nodes [] node = refl
 found_definition nodes (y ∷ ids) node =
-    go (definition_of nodes y) refl (node == y) refl (found_definition nodes ids node)
+    go (definition_of nodes y) refl (class_of_definition nodes y) (found_definition nodes ids node)
   where
-    either : (t : Bool) → ◌≡◌ {A = Option Definition} (if t then None else None) None
-    either true = refl
-    either false = refl
-
-    go : (o : Option Definition) → definition_of nodes y ≡ o → (t : Bool) → (node == y) ≡ t
+    go : (o : Option Definition) → definition_of nodes y ≡ o
+        → ((d : Definition) → definition_of nodes y ≡ Some d → d.class ≡ y)
         → find (is_class_of node) (definitions_in nodes ids)
         ≡ (if is_among node ids then definition_of nodes node else None)
         → find (is_class_of node) (in_front o (definitions_in nodes ids))
-        ≡ (if t || is_among node ids then definition_of nodes node else None)
-    go None e false f rest = rest
-    go None e true f rest =
-        let none : definition_of nodes node ≡ None = ap (definition_of nodes) (same_number node y f) ∙ e in
-        rw none (rest ∙ rw none (either (is_among node ids)))
-    go (Some d) e true f rest =
-        let same : node ≡ y = same_number node y f in
-        let like : (d.class == node) ≡ true = eq-eqb d.class node (class_of_definition nodes y d e ∙ sym same) in
-        rw like (sym (ap (definition_of nodes) same ∙ e))
-    go (Some d) e false f rest =
-        let unlike : (d.class == node) ≡ false =
-        ne_eqb d.class node (λ g. true≢false (sym (eq-eqb node y (sym g ∙ class_of_definition nodes y d e)) ∙ f)) in
-        rw unlike rest
+        ≡ (if (node == y) || is_among node ids then definition_of nodes node else None)
+    go None e own rest = grind (arith, nat_tests, e, rest, ap (definition_of nodes))
+    go (Some d) e own rest = grind (arith, nat_tests, e, rest, own d e, ap (definition_of nodes))
 
 -- ---- the place of a number that stands once
 
 among_once : (x : ℕ) (xs : List ℕ) (k : ℕ) → slice_get xs k ≡ Some x → 1 ≤ times x xs
 unfolding times
 among_once x [] k h = cc
-among_once x (y ∷ xs) zero h =
-    let same : (x == y) ≡ true = eq-eqb x y (let e : y ≡ x = cc in sym e) in
-    rw same (omega arith)
+among_once x (y ∷ xs) zero h = grind (arith, nat_tests, h)
 among_once x (y ∷ xs) (suc k) h = omega (arith, among_once x xs k h)
 
 first_place : (x : ℕ) (xs : List ℕ) (k : ℕ) → slice_get xs k ≡ Some x → times x xs ≤ 1 →
     position_or_len (λ o. x == o) xs ≡ k
 unfolding times
 first_place x [] k h once = cc
-first_place x (y ∷ xs) zero h once =
-    let same : (x == y) ≡ true = eq-eqb x y (let e : y ≡ x = cc in sym e) in
-    rw same refl
-first_place x (y ∷ xs) (suc k) h once = go (x == y) refl (first_place x xs k h)
-  where
-    go : (t : Bool) → (x == y) ≡ t → (times x xs ≤ 1 → position_or_len (λ o. x == o) xs ≡ k) →
-        cond (not t) (1 + position_or_len (λ o. x == o) xs) 0 ≡ suc k
-    go true e rest =
-        absurd (let twice : 1 + times x xs ≤ 1 = (rw e at once) in omega (arith, twice, among_once x xs k h))
-    go false e rest =
-        let later : times x xs ≤ 1 = omega (arith, once) in
-        omega (arith, rest later)
+first_place x (y ∷ xs) zero h once = grind (arith, nat_tests, h)
+first_place x (y ∷ xs) (suc k) h once = grind (arith, nat_tests, first_place x xs k h, among_once x xs k h, once)
 
 place_there : (x : ℕ) (xs : List ℕ) (k : ℕ) → slice_get xs k ≡ Some x → times x xs ≤ 1 →
     position (λ o. x == o) xs ≡ Some k
-place_there x xs k h once =
-    let e : position_or_len (λ o. x == o) xs ≡ k = first_place x xs k h once in
-    let inside : nat_lt k (length xs) ≡ true =
-    (let l : k < length xs = slice_get_within xs k x h in grind (arith, nat_tests)) in
-    rw e (rw inside refl)
+place_there x xs k h once = grind (arith, nat_tests, first_place x xs k h once, slice_get_within xs k x h)
 
 -- ---- the definitions at the numbers of the classes
 
@@ -247,11 +217,10 @@ module _ (forest : Forest) (whole : IsForest forest) where
       go (Some c) e =
           let there = node_there class c e in
           let k : ℕ = there.0 in
-          let among : is_among c.node nodes_of ≡ true =
-          list_any_at (λ m. c.node == m) nodes_of k c.node (slice_get_within nodes_of k c.node there.1)
-          (eq-eqb _ _ (sym (get_or_from_slice_get nodes_of k c.node c.node there.1))) in
-          found_definition forest.nodes nodes_of c.node
-          ∙ ap (λ t. if t then definition_of forest.nodes c.node else None) among
+          let alike = eq-eqb _ _ (sym (get_or_from_slice_get nodes_of k c.node c.node there.1)) in
+          let among =
+          list_any_at (λ m. c.node == m) nodes_of k c.node (slice_get_within nodes_of k c.node there.1) alike in
+          grind (arith, nat_tests, found_definition forest.nodes nodes_of c.node, among)
 
   -- the definition of a class by its place among the user classes, and the scope that it makes
   pub definition_at_place : (k x : ℕ) → slice_get nodes_of k ≡ Some x →

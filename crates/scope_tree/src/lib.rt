@@ -5,8 +5,6 @@ mod builds;
 mod names;
 mod rules;
 pub mod scopes;
-pub mod trees;
 
 pub use builds::build;
-pub use scopes::Scopes;
-pub use trees::ScopeTree;
+pub use names::names_of;

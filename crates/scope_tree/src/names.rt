@@ -6,11 +6,11 @@ ghost use Rattle.scj_rules.specs.Definitions.{definition_of, define_scope_of, fl
 ghost use Rattle.scj_rules.specs.ScopeRules.{definition_in, user_class_in};
 ghost use Rattle.scj_rules.specs.Views.{WrittenClass};
 ghost use Rattle.scj_tree.specs.Forest.{IsForest};
-ghost use Rattle.scope_tree.specs.Trees.{IsNaming, entered, scope_named};
+ghost use Rattle.program_facts.specs.Tables.{FindsScopes, IsNaming, entered, scope_named};
 
-use crate::trees::ScopeNames;
 use class_rows::Classes;
 use node_views::{class_modifiers, class_place};
+use program_facts::ScopeNames;
 use scj_base::{ClassId, Memory, Name, NodeId, Pos, ScopeId};
 use scj_rules::{Definition, Modifiers, Written};
 use scj_tree::{Node, Program};
@@ -145,9 +145,9 @@ fn enter(names: &mut ScopeNames, classes: &Classes, class: ClassId) -> Result<()
 
 /// The scopes by their names, of so many classes. The last class is entered first, so that the first one of a name
 /// stays.
-pub fn names_of(alloc: Global, classes: &Classes, count: u32) -> Result<ScopeNames, Memory>
+fn names_below(alloc: Global, classes: &Classes, count: u32) -> Result<ScopeNames, Memory>
     requires { count ≡ length (declarations_of classes.now).classes }
-    ensures { IfOk result (λ names. IsNaming (declarations_of classes.now) names) }
+    ensures { IfOk result (λ names. FindsScopes (declarations_of classes.now) names) }
 {
     is_whole(classes);
     let mut names = ScopeNames {
@@ -158,5 +158,16 @@ pub fn names_of(alloc: Global, classes: &Classes, count: u32) -> Result<ScopeNam
         left -= 1;
         enter(&mut names, classes, ClassId::at(left))?;
     }
+    Ok(names)
+}
+
+/// The scopes by their names. There are more classes than numbers of them only where memory is wanting.
+pub fn names_of(alloc: Global, classes: &Classes) -> Result<ScopeNames, Memory>
+    ensures { IfOk result (λ names. IsNaming (declarations_of classes.now) names) }
+{
+    let Ok(count) = u32::try_from(classes.count()) else {
+        return Err(Memory);
+    };
+    let names = names_below(alloc, classes, count)?;
     Ok(names)
 }

@@ -10,9 +10,10 @@ ghost use Rattle.scj_rules.specs.Report.{IsReport};
 ghost use Rattle.scj_rules.specs.ScopeRules.{definition_breaks, definition_in, has_wrong_parent, is_cyclic_scope, is_defined_already, is_handler, is_wrong_class, lacks_scope, lies_in_parent, makes_scope, misfits_parent, needs_scope, s1, s2, s3, s4, s5, s6, scope_breaks, scope_written_on_chain, user_class_in};
 
 use crate::names::{definition_in, is_reserved, modifiers_in, place_in};
-use crate::scopes::Scopes;
+use crate::scopes::{is_cyclic, scope_written_in};
 use class_rows::Classes;
 use class_rows::chains::Chain;
+use program_facts::Facts;
 use scj_base::ids::{APERIODIC_EVENT_HANDLER, MISSION, PERIODIC_EVENT_HANDLER, RUNNABLE};
 use scj_base::{ClassId, Found, Memory, Rule, ScopeId};
 use scj_rules::{Definition, Written, put_in_order, report_if};
@@ -27,12 +28,12 @@ fn is_handler(classes: &Classes, class: ClassId) -> bool
 }
 
 /// Whether a class of the chain writes a definition.
-fn any_defines(scopes: &Scopes, chain: Chain<'_>) -> bool
-    ensures { result ≡ list_any (λ class. is_some (definition_in (declarations_of scopes.now) class)) chain.entry }
+fn any_defines(facts: &Facts, chain: Chain<'_>) -> bool
+    ensures { result ≡ list_any (λ class. is_some (definition_in (declarations_of facts.now) class)) chain.entry }
 {
     let mut rest = chain;
     while let Some(class) = rest.next() {
-        if definition_in(scopes.classes(), class).is_some() {
+        if definition_in(facts.classes(), class).is_some() {
             return true;
         }
     }
@@ -40,46 +41,46 @@ fn any_defines(scopes: &Scopes, chain: Chain<'_>) -> bool
 }
 
 /// Whether a definition's name is reserved, or another class makes its scope.
-fn is_defined_already(scopes: &Scopes, class: ClassId, definition: &Definition) -> bool
-    ensures { result ≡ is_defined_already (declarations_of scopes.now) class definition.now }
+fn is_defined_already(facts: &Facts, class: ClassId, definition: &Definition) -> bool
+    ensures { result ≡ is_defined_already (declarations_of facts.now) class definition.now }
 {
     if is_reserved(&definition.scope.name) {
         return true;
     }
-    match scopes.scope_number(&definition.scope.name) {
+    match facts.scope_number(&definition.scope.name) {
         Some(scope) => scope.number() != class.number(),
         None => false,
     }
 }
 
 /// Whether a definition makes the scope of its name.
-fn makes_scope(scopes: &Scopes, class: ClassId, definition: &Definition) -> bool
-    ensures { result ≡ makes_scope (declarations_of scopes.now) class definition.now }
+fn makes_scope(facts: &Facts, class: ClassId, definition: &Definition) -> bool
+    ensures { result ≡ makes_scope (declarations_of facts.now) class definition.now }
 {
-    match scopes.scope_number(&definition.scope.name) {
+    match facts.scope_number(&definition.scope.name) {
         Some(scope) => scope.number() == class.number(),
         None => false,
     }
 }
 
 /// Whether a class must define no scope.
-fn is_wrong_class(scopes: &Scopes, class: ClassId) -> bool
-    ensures { result ≡ is_wrong_class (declarations_of scopes.now) class }
+fn is_wrong_class(facts: &Facts, class: ClassId) -> bool
+    ensures { result ≡ is_wrong_class (declarations_of facts.now) class }
 {
-    let classes = scopes.classes();
+    let classes = facts.classes();
     let may_define = classes.is_under(class, MISSION)
         || (is_handler(classes, class) || classes.is_sub(class, RUNNABLE));
-    !may_define || any_defines(scopes, classes.classes_above(class))
+    !may_define || any_defines(facts, classes.classes_above(class))
 }
 
 /// The scope that a class of the chain writes for its instances, the first that does.
 #[tactic(auto, using(class_rows::proofs::WalkLemmas::along_found, class_rows::proofs::WalkLemmas::along_next, class_rows::proofs::WalkLemmas::along_end), unfolding(scj_rules::specs::ScopeRules::scope_written_on_chain))]
-fn scope_written_on_chain(scopes: &Scopes, class: ClassId) -> Option<Written>
-    ensures { result ≡ scope_written_on_chain (declarations_of scopes.now) class }
+fn scope_written_on_chain(facts: &Facts, class: ClassId) -> Option<Written>
+    ensures { result ≡ scope_written_on_chain (declarations_of facts.now) class }
 {
-    let mut chain = scopes.classes().superclasses(class);
+    let mut chain = facts.classes().superclasses(class);
     while let Some(at) = chain.next() {
-        if let Some(written) = scopes.scope_written_in(at) {
+        if let Some(written) = scope_written_in(facts, at) {
             return Some(written);
         }
     }
@@ -87,10 +88,10 @@ fn scope_written_on_chain(scopes: &Scopes, class: ClassId) -> Option<Written>
 }
 
 /// Whether the instances of a class lie in the parent of its scope.
-fn lies_in_parent(scopes: &Scopes, class: ClassId, definition: &Definition) -> bool
-    ensures { result ≡ lies_in_parent (declarations_of scopes.now) class definition.now }
+fn lies_in_parent(facts: &Facts, class: ClassId, definition: &Definition) -> bool
+    ensures { result ≡ lies_in_parent (declarations_of facts.now) class definition.now }
 {
-    match scope_written_on_chain(scopes, class) {
+    match scope_written_on_chain(facts, class) {
         Some(written) => written.name == definition.parent.name,
         None => false,
     }
@@ -98,26 +99,26 @@ fn lies_in_parent(scopes: &Scopes, class: ClassId, definition: &Definition) -> b
 
 /// Whether a parent doesn't suit the class that names it.
 #[tactic(auto, unfolding(scj_rules::specs::ScopeRules::misfits_parent))]
-fn misfits_parent(scopes: &Scopes, class: ClassId, definition: &Definition, parent: ScopeId) -> bool
-    ensures { result ≡ misfits_parent (declarations_of scopes.now) class definition.now parent }
+fn misfits_parent(facts: &Facts, class: ClassId, definition: &Definition, parent: ScopeId) -> bool
+    ensures { result ≡ misfits_parent (declarations_of facts.now) class definition.now parent }
 {
-    let classes = scopes.classes();
+    let classes = facts.classes();
     if classes.is_under(class, MISSION) {
         return parent != ScopeId::IMMORTAL;
     }
     if is_handler(classes, class) {
         return !(classes.is_under(ClassId::at(parent.number()), MISSION)
-            && lies_in_parent(scopes, class, definition));
+            && lies_in_parent(facts, class, definition));
     }
     classes.is_sub(class, RUNNABLE) && parent == ScopeId::IMMORTAL
 }
 
 /// Whether the parent is a scope, and doesn't suit the class.
-fn has_wrong_parent(scopes: &Scopes, class: ClassId, definition: &Definition) -> bool
-    ensures { result ≡ has_wrong_parent (declarations_of scopes.now) class definition.now }
+fn has_wrong_parent(facts: &Facts, class: ClassId, definition: &Definition) -> bool
+    ensures { result ≡ has_wrong_parent (declarations_of facts.now) class definition.now }
 {
-    match scopes.scope_number(&definition.parent.name) {
-        Some(parent) => misfits_parent(scopes, class, definition, parent),
+    match facts.scope_number(&definition.parent.name) {
+        Some(parent) => misfits_parent(facts, class, definition, parent),
         None => false,
     }
 }
@@ -126,35 +127,35 @@ fn has_wrong_parent(scopes: &Scopes, class: ClassId, definition: &Definition) ->
 #[tactic(auto, unfolding(scj_rules::specs::ScopeRules::s1, scj_rules::specs::ScopeRules::s2, scj_rules::specs::ScopeRules::s3, scj_rules::specs::ScopeRules::s4, scj_rules::specs::ScopeRules::s5))]
 fn note_definition(
     found: &mut Vec<Found>,
-    scopes: &Scopes,
+    facts: &Facts,
     class: ClassId,
     definition: &Definition,
 ) -> Result<(), Memory>
-    ensures { let p = declarations_of scopes.now in
+    ensures { let p = declarations_of facts.now in
         OnOk result (found.new.items ≡ found.old.items ++ (s1 p class definition.now ++ s2 p class definition.now
         ++ s3 p class definition.now ++ s4 p class definition.now ++ s5 p class definition.now)) }
 {
     let scope = definition.scope.place;
     let parent = definition.parent.place;
-    let is_taken = is_defined_already(scopes, class, definition);
-    let is_unknown = scopes.scope_number(&definition.parent.name).is_none();
-    let is_cycle = makes_scope(scopes, class, definition) && scopes.is_cyclic(class);
-    let misfits = has_wrong_parent(scopes, class, definition);
+    let is_taken = is_defined_already(facts, class, definition);
+    let is_unknown = facts.scope_number(&definition.parent.name).is_none();
+    let is_cycle = makes_scope(facts, class, definition) && is_cyclic(facts, class);
+    let misfits = has_wrong_parent(facts, class, definition);
     report_if(found, is_taken, Rule::S1, scope)?;
     report_if(found, is_unknown, Rule::S2, parent)?;
     report_if(found, is_cycle, Rule::S3, parent)?;
-    report_if(found, is_wrong_class(scopes, class), Rule::S4, scope)?;
+    report_if(found, is_wrong_class(facts, class), Rule::S4, scope)?;
     report_if(found, misfits, Rule::S5, parent)?;
     Ok(())
 }
 
 /// Notes what is broken at the definition that a class writes.
 #[tactic(auto, unfolding(scj_rules::specs::ScopeRules::definition_breaks))]
-fn note_written(found: &mut Vec<Found>, scopes: &Scopes, class: ClassId) -> Result<(), Memory>
-    ensures { OnOk result (found.new.items ≡ found.old.items ++ definition_breaks (declarations_of scopes.now) class) }
+fn note_written(found: &mut Vec<Found>, facts: &Facts, class: ClassId) -> Result<(), Memory>
+    ensures { OnOk result (found.new.items ≡ found.old.items ++ definition_breaks (declarations_of facts.now) class) }
 {
-    match definition_in(scopes.classes(), class) {
-        Some(definition) => note_definition(found, scopes, class, &definition),
+    match definition_in(facts.classes(), class) {
+        Some(definition) => note_definition(found, facts, class, &definition),
         None => Ok(()),
     }
 }
@@ -167,30 +168,30 @@ fn needs_scope(classes: &Classes, class: ClassId) -> bool
 }
 
 /// Whether a class of the chain of a class writes a definition.
-fn chain_defines(scopes: &Scopes, class: ClassId) -> bool
-    ensures { let p = declarations_of scopes.now in
+fn chain_defines(facts: &Facts, class: ClassId) -> bool
+    ensures { let p = declarations_of facts.now in
         result ≡ list_any (λ class. is_some (definition_in p class)) (superclasses p.classes class) }
 {
-    any_defines(scopes, scopes.classes().superclasses(class))
+    any_defines(facts, facts.classes().superclasses(class))
 }
 
 /// Whether no class of the chain defines the scope that a class needs.
-fn lacks_scope(scopes: &Scopes, class: ClassId, is_abstract: bool) -> bool
-    ensures { result ≡ lacks_scope (declarations_of scopes.now) class is_abstract }
+fn lacks_scope(facts: &Facts, class: ClassId, is_abstract: bool) -> bool
+    ensures { result ≡ lacks_scope (declarations_of facts.now) class is_abstract }
 {
-    !is_abstract && (needs_scope(scopes.classes(), class) && !chain_defines(scopes, class))
+    !is_abstract && (needs_scope(facts.classes(), class) && !chain_defines(facts, class))
 }
 
 /// Notes S6 at a class, if it is a user class.
 #[tactic(auto, using(crate::proofs::PhaseLemmas::missing_at), unfolding(scj_rules::specs::ScopeRules::s6))]
-fn note_missing(found: &mut Vec<Found>, scopes: &Scopes, class: ClassId) -> Result<(), Memory>
-    ensures { let p = declarations_of scopes.now in
+fn note_missing(found: &mut Vec<Found>, facts: &Facts, class: ClassId) -> Result<(), Memory>
+    ensures { let p = declarations_of facts.now in
         OnOk result (found.new.items ≡ found.old.items ++ found_at (user_class_in p.classes class) (s6 p class)) }
 {
-    let classes = scopes.classes();
+    let classes = facts.classes();
     match (modifiers_in(classes, class), place_in(classes, class)) {
         (Some(modifiers), Some(place)) => {
-            let test = lacks_scope(scopes, class, modifiers.is_abstract);
+            let test = lacks_scope(facts, class, modifiers.is_abstract);
             report_if(found, test, Rule::S6, place)
         }
         _ => Ok(()),
@@ -198,33 +199,32 @@ fn note_missing(found: &mut Vec<Found>, scopes: &Scopes, class: ClassId) -> Resu
 }
 
 /// Notes what is broken at a class.
-#[tactic(auto, using(crate::proofs::PhaseLemmas::parts_at))]
-fn note_class(found: &mut Vec<Found>, scopes: &Scopes, class: ClassId) -> Result<(), Memory>
-    ensures { let p = declarations_of scopes.now in
+fn note_class(found: &mut Vec<Found>, facts: &Facts, class: ClassId) -> Result<(), Memory>
+    ensures { let p = declarations_of facts.now in
         OnOk result (found.new.items ≡ found.old.items ++ at_class p (λ class row c. scope_breaks p class c) class) }
 {
-    note_written(found, scopes, class)?;
-    note_missing(found, scopes, class)?;
+    note_written(found, facts, class)?;
+    note_missing(found, facts, class)?;
     Ok(())
 }
 
 /// What is broken at the classes.
 #[tactic(auto, using(crate::proofs::PhaseLemmas::classes_joined), unfolding(scj_tree::specs::Recursion::joined_below, scj_rules::specs::Phases::scope_phase))]
-fn broken_classes(alloc: Global, scopes: &Scopes) -> Result<Vec<Found>, Memory>
-    ensures { IfOk result (λ found. found.items ≡ scope_phase (declarations_of scopes.now)) }
+fn broken_classes(alloc: Global, facts: &Facts) -> Result<Vec<Found>, Memory>
+    ensures { IfOk result (λ found. found.items ≡ scope_phase (declarations_of facts.now)) }
 {
     let mut found = Vec::new(alloc);
-    for number in 0..scopes.class_count() {
-        note_class(&mut found, scopes, ClassId::at(number as u32))?;
+    for number in 0..facts.class_count() {
+        note_class(&mut found, facts, ClassId::at(number as u32))?;
     }
     Ok(found)
 }
 
 /// What is broken at the classes, in the order of a report.
-pub fn report_of(alloc: Global, scopes: &Scopes) -> Result<Vec<Found>, Memory>
-    ensures { IfOk result (λ found. IsReport (BreaksScopeRules scopes.now) found.items) }
+pub fn report_of(alloc: Global, facts: &Facts) -> Result<Vec<Found>, Memory>
+    ensures { IfOk result (λ found. IsReport (BreaksScopeRules facts.now) found.items) }
 {
-    let mut found = broken_classes(alloc, scopes)?;
+    let mut found = broken_classes(alloc, facts)?;
     put_in_order(&mut found);
     Ok(found)
 }

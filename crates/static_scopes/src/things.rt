@@ -6,9 +6,10 @@ ghost use Rattle.scj_rules.specs.Words.{holds};
 ghost use Rattle.scj_rules.specs.Contexts.{declarations_of};
 ghost use Rattle.scj_rules.specs.StaticScopes.{are_same_scope, fits, substitute, scope_or, this_in, resolve_name, is_other_scope, written_scope, class_scope, has_no_scope, type_scope, resolve_at, is_unknown_scope, contradicts, declaration_scope, scoped_variable, scoped_field, suits_field, field_scope};
 
+use program_facts::Facts;
 use scj_base::{ClassId, Name, ScopeId};
 use scj_rules::{ClassScope, Declared, Resolution, Scope, ScopedDeclaration, Written, WrittenType};
-use scope_tree::Scopes;
+use scope_tree::scopes::{class_scope, is_outer};
 
 /// Whether two scopes are the same.
 #[tactic(auto, unfolding(scj_rules::specs::StaticScopes::are_same_scope))]
@@ -61,28 +62,28 @@ pub fn scope_or(scope: &ClassScope, other: &Option<Scope>) -> Option<Scope>
 
 /// Where the objects of a class lie, as their own methods say it.
 #[tactic(auto, unfolding(scj_rules::specs::StaticScopes::this_in))]
-pub fn this_in(scopes: &Scopes, class: ClassId) -> Option<Scope>
-    ensures { result ≡ this_in (declarations_of scopes.now) class }
+pub fn this_in(facts: &Facts, class: ClassId) -> Option<Scope>
+    ensures { result ≡ this_in (declarations_of facts.now) class }
 {
-    scope_or(&scopes.class_scope(class), &Some(Scope::This))
+    scope_or(&class_scope(facts, class), &Some(Scope::This))
 }
 
 /// What a name in an annotation denotes, in a class and where a scope is current.
 #[tactic(auto, unfolding(scj_rules::specs::StaticScopes::resolve_name))]
 pub fn resolve_name(
-    scopes: &Scopes,
+    facts: &Facts,
     class: ClassId,
     current: &Option<Scope>,
     name: &Name,
 ) -> Resolution
-    ensures { result ≡ resolve_name (declarations_of scopes.now) class current.now name.now }
+    ensures { result ≡ resolve_name (declarations_of facts.now) class current.now name.now }
 {
     let scope = if name.bytes() == b"THIS".as_slice() {
-        this_in(scopes, class)
+        this_in(facts, class)
     } else if name.bytes() == b"CALLER".as_slice() {
         *current
     } else {
-        return match scopes.scope_number(name) {
+        return match facts.scope_number(name) {
             Some(scope) => Resolution::Resolved(Scope::In(scope)),
             None => Resolution::Unresolved,
         };
@@ -96,14 +97,14 @@ pub fn resolve_name(
 /// The scope that a name denotes, in a class and where a scope is current.
 #[tactic(auto, unfolding(scj_rules::specs::StaticScopes::written_scope))]
 pub fn written_scope(
-    scopes: &Scopes,
+    facts: &Facts,
     class: ClassId,
     current: &Option<Scope>,
     name: &Name,
 ) -> Option<Scope>
-    ensures { result ≡ written_scope (declarations_of scopes.now) class current.now name.now }
+    ensures { result ≡ written_scope (declarations_of facts.now) class current.now name.now }
 {
-    match &resolve_name(scopes, class, current, name) {
+    match &resolve_name(facts, class, current, name) {
         Resolution::Resolved(scope) => Some(*scope),
         Resolution::Missing | Resolution::Unresolved => None,
     }
@@ -137,12 +138,12 @@ pub fn has_no_scope(declared_type: &WrittenType) -> bool
 
 /// Where all values of a type lie.
 #[tactic(auto, unfolding(scj_rules::specs::StaticScopes::type_scope, scj_rules::specs::ClassRules::class_written))]
-fn type_scope(scopes: &Scopes, declared_type: &WrittenType) -> ClassScope
-    ensures { result ≡ type_scope (declarations_of scopes.now) declared_type.now }
+fn type_scope(facts: &Facts, declared_type: &WrittenType) -> ClassScope
+    ensures { result ≡ type_scope (declarations_of facts.now) declared_type.now }
 {
     match declared_type {
-        WrittenType::Class(name) => match scopes.classes().class_of(name) {
-            Some(class) => scopes.class_scope(class),
+        WrittenType::Class(name) => match facts.class_of(name) {
+            Some(class) => class_scope(facts, class),
             None => ClassScope::Unannotated,
         },
         _ => ClassScope::Unannotated,
@@ -152,42 +153,42 @@ fn type_scope(scopes: &Scopes, declared_type: &WrittenType) -> ClassScope
 /// What a name denotes in the annotation of a declaration: nothing, though it does elsewhere, where it is `THIS` in a
 /// static member of an unannotated class, or `CALLER` on a field.
 #[tactic(auto, unfolding(scj_rules::specs::StaticScopes::resolve_at, scj_rules::specs::StaticScopes::denotes_nothing, scj_rules::specs::StaticScopes::is_unannotated))]
-fn resolve_at(scopes: &Scopes, thing: &ScopedDeclaration, name: &Name) -> Resolution
-    ensures { result ≡ resolve_at (declarations_of scopes.now) thing.now name.now }
+fn resolve_at(facts: &Facts, thing: &ScopedDeclaration, name: &Name) -> Resolution
+    ensures { result ≡ resolve_at (declarations_of facts.now) thing.now name.now }
 {
     let denotes_nothing = if name.bytes() == b"THIS".as_slice() {
-        thing.is_static && matches!(&scopes.class_scope(thing.class), ClassScope::Unannotated)
+        thing.is_static && matches!(&class_scope(facts, thing.class), ClassScope::Unannotated)
     } else {
         name.bytes() == b"CALLER".as_slice() && thing.is_field
     };
     if denotes_nothing {
         return Resolution::Unresolved;
     }
-    resolve_name(scopes, thing.class, &thing.current, name)
+    resolve_name(facts, thing.class, &thing.current, name)
 }
 
 /// Whether the name in the annotation of a declaration denotes nothing.
 #[tactic(auto, unfolding(scj_rules::specs::StaticScopes::is_unknown_scope))]
-pub fn is_unknown_scope(scopes: &Scopes, thing: &ScopedDeclaration, written: &Written) -> bool
-    ensures { result ≡ is_unknown_scope (declarations_of scopes.now) thing.now written.now }
+pub fn is_unknown_scope(facts: &Facts, thing: &ScopedDeclaration, written: &Written) -> bool
+    ensures { result ≡ is_unknown_scope (declarations_of facts.now) thing.now written.now }
 {
     matches!(
-        &resolve_at(scopes, thing, &written.name),
+        &resolve_at(facts, thing, &written.name),
         Resolution::Unresolved
     )
 }
 
 /// Whether a written scope contradicts the type of a thing.
 #[tactic(auto, unfolding(scj_rules::specs::StaticScopes::contradicts))]
-pub fn contradicts(scopes: &Scopes, thing: &ScopedDeclaration, written: &Written) -> bool
-    ensures { result ≡ contradicts (declarations_of scopes.now) thing.now written.now }
+pub fn contradicts(facts: &Facts, thing: &ScopedDeclaration, written: &Written) -> bool
+    ensures { result ≡ contradicts (declarations_of facts.now) thing.now written.now }
 {
     if has_no_scope(&thing.declared_type) {
         return true;
     }
-    match &type_scope(scopes, &thing.declared_type) {
+    match &type_scope(facts, &thing.declared_type) {
         ClassScope::Annotated(scope) => {
-            let resolution = resolve_at(scopes, thing, &written.name);
+            let resolution = resolve_at(facts, thing, &written.name);
             is_other_scope(&resolution, &Scope::In(*scope))
         }
         _ => false,
@@ -196,23 +197,23 @@ pub fn contradicts(scopes: &Scopes, thing: &ScopedDeclaration, written: &Written
 
 /// The scope of a thing.
 #[tactic(auto, unfolding(scj_rules::specs::StaticScopes::declaration_scope, scj_rules::specs::StaticScopes::scope_as_written))]
-pub fn declaration_scope(scopes: &Scopes, thing: &ScopedDeclaration) -> Option<Scope>
-    ensures { result ≡ declaration_scope (declarations_of scopes.now) thing.now }
+pub fn declaration_scope(facts: &Facts, thing: &ScopedDeclaration) -> Option<Scope>
+    ensures { result ≡ declaration_scope (declarations_of facts.now) thing.now }
 {
     if has_no_scope(&thing.declared_type) {
         return None;
     }
-    let scope = type_scope(scopes, &thing.declared_type);
+    let scope = type_scope(facts, &thing.declared_type);
     let Some(written) = &thing.scope else {
         return scope_or(&scope, &thing.default);
     };
-    if is_unknown_scope(scopes, thing, written) {
+    if is_unknown_scope(facts, thing, written) {
         return None;
     }
-    if contradicts(scopes, thing, written) {
+    if contradicts(facts, thing, written) {
         return None;
     }
-    let other = written_scope(scopes, thing.class, &thing.current, &written.name);
+    let other = written_scope(facts, thing.class, &thing.current, &written.name);
     scope_or(&scope, &other)
 }
 
@@ -238,14 +239,14 @@ pub fn scoped_variable(
 }
 
 /// A field as a thing.
-pub fn scoped_field(scopes: &Scopes, class: ClassId, field: &Declared) -> ScopedDeclaration
-    ensures { result ≡ scoped_field (declarations_of scopes.now) class field.now }
+pub fn scoped_field(facts: &Facts, class: ClassId, field: &Declared) -> ScopedDeclaration
+    ensures { result ≡ scoped_field (declarations_of facts.now) class field.now }
 {
     let modifiers = field.modifiers;
     let default = if modifiers.is_static {
         Some(Scope::In(ScopeId::IMMORTAL))
     } else {
-        this_in(scopes, class)
+        this_in(facts, class)
     };
     ScopedDeclaration {
         class,
@@ -260,8 +261,8 @@ pub fn scoped_field(scopes: &Scopes, class: ClassId, field: &Declared) -> Scoped
 
 /// Whether a field may have a scope.
 #[tactic(auto, unfolding(scj_rules::specs::StaticScopes::suits_field, scj_rules::specs::StaticScopes::is_outer_of))]
-fn suits_field(scopes: &Scopes, class: &ClassScope, is_static: bool, scope: &Scope) -> bool
-    ensures { result ≡ suits_field (declarations_of scopes.now) class.now is_static scope.now }
+fn suits_field(facts: &Facts, class: &ClassScope, is_static: bool, scope: &Scope) -> bool
+    ensures { result ≡ suits_field (declarations_of facts.now) class.now is_static scope.now }
 {
     let in_immortal = are_same_scope(scope, &Scope::In(ScopeId::IMMORTAL));
     if is_static {
@@ -270,7 +271,7 @@ fn suits_field(scopes: &Scopes, class: &ClassScope, is_static: bool, scope: &Sco
     match class {
         ClassScope::Unannotated => are_same_scope(scope, &Scope::This) || in_immortal,
         ClassScope::Annotated(inner) => match scope {
-            Scope::In(outer) => scopes.is_outer(*outer, *inner),
+            Scope::In(outer) => is_outer(facts, *outer, *inner),
             _ => false,
         },
         ClassScope::Unknown => true,
@@ -278,24 +279,24 @@ fn suits_field(scopes: &Scopes, class: &ClassScope, is_static: bool, scope: &Sco
 }
 
 /// Whether a field of a class that lies in a scope, if in any, may not lie there.
-pub fn misfits(scopes: &Scopes, class: ClassId, is_static: bool, scope: &Option<Scope>) -> bool
-    ensures { let p = declarations_of scopes.now in
+pub fn misfits(facts: &Facts, class: ClassId, is_static: bool, scope: &Option<Scope>) -> bool
+    ensures { let p = declarations_of facts.now in
         result ≡ holds scope.now (λ s. not (suits_field p (class_scope p class) is_static s)) }
 {
     match scope {
-        Some(scope) => !suits_field(scopes, &scopes.class_scope(class), is_static, scope),
+        Some(scope) => !suits_field(facts, &class_scope(facts, class), is_static, scope),
         None => false,
     }
 }
 
-/// The scope of a field.
+/// The scope of a field, found anew.
 #[tactic(auto, unfolding(scj_rules::specs::StaticScopes::field_scope, scj_rules::specs::StaticScopes::misfits_field))]
-pub fn field_scope(scopes: &Scopes, class: ClassId, field: &Declared) -> Option<Scope>
-    ensures { result ≡ field_scope (declarations_of scopes.now) class field.now }
+pub fn find_field_scope(facts: &Facts, class: ClassId, field: &Declared) -> Option<Scope>
+    ensures { result ≡ field_scope (declarations_of facts.now) class field.now }
 {
-    let thing = scoped_field(scopes, class, field);
-    let scope = declaration_scope(scopes, &thing);
-    if misfits(scopes, class, thing.is_static, &scope) {
+    let thing = scoped_field(facts, class, field);
+    let scope = declaration_scope(facts, &thing);
+    if misfits(facts, class, thing.is_static, &scope) {
         return None;
     }
     scope

@@ -1,2 +1,4 @@
+pub mod KindLemmas
 pub mod PassLemmas
+pub mod RowLemmas
 pub mod ValueLemmas

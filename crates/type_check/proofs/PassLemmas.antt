@@ -1,9 +1,9 @@
 -- What is noted at one node, and with one node more.
-use Rattle.std.proofs.Common.{◌≡◌, ℕ, ◌+◌, ◌<◌, ◌≤◌, suc, if◌then◌else◌, List, ◌++◌, [], ◌∷◌, Option, Some, None, refl, sym, ap, ◌∙◌, arith, length, length-append, append-nil, slice_get}
+use Rattle.std.proofs.Common.{◌≡◌, ℕ, ◌<◌, ◌≤◌, if◌then◌else◌, List, ◌++◌, [], ◌∷◌, Option, Some, None, refl, sym, ap, ◌∙◌, arith, length, length-append, append-nil, slice_get}
 use Rattle.std.proofs.lemmas.Option.{slice_get_within}
 use Rattle.scj_base.specs.declared.findings.Found.{Found}
 use Rattle.scj_tree.specs.declared.nodes.Node.{Node}
-use Rattle.scj_tree.specs.Recursion.{lookup, bottom_up, joined_below}
+use Rattle.scj_tree.specs.Recursion.{lookup, bottom_up}
 use Rattle.scj_tree.specs.Forest.{Forest, IsForest}
 use Rattle.scj_tree.proofs.RecursionLemmas.{bottom_up-at}
 use Rattle.scj_rules.specs.declared.typing.Ty.{Ty}
@@ -17,12 +17,6 @@ use Rattle.accepted_laws.proofs.Typed.{behind_children}
 -- what is broken at the node of a number
 abbrev pub breaks_at : Declarations → Types → ℕ → List Found
 breaks_at p types id = found_at (slice_get p.nodes id) (type_breaks p types id)
-
--- what is broken at a node more
-pub joined-more : {A : Type 0} (f : ℕ → List A) (k : ℕ) (xs : List A) → xs ≡ joined_below f k → xs
-    ++ f k ≡ joined_below f (k + 1)
-unfolding joined_below
-joined-more f k xs e = ap (λ t. t ++ f k) e ∙ ap (joined_below f) (let g : suc k ≡ k + 1 = omega arith in g)
 
 -- with the types of the nodes before a node the same is broken there as with those of all nodes
 pub breaks_so_far : (forest : Forest) → IsForest forest → (id : ℕ)
@@ -47,24 +41,21 @@ breaks_so_far forest whole id = go (slice_get p.nodes id) refl
     go (Some node) there = breaks-same p (behind_children forest whole) id (to id) (to (length p.nodes)) node
         (same (slice_get_within p.nodes id node there)) (behind_children forest whole id node there)
 
-module _ (p : Declarations) (types : Types) (id : ℕ) (node : Node) (before after : List Found)
-    (noted : after ≡ before ++ type_breaks p types id node) where
-  -- a node at which something is noted has no type
-  pub broken_type : length before < length after → None ≡ type_of_right p types id node
-  unfolding type_of_right is_empty
-  broken_type h = go (type_breaks p types id node) noted
-    where
-      go : (fs : List Found) → after ≡ before ++ fs →
-          ◌≡◌ {A = Option Ty} None (if is_empty fs then type_of p types id node else None)
-      go [] e = absurd (omega (arith, ap length e, ap length (append-nil before), h))
-      go (f ∷ fs) e = refl
+module _ (p : Declarations) (types : Types) (id : ℕ) (node : Node) (before after : List Found) where
+  by_findings : (fs : List Found) (t : Option Ty) → after ≡ before ++ fs →
+      (length before < length after → None ≡ (if is_empty fs then t else None))
+      × (length after ≤ length before → t ≡ (if is_empty fs then t else None))
+  unfolding is_empty
+  by_findings [] t e = (λ h. absurd (omega (arith, ap length e, ap length (append-nil before), h)), λ h. refl)
+  by_findings (f ∷ fs) t e = (λ h. refl, λ h. absurd (omega (arith, ap length e, length-append before (f ∷ fs), h)))
 
-  -- any other has its own
-  pub right_type : length after ≤ length before → type_of p types id node ≡ type_of_right p types id node
-  unfolding type_of_right is_empty
-  right_type h = go (type_breaks p types id node) noted
-    where
-      go : (fs : List Found) → after ≡ before ++ fs →
-          type_of p types id node ≡ (if is_empty fs then type_of p types id node else None)
-      go [] e = refl
-      go (f ∷ fs) e = absurd (omega (arith, ap length e, length-append before (f ∷ fs), h))
+  -- a node at which something is noted has no type, and any other has its own
+  pub broken_type : after ≡ before ++ type_breaks p types id node → length before < length after →
+      None ≡ type_of_right p types id node
+  unfolding type_of_right
+  broken_type e = (by_findings (type_breaks p types id node) (type_of p types id node) e).0
+
+  pub right_type : after ≡ before ++ type_breaks p types id node → length after ≤ length before →
+      type_of p types id node ≡ type_of_right p types id node
+  unfolding type_of_right
+  right_type e = (by_findings (type_breaks p types id node) (type_of p types id node) e).1

@@ -1,7 +1,10 @@
 //! The pass that finds the types of the nodes of a program, and what breaks the rules on types.
 #![tactic(auto)]
 
+mod expressions;
+mod kinds;
 mod nodes;
+mod rows;
 mod types;
 mod values;
 

@@ -1,45 +1,52 @@
 //! What breaks the rules on types at a node, and the type that the node has where nothing does.
 
-ghost use Rattle.std.specs.Prelude.{◌≡◌, ◌++◌, Some, IfOk, OnOk, slice_get};
+ghost use Rattle.std.specs.Prelude.{◌≡◌, ◌++◌, Some, true, IfOk, OnOk, slice_get};
 ghost use Rattle.scj_rules.specs.TypeRules.{type_breaks, type_of};
-ghost use Rattle.type_rules.specs.Told.{declared, types};
+ghost use Rattle.type_check.specs.Kinds.{names_member};
+ghost use Rattle.type_words.specs.Returns.{all_returns};
+ghost use Rattle.program_facts.specs.Meanings.{AreMeanings};
+ghost use Rattle.program_facts.specs.Told.{declared, types};
 
+use crate::expressions::{judge_access, judge_binary, judge_element, judge_name, judge_unary};
+use crate::rows::{keep, row_of_member};
 use crate::values::{class_named, type_of_call, type_of_new, type_of_new_array};
+use program_facts::{At, NodeMeaning};
 use scj_base::{Found, Memory, Rule};
 use scj_rules::{Ty, report_if};
 use scj_tree::Node;
-use type_rules::At;
 use type_rules::calls::{
     is_misplaced_form, lacks_form, makes_no_object, misfits_class, misfits_new, note_call,
 };
-use type_rules::expressions::{
-    has_form_elements, lacks_field, lacks_object_of_field, misfits_cast, misfits_index,
-    misfits_length,
-};
-use type_rules::meanings::{denotes_no_declaration, is_instance_field};
-use type_rules::names::{binary_type, field_accessed, meaning_there, receiver};
-use type_rules::results::{access_type, type_of_meaning};
+use type_rules::expressions::{has_form_elements, misfits_cast, misfits_length};
 use type_rules::statements::{
-    ends_without_return, misfits_assignment, misfits_initial_value, misfits_long, misfits_result,
-    misfits_super_call, note_condition,
+    ends_without_return, lacks_value, misfits_assignment, misfits_initial_value, misfits_long,
+    misfits_result, misfits_super_call, note_condition,
 };
-use type_words::{element_type, is_no_reference, is_void, unary_type};
 
 /// Notes what breaks the rules on types at a node, and tells the type of its kind, which it has where nothing does.
-#[tactic(auto, unfolding(scj_rules::specs::TypeRules::type_of, scj_rules::specs::TypeRules::type_breaks, scj_rules::specs::TypeRules::t1, scj_rules::specs::TypeRules::t2, scj_rules::specs::TypeRules::t3, scj_rules::specs::TypeRules::t4, scj_rules::specs::TypeRules::t5, scj_rules::specs::TypeRules::t6, scj_rules::specs::TypeRules::t7, scj_rules::specs::TypeRules::t8, scj_rules::specs::TypeRules::t9, scj_rules::specs::TypeRules::t10, scj_rules::specs::TypeRules::t11, scj_rules::specs::TypeRules::t12, scj_rules::specs::TypeRules::t13, scj_rules::specs::TypeRules::t14))]
-pub fn judge(found: &mut Vec<Found>, at: &At<'_>, node: &Node) -> Result<Option<Ty>, Memory>
-    requires { slice_get at.now.known.now.nodes at.now.id ≡ Some node.now }
+#[tactic(auto, unfolding(crate::specs::Kinds::names_member, scj_rules::specs::TypeRules::type_of, scj_rules::specs::TypeRules::type_breaks, scj_rules::specs::TypeRules::t1, scj_rules::specs::TypeRules::t2, scj_rules::specs::TypeRules::t3, scj_rules::specs::TypeRules::t4, scj_rules::specs::TypeRules::t5, scj_rules::specs::TypeRules::t6, scj_rules::specs::TypeRules::t7, scj_rules::specs::TypeRules::t8, scj_rules::specs::TypeRules::t9, scj_rules::specs::TypeRules::t10, scj_rules::specs::TypeRules::t11, scj_rules::specs::TypeRules::t12, scj_rules::specs::TypeRules::t13, scj_rules::specs::TypeRules::t14))]
+pub fn judge(
+    found: &mut Vec<Found>,
+    at: &At<'_>,
+    returns: &[bool],
+    rows: &mut Vec<NodeMeaning>,
+    node: &Node,
+) -> Result<Option<Ty>, Memory>
+    requires returns { returns.now ≡ all_returns at.now.facts.now.nodes }
+    requires there { slice_get at.now.facts.now.nodes at.now.id ≡ Some node.now }
+    requires rows { AreMeanings at.now.facts.now rows.old.items }
     ensures type_of { IfOk result (λ t. t ≡ type_of (declared at.now) (types at.now) at.now.id node.now) }
     ensures found { OnOk result (found.new.items ≡ found.old.items
         ++ type_breaks (declared at.now) (types at.now) at.now.id node.now) }
+    ensures rows { OnOk result (AreMeanings at.now.facts.now rows.new.items) }
 {
     match node {
         Node::Class { place, name, .. } => {
-            let Some(class) = at.known.class_of(name.get()) else {
+            let Some(class) = at.facts.class_of(name.get()) else {
                 return Ok(None);
             };
-            report_if(found, misfits_class(at.known, class), Rule::T6, *place)?;
-            report_if(found, lacks_form(at.known, class), Rule::T14, *place)?;
+            report_if(found, misfits_class(at.facts, class), Rule::T6, *place)?;
+            report_if(found, lacks_form(at.facts, class), Rule::T14, *place)?;
             Ok(None)
         }
         Node::Field {
@@ -63,15 +70,15 @@ pub fn judge(found: &mut Vec<Found>, at: &At<'_>, node: &Node) -> Result<Option<
             ..
         } => {
             if let Some(body) = body {
-                let ends = ends_without_return(at.known, *result_type, *body);
+                let ends = ends_without_return(at.facts, returns, *result_type, *body);
                 report_if(found, ends, Rule::T10, *place)?;
             }
-            let misfits = misfits_long(at.known, at.id, name.get(), *result_type, body);
+            let misfits = misfits_long(at.facts, at.id, name.get(), *result_type, body);
             report_if(found, misfits, Rule::T14, *place)?;
             Ok(None)
         }
         Node::Parameter { place, name, .. } | Node::Local { place, name, .. } => {
-            let is_twice = at.known.variable_named(at.id, name.get()).is_some();
+            let is_twice = at.facts.variable_named(at.id, name.get()).is_some();
             report_if(found, is_twice, Rule::T2, *place)?;
             Ok(None)
         }
@@ -83,7 +90,7 @@ pub fn judge(found: &mut Vec<Found>, at: &At<'_>, node: &Node) -> Result<Option<
             value,
             ..
         } => {
-            let is_twice = at.known.variable_named(at.id, name.get()).is_some();
+            let is_twice = at.facts.variable_named(at.id, name.get()).is_some();
             report_if(found, is_twice, Rule::T2, *name_place)?;
             let misfits = misfits_initial_value(at, *declared_type, *value);
             report_if(found, misfits, Rule::T7, *place)?;
@@ -114,8 +121,7 @@ pub fn judge(found: &mut Vec<Found>, at: &At<'_>, node: &Node) -> Result<Option<
                 Ok(None)
             }
             None => {
-                let lacks = !is_void(&at.known.result_at(at.id));
-                report_if(found, lacks, Rule::T9, *place)?;
+                report_if(found, lacks_value(at), Rule::T9, *place)?;
                 Ok(None)
             }
         },
@@ -124,26 +130,12 @@ pub fn judge(found: &mut Vec<Found>, at: &At<'_>, node: &Node) -> Result<Option<
             operator,
             left,
             right,
-        } => {
-            let (Some(a), Some(b)) = (at.type_of(*left), at.type_of(*right)) else {
-                return Ok(None);
-            };
-            let t = binary_type(at.known, *operator, &a, &b);
-            report_if(found, t.is_none(), Rule::T3, *place)?;
-            Ok(t)
-        }
+        } => judge_binary(found, at, *place, *operator, *left, *right),
         Node::Unary {
             place,
             operator,
             operand,
-        } => {
-            let Some(a) = at.type_of(*operand) else {
-                return Ok(None);
-            };
-            let t = unary_type(*operator, &a);
-            report_if(found, t.is_none(), Rule::T3, *place)?;
-            Ok(t)
-        }
+        } => judge_unary(found, at, *place, *operator, *operand),
         Node::Cast {
             place,
             name,
@@ -155,58 +147,16 @@ pub fn judge(found: &mut Vec<Found>, at: &At<'_>, node: &Node) -> Result<Option<
             }
             let misfits = misfits_cast(at, name.get(), *operand);
             report_if(found, misfits, Rule::T12, *place)?;
-            Ok(class_named(at.known, name.get()))
+            Ok(class_named(at.facts, name.get()))
         }
         Node::Parenthesized { inner, .. } => Ok(at.type_of(*inner)),
-        Node::SimpleName { place, name } => {
-            let meaning = meaning_there(at.known, at.id, *place, name.get());
-            report_if(found, denotes_no_declaration(&meaning), Rule::T1, *place)?;
-            let is_apart = is_instance_field(at.known.program(), &meaning)
-                && !at.known.has_object(at.id);
-            report_if(found, is_apart, Rule::T13, *place)?;
-            Ok(type_of_meaning(at.known, &meaning))
-        }
-        Node::FieldAccess {
-            place,
-            name,
-            object,
-        } => {
-            let Some(r) = receiver(at.known, at.types, *object) else {
-                return Ok(None);
-            };
-            let field = field_accessed(at.known, at.id, &r, name.get());
-            report_if(found, is_no_reference(&r), Rule::T3, *place)?;
-            report_if(
-                found,
-                lacks_field(at.known, &r, name.get(), &field),
-                Rule::T4,
-                *place,
-            )?;
-            let is_apart = lacks_object_of_field(at, &r, &field);
-            report_if(found, is_apart, Rule::T13, *place)?;
-            Ok(access_type(at.known, at.id, &r, name.get()))
-        }
-        Node::Call {
-            place,
-            name,
-            object,
-            arguments,
-        } => {
-            note_call(found, at, *place, name.get(), object, arguments.items())?;
-            Ok(type_of_call(at, name.get(), object, arguments.items()))
-        }
+        Node::SimpleName { place, name } => judge_name(found, at, rows, *place, name.get()),
+        Node::FieldAccess { .. } | Node::Call { .. } => judge_member(found, at, rows, node),
         Node::Element {
             place,
             array,
             index,
-        } => {
-            let (Some(a), Some(_i)) = (at.type_of(*array), at.type_of(*index)) else {
-                return Ok(None);
-            };
-            let misfits = misfits_index(at, *array, *index);
-            report_if(found, misfits, Rule::T3, *place)?;
-            Ok(element_type(&a))
-        }
+        } => judge_element(found, at, *place, *array, *index),
         Node::New {
             place,
             name,
@@ -230,13 +180,13 @@ pub fn judge(found: &mut Vec<Found>, at: &At<'_>, node: &Node) -> Result<Option<
             length,
         } => {
             report_if(found, misfits_length(at, *length), Rule::T3, *place)?;
-            let has_forms = has_form_elements(at.known, *element);
+            let has_forms = has_form_elements(at.facts, *element);
             report_if(found, has_forms, Rule::T14, *place)?;
             Ok(type_of_new_array(at, *element, *length))
         }
         Node::This { place } => {
-            report_if(found, !at.known.has_object(at.id), Rule::T13, *place)?;
-            match at.known.context(at.id).class {
+            report_if(found, !at.facts.has_object(at.id), Rule::T13, *place)?;
+            match at.facts.context(at.id).class {
                 Some(class) => Ok(Some(Ty::Class(class))),
                 None => Ok(None),
             }
@@ -261,5 +211,49 @@ pub fn judge(found: &mut Vec<Found>, at: &At<'_>, node: &Node) -> Result<Option<
         | Node::Block { .. }
         | Node::Empty { .. }
         | Node::ExpressionStatement { .. } => Ok(None),
+    }
+}
+
+/// The same of an access or a call. What it stands for is looked up first, and kept.
+#[tactic(auto, using(crate::proofs::RowLemmas::one_told), unfolding(crate::specs::Kinds::names_member, scj_rules::specs::TypeRules::type_of, scj_rules::specs::TypeRules::type_breaks, scj_rules::specs::TypeRules::t1, scj_rules::specs::TypeRules::t2, scj_rules::specs::TypeRules::t3, scj_rules::specs::TypeRules::t4, scj_rules::specs::TypeRules::t5, scj_rules::specs::TypeRules::t6, scj_rules::specs::TypeRules::t7, scj_rules::specs::TypeRules::t8, scj_rules::specs::TypeRules::t9, scj_rules::specs::TypeRules::t10, scj_rules::specs::TypeRules::t11, scj_rules::specs::TypeRules::t12, scj_rules::specs::TypeRules::t13, scj_rules::specs::TypeRules::t14))]
+fn judge_member(
+    found: &mut Vec<Found>,
+    at: &At<'_>,
+    rows: &mut Vec<NodeMeaning>,
+    node: &Node,
+) -> Result<Option<Ty>, Memory>
+    requires there { slice_get at.now.facts.now.nodes at.now.id ≡ Some node.now }
+    requires rows { AreMeanings at.now.facts.now rows.old.items }
+    requires member { names_member node.now ≡ true }
+    ensures type_of { IfOk result (λ t. t ≡ type_of (declared at.now) (types at.now) at.now.id node.now) }
+    ensures found { OnOk result (found.new.items ≡ found.old.items
+        ++ type_breaks (declared at.now) (types at.now) at.now.id node.now) }
+    ensures rows { OnOk result (AreMeanings at.now.facts.now rows.new.items) }
+{
+    let row = row_of_member(at, rows, node);
+    keep(rows, at.id, row);
+    let facts = at.facts.again().with_meanings(rows);
+    let at = At {
+        facts: &facts,
+        types: at.types,
+        scopes: at.scopes,
+        id: at.id,
+    };
+    match node {
+        Node::FieldAccess {
+            place,
+            name,
+            object,
+        } => judge_access(found, &at, *place, name.get(), *object),
+        Node::Call {
+            place,
+            name,
+            object,
+            arguments,
+        } => {
+            note_call(found, &at, *place, name.get(), object, arguments.items())?;
+            Ok(type_of_call(&at, name.get(), object, arguments.items()))
+        }
+        _ => Ok(None),
     }
 }

@@ -4,27 +4,27 @@ ghost use Rattle.std.specs.Prelude.{◌≡◌, None, option_and_then, if◌then�
 ghost use Rattle.scj_rules.specs.Contexts.{declarations_of};
 ghost use Rattle.scj_rules.specs.Types.{call_receiver, all_types, array_of, is_form_part};
 ghost use Rattle.scj_rules.specs.TypeRules.{call_type, class_type_named, written_type};
-ghost use Rattle.type_rules.specs.Told.{declared, types};
+ghost use Rattle.program_facts.specs.Told.{declared, types};
 
+use program_facts::{At, Facts};
 use scj_base::{Name, NodeId};
 use scj_rules::Ty;
 use type_rules::arguments::are_typed;
 use type_rules::forms::is_form_part;
 use type_rules::names::{call_receiver, written_type};
 use type_rules::results::call_type;
-use type_rules::{At, Known};
 use type_words::array_of;
 
 /// The type of a class where it is named.
-pub fn class_named(known: &Known<'_>, name: &Name) -> Option<Ty>
-    ensures { result ≡ class_type_named (declarations_of known.now) name.now }
+pub fn class_named(facts: &Facts<'_>, name: &Name) -> Option<Ty>
+    ensures { result ≡ class_type_named (declarations_of facts.now) name.now }
 {
-    let class = known.class_of(name)?;
+    let class = facts.class_of(name)?;
     Some(Ty::Class(class))
 }
 
 /// The type of a call.
-#[tactic(auto, using(crate::proofs::ValueLemmas::typed_then, crate::proofs::ValueLemmas::untyped_then))]
+#[tactic(auto, using(crate::proofs::ValueLemmas::typed_then))]
 pub fn type_of_call(
     at: &At<'_>,
     name: &Name,
@@ -35,23 +35,23 @@ pub fn type_of_call(
         (λ r. option_and_then (λ ts. call_type (declared at.now) r name.now) (all_types (types at.now) arguments.now))
         (call_receiver (declared at.now) (types at.now) at.now.id object.now) }
 {
-    let r = call_receiver(at.known, at.types, at.id, object)?;
-    if !are_typed(at.types, arguments) {
+    let r = call_receiver(at, object)?;
+    if !are_typed(at, arguments) {
         return None;
     }
-    call_type(at.known, at.id, &r, name)
+    call_type(at, &r, name)
 }
 
 /// The type of a `new`; the parts of a form have none.
-#[tactic(auto, using(crate::proofs::ValueLemmas::typed_then, crate::proofs::ValueLemmas::untyped_then))]
+#[tactic(auto, using(crate::proofs::ValueLemmas::typed_then))]
 pub fn type_of_new(at: &At<'_>, name: &Name, arguments: &[NodeId]) -> Option<Ty>
     ensures { result ≡ (if is_form_part (declared at.now) at.now.id then None else option_and_then
         (λ ts. class_type_named (declared at.now) name.now) (all_types (types at.now) arguments.now)) }
 {
-    if is_form_part(at.known, at.id) || !are_typed(at.types, arguments) {
+    if is_form_part(at.facts, at.id) || !are_typed(at, arguments) {
         return None;
     }
-    class_named(at.known, name)
+    class_named(at.facts, name)
 }
 
 /// The type of a new array of such elements and such a length.
@@ -60,6 +60,6 @@ pub fn type_of_new_array(at: &At<'_>, element: NodeId, length: NodeId) -> Option
         (λ n. option_and_then array_of (written_type (declared at.now) element)) (types at.now length) }
 {
     let _length = at.type_of(length)?;
-    let t = written_type(at.known, element)?;
+    let t = written_type(at.facts, element)?;
     array_of(&t)
 }

@@ -7,11 +7,11 @@ ghost use Rattle.scj_rules.specs.Contexts.{declarations_of};
 ghost use Rattle.scj_rules.specs.Types.{all_types, constructor_parameters};
 ghost use Rattle.scj_rules.specs.TypeRules.{misfit, takes_arguments};
 ghost use Rattle.type_rules.specs.Parameters.{taken, parameter_type, takes_value, fits, all_fit};
-ghost use Rattle.type_rules.specs.Told.{declared, types};
+ghost use Rattle.program_facts.specs.Told.{declared, types};
 
-use crate::known::{At, Known};
-use crate::names::{assigns, told, type_written};
+use crate::names::{assigns, type_written};
 use method_rows::MethodRef;
+use program_facts::{At, Facts};
 use scj_base::{ClassId, NodeId};
 use scj_rules::{Ty, WrittenType};
 
@@ -25,58 +25,58 @@ pub enum Takes {
 }
 
 /// The same, node by node.
-fn have_types(types: &[Option<Ty>], ids: &[NodeId]) -> bool
-    ensures { result ≡ list_all (λ id. is_some (lookup None types.now id)) ids.now }
+fn have_types(at: &At<'_>, ids: &[NodeId]) -> bool
+    ensures { result ≡ list_all (λ id. is_some (types at.now id)) ids.now }
 {
-    ids.iter().all(|id| told(types, *id).is_some())
+    ids.iter().all(|id| at.type_of(*id).is_some())
 }
 
 /// Whether each of these nodes has a type.
 #[tactic(auto, using(crate::proofs::ArgumentLemmas::typed_each))]
-pub fn are_typed(types: &[Option<Ty>], ids: &[NodeId]) -> bool
-    ensures { result ≡ is_some (all_types (lookup None types.now) ids.now) }
+pub fn are_typed(at: &At<'_>, ids: &[NodeId]) -> bool
+    ensures { result ≡ is_some (all_types (types at.now) ids.now) }
 {
-    have_types(types, ids)
+    have_types(at, ids)
 }
 
 /// How many parameters there are.
 #[tactic(auto, unfolding(crate::specs::Parameters::taken))]
-fn count(known: &Known<'_>, takes: &Takes) -> usize
-    ensures { result ≡ length (taken known.now.nodes takes.now) }
+fn count(facts: &Facts<'_>, takes: &Takes) -> usize
+    ensures { result ≡ length (taken facts.now.nodes takes.now) }
 {
     match takes {
-        Takes::Method(method) => method_rows::parameter_count(known.program(), method),
-        Takes::Listed(parameters) => node_views::parameter_count(known.program(), *parameters),
+        Takes::Method(method) => method_rows::parameter_count(facts.program(), method),
+        Takes::Listed(parameters) => node_views::parameter_count(facts.program(), *parameters),
     }
 }
 
 /// The type of the parameter of a number.
 #[tactic(auto, unfolding(crate::specs::Parameters::taken))]
-fn parameter_type(known: &Known<'_>, takes: &Takes, i: usize) -> Option<WrittenType>
-    ensures { result ≡ parameter_type (taken known.now.nodes takes.now) i }
+fn parameter_type(facts: &Facts<'_>, takes: &Takes, i: usize) -> Option<WrittenType>
+    ensures { result ≡ parameter_type (taken facts.now.nodes takes.now) i }
 {
     match takes {
-        Takes::Method(method) => method_rows::parameter_type(known.program(), method, i),
-        Takes::Listed(parameters) => node_views::parameter_type(known.program(), *parameters, i),
+        Takes::Method(method) => method_rows::parameter_type(facts.program(), method, i),
+        Takes::Listed(parameters) => node_views::parameter_type(facts.program(), *parameters, i),
     }
 }
 
 /// Whether a value of a type fits a parameter or a result of the type that is written.
-pub fn takes_value(known: &Known<'_>, written: &WrittenType, t: &Ty) -> bool
-    ensures { result ≡ takes_value (declarations_of known.now) t.now written.now }
+pub fn takes_value(facts: &Facts<'_>, written: &WrittenType, t: &Ty) -> bool
+    ensures { result ≡ takes_value (declarations_of facts.now) t.now written.now }
 {
-    match type_written(known, written) {
-        Some(u) => assigns(known, t, &u),
+    match type_written(facts, written) {
+        Some(u) => assigns(facts, t, &u),
         None => false,
     }
 }
 
 /// Whether an argument has a type that fits the parameter of a number, if there is one.
 fn fits(at: &At<'_>, takes: &Takes, i: usize, argument: NodeId) -> bool
-    ensures { result ≡ fits (declared at.now) (types at.now) (taken at.now.known.now.nodes takes.now) i argument }
+    ensures { result ≡ fits (declared at.now) (types at.now) (taken at.now.facts.now.nodes takes.now) i argument }
 {
-    match (at.type_of(argument), parameter_type(at.known, takes, i)) {
-        (Some(t), Some(written)) => takes_value(at.known, &written, &t),
+    match (at.type_of(argument), parameter_type(at.facts, takes, i)) {
+        (Some(t), Some(written)) => takes_value(at.facts, &written, &t),
         _ => false,
     }
 }
@@ -84,39 +84,39 @@ fn fits(at: &At<'_>, takes: &Takes, i: usize, argument: NodeId) -> bool
 /// Whether each argument fits the parameter of its number, and there are as many.
 #[tactic(auto, using(crate::proofs::ArgumentLemmas::one_misfits, crate::proofs::ArgumentLemmas::one_fits, crate::proofs::ArgumentLemmas::none_left))]
 fn all_fit(at: &At<'_>, takes: &Takes, ids: &[NodeId]) -> bool
-    ensures { result ≡ all_fit (declared at.now) (types at.now) (taken at.now.known.now.nodes takes.now) 0 ids.now }
+    ensures { result ≡ all_fit (declared at.now) (types at.now) (taken at.now.facts.now.nodes takes.now) 0 ids.now }
 {
     for i in 0..ids.len() {
         if !fits(at, takes, i, ids[i]) {
             return false;
         }
     }
-    !(ids.len() < count(at.known, takes))
+    !(ids.len() < count(at.facts, takes))
 }
 
 /// Whether the arguments have types, and their number or types don't fit (JLS 15.9.3, 15.12.2, 8.8.7).
 #[tactic(auto, using(crate::proofs::ArgumentLemmas::misfit_is))]
 pub fn misfit(at: &At<'_>, takes: &Takes, ids: &[NodeId]) -> bool
-    ensures { result ≡ misfit (declared at.now) (types at.now) (taken at.now.known.now.nodes takes.now) ids.now }
+    ensures { result ≡ misfit (declared at.now) (types at.now) (taken at.now.facts.now.nodes takes.now) ids.now }
 {
-    are_typed(at.types, ids) && !all_fit(at, takes, ids)
+    are_typed(at, ids) && !all_fit(at, takes, ids)
 }
 
 /// The parameters of a class's constructor: none where none is written (JLS 8.8.9).
 #[tactic(auto, using(crate::proofs::ArgumentLemmas::constructor_takes), unfolding(crate::specs::Parameters::taken))]
-pub fn constructor_parameters(known: &Known<'_>, class: ClassId) -> Takes
-    ensures { taken known.now.nodes result ≡ constructor_parameters (declarations_of known.now).classes class }
+pub fn constructor_parameters(facts: &Facts<'_>, class: ClassId) -> Takes
+    ensures { taken facts.now.nodes result ≡ constructor_parameters (declarations_of facts.now).classes class }
 {
-    match known.classes().constructor_in(class) {
-        Some(node) => Takes::Listed(node_views::constructor_parameters(known.program(), node)),
+    match facts.classes().constructor_in(class) {
+        Some(node) => Takes::Listed(node_views::constructor_parameters(facts.program(), node)),
         None => Takes::Listed(None),
     }
 }
 
 /// Whether the constructor of a class takes arguments.
 #[tactic(auto, unfolding(scj_rules::specs::Classes::is_empty))]
-pub fn takes_arguments(known: &Known<'_>, class: ClassId) -> bool
-    ensures { result ≡ takes_arguments (declarations_of known.now) class }
+pub fn takes_arguments(facts: &Facts<'_>, class: ClassId) -> bool
+    ensures { result ≡ takes_arguments (declarations_of facts.now) class }
 {
-    count(known, &constructor_parameters(known, class)) > 0
+    count(facts, &constructor_parameters(facts, class)) > 0
 }

@@ -9,15 +9,15 @@ ghost use Rattle.scj_rules.specs.Types.{called_method, kind_is};
 ghost use Rattle.scj_rules.specs.TypeRules.{type_breaks, cannot_be_called, misfits_new, has_untyped_argument, has_other_than_int, is_never_made, makes_no_object, is_misplaced_form, calls_unwritten, takes_arguments, misfits_class, lacks_form};
 ghost use Rattle.method_rows.specs.Methods.{found_method};
 ghost use Rattle.type_rules.specs.Parameters.{breaks_on};
-ghost use Rattle.type_rules.specs.Told.{declared, types};
+ghost use Rattle.program_facts.specs.Told.{declared, types};
 
 use crate::arguments::{Takes, are_typed, constructor_parameters, misfit, takes_arguments};
 use crate::expressions::{is_form_named, lacks_object, misfits_length};
 use crate::forms::{form_in, has_form, is_form_part, super_arguments};
-use crate::known::{At, Known};
 use crate::names::{call_receiver, method_called};
 use crate::statements::has_framework_size;
 use method_rows::{MethodRef, is_callable_row, is_static, result_type};
+use program_facts::{At, Facts};
 use scj_base::ids::{OBJECT, SAFELET};
 use scj_base::{ClassId, Found, Memory, Name, NodeId, Pos, Rule};
 use scj_builtins::{ClassKind, FRAMEWORK_CLASS_COUNT};
@@ -26,13 +26,13 @@ use type_words::{is_long, is_no_reference, is_value};
 
 /// Whether a method isn't callable, as size methods aren't, or not on this receiver: a static one through a value.
 #[tactic(auto, unfolding(method_rows::specs::Methods::found_method))]
-fn cannot_be_called(known: &Known<'_>, receiver: &Receiver, method: &MethodRef) -> bool
-    ensures { result ≡ cannot_be_called (declarations_of known.now) receiver.now
-        (found_method known.now.nodes method.now) }
+fn cannot_be_called(facts: &Facts<'_>, receiver: &Receiver, method: &MethodRef) -> bool
+    ensures { result ≡ cannot_be_called (declarations_of facts.now) receiver.now
+        (found_method facts.now.nodes method.now) }
 {
-    let program = known.program();
+    let program = facts.program();
     let is_size = is_long(&result_type(program, method))
-        && has_framework_size(known, method.on, &method_rows::name(program, method));
+        && has_framework_size(facts, method.on, &method_rows::name(program, method));
     !(is_callable_row(program, method) && !is_size)
         || (is_value(receiver) && is_static(program, method))
 }
@@ -51,18 +51,18 @@ fn note_called(
         OnOk result (found.new.items ≡ found.old.items ++ breaks_on p (types at.now) at.now.id place receiver.now
         (called_method p receiver.now name.now) arguments.now) }
 {
-    let typed = are_typed(at.types, arguments);
+    let typed = are_typed(at, arguments);
     let is_plain = is_no_reference(receiver);
     report_if(found, is_plain && typed, Rule::T3, place)?;
-    let Some(method) = method_called(at.known, at.id, receiver, name) else {
+    let Some(method) = method_called(at, receiver, name) else {
         return report_if(found, !is_plain && typed, Rule::T5, place);
     };
-    let lacks = !is_plain && cannot_be_called(at.known, receiver, &method);
+    let lacks = !is_plain && cannot_be_called(at.facts, receiver, &method);
     report_if(found, lacks && typed, Rule::T5, place)?;
     let misfits = !lacks && misfit(at, &Takes::Method(method), arguments);
     report_if(found, misfits, Rule::T6, place)?;
-    let is_apart = lacks_object(at.known, at.id, receiver)
-        && (!lacks && !is_static(at.known.program(), &method));
+    let is_apart = lacks_object(at.facts, at.id, receiver)
+        && (!lacks && !is_static(at.facts.program(), &method));
     report_if(found, is_apart && typed, Rule::T13, place)?;
     Ok(())
 }
@@ -80,7 +80,7 @@ pub fn note_call(
     ensures { OnOk result (found.new.items ≡ found.old.items
         ++ type_breaks (declared at.now) (types at.now) at.now.id (a_call place name.now object.now arguments.now)) }
 {
-    match call_receiver(at.known, at.types, at.id, object) {
+    match call_receiver(at, object) {
         Some(receiver) => note_called(found, at, place, name, &receiver, arguments),
         None => Ok(()),
     }
@@ -90,7 +90,7 @@ pub fn note_call(
 fn has_untyped_argument(at: &At<'_>, arguments: &[NodeId]) -> bool
     ensures { result ≡ has_untyped_argument (declared at.now) (types at.now) arguments.now }
 {
-    arguments.iter().any(|a| !is_form_part(at.known, *a) && at.type_of(*a).is_none())
+    arguments.iter().any(|a| !is_form_part(at.facts, *a) && at.type_of(*a).is_none())
 }
 
 /// Whether an argument in a form has a type that isn't int, and is no part of the form itself.
@@ -99,7 +99,7 @@ fn has_other_than_int(at: &At<'_>, arguments: &[NodeId]) -> bool
 {
     arguments
         .iter()
-        .any(|a| !is_form_part(at.known, *a) && misfits_length(at, *a))
+        .any(|a| !is_form_part(at.facts, *a) && misfits_length(at, *a))
 }
 
 /// Whether the arguments of a `new` don't fit.
@@ -107,29 +107,29 @@ fn has_other_than_int(at: &At<'_>, arguments: &[NodeId]) -> bool
 pub fn misfits_new(at: &At<'_>, name: &Name, arguments: &[NodeId]) -> bool
     ensures { result ≡ misfits_new (declared at.now) (types at.now) at.now.id name.now arguments.now }
 {
-    if is_form_part(at.known, at.id) {
+    if is_form_part(at.facts, at.id) {
         return !has_untyped_argument(at, arguments) && has_other_than_int(at, arguments);
     }
-    let Some(class) = at.known.class_of(name) else {
+    let Some(class) = at.facts.class_of(name) else {
         return false;
     };
     (class.number() >= FRAMEWORK_CLASS_COUNT || class == OBJECT)
-        && misfit(at, &constructor_parameters(at.known, class), arguments)
+        && misfit(at, &constructor_parameters(at.facts, class), arguments)
 }
 
 /// Whether the class of a name has no objects of its own, and is no part of a form.
 #[tactic(auto, unfolding(scj_rules::specs::Types::is_form, scj_rules::specs::Types::is_concrete))]
-fn is_never_made(known: &Known<'_>, name: &Name) -> bool
-    ensures { result ≡ holds (class_number (declarations_of known.now).names name.now)
-        (kind_is is_never_made (declarations_of known.now)) }
+fn is_never_made(facts: &Facts<'_>, name: &Name) -> bool
+    ensures { result ≡ holds (class_number (declarations_of facts.now).names name.now)
+        (kind_is is_never_made (declarations_of facts.now)) }
 {
-    let Some(class) = known.class_of(name) else {
+    let Some(class) = facts.class_of(name) else {
         return false;
     };
-    match known.classes().kind(class) {
-        Some(ClassKind::Abstract | ClassKind::Interface | ClassKind::Static) => true,
-        _ => false,
-    }
+    matches!(
+        facts.classes().kind(class),
+        Some(ClassKind::Abstract | ClassKind::Interface | ClassKind::Static)
+    )
 }
 
 /// Whether a `new` with arguments that have types makes what has no objects.
@@ -137,50 +137,50 @@ fn is_never_made(known: &Known<'_>, name: &Name) -> bool
 pub fn makes_no_object(at: &At<'_>, name: &Name, arguments: &[NodeId]) -> bool
     ensures { result ≡ makes_no_object (declared at.now) (types at.now) name.now arguments.now }
 {
-    is_never_made(at.known, name) && are_typed(at.types, arguments)
+    is_never_made(at.facts, name) && are_typed(at, arguments)
 }
 
 /// Whether a part of a form is made outside of one.
 pub fn is_misplaced_form(at: &At<'_>, name: &Name) -> bool
     ensures { result ≡ is_misplaced_form (declared at.now) at.now.id name.now }
 {
-    is_form_named(at.known, name) && !is_form_part(at.known, at.id)
+    is_form_named(at.facts, name) && !is_form_part(at.facts, at.id)
 }
 
 /// Whether the constructor of a class calls its superclass's without writing so, and that takes arguments.
-fn misfits_super(known: &Known<'_>, class: ClassId) -> bool
-    ensures { result ≡ (calls_unwritten (declarations_of known.now) class
-        && holds (superclass_in (declarations_of known.now).classes class)
-        (takes_arguments (declarations_of known.now))) }
+fn misfits_super(facts: &Facts<'_>, class: ClassId) -> bool
+    ensures { result ≡ (calls_unwritten (declarations_of facts.now) class
+        && holds (superclass_in (declarations_of facts.now).classes class)
+        (takes_arguments (declarations_of facts.now))) }
 {
-    if super_arguments(known, class).is_some() {
+    if super_arguments(facts, class).is_some() {
         return false;
     }
-    match known.classes().superclass(class) {
-        Some(superclass) => takes_arguments(known, superclass),
+    match facts.classes().superclass(class) {
+        Some(superclass) => takes_arguments(facts, superclass),
         None => false,
     }
 }
 
 /// Whether a constructor that takes arguments is called without any: by a class below, or of the safelet.
 #[tactic(auto, unfolding(scj_rules::specs::TypeRules::misfits_class, scj_rules::specs::Types::is_concrete))]
-pub fn misfits_class(known: &Known<'_>, class: ClassId) -> bool
-    ensures { result ≡ misfits_class (declarations_of known.now) class }
+pub fn misfits_class(facts: &Facts<'_>, class: ClassId) -> bool
+    ensures { result ≡ misfits_class (declarations_of facts.now) class }
 {
-    if misfits_super(known, class) {
+    if misfits_super(facts, class) {
         return true;
     }
-    matches!(known.classes().kind(class), Some(ClassKind::Concrete))
-        && known.classes().implements(class, SAFELET)
-        && takes_arguments(known, class)
+    matches!(facts.classes().kind(class), Some(ClassKind::Concrete))
+        && facts.classes().implements(class, SAFELET)
+        && takes_arguments(facts, class)
 }
 
 /// Whether the form is missing with which the constructor of a class has to begin.
-pub fn lacks_form(known: &Known<'_>, class: ClassId) -> bool
-    ensures { result ≡ lacks_form (declarations_of known.now) class }
+pub fn lacks_form(facts: &Facts<'_>, class: ClassId) -> bool
+    ensures { result ≡ lacks_form (declarations_of facts.now) class }
 {
-    let Some(superclass) = known.classes().superclass(class) else {
+    let Some(superclass) = facts.classes().superclass(class) else {
         return false;
     };
-    has_form(superclass) && form_in(known, class, NodeId::at(0)).is_none()
+    has_form(superclass) && form_in(facts, class, NodeId::at(0)).is_none()
 }

@@ -6,40 +6,22 @@ ghost use Rattle.scj_rules.specs.Words.{holds};
 ghost use Rattle.scj_rules.specs.Classes.{class_number};
 ghost use Rattle.scj_rules.specs.Contexts.{declarations_of};
 ghost use Rattle.scj_rules.specs.Types.{kind_is, is_form, accessed_field};
-ghost use Rattle.scj_rules.specs.TypeRules.{misfits_operands, misfits_operand, misfits_index, misfits_length, misfits_cast, element_class, lacks_field, lacks_object, lacks_object_of_field};
+ghost use Rattle.scj_rules.specs.TypeRules.{misfits_index, misfits_length, misfits_cast, element_class, lacks_field, lacks_object, lacks_object_of_field};
 ghost use Rattle.class_rows.specs.Fields.{found_field};
-ghost use Rattle.type_rules.specs.Told.{declared, types};
+ghost use Rattle.program_facts.specs.Told.{declared, types};
 
-use crate::known::{At, Known};
-use crate::names::{assigns, binary_type};
+use crate::names::assigns;
 use class_rows::FieldRef;
 use class_rows::fields::is_static_field;
+use program_facts::{At, Facts};
 use scj_base::{Name, NodeId};
 use scj_builtins::ClassKind;
 use scj_rules::{Receiver, Ty};
 use scj_tree::Node;
 use type_words::{
     are_same, is_array, is_array_value, is_length, is_no_reference, is_reference, is_value,
-    names_class, unary_type,
+    names_class,
 };
-
-/// Whether both operands have types that don't fit.
-pub fn misfits_operands(at: &At<'_>, operator: u8, left: NodeId, right: NodeId) -> bool
-    ensures { result ≡ misfits_operands (declared at.now) (types at.now) operator left right }
-{
-    match (at.type_of(left), at.type_of(right)) {
-        (Some(a), Some(b)) => binary_type(at.known, operator, &a, &b).is_none(),
-        _ => false,
-    }
-}
-
-/// Whether an operand doesn't fit.
-pub fn misfits_operand(at: &At<'_>, operator: u8, operand: NodeId) -> bool
-    ensures { result ≡ misfits_operand (types at.now) operator operand }
-{
-    at.type_of(operand)
-        .is_some_and(|t| unary_type(operator, &t).is_none())
-}
 
 /// Whether an array and its index have types that don't fit.
 pub fn misfits_index(at: &At<'_>, array: NodeId, index: NodeId) -> bool
@@ -60,25 +42,25 @@ pub fn misfits_length(at: &At<'_>, length: NodeId) -> bool
 
 /// Whether the class of a name is a part of a form.
 #[tactic(auto, unfolding(scj_rules::specs::Types::is_form))]
-pub fn is_form_named(known: &Known<'_>, name: &Name) -> bool
-    ensures { result ≡ holds (class_number (declarations_of known.now).names name.now)
-        (kind_is is_form (declarations_of known.now)) }
+pub fn is_form_named(facts: &Facts<'_>, name: &Name) -> bool
+    ensures { result ≡ holds (class_number (declarations_of facts.now).names name.now)
+        (kind_is is_form (declarations_of facts.now)) }
 {
-    match known.class_of(name) {
-        Some(class) => matches!(known.classes().kind(class), Some(ClassKind::Form)),
+    match facts.class_of(name) {
+        Some(class) => matches!(facts.classes().kind(class), Some(ClassKind::Form)),
         None => false,
     }
 }
 
 /// Whether the elements of an array are parts of a form.
 #[tactic(auto, unfolding(scj_rules::specs::TypeRules::element_class, scj_rules::specs::Contexts::declarations_of))]
-pub fn has_form_elements(known: &Known<'_>, element: NodeId) -> bool
+pub fn has_form_elements(facts: &Facts<'_>, element: NodeId) -> bool
     ensures { result ≡ holds
-        (read (declarations_of known.now).nodes (element_class (declarations_of known.now)) element)
-        (kind_is is_form (declarations_of known.now)) }
+        (read (declarations_of facts.now).nodes (element_class (declarations_of facts.now)) element)
+        (kind_is is_form (declarations_of facts.now)) }
 {
-    match known.program().get(element) {
-        Some(Node::ClassType { name, .. }) => is_form_named(known, name.get()),
+    match facts.program().get(element) {
+        Some(Node::ClassType { name, .. }) => is_form_named(facts, name.get()),
         _ => false,
     }
 }
@@ -87,31 +69,31 @@ pub fn has_form_elements(known: &Known<'_>, element: NodeId) -> bool
 pub fn misfits_cast(at: &At<'_>, name: &Name, operand: NodeId) -> bool
     ensures { result ≡ misfits_cast (declared at.now) (types at.now) name.now operand }
 {
-    let (Some(t), Some(class)) = (at.type_of(operand), at.known.class_of(name)) else {
+    let (Some(t), Some(class)) = (at.type_of(operand), at.facts.class_of(name)) else {
         return false;
     };
     let u = Ty::Class(class);
-    !(is_reference(&t) && (assigns(at.known, &t, &u) || assigns(at.known, &u, &t)))
+    !(is_reference(&t) && (assigns(at.facts, &t, &u) || assigns(at.facts, &u, &t)))
 }
 
 /// Whether no object is at hand: a class is named, or no object is written and there is none here.
-pub fn lacks_object(known: &Known<'_>, id: NodeId, receiver: &Receiver) -> bool
-    ensures { result ≡ lacks_object (declarations_of known.now) id receiver.now }
+pub fn lacks_object(facts: &Facts<'_>, id: NodeId, receiver: &Receiver) -> bool
+    ensures { result ≡ lacks_object (declarations_of facts.now) id receiver.now }
 {
-    names_class(receiver) || (!is_value(receiver) && !known.has_object(id))
+    names_class(receiver) || (!is_value(receiver) && !facts.has_object(id))
 }
 
 /// Whether there is no such field of a receiver, or a static one through a value.
 #[tactic(auto, unfolding(scj_rules::specs::TypeRules::lacks_field))]
 pub fn lacks_field(
-    known: &Known<'_>,
+    facts: &Facts<'_>,
     receiver: &Receiver,
     name: &Name,
     field: &Option<FieldRef>,
 ) -> bool
-    requires { option_map (found_field known.now.nodes) field.now ≡ accessed_field (declarations_of known.now)
+    requires { option_map (found_field facts.now.nodes) field.now ≡ accessed_field (declarations_of facts.now)
         receiver.now name.now }
-    ensures { result ≡ lacks_field (declarations_of known.now) receiver.now name.now }
+    ensures { result ≡ lacks_field (declarations_of facts.now) receiver.now name.now }
 {
     if is_no_reference(receiver) {
         return false;
@@ -120,7 +102,7 @@ pub fn lacks_field(
         return false;
     }
     match field {
-        Some(field) => is_value(receiver) && is_static_field(known.program(), field),
+        Some(field) => is_value(receiver) && is_static_field(facts.program(), field),
         None => true,
     }
 }
@@ -128,11 +110,11 @@ pub fn lacks_field(
 /// Whether a receiver has such a field that isn't static, and no object is at hand.
 pub fn lacks_object_of_field(at: &At<'_>, receiver: &Receiver, field: &Option<FieldRef>) -> bool
     ensures { (name : List ℕ) →
-        option_map (found_field at.now.known.now.nodes) field.now ≡ accessed_field (declared at.now) receiver.now
+        option_map (found_field at.now.facts.now.nodes) field.now ≡ accessed_field (declared at.now) receiver.now
         name → result ≡ lacks_object_of_field (declared at.now) at.now.id name receiver.now }
 {
     let Some(field) = field else {
         return false;
     };
-    lacks_object(at.known, at.id, receiver) && !is_static_field(at.known.program(), field)
+    lacks_object(at.facts, at.id, receiver) && !is_static_field(at.facts.program(), field)
 }

@@ -1,5 +1,4 @@
-//! The results of members, the bodies of size methods, and statements that always return (as JLS 14.21, but for
-//! statements that aren't reached).
+//! The bodies of size methods, and statements that always return (as JLS 14.21, but for what isn't reached).
 
 ghost use Rattle.std.specs.Prelude.{◌≡◌, IfOk, false, is_some};
 ghost use Rattle.std.specs.List.{list_any};
@@ -8,16 +7,13 @@ ghost use Rattle.scj_rules.specs.Definitions.{read};
 ghost use Rattle.scj_rules.specs.Words.{holds};
 ghost use Rattle.scj_rules.specs.ClassRules.{is_same_type};
 ghost use Rattle.scj_rules.specs.declared.views.WrittenType.TheVariants.{Long as long_type, Void as void_type};
-ghost use Rattle.scj_rules.specs.Contexts.{declarations_of, contexts_in};
 ghost use Rattle.scj_rules.specs.Types.{is_true_literal, returns_of};
-ghost use Rattle.scj_rules.specs.TypeRules.{is_number, returns_number, is_size_body, result_at, always_returns};
+ghost use Rattle.scj_rules.specs.TypeRules.{is_number, returns_number, is_size_body};
 ghost use Rattle.type_words.specs.Returns.{all_returns, returns_next, is_returning_kind};
 
-use node_contexts::Contexts;
-use node_views::type_at;
 use scj_base::{Memory, NodeId};
 use scj_rules::WrittenType;
-use scj_tree::{Node, NodeKind, Program};
+use scj_tree::{Node, NodeKind, Program, told};
 use std::alloc::Global;
 
 /// Whether the type is `void`.
@@ -34,22 +30,6 @@ pub fn is_long(t: &WrittenType) -> bool
     ensures { result ≡ is_same_type t.now long_type }
 {
     matches!(t, WrittenType::Long)
-}
-
-/// The result that is written where the node stands, `void` in a constructor.
-#[tactic(auto, unfolding(scj_rules::specs::TypeRules::result_at, scj_rules::specs::TypeRules::result_of_member, scj_rules::specs::Contexts::declarations_of))]
-pub fn result_at(program: &Program, contexts: &Contexts, id: NodeId) -> WrittenType
-    requires { contexts.now ≡ contexts_in program.now }
-    ensures { result ≡ result_at (declarations_of program.now) id }
-{
-    let member = match contexts.get(id).member {
-        Some(member) => program.get(member),
-        None => None,
-    };
-    match member {
-        Some(Node::Method { result_type, .. }) => type_at(program, *result_type),
-        _ => WrittenType::Void,
-    }
 }
 
 /// Whether a node is a number that is an `int`.
@@ -99,18 +79,11 @@ pub fn is_size_body(program: &Program, body: NodeId) -> bool
     }
 }
 
-/// What is told of a node.
-fn told(returns: &[bool], id: NodeId) -> bool
-    ensures { result ≡ lookup false returns.now id }
-{
-    matches!(returns.get(id.place()), Some(true))
-}
-
 /// Whether one of these nodes returns.
 fn any_returns(returns: &[bool], ids: &[NodeId]) -> bool
     ensures { result ≡ list_any (lookup false returns.now) ids.now }
 {
-    ids.iter().any(|id| told(returns, *id))
+    ids.iter().any(|id| told(returns, false, *id))
 }
 
 /// Whether the node is the literal `true`.
@@ -133,7 +106,7 @@ fn returns_of(program: &Program, returns: &[bool], node: &Node) -> bool
             then_part,
             else_part: Some(other),
             ..
-        } => told(returns, *then_part) && told(returns, *other),
+        } => told(returns, false, *then_part) && told(returns, false, *other),
         Node::While { condition, .. } => is_true(program, *condition),
         _ => false,
     }
@@ -176,14 +149,4 @@ pub fn returning(alloc: Global, program: &Program) -> Result<Vec<bool>, Memory>
         returns.push(value)?;
     }
     Ok(returns)
-}
-
-/// Whether a body always returns.
-#[tactic(auto, using(crate::proofs::ReturnLemmas::body_returns), unfolding(scj_rules::specs::Contexts::declarations_of))]
-pub fn always_returns(program: &Program, returns: &[bool], body: NodeId) -> bool
-    requires { returns.now ≡ all_returns program.now.nodes }
-    ensures { result ≡ always_returns (declarations_of program.now) body }
-{
-    let _ = program;
-    told(returns, body)
 }

@@ -4,24 +4,13 @@ use Rattle.scj_rules.specs.declared.typing.Ty.{Ty}
 use Rattle.scj_rules.specs.declared.typing.Binding.{Binding}
 use Rattle.scj_rules.specs.Contexts.{Declarations, declarations_of}
 use Rattle.scj_rules.specs.Bindings.{binding_at, bindings_in}
-use Rattle.node_contexts.proofs.CountLemmas.{listed_more}
 use Rattle.node_bindings.proofs.programs.bindings_of.Goals as goal
-
-pub loop-place-init : goal.loop-place-init
-unfolding listed
-loop-place-init c = c.in_ok-bindings.ensures
-
-pub loop-place-preserved : goal.loop-place-preserved
-loop-place-preserved c =
-    let f = binding_at (declarations_of c.args.known.now) (lookup None c.args.types.now) in
-    c.in_ok-add.ensures.ok ∙ listed_more f c.loop-place.place c.loop-place.bindings c.in_ok-b.b c.loop-place.invariant
-    (c.in_ok-b.ensures ∙ ap f c.at-id.ensures)
 
 pub returns : goal.returns
 unfolding bindings_in declarations_of
 returns c =
-    let p : Declarations = declarations_of c.args.known.now in
+    let p : Declarations = declarations_of c.args.facts.now in
     let all : List (Option Ty) → ℕ → List Binding = λ ts. listed (binding_at p (lookup None ts)) in
-    let full : c.loop-place.place ≡ length c.args.known.now.nodes =
+    let full : c.loop-place.place ≡ length c.args.facts.now.nodes =
     omega (arith, rw c.program-program.ensures at c.len-place-end.ensures.value) in
     c.loop-place.invariant ∙ ap (all c.args.types.now) full ∙ ap (λ ts. all ts (length p.nodes)) c.requires.types

@@ -6,4 +6,4 @@ use Rattle.node_bindings.proofs.programs.bindings_of.Given as goal
 
 -- what the nodes so far stand for is told
 abbrev pub invariant-loop-place : goal.invariant-loop-place
-invariant-loop-place l = l.bindings ≡ listed (binding_at (declarations_of l.known) (lookup None l.types)) l.place
+invariant-loop-place l = l.bindings ≡ listed (binding_at (declarations_of l.facts) (lookup None l.types)) l.place

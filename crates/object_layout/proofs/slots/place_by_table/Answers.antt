@@ -6,16 +6,16 @@ pub returns-then-place-fields-clause-value : goal.returns-then-place-fields-clau
 returns-then-place-fields-clause-value c =
     sym
     (placed_nowhere c.args.places.now c.args.fields.now c.args.field c.requires
-    (omega (arith, c.if-place-fields.true, c.place_at-place.ensures)))
+    (omega (arith, c.if-place-fields.true, c.told-place.ensures)))
 
 pub returns-then-stands_at-clause-value : goal.returns-then-stands_at-clause-value
 returns-then-stands_at-clause-value c =
     sym
-    (placed_there c.args.places.now c.args.fields.now c.args.field c.requires c.place_at-place.result
-    c.place_at-place.ensures (omega (arith, c.if-place-fields.false)) (sym c.stands_at.ensures ∙ c.if-stands_at.true))
+    (placed_there c.args.places.now c.args.fields.now c.args.field c.requires c.told-place.result
+    c.told-place.ensures (omega (arith, c.if-place-fields.false)) (sym c.stands_at.ensures ∙ c.if-stands_at.true))
 
 pub returns-else-stands_at-clause-value : goal.returns-else-stands_at-clause-value
 returns-else-stands_at-clause-value c =
     sym
-    (placed_elsewhere c.args.places.now c.args.fields.now c.args.field c.requires c.place_at-place.result
-    c.place_at-place.ensures (omega (arith, c.if-place-fields.false)) (sym c.stands_at.ensures ∙ c.if-stands_at.false))
+    (placed_elsewhere c.args.places.now c.args.fields.now c.args.field c.requires c.told-place.result
+    c.told-place.ensures (omega (arith, c.if-place-fields.false)) (sym c.stands_at.ensures ∙ c.if-stands_at.false))

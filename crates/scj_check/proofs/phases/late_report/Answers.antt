@@ -7,4 +7,4 @@ pub returns : goal.returns
 returns c =
     report_behind_scopes _ _ c.requires.right_classes c.requires.right_types
     (nothing_found _ _ (omega arith) c.in_ok-tree.ensures.found)
-    (rw c.requires.known at c.in_ok-report_of_uses.ensures)
+    (rw (c.with_tree.ensures, c.again.ensures) at c.in_ok-report_of_uses.ensures)

@@ -7,8 +7,8 @@ use Rattle.scope_tree.proofs.rules.any_defines.Given as goal
 -- what is left tells it
 abbrev pub invariant-loop-class : goal.invariant-loop-class
 invariant-loop-class l =
-    list_any (λ class. is_some (definition_in (declarations_of l.scopes) class)) l.rest
-    ≡ list_any (λ class. is_some (definition_in (declarations_of l.scopes) class)) l.fn.chain
+    list_any (λ class. is_some (definition_in (declarations_of l.facts) class)) l.rest
+    ≡ list_any (λ class. is_some (definition_in (declarations_of l.facts) class)) l.fn.chain
 
 abbrev pub decreases-loop-class : goal.decreases-loop-class
 decreases-loop-class l = length l.rest

@@ -8,4 +8,4 @@ use Rattle.scope_tree.proofs.rules.broken_classes.Given as goal
 abbrev pub invariant-loop-number : goal.invariant-loop-number
 invariant-loop-number l =
     l.found.items ≡ joined_below
-    (at_class (declarations_of l.scopes) (λ class row c. scope_breaks (declarations_of l.scopes) class c)) l.number
+    (at_class (declarations_of l.facts) (λ class row c. scope_breaks (declarations_of l.facts) class c)) l.number

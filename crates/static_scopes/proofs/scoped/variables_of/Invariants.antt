@@ -8,4 +8,4 @@ use Rattle.static_scopes.proofs.scoped.variables_of.Given as goal
 
 abbrev pub invariant-loop-place : goal.invariant-loop-place
 invariant-loop-place l = (id : ℕ) (scope : Scope) → get nat_cmp l.rows id ≡ Some scope →
-    variable_scope_at (declarations_of l.scoped) id ≡ Some scope
+    variable_scope_at (declarations_of l.facts) id ≡ Some scope

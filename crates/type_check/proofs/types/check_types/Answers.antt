@@ -1,13 +1,14 @@
-use Rattle.std.proofs.Common.{◌≡◌, ◌++◌, ℕ, List, Option, None, ap, ◌∙◌, arith, length, sym}
+use Rattle.std.proofs.Common.{◌≡◌, ◌++◌, ℕ, List, [], Option, None, ap, ◌∙◌, arith, length, sym}
 use Rattle.scj_base.specs.declared.findings.Found.{Found}
 use Rattle.scj_tree.specs.Recursion.{lookup, bottom_up, joined_below}
+use Rattle.scj_tree.proofs.RecursionLemmas.{joined_next}
 use Rattle.scj_rules.specs.declared.typing.Ty.{Ty}
 use Rattle.scj_rules.specs.Contexts.{Declarations, declarations_of}
 use Rattle.scj_rules.specs.Phases.{over_nodes, type_phase}
 use Rattle.scj_rules.specs.TypeRules.{type_of_next, types_in}
 use Rattle.type_words.proofs.ReturnLemmas.{bottom_up-more}
-use Rattle.type_rules.proofs.MeaningLemmas.{no_meanings}
-use Rattle.type_check.proofs.PassLemmas.{breaks_at, breaks_so_far, joined-more}
+use Rattle.type_check.proofs.PassLemmas.{breaks_at, breaks_so_far}
+use Rattle.type_check.proofs.RowLemmas.{none_told}
 use Rattle.type_check.proofs.types.check_types.Goals as goal
 
 pub loop-place-init : goal.loop-place-init
@@ -15,18 +16,16 @@ unfolding bottom_up joined_below
 loop-place-init c = record {
   typed = c.in_ok-types.ensures.items;
   noted = c.new-found.ensures.items;
-  right = rw c.in_ok-rows.ensures.items (no_meanings c.args.known.now);
-  so_many = ap length c.in_ok-rows.ensures.items;
+  right = none_told c.args.facts.now _ _ c.in_ok-rows.ensures;
 }
 
 pub loop-place-preserved : goal.loop-place-preserved
 unfolding declarations_of joined_below
 loop-place-preserved c =
-    let p : Declarations = declarations_of c.args.known.now in
+    let p : Declarations = declarations_of c.args.facts.now in
     let place : ℕ = c.loop-place.place in
     let whole = rw c.program-program.ensures at c.len-place-end.ensures.whole in
-    let row = rw c.at-id.ensures at c.in_ok-add_row.ensures in
-    let t = rw (c.deref-in-loop-place-2.ensures.value, c.at-id.ensures) at c.in_ok-t.ensures in
+    let t = rw (c.deref.ensures.value, c.at-id.ensures) at c.in_ok-t.ensures in
     record {
       typed = c.in_ok-push.ensures.items
           ∙ bottom_up-more None (type_of_next p) place c.loop-place.types.items c.in_ok-t.t c.loop-place.invariant.typed
@@ -34,25 +33,24 @@ loop-place-preserved c =
       noted = t.found
           ∙ ap (λ (ts : List (Option Ty)). c.loop-place.found.items ++ breaks_at p (lookup None ts) place)
           c.loop-place.invariant.typed
-          ∙ ap (λ (fs : List Found). c.loop-place.found.items ++ fs) (breaks_so_far c.args.known.now whole place)
-          ∙ joined-more (breaks_at p (lookup None (types_in p))) place c.loop-place.found.items
-          c.loop-place.invariant.noted;
-      right = row.told;
-      so_many = row.next;
+          ∙ ap (λ (fs : List Found). c.loop-place.found.items ++ fs) (breaks_so_far c.args.facts.now whole place)
+          ∙ ap (λ (fs : List Found). fs ++ breaks_at p (lookup None (types_in p)) place) c.loop-place.invariant.noted
+          ∙ sym (joined_next (breaks_at p (lookup None (types_in p))) place []);
+      right = c.in_ok-t.ensures.rows;
     }
 
 pub returns-clause-types : goal.returns-clause-types
 unfolding types_in declarations_of
 returns-clause-types c =
-    let full : c.loop-place.place ≡ length c.args.known.now.nodes =
+    let full : c.loop-place.place ≡ length c.args.facts.now.nodes =
     omega (arith, rw c.program-program.ensures at c.len-place-end.ensures.value) in
-    c.loop-place.invariant.typed ∙ ap (bottom_up None (type_of_next (declarations_of c.args.known.now))) full
+    c.loop-place.invariant.typed ∙ ap (bottom_up None (type_of_next (declarations_of c.args.facts.now))) full
 
 pub returns-clause-report : goal.returns-clause-report
 unfolding type_phase over_nodes declarations_of
 returns-clause-report c =
-    let p : Declarations = declarations_of c.args.known.now in
-    let full : c.loop-place.place ≡ length c.args.known.now.nodes =
+    let p : Declarations = declarations_of c.args.facts.now in
+    let full : c.loop-place.place ≡ length c.args.facts.now.nodes =
     omega (arith, rw c.program-program.ensures at c.len-place-end.ensures.value) in
     let all = c.loop-place.invariant.noted ∙ ap (joined_below (breaks_at p (lookup None (types_in p)))) full in
     record { in_order = c.put_in_order.ensures.in_order; exact = λ f. rw (sym all) (c.put_in_order.ensures.same f) }

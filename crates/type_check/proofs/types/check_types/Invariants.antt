@@ -1,17 +1,16 @@
-use Rattle.std.proofs.Common.{◌≡◌, None, length}
+use Rattle.std.proofs.Common.{◌≡◌, None}
 use Rattle.scj_tree.specs.Recursion.{lookup, bottom_up, joined_below}
 use Rattle.scj_rules.specs.Contexts.{declarations_of}
 use Rattle.scj_rules.specs.TypeRules.{type_of_next, types_in}
-use Rattle.type_rules.specs.Meanings.{AreMeanings}
+use Rattle.program_facts.specs.Meanings.{AreMeanings}
 use Rattle.type_check.proofs.PassLemmas.{breaks_at}
 use Rattle.type_check.proofs.types.check_types.Given as goal
 
 -- the types of the nodes so far, what is broken at them, and their rows
 abbrev pub invariant-loop-place : goal.invariant-loop-place
 invariant-loop-place l = record {
-  typed : l.types.items ≡ bottom_up None (type_of_next (declarations_of l.known)) l.place;
+  typed : l.types.items ≡ bottom_up None (type_of_next (declarations_of l.facts)) l.place;
   noted : l.found.items ≡ joined_below
-      (breaks_at (declarations_of l.known) (lookup None (types_in (declarations_of l.known)))) l.place;
-  right : AreMeanings l.known l.rows.items;
-  so_many : length l.rows.items ≡ l.place;
+      (breaks_at (declarations_of l.facts) (lookup None (types_in (declarations_of l.facts)))) l.place;
+  right : AreMeanings l.facts l.rows.items;
 }

@@ -1,0 +1,25 @@
+-- What is told of a node.
+use Rattle.std.specs.Prelude.{ℕ, Bool, List, None}
+use Rattle.scj_base.specs.Bytes.{is_same}
+use Rattle.scj_tree.specs.declared.nodes.Node.{Node}
+use Rattle.scj_tree.specs.Recursion.{lookup}
+use Rattle.scj_rules.specs.declared.views.Declared.{Declared}
+use Rattle.scj_rules.specs.Words.{holds}
+use Rattle.scj_rules.specs.Views.{variable_at}
+use Rattle.scj_rules.specs.Contexts.{Declarations, declarations_of}
+use Rattle.scj_rules.specs.TypeRules.{Types}
+use Rattle.scj_rules.specs.UseRules.{Scopes}
+use Rattle.program_facts.specs.declared.told.At.{At}
+
+abbrev pub declared : At → Declarations
+declared at = declarations_of at.facts.now
+
+abbrev pub types : At → Types
+types at = lookup None at.types.now
+
+abbrev pub scopes : At → Scopes
+scopes at = lookup None at.scopes.now
+
+-- the node declares a variable of the name
+abbrev pub declares : List Node → List ℕ → ℕ → Bool
+declares nodes name id = holds (variable_at nodes id) (λ (d : Declared). is_same name d.name)

@@ -1,0 +1,13 @@
+//! What the passes of the checker share of a program: one value, filled phase by phase.
+#![tactic(auto)]
+
+pub mod facts;
+pub mod meanings;
+pub mod tables;
+pub mod told;
+mod variables;
+
+pub use facts::Facts;
+pub use meanings::{NameMeaning, NodeMeaning};
+pub use tables::{Runs, ScopeNames, ScopeRow, ScopeTree, Variables};
+pub use told::At;

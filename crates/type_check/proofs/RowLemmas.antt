@@ -1,0 +1,46 @@
+-- What rows tell, before any is kept and with one that is.
+use Rattle.std.proofs.Common.{◌≡◌, ◌≢◌, ◌<◌, ◌≤◌, ℕ, zero, suc, List, Option, Some, length, replicate, set, slice_get, refl, sym, ap, ◌∙◌, ⊎_elim}
+use Rattle.std.proofs.lemmas.Bool.{cases_lt, cases_eq}
+use Rattle.std.proofs.lemmas.List.{get_or-set_same, get_or-set_other, set_past}
+use Rattle.scj_base.specs.declared.places.Pos.{Pos}
+use Rattle.scj_tree.specs.declared.nodes.Node.{Node}
+use Rattle.scj_tree.specs.declared.nodes.Node.TheVariants.{SimpleName}
+use Rattle.scj_tree.specs.Forest.{Forest}
+use Rattle.scj_tree.specs.Recursion.{lookup}
+use Rattle.scj_rules.specs.Contexts.{declarations_of}
+use Rattle.scj_rules.specs.Types.{meaning}
+use Rattle.program_facts.specs.declared.meanings.NameMeaning.{NameMeaning}
+use Rattle.program_facts.specs.declared.meanings.NodeMeaning.{NodeMeaning}
+use Rattle.program_facts.specs.declared.meanings.NodeMeaning.TheVariants.{Name as of_name, Nothing as of_other}
+use Rattle.program_facts.specs.Meanings.{meant, IsMeaningAt, AreMeanings}
+
+nothing_at : (count id : ℕ) → lookup of_other (replicate count of_other) id ≡ of_other
+nothing_at zero id = refl
+nothing_at (suc count) zero = refl
+nothing_at (suc count) (suc id) = nothing_at count id
+
+pub none_told : (forest : Forest) (count : ℕ) (rows : List NodeMeaning) → rows ≡ replicate count of_other →
+    AreMeanings forest rows
+unfolding IsMeaningAt
+none_told forest count rows e id = rw e (rw (nothing_at count id) tt)
+
+-- one more is told
+pub one_told : (forest : Forest) (rows : List NodeMeaning) (id : ℕ) (row : NodeMeaning) → AreMeanings forest rows →
+    IsMeaningAt forest id row → AreMeanings forest (set rows id row)
+one_told forest rows id row are is n =
+    ⊎_elim
+    (λ (same : n ≡ id). rw same (⊎_elim (λ (l : id < length rows). rw (get_or-set_same rows id row of_other l) is)
+    (λ (m : length rows ≤ id). rw (set_past rows id row m) (are id)) (cases_lt id (length rows))))
+    (λ (other : n ≢ id). rw (get_or-set_other rows id n row of_other other) (are n))
+    (cases_eq n id)
+
+-- what the name of a node stands for is told by a row of it
+pub name_told : (forest : Forest) (id : ℕ) (name : List ℕ) (row : NameMeaning)
+    → meant forest.nodes row ≡ meaning (declarations_of forest) id name
+    → (place : Pos) → slice_get forest.nodes id ≡ Some (SimpleName place name) → IsMeaningAt forest id (of_name row)
+unfolding IsMeaningAt
+name_told forest id name row e place there other named h =
+    e ∙ ap (meaning (declarations_of forest) id) (name_of _ _ _ _ (sym there ∙ h))
+  where
+    name_of : (a b : Pos) (m n : List ℕ) → ◌≡◌ {A = Option Node} (Some (SimpleName a m)) (Some (SimpleName b n)) → m ≡ n
+    name_of a b m n g = cc
