@@ -36,7 +36,7 @@ EDITS = {
     "C7": "node_views/static_is_abstract class_rules/framework_methods_left_open "
     "symbol_table/open_names_stay_open",
     "C8": "class_table/safelets_left_out "
-    "class_headers/first_file_left_out",
+    "scj_tree/first_file_left_out",
     "C9": "node_rules/cast_of_any_class node_rules/mission_argument_noted",
     "C10": "class_headers/too_many_either_way "
     "class_rules/forbidden_super_by_another_rule class_headers/interfaces_are_forgotten",
@@ -47,7 +47,7 @@ EDITS = {
     "K4": "symbol_table/fields_above_are_not_counted",
     "T1": "type_check/unknown_name_passed_over node_contexts/local_known_in_its_own_value "
     "node_contexts/local_known_below_an_if_alone",
-    "T2": "node_contexts/same_variable_again",
+    "T2": "program_facts/same_variable_again",
     "T3": "type_check/operands_swapped",
     "T4": "type_rules/static_field_through_a_value",
     "T5": "type_rules/size_method_called",
@@ -58,7 +58,7 @@ EDITS = {
     "T10": "type_words/loops_never_return type_words/one_branch_returns type_words/while_true_may_end",
     "T11": "type_rules/static_class_made",
     "T12": "",
-    "T13": "node_contexts/object_in_static_members",
+    "T13": "program_facts/object_in_static_members",
     "T14": "type_rules/form_twice_for_storage type_words/largest_size_refused",
     "S1": "scope_tree/entered_under_the_parent",
     "S2": "scope_tree/place_of_the_scope",

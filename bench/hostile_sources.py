@@ -120,11 +120,9 @@ def folded(a, b):
 
 
 def slot(name):
-    """The lowest 13 bits of what the maps' hasher makes of a name: where 60,000 names go into 8,192 groups."""
-    factor = 0x9E37_79B9_7F4A_7C15
-    state = folded(0x243F_6A88_85A3_08D3 ^ len(name), factor ^ 16)
-    for byte in name.encode():
-        state = folded(state ^ byte * 0x010101, factor ^ 2)
+    """The lowest 13 bits of what the maps' hasher makes of a name of nine letters: 60,000 go into 8,192 groups."""
+    first, last = (int.from_bytes(name.encode()[at:at + 8], "little") for at in (0, 1))
+    state = folded(first ^ 0x243F_6A88_85A3_08D3 + len(name), last ^ 0x9E37_79B9_7F4A_7C15)
     return (state ^ state >> 32) & 0x1FFF
 
 
@@ -132,23 +130,27 @@ def slot(name):
 SEARCH = """
 #include <stdio.h>
 #include <stdlib.h>
+#include <string.h>
 typedef unsigned long long word;
 static word folded(word a, word b) { unsigned __int128 p = (unsigned __int128)a * b; return (word)p ^ (word)(p >> 64); }
-static void search(word state, char *name, int at, int *left) {
-    const word factor = 0x9E3779B97F4A7C15ull;
+static void search(char *name, int at, int *left) {
     if (at == 9) {
+        word first, last;
+        memcpy(&first, name, 8);
+        memcpy(&last, name + 1, 8);
+        word state = folded(first ^ (0x243F6A8885A308D3ull + 9), last ^ 0x9E3779B97F4A7C15ull);
         if (((state ^ state >> 32) & 0x1FFF) == 0) { puts(name); --*left; }
         return;
     }
     for (char letter = 'A'; letter <= 'Z' && *left > 0; letter++) {
         name[at] = letter;
-        search(folded(state ^ (word)letter * 0x010101, factor ^ 2), name, at + 1, left);
+        search(name, at + 1, left);
     }
 }
 int main(int count, char **words) {
     char name[10] = {0};
     int left = atoi(words[1]);
-    search(folded(0x243F6A8885A308D3ull ^ 9, 0x9E3779B97F4A7C15ull ^ 16), name, 0, &left);
+    search(name, 0, &left);
     return 0;
 }
 """
