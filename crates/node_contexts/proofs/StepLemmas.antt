@@ -18,10 +18,10 @@ use Rattle.scj_rules.specs.declared.contexts.Context.{Context}
 use Rattle.scj_rules.proofs.InScopeLemmas.{before-same, before-other}
 use Rattle.scj_rules.proofs.ParentLemmas.{child-is, child-less, children_apart, no-parent, parent-is, times-among}
 use Rattle.scj_rules.proofs.WithinLemmas.{position-below}
-use Rattle.node_contexts.specs.declared.kinds.Knows.{Knows}
-use Rattle.node_contexts.specs.declared.kinds.Knows.TheVariants.{InTurn, Parameters}
+use Rattle.node_contexts.specs.declared.kinds.Difference.{Difference}
+use Rattle.node_contexts.specs.declared.kinds.Difference.TheVariants.{Nothing, InTurn, Parameters, Object}
 use Rattle.node_contexts.specs.declared.rows.Family.{Family}
-use Rattle.node_contexts.specs.Steps.{declared_by, declared_behind, last_at, last_behind, of_child, shared, AreTold, AreSpread}
+use Rattle.node_contexts.specs.Steps.{declared_by, declared_behind, last_at, last_behind, object_in, of_child, shared, AreTold, AreSpread}
 
 -- ---- parent after parent
 
@@ -41,7 +41,7 @@ module _ (forest : Forest) (whole : IsForest forest) where
       omega (arith, child-less forest whole q k is.node is.there is.among)) refl
 
   -- a parent more, before its children
-  begun : (k : ℕ) (node : Node) (rows : List Context) → slice_get nodes k ≡ Some node →
+  pub begun : (k : ℕ) (node : Node) (rows : List Context) → slice_get nodes k ≡ Some node →
       AreTold forest (k + 1) [] rows → AreTold forest k (children node) rows
   begun k node rows there t =
       record { whole = t.whole; exact = λ id l above other. t.exact id l (λ q e. later id q other e (above q e)) refl }
@@ -84,11 +84,11 @@ module _ (forest : Forest) (whole : IsForest forest) where
 pub spread_first : (forest : Forest) → IsForest forest → (parent : ℕ) (node : Node) (family : Family) (rest : List ℕ)
     (known : Option ℕ) (above : Context) (rows : List Context) → slice_get forest.nodes parent ≡ Some node
     → AreTold forest (parent + 1) [] rows → family.base ≡ shared (joined forest.files) parent node above
-    → above ≡ lookup outermost rows parent → family.object ≡ object_of node
+    → above ≡ lookup outermost rows parent → object_in family.difference ≡ object_of node
     → ((child : ℕ) → declared_before forest.nodes node child ≡ declared_by forest.nodes
-    (children node) family.knows child)
+    (children node) family.difference child)
     → rest ≡ children node
-    → known ≡ last_variable forest.nodes family.base.last (declared_behind forest.nodes family.knows [])
+    → known ≡ last_variable forest.nodes family.base.last (declared_behind forest.nodes family.difference [])
     → AreSpread forest parent node family rest known rows
 spread_first forest whole parent node family rest known above rows there t b a o k e l =
     record {
@@ -97,7 +97,7 @@ spread_first forest whole parent node family rest known above rows there t b a o
         there = there;
         base = b ∙ ap (shared (joined forest.files) parent node) (a ∙ own forest whole parent node rows there t);
         object = o;
-        knows = k;
+        known = k;
       };
       done = [];
       parts = e;
@@ -132,23 +132,22 @@ last_variable-push arena known (y ∷ ids) x =
     last_variable-push arena (if is_some (variable_at arena y) then Some y else known) ids x
 
 -- the last variable behind a child, and at it
-behind-is : (arena : List Node) (knows : Knows) (done : List ℕ) (before known : Option ℕ) (child : ℕ) →
-    known ≡ last_variable arena before (declared_behind arena knows done)
-    → last_behind arena knows known child ≡ last_variable arena before
-    (declared_behind arena knows (done ++ child ∷ []))
+behind-is : (arena : List Node) (d : Difference) (done : List ℕ) (before known : Option ℕ) (child : ℕ) →
+    known ≡ last_variable arena before (declared_behind arena d done)
+    → last_behind arena d known child ≡ last_variable arena before (declared_behind arena d (done ++ child ∷ []))
 behind-is arena InTurn done before known child k =
     ap (λ (o : Option ℕ). if is_some (variable_at arena child) then Some child else o) k
     ∙ sym (last_variable-push arena before done child)
-behind-is arena (Parameters None) done before known child k = k
-behind-is arena (Parameters (Some list)) done before known child k = k
+behind-is arena _ done before known child k = k
 
-at-is : (arena : List Node) (knows : Knows) (ids done : List ℕ) (before known : Option ℕ) (child : ℕ) →
-    known ≡ last_variable arena before (declared_behind arena knows done) → those_before child ids ≡ done
-    → last_at knows before known child ≡ last_variable arena before (declared_by arena ids knows child)
+at-is : (arena : List Node) (d : Difference) (ids done : List ℕ) (before known : Option ℕ) (child : ℕ) →
+    known ≡ last_variable arena before (declared_behind arena d done) → those_before child ids ≡ done
+    → last_at d before known child ≡ last_variable arena before (declared_by arena ids d child)
 unfolding last_variable
 at-is arena InTurn ids done before known child k b = k ∙ ap (last_variable arena before) (sym b)
-at-is arena (Parameters None) ids done before known child k b = k
-at-is arena (Parameters (Some list)) ids done before known child k b = go (child == list)
+at-is arena Nothing ids done before known child k b = k
+at-is arena (Object object) ids done before known child k b = k
+at-is arena (Parameters list) ids done before known child k b = go (child == list)
   where
     go : (b : Bool) → (if b then before else known) ≡ last_variable arena before (if b then [] else
         (elim (read arena parameter_nodes list) as (λ _. List ℕ) [ None ↦ [] | Some parameters ↦ parameters ]))
@@ -167,8 +166,8 @@ child-from arena classes parent node above base object known child e f g = rw (e
 -- a child more
 pub spread_next : (forest : Forest) (parent : ℕ) (node : Node) (family : Family) (rest : List ℕ)
     (known next : Option ℕ) (rows : List Context) (child : ℕ) (row : Context)
-    → row ≡ of_child family.base family.object (last_at family.knows family.base.last known child) child
-    → next ≡ last_behind forest.nodes family.knows known child → child < length rows
+    → row ≡ of_child family.base (object_in family.difference) (last_at family.difference family.base.last known child)
+    child → next ≡ last_behind forest.nodes family.difference known child → child < length rows
     → AreSpread forest parent node family (child ∷ rest) known rows
     → AreSpread forest parent node family rest next (set rows child row)
 spread_next forest parent node family rest known next rows child row e f l s =
@@ -176,7 +175,7 @@ spread_next forest parent node family rest known next rows child row e f l s =
       shared = s.shared;
       done = s.done ++ child ∷ [];
       parts = append_assoc s.done (child ∷ []) rest ∙ s.parts;
-      is_last = f ∙ behind-is forest.nodes family.knows s.done family.base.last known child s.is_last;
+      is_last = f ∙ behind-is forest.nodes family.difference s.done family.base.last known child s.is_last;
       told = record {
         whole = length-set rows child row ∙ s.told.whole;
         exact = λ id m above other. at id m above other (cases_eq id child);
@@ -191,13 +190,12 @@ spread_next forest parent node family rest known next rows child row e f l s =
     among = ap (is_among child) (sym s.parts) ∙ among-middle s.done rest child
 
     value : row ≡ lookup outermost (contexts_in forest) child
-    value = e ∙ ap (λ (o : Option ℕ). of_child family.base family.object o child)
-        (at-is forest.nodes family.knows (children node) s.done family.base.last known child s.is_last
+    value = e ∙ ap (λ (o : Option ℕ). of_child family.base (object_in family.difference) o child)
+        (at-is forest.nodes family.difference (children node) s.done family.base.last known child s.is_last
         (ap (those_before child) (sym s.parts) ∙ those_before-at s.done rest child once))
         ∙ child-from forest.nodes (joined forest.files) parent node (lookup outermost (contexts_in forest) parent)
-        family.base
-        family.object (declared_by forest.nodes (children node) family.knows child) child s.shared.base s.shared.object
-        (sym (s.shared.knows child))
+        family.base (object_in family.difference) (declared_by forest.nodes (children node) family.difference child)
+        child s.shared.base s.shared.object (sym (s.shared.known child))
         ∙ sym (child-is forest s.shared.whole parent child node s.shared.there among)
 
     at : (id : ℕ) → id < length forest.nodes

@@ -12,31 +12,36 @@ use Rattle.scj_rules.specs.declared.contexts.Context.{Context}
 use Rattle.scj_rules.specs.Contexts.{outermost, number_of_class, is_member, is_super_call, object_of, last_variable, parameter_nodes, those_before, parameters_before, declared_before, parent_in, contexts_in}
 use Rattle.node_contexts.specs.declared.kinds.Few.{Few}
 use Rattle.node_contexts.specs.declared.kinds.Few.TheVariants.{Nothing, One, Two, Listed, More}
-use Rattle.node_contexts.specs.declared.kinds.Knows.{Knows}
-use Rattle.node_contexts.specs.declared.kinds.Knows.TheVariants.{InTurn, Parameters}
+use Rattle.node_contexts.specs.declared.kinds.Difference.{Difference}
+use Rattle.node_contexts.specs.declared.kinds.Difference.TheVariants.{Nothing as alike, InTurn, Parameters, Object}
 use Rattle.node_contexts.specs.declared.rows.Family.{Family}
 
 -- the children whose declarations are known at a child
-abbrev pub declared_by : List Node → List ℕ → Knows → ℕ → List ℕ
+abbrev pub declared_by : List Node → List ℕ → Difference → ℕ → List ℕ
 declared_by nodes ids InTurn child = those_before child ids
-declared_by nodes ids (Parameters parameters) child = parameters_before nodes parameters child
+declared_by nodes ids (Parameters list) child = parameters_before nodes (Some list) child
+declared_by nodes ids _ child = []
 
 -- the declarations that are known behind some children
-abbrev pub declared_behind : List Node → Knows → List ℕ → List ℕ
+abbrev pub declared_behind : List Node → Difference → List ℕ → List ℕ
 declared_behind nodes InTurn done = done
-declared_behind nodes (Parameters None) done = []
-declared_behind nodes (Parameters (Some list)) done =
-    elim (read nodes parameter_nodes list) [ None ↦ [] | Some ids ↦ ids ]
+declared_behind nodes (Parameters list) done = elim (read nodes parameter_nodes list) [ None ↦ [] | Some ids ↦ ids ]
+declared_behind nodes _ done = []
 
 -- the last variable that is known at a child, from that before all children and that behind those before it
-abbrev pub last_at : Knows → Option ℕ → Option ℕ → ℕ → Option ℕ
-last_at InTurn before known child = known
-last_at (Parameters parameters) before known child = if holds parameters (λ list. child == list) then before else known
+abbrev pub last_at : Difference → Option ℕ → Option ℕ → ℕ → Option ℕ
+last_at (Parameters list) before known child = if child == list then before else known
+last_at _ before known child = known
 
 -- the last variable that is known behind a child
-abbrev pub last_behind : List Node → Knows → Option ℕ → ℕ → Option ℕ
+abbrev pub last_behind : List Node → Difference → Option ℕ → ℕ → Option ℕ
 last_behind nodes InTurn known child = if is_some (variable_at nodes child) then Some child else known
-last_behind nodes (Parameters parameters) known child = known
+last_behind nodes _ known child = known
+
+-- the child that stands before a dot
+abbrev pub object_in : Difference → Option ℕ
+object_in (Object child) = Some child
+object_in _ = None
 
 -- what is the same for all children of a node
 unfoldable pub shared : List ℕ → ℕ → Node → Context → Context
@@ -53,17 +58,17 @@ shared classes parent node above =
 abbrev pub of_child : Context → Option ℕ → Option ℕ → ℕ → Context
 of_child base object last child = record base { last = last; before_dot = holds object (λ o. o == child) }
 
--- a node has these children, of which none stands before a dot, and this is what they know
-pub record HasFew (node : Node) (ids : List ℕ) (knows : Knows) : Type 0 where
+-- a node has these children, of which none stands before a dot, and so their contexts differ
+pub record HasFew (node : Node) (ids : List ℕ) (difference : Difference) : Type 0 where
   pub parts : children node ≡ ids
   pub object : object_of node ≡ None
   pub known : (nodes : List Node) (child : ℕ) → declared_before nodes node child ≡ declared_by nodes (children node)
-      knows child
+      difference child
 
 abbrev pub IsFew : Node → Few → Type 0
-IsFew node Nothing = HasFew node [] (Parameters None)
-IsFew node (One child) = HasFew node (child ∷ []) (Parameters None)
-IsFew node (Two first second) = HasFew node (first ∷ second ∷ []) (Parameters None)
+IsFew node Nothing = HasFew node [] alike
+IsFew node (One child) = HasFew node (child ∷ []) alike
+IsFew node (Two first second) = HasFew node (first ∷ second ∷ []) alike
 IsFew node (Listed list) = HasFew node list.now InTurn
 IsFew node More = Unit {0}
 
@@ -72,9 +77,9 @@ pub record IsFamily (forest : Forest) (parent : ℕ) (node : Node) (family : Fam
   pub whole : IsForest forest
   pub there : slice_get forest.nodes parent ≡ Some node
   pub base : family.base ≡ shared (joined forest.files) parent node (lookup outermost (contexts_in forest) parent)
-  pub object : family.object ≡ object_of node
-  pub knows : (child : ℕ) → declared_before forest.nodes node child ≡ declared_by forest.nodes (children node)
-      family.knows child
+  pub object : object_in family.difference ≡ object_of node
+  pub known : (child : ℕ) → declared_before forest.nodes node child ≡ declared_by forest.nodes (children node)
+      family.difference child
 
 -- the contexts of the nodes without a parent below k are there, but for those of some nodes
 pub record AreTold (forest : Forest) (k : ℕ) (rest : List ℕ) (rows : List Context) : Type 0 where
@@ -89,5 +94,6 @@ pub record AreSpread (forest : Forest) (parent : ℕ) (node : Node) (family : Fa
   pub shared : IsFamily forest parent node family
   pub done : List ℕ
   pub parts : done ++ rest ≡ children node
-  pub is_last : known ≡ last_variable forest.nodes family.base.last (declared_behind forest.nodes family.knows done)
+  pub is_last : known ≡ last_variable forest.nodes family.base.last
+      (declared_behind forest.nodes family.difference done)
   pub told : AreTold forest parent rest rows

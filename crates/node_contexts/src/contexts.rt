@@ -37,6 +37,7 @@ fn outermost(alloc: Global, count: usize) -> Result<Vec<PackedContext>, Memory>
 
 impl Contexts {
     /// The contexts of a program.
+    #[tactic(auto, using(crate::proofs::StepLemmas::started, crate::proofs::StepLemmas::ended))]
     pub fn of(alloc: Global, program: &Program) -> Result<Contexts, Memory>
         ensures { IfOk result (λ contexts. contexts ≡ contexts_in program.now) }
     {

@@ -4,18 +4,47 @@ ghost use Rattle.std.specs.Prelude.{◌≡◌, ℕ, List};
 ghost use Rattle.scj_tree.specs.declared.nodes.Node.{Node as Tree};
 ghost use Rattle.scj_tree.specs.Shape.{children};
 ghost use Rattle.scj_rules.specs.Contexts.{declared_before, is_member, is_super_call, object_of};
-ghost use Rattle.node_contexts.specs.Steps.{declared_by, IsFew};
+ghost use Rattle.node_contexts.specs.Steps.{declared_by, object_in, IsFew};
 
 use scj_base::NodeId;
 use scj_tree::Node;
 
-/// Which variables are known at a child beyond those that are known at its parent.
+/// What holds at one child of a node, and not at another.
 #[derive(Clone, Copy)]
-pub enum Knows {
-    /// Those that the children before it declare.
+pub enum Difference {
+    Nothing,
+    /// The variables are known that the children before it declare.
     InTurn,
-    /// Those of the parameters that this node lists, if there is one.
-    Parameters(Option<NodeId>),
+    /// The parameters of this list are known, but not at the list.
+    Parameters(NodeId),
+    /// This child stands before a dot.
+    Object(NodeId),
+}
+
+/// In what the contexts of the children of a node differ.
+#[tactic(auto, unfolding(scj_tree::specs::Shape::children, scj_rules::specs::Contexts::declared_before, scj_rules::specs::Contexts::object_of))]
+pub fn difference_of(node: &Node) -> Difference
+    ensures known { (nodes : List Tree) (child : ℕ) → declared_before nodes node.now child ≡ declared_by nodes
+        (children node.now) result child }
+    ensures object { object_in result ≡ object_of node.now }
+{
+    match node {
+        Node::Block { .. } | Node::For { .. } | Node::Parameters { .. } => Difference::InTurn,
+        Node::FieldAccess { object, .. } => Difference::Object(*object),
+        Node::Call {
+            object: Some(object),
+            ..
+        } => Difference::Object(*object),
+        Node::Method {
+            parameters: Some(parameters),
+            ..
+        } => Difference::Parameters(*parameters),
+        Node::Constructor {
+            parameters: Some(parameters),
+            ..
+        } => Difference::Parameters(*parameters),
+        _ => Difference::Nothing,
+    }
 }
 
 /// The children of a node of a frequent kind, of which none stands before a dot.
@@ -30,7 +59,8 @@ pub enum Few<'a> {
     More,
 }
 
-/// The children of a node, if its kind is frequent.
+/// The children of a node, if its kind is frequent: most nodes are asked no more than this, which is much quicker than to
+/// ask for the parts of all kinds.
 #[tactic(auto, unfolding(scj_tree::specs::Shape::children, scj_rules::specs::Contexts::declared_before, scj_rules::specs::Contexts::object_of))]
 pub fn few_of(node: &Node) -> Few<'_>
     ensures { IsFew node.now result }
@@ -43,23 +73,24 @@ pub fn few_of(node: &Node) -> Few<'_>
         | Node::VoidType { .. }
         | Node::True { .. }
         | Node::False { .. }
-        | Node::This { .. } => Few::Nothing,
+        | Node::This { .. }
+        | Node::ClassType { argument: None, .. } => Few::Nothing,
         Node::Binary { left, right, .. } => Few::Two(*left, *right),
         Node::Assign { target, value, .. } => Few::Two(*target, *value),
         Node::ExpressionStatement { expression, .. } => Few::One(*expression),
         Node::Parenthesized { inner, .. } => Few::One(*inner),
         Node::Unary { operand, .. } => Few::One(*operand),
+        Node::Return {
+            value: Some(value),
+            ..
+        } => Few::One(*value),
         Node::Field {
             flags: None,
             declared_type,
             value: None,
             ..
-        } => Few::One(*declared_type),
-        Node::Return {
-            value: Some(value),
-            ..
-        } => Few::One(*value),
-        Node::Parameter {
+        }
+        | Node::Parameter {
             flags: None,
             declared_type,
             ..
@@ -76,24 +107,9 @@ pub fn few_of(node: &Node) -> Few<'_>
             value,
             ..
         } => Few::Two(*declared_type, *value),
-        Node::ClassType { argument: None, .. } => Few::Nothing,
         Node::Block { statements, .. } => Few::Listed(statements.items()),
         Node::Parameters { list, .. } => Few::Listed(list.items()),
         _ => Few::More,
-    }
-}
-
-/// Which variables are known at the children of a node.
-#[tactic(auto, unfolding(scj_tree::specs::Shape::children, scj_rules::specs::Contexts::declared_before))]
-pub fn known_to(node: &Node) -> Knows
-    ensures { (nodes : List Tree) (child : ℕ) → declared_before nodes node.now child ≡ declared_by nodes
-        (children node.now) result child }
-{
-    match node {
-        Node::Block { .. } | Node::For { .. } | Node::Parameters { .. } => Knows::InTurn,
-        Node::Method { parameters, .. } => Knows::Parameters(*parameters),
-        Node::Constructor { parameters, .. } => Knows::Parameters(*parameters),
-        _ => Knows::Parameters(None),
     }
 }
 
@@ -114,16 +130,4 @@ pub fn is_super_call(node: &Node) -> bool
     ensures { result ≡ is_super_call node.now }
 {
     matches!(node, Node::SuperCall { .. })
-}
-
-/// The object of an access or a call.
-#[tactic(auto, unfolding(scj_rules::specs::Contexts::object_of))]
-pub fn object_of(node: &Node) -> Option<NodeId>
-    ensures { result ≡ object_of node.now }
-{
-    match node {
-        Node::FieldAccess { object, .. } => Some(*object),
-        Node::Call { object, .. } => *object,
-        _ => None,
-    }
 }

@@ -60,6 +60,7 @@ fn count_one(counts: &mut Vec<u32>, member: NodeId) -> Result<u32, Memory>
 }
 
 /// Counts a node, and tells how many variables of its member stand before it, if it declares one.
+#[tactic(auto, using(crate::proofs::CountLemmas::none_more, crate::proofs::CountLemmas::one_more), unfolding(crate::specs::Numbers::number_before))]
 fn count(
     program: &Program,
     contexts: &Contexts,
@@ -81,6 +82,7 @@ fn count(
 }
 
 /// The number of each variable within its member, and how many variables each member has.
+#[tactic(auto, using(scj_tree::proofs::RecursionLemmas::listed_more, crate::proofs::CountLemmas::all_counted), unfolding(scj_tree::specs::Recursion::listed, crate::specs::Numbers::numbers_before, scj_rules::specs::Contexts::declarations_of))]
 pub fn count_variables(
     alloc: Global,
     program: &Program,
@@ -91,11 +93,11 @@ pub fn count_variables(
     ensures counts { IfOk result
         (λ all. (member : ℕ) → lookup 0 all.1.items member ≡ locals (declarations_of program.now) member) }
 {
+    let mut numbers = zeros(alloc, program.len())?;
     let mut counts = none_counted(alloc, program)?;
-    let mut numbers = Vec::with_capacity(alloc, program.len())?;
     for place in 0..program.len() {
         let number = count(program, contexts, &mut counts, NodeId::at(place as u32))?;
-        numbers.push(number)?;
+        numbers[place] = number;
     }
     Ok((numbers, counts))
 }

@@ -1,15 +1,16 @@
 //! The contexts of the children of a node.
 
-ghost use Rattle.std.specs.Prelude.{◌≡◌, ◌+◌, ◌++◌, ◌∷◌, ℕ, List, [], IfOk, OnOk, Some, slice_get};
+ghost use Rattle.std.specs.Prelude.{◌≡◌, ◌+◌, ◌++◌, ◌∷◌, ℕ, List, [], IfOk, OnOk, None, Some, slice_get};
 ghost use Rattle.scj_tree.specs.declared.nodes.Node.{Node as Tree};
 ghost use Rattle.scj_tree.specs.Forest.{IsForest, joined};
+ghost use Rattle.scj_tree.specs.Parts.{ids_of};
 ghost use Rattle.scj_tree.specs.Recursion.{lookup};
-ghost use Rattle.scj_tree.specs.Shape.{optional};
+ghost use Rattle.scj_tree.specs.Shape.{children, optional};
 ghost use Rattle.scj_rules.specs.Contexts.{outermost, last_variable, number_of_class};
 ghost use Rattle.node_contexts.specs.Packed.{told};
-ghost use Rattle.node_contexts.specs.Steps.{of_child, declared_behind, last_at, last_behind, AreTold, AreSpread};
+ghost use Rattle.node_contexts.specs.Steps.{object_in, of_child, declared_behind, last_at, last_behind, AreTold, AreSpread};
 
-use crate::kinds::{Few, Knows, few_of, known_to, object_of};
+use crate::kinds::{Difference, Few, difference_of, few_of};
 use crate::packed::{PackedContext, kept_node};
 use node_views::is_variable;
 use scj_base::{ClassId, Memory, NodeId};
@@ -19,8 +20,7 @@ use scj_tree::{Node, Parts, Program, parts_of, told};
 #[derive(Clone, Copy)]
 pub struct Family {
     pub base: PackedContext,
-    pub object: Option<NodeId>,
-    pub knows: Knows,
+    pub difference: Difference,
 }
 
 /// The row of a node.
@@ -48,66 +48,56 @@ fn last_among(program: &Program, ids: &[NodeId], before: u32) -> Result<u32, Mem
 
 /// The last variable that is known behind no child yet.
 #[tactic(auto, unfolding(scj_rules::specs::Contexts::parameter_nodes, scj_rules::specs::Contexts::last_variable))]
-fn first_known(program: &Program, knows: &Knows, before: u32) -> Result<u32, Memory>
+fn first_known(program: &Program, difference: &Difference, before: u32) -> Result<u32, Memory>
     ensures { IfOk result (λ known. told known ≡ last_variable program.now.nodes (told before)
-        (declared_behind program.now.nodes knows.now [])) }
+        (declared_behind program.now.nodes difference.now [])) }
 {
-    match knows {
-        Knows::Parameters(Some(parameters)) => match program.get(*parameters) {
+    match difference {
+        Difference::Parameters(parameters) => match program.get(*parameters) {
             Some(Node::Parameters { list, .. }) => last_among(program, list.items(), before),
             _ => Ok(before),
         },
-        Knows::Parameters(None) | Knows::InTurn => Ok(before),
-    }
-}
-
-/// The last variable that is known at a child.
-fn last_at(family: &Family, known: u32, child: NodeId) -> u32
-    ensures { told result ≡ last_at family.now.knows family.now.base.last (told known) child }
-{
-    match &family.knows {
-        Knows::Parameters(Some(parameters)) => {
-            if child == *parameters {
-                family.base.last()
-            } else {
-                known
-            }
-        }
-        Knows::Parameters(None) | Knows::InTurn => known,
+        _ => Ok(before),
     }
 }
 
 /// The last variable that is known behind a child.
 fn last_behind(program: &Program, family: &Family, known: u32, child: NodeId) -> Result<u32, Memory>
-    ensures { IfOk result (λ last. told last ≡ last_behind program.now.nodes family.now.knows (told known) child) }
+    ensures { IfOk result (λ last. told last ≡ last_behind program.now.nodes family.now.difference (told known) child) }
 {
-    match &family.knows {
-        Knows::InTurn => {
+    match &family.difference {
+        Difference::InTurn => {
             if is_variable(program, child) {
                 kept_node(child)
             } else {
                 Ok(known)
             }
         }
-        Knows::Parameters(_) => Ok(known),
+        _ => Ok(known),
     }
 }
 
 /// The row of a child.
 fn row_of(family: &Family, known: u32, child: NodeId) -> PackedContext
-    ensures { result ≡ of_child family.now.base family.now.object
-        (last_at family.now.knows family.now.base.last (told known) child) child }
+    ensures { result ≡ of_child family.now.base (object_in family.now.difference)
+        (last_at family.now.difference family.now.base.last (told known) child) child }
 {
-    let before_dot = match family.object {
-        Some(object) => object == child,
-        None => false,
-    };
-    family
-        .base
-        .of_child(last_at(family, known, child), before_dot)
+    let base = family.base;
+    match &family.difference {
+        Difference::Object(object) => base.of_child(known, *object == child),
+        Difference::Parameters(parameters) => {
+            if child == *parameters {
+                base.of_child(base.last(), false)
+            } else {
+                base.of_child(known, false)
+            }
+        }
+        _ => base.of_child(known, false),
+    }
 }
 
 /// Writes the row of a child, and tells the last variable that is known behind it.
+#[tactic(auto, using(crate::proofs::StepLemmas::spread_next))]
 fn put(
     program: &Program,
     rows: &mut Vec<PackedContext>,
@@ -167,6 +157,25 @@ fn put_all(
     Ok(known)
 }
 
+/// The same for two children that may be missing.
+fn put_pair(
+    program: &Program,
+    rows: &mut Vec<PackedContext>,
+    family: &Family,
+    known: u32,
+    first: Option<NodeId>,
+    second: Option<NodeId>,
+) -> Result<u32, Memory>
+    ensures { IfOk result (λ next. (parent : ℕ) (node : Tree) (rest : List ℕ) →
+        AreSpread program.now parent node family.now (optional first ++ (optional second ++ rest)) (told known)
+        rows.old.items →
+        AreSpread program.now parent node family.now rest (told next) rows.new.items) }
+{
+    let next = put_optional(program, rows, family, known, first)?;
+    let last = put_optional(program, rows, family, next, second)?;
+    Ok(last)
+}
+
 /// The same for all children of a node.
 fn put_parts(
     program: &Program,
@@ -176,17 +185,31 @@ fn put_parts(
     parts: &Parts<'_>,
 ) -> Result<u32, Memory>
     ensures { IfOk result (λ next. (parent : ℕ) (node : Tree) →
-        AreSpread program.now parent node family.now (optional parts.now.first ++ (optional parts.now.second
-        ++ (optional parts.now.third ++ (optional parts.now.fourth ++ parts.now.list.now))))
-        (told known) rows.old.items →
+        AreSpread program.now parent node family.now (ids_of parts.now) (told known) rows.old.items →
         AreSpread program.now parent node family.now [] (told next) rows.new.items) }
 {
-    let first = put_optional(program, rows, family, known, parts.first)?;
-    let second = put_optional(program, rows, family, first, parts.second)?;
-    let third = put_optional(program, rows, family, second, parts.third)?;
-    let fourth = put_optional(program, rows, family, third, parts.fourth)?;
-    let last = put_all(program, rows, family, fourth, parts.list)?;
-    Ok(last)
+    match parts {
+        Parts::Nothing => Ok(known),
+        Parts::One(child) => {
+            let last = put(program, rows, family, known, *child)?;
+            Ok(last)
+        }
+        Parts::Two(first, second) => {
+            let next = put(program, rows, family, known, *first)?;
+            let last = put(program, rows, family, next, *second)?;
+            Ok(last)
+        }
+        Parts::Four(first, second, third, fourth) => {
+            let next = put_pair(program, rows, family, known, *first, *second)?;
+            let last = put_pair(program, rows, family, next, *third, *fourth)?;
+            Ok(last)
+        }
+        Parts::Listed(first, second, list) => {
+            let next = put_pair(program, rows, family, known, *first, *second)?;
+            let last = put_all(program, rows, family, next, *list)?;
+            Ok(last)
+        }
+    }
 }
 
 /// Writes the rows of the children of a node of any kind.
@@ -206,10 +229,9 @@ fn spread_more(
     let base = row_at(rows, parent).shared(class, parent, node)?;
     let family = Family {
         base,
-        object: object_of(node),
-        knows: known_to(node),
+        difference: difference_of(node),
     };
-    let known = first_known(program, &family.knows, base.last())?;
+    let known = first_known(program, &family.difference, base.last())?;
     put_parts(program, rows, &family, known, &parts_of(node))?;
     Ok(())
 }
@@ -237,8 +259,7 @@ pub fn spread_children(
             let base = row_at(rows, parent).shared(None, parent, node)?;
             let family = Family {
                 base,
-                object: None,
-                knows: Knows::Parameters(None),
+                difference: Difference::Nothing,
             };
             put(program, rows, &family, base.last(), child)?;
             Ok(())
@@ -247,8 +268,7 @@ pub fn spread_children(
             let base = row_at(rows, parent).shared(None, parent, node)?;
             let family = Family {
                 base,
-                object: None,
-                knows: Knows::Parameters(None),
+                difference: Difference::Nothing,
             };
             let known = put(program, rows, &family, base.last(), first)?;
             put(program, rows, &family, known, second)?;
@@ -258,8 +278,7 @@ pub fn spread_children(
             let base = row_at(rows, parent).shared(None, parent, node)?;
             let family = Family {
                 base,
-                object: None,
-                knows: Knows::InTurn,
+                difference: Difference::InTurn,
             };
             put_all(program, rows, &family, base.last(), list)?;
             Ok(())

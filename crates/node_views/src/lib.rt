@@ -23,4 +23,4 @@ pub use parts::{
     field_type, field_written, is_abstract_class, is_abstract_method, is_static_at,
     is_static_field, is_static_method, result_type, variable_type, variable_written,
 };
-pub use words::{modifiers_at, place_at, type_at};
+pub use words::{modifiers_at, place_at, scope_written, type_at};

@@ -24,7 +24,7 @@ pub fn place_at(program: &Program, id: NodeId) -> Pos
 
 /// The name of a scope that a node writes.
 #[tactic(auto, unfolding(scj_rules::specs::Definitions::written_of))]
-fn written(program: &Program, value: NodeId) -> Option<Written>
+pub fn scope_written(program: &Program, value: NodeId) -> Option<Written>
     ensures { result ≡ read program.now.nodes written_of value }
 {
     match program.get(value)? {
@@ -52,8 +52,8 @@ fn modifiers(program: &Program, flags: NodeId) -> Option<Modifiers>
             is_synchronized,
         } => Some(Modifiers {
             defines_scope: define_scope.is_some(),
-            scope: scope.and_then(|value| written(program, value)),
-            runs_in: runs_in.and_then(|value| written(program, value)),
+            scope: scope.and_then(|value| scope_written(program, value)),
+            runs_in: runs_in.and_then(|value| scope_written(program, value)),
             is_static: *is_static,
             is_abstract: *is_abstract,
             is_synchronized: *is_synchronized,

@@ -18,12 +18,6 @@ unfolding highest
 highest_append g [] ys = omega arith
 highest_append g (x ∷ xs) ys = omega (arith, highest_append g xs ys)
 
-pub highest_parts : (g : ℕ → ℕ) (first second third fourth : Option ℕ) (list : List ℕ)
-    → highest g (optional first ++ (optional second ++ (optional third ++ (optional fourth ++ list))))
-    ≡ max (highest g (optional first)) (max (highest g (optional second))
-    (max (highest g (optional third)) (max (highest g (optional fourth)) (highest g list))))
-highest_parts g first second third fourth list = simp highest_append refl
-
 -- the row holds the heights of the nodes from `first` on, of which the next is `at`
 pub record Holds (nodes : List Node) (first at : ℕ) (rows : List ℕ) : Type 0 where
   pub count : first + length rows ≡ at

@@ -6,7 +6,7 @@ ghost use Rattle.scj_tree.specs.Shape.{children, optional};
 ghost use Rattle.scj_parser.specs.HeightRowsSupport.{row, body_height_by, super_height_by, ChildrenWithin};
 
 use scj_base::{Memory, NodeId, Pos};
-use scj_tree::{Node, parts_of};
+use scj_tree::{Node, Parts, parts_of};
 use std::alloc::Global;
 
 /// The greatest height that a body may have.
@@ -93,17 +93,28 @@ fn weight(node: &Node) -> u32
 }
 
 /// The greatest height of the children of a node.
+#[tactic(auto, using(crate::proofs::HeightLemmas::highest_append), unfolding(scj_tree::specs::Heights::highest))]
 fn highest_child(heights: &Heights, node: &Node) -> u32
     ensures { result ≡ highest (row heights.now.first heights.now.rows.items) (children node.now) }
 {
     let parts = parts_of(node);
-    let last = heights
-        .of_optional(parts.fourth)
-        .max(heights.of_list(parts.list));
-    let later = heights.of_optional(parts.third).max(last);
-    heights
-        .of_optional(parts.first)
-        .max(heights.of_optional(parts.second).max(later))
+    match &parts {
+        Parts::Nothing => 0,
+        Parts::One(child) => heights.of(*child),
+        Parts::Two(first, second) => heights.of(*first).max(heights.of(*second)),
+        Parts::Four(first, second, third, fourth) => {
+            let last = heights
+                .of_optional(*third)
+                .max(heights.of_optional(*fourth));
+            heights
+                .of_optional(*first)
+                .max(heights.of_optional(*second).max(last))
+        }
+        Parts::Listed(first, second, list) => {
+            let last = heights.of_optional(*second).max(heights.of_list(list));
+            heights.of_optional(*first).max(last)
+        }
+    }
 }
 
 /// The height of a body; 0 for a node that has none.

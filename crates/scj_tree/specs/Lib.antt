@@ -8,6 +8,7 @@ pub mod Heights
 pub mod Kinds
 pub mod Lexemes
 pub mod Nodes
+pub mod Parts
 pub mod Recursion
 pub mod Shape
 pub mod Statements

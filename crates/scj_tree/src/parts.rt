@@ -1,92 +1,83 @@
 //! The children of a node, whatever its kind.
 
-ghost use Rattle.std.specs.Prelude.{◌≡◌, ◌++◌};
+ghost use Rattle.std.specs.Prelude.{◌≡◌, ◌∷◌, ◌++◌};
+ghost use Rattle.scj_tree.specs.Parts.{ids_of};
 ghost use Rattle.scj_tree.specs.Shape.{children, optional};
 
 use crate::nodes::Node;
 use scj_base::NodeId;
 
-/// The children of a node: those that stand singly, and behind them those of a list.
+/// The children of a node, in the order of the source. Of `Four` and `Listed` those that stand singly may be missing.
 #[derive(Clone, Copy)]
-pub struct Parts<'a> {
-    pub first: Option<NodeId>,
-    pub second: Option<NodeId>,
-    pub third: Option<NodeId>,
-    pub fourth: Option<NodeId>,
-    pub list: &'a [NodeId],
+pub enum Parts<'a> {
+    Nothing,
+    One(NodeId),
+    Two(NodeId, NodeId),
+    Four(Option<NodeId>, Option<NodeId>, Option<NodeId>, Option<NodeId>),
+    /// Two, and behind them those of a list.
+    Listed(Option<NodeId>, Option<NodeId>, &'a [NodeId]),
 }
 
-/// Children that stand singly, and those of a list.
-fn made_of<'a>(
-    first: Option<NodeId>,
-    second: Option<NodeId>,
-    third: Option<NodeId>,
-    fourth: Option<NodeId>,
-    list: &'a [NodeId],
-) -> Parts<'a>
-    ensures { result ≡ record { first = first; second = second; third = third; fourth = fourth; list = list.entry } }
+/// A child that may be missing.
+fn one_or_none<'a>(child: Option<NodeId>) -> Parts<'a>
+    ensures { ids_of result ≡ optional child }
 {
-    Parts {
-        first,
-        second,
-        third,
-        fourth,
-        list,
+    match child {
+        Some(child) => Parts::One(child),
+        None => Parts::Nothing,
+    }
+}
+
+/// A child between two that may be missing, and mostly are.
+fn between<'a>(first: Option<NodeId>, second: NodeId, third: Option<NodeId>) -> Parts<'a>
+    ensures { ids_of result ≡ optional first ++ (second ∷ optional third) }
+{
+    match third {
+        None => match first {
+            None => Parts::One(second),
+            Some(first) => Parts::Two(first, second),
+        },
+        Some(third) => match first {
+            None => Parts::Two(second, third),
+            Some(first) => Parts::Four(None, Some(first), Some(second), Some(third)),
+        },
     }
 }
 
 /// The children of a node.
 #[tactic(auto, unfolding(crate::specs::Shape::children))]
 pub fn parts_of(node: &Node) -> Parts<'_>
-    ensures { optional result.first
-        ++ (optional result.second ++ (optional result.third ++ (optional result.fourth ++ result.list.now)))
-        ≡ children node.now }
+    ensures { ids_of result ≡ children node.now }
 {
     match node {
-        Node::Class {
-            flags,
-            header,
-            members,
+        Node::Binary { left, right, .. } => Parts::Two(*left, *right),
+        Node::Assign { target, value, .. } => Parts::Two(*target, *value),
+        Node::Element { array, index, .. } => Parts::Two(*array, *index),
+        Node::NewArray {
+            element,
+            length,
             ..
-        } => made_of(*flags, *header, None, None, members.items()),
-        Node::Flags {
-            define_scope,
-            scope,
-            runs_in,
+        } => Parts::Two(*element, *length),
+        Node::While {
+            condition,
+            body,
             ..
-        } => made_of(*define_scope, *scope, *runs_in, None, &[]),
-        Node::DefineScope { first, second, .. } => {
-            made_of(Some(*first), Some(*second), None, None, &[])
-        }
-        Node::Supers {
-            superclass,
-            interfaces,
-            ..
-        } => made_of(*superclass, None, None, None, interfaces.items()),
+        } => Parts::Two(*condition, *body),
+        Node::DefineScope { first, second, .. } => Parts::Two(*first, *second),
+        Node::ExpressionStatement { expression, .. } => Parts::One(*expression),
+        Node::FieldAccess { object, .. } => Parts::One(*object),
+        Node::Parenthesized { inner, .. } => Parts::One(*inner),
+        Node::Unary { operand, .. } | Node::Cast { operand, .. } => Parts::One(*operand),
         Node::SuperType { argument, .. } | Node::ClassType { argument, .. } => {
-            made_of(*argument, None, None, None, &[])
+            one_or_none(*argument)
         }
+        Node::Return { value, .. } => one_or_none(*value),
         Node::Field {
             flags,
             declared_type,
             value,
             ..
-        } => made_of(*flags, Some(*declared_type), *value, None, &[]),
-        Node::Method {
-            flags,
-            result_type,
-            parameters,
-            body,
-            ..
-        } => made_of(*flags, Some(*result_type), *parameters, *body, &[]),
-        Node::Constructor {
-            flags,
-            parameters,
-            super_call,
-            body,
-            ..
-        } => made_of(*flags, *parameters, *super_call, Some(*body), &[]),
-        Node::Parameters { list, .. } => made_of(None, None, None, None, list.items()),
+        } => between(*flags, *declared_type, *value),
         Node::Parameter {
             flags,
             declared_type,
@@ -96,63 +87,67 @@ pub fn parts_of(node: &Node) -> Parts<'_>
             flags,
             declared_type,
             ..
-        } => made_of(*flags, Some(*declared_type), None, None, &[]),
-        Node::SuperCall { arguments, .. } | Node::New { arguments, .. } => {
-            made_of(None, None, None, None, arguments.items())
-        }
-        Node::Block { statements, .. } => made_of(None, None, None, None, statements.items()),
+        } => between(*flags, *declared_type, None),
         Node::LocalWithValue {
             flags,
             declared_type,
             value,
             ..
-        } => made_of(*flags, Some(*declared_type), Some(*value), None, &[]),
-        Node::Assign { target, value, .. } => made_of(Some(*target), Some(*value), None, None, &[]),
-        Node::ExpressionStatement { expression, .. } => {
-            made_of(Some(*expression), None, None, None, &[])
-        }
+        } => between(*flags, *declared_type, Some(*value)),
         Node::If {
             condition,
             then_part,
             else_part,
             ..
-        } => made_of(Some(*condition), Some(*then_part), *else_part, None, &[]),
-        Node::While {
-            condition,
-            body,
-            ..
-        } => made_of(Some(*condition), Some(*body), None, None, &[]),
+        } => between(Some(*condition), *then_part, *else_part),
         Node::For {
             first,
             condition,
             step,
             body,
             ..
-        } => made_of(
-            Some(*first),
-            Some(*condition),
-            Some(*step),
-            Some(*body),
-            &[],
-        ),
-        Node::Return { value, .. } => made_of(*value, None, None, None, &[]),
-        Node::Binary { left, right, .. } => made_of(Some(*left), Some(*right), None, None, &[]),
-        Node::Unary { operand, .. } | Node::Cast { operand, .. } => {
-            made_of(Some(*operand), None, None, None, &[])
+        } => Parts::Four(Some(*first), Some(*condition), Some(*step), Some(*body)),
+        Node::Flags {
+            define_scope,
+            scope,
+            runs_in,
+            ..
+        } => Parts::Four(None, *define_scope, *scope, *runs_in),
+        Node::Method {
+            flags,
+            result_type,
+            parameters,
+            body,
+            ..
+        } => Parts::Four(*flags, Some(*result_type), *parameters, *body),
+        Node::Constructor {
+            flags,
+            parameters,
+            super_call,
+            body,
+            ..
+        } => Parts::Four(*flags, *parameters, *super_call, Some(*body)),
+        Node::Block { statements, .. } => Parts::Listed(None, None, statements.items()),
+        Node::Parameters { list, .. } => Parts::Listed(None, None, list.items()),
+        Node::SuperCall { arguments, .. } | Node::New { arguments, .. } => {
+            Parts::Listed(None, None, arguments.items())
         }
-        Node::Parenthesized { inner, .. } => made_of(Some(*inner), None, None, None, &[]),
-        Node::FieldAccess { object, .. } => made_of(Some(*object), None, None, None, &[]),
         Node::Call {
             object,
             arguments,
             ..
-        } => made_of(*object, None, None, None, arguments.items()),
-        Node::Element { array, index, .. } => made_of(Some(*array), Some(*index), None, None, &[]),
-        Node::NewArray {
-            element,
-            length,
+        } => Parts::Listed(None, *object, arguments.items()),
+        Node::Supers {
+            superclass,
+            interfaces,
             ..
-        } => made_of(Some(*element), Some(*length), None, None, &[]),
-        _ => made_of(None, None, None, None, &[]),
+        } => Parts::Listed(None, *superclass, interfaces.items()),
+        Node::Class {
+            flags,
+            header,
+            members,
+            ..
+        } => Parts::Listed(*flags, *header, members.items()),
+        _ => Parts::Nothing,
     }
 }

@@ -1,9 +1,9 @@
-use Rattle.std.proofs.Common.{None, [], ◌∷◌, ap, sym, ◌∙◌, refl}
+use Rattle.std.proofs.Common.{[], ◌∷◌, ap, sym, ◌∙◌, refl}
 use Rattle.scj_tree.specs.Forest.{joined}
 use Rattle.scj_tree.specs.Recursion.{lookup}
 use Rattle.scj_rules.specs.Contexts.{outermost, last_variable}
 use Rattle.node_contexts.specs.Steps.{shared}
-use Rattle.node_contexts.specs.declared.kinds.Knows.TheVariants.{InTurn, Parameters}
+use Rattle.node_contexts.specs.declared.kinds.Difference.TheVariants.{Nothing as alike, InTurn}
 use Rattle.node_contexts.proofs.StepLemmas.{spread_first}
 use Rattle.node_contexts.proofs.rows.spread_children.Goals as goal
 
@@ -15,7 +15,7 @@ returns-in-Nothing c =
     let above = lookup outermost a.rows.now.items a.parent in
     let base = shared (joined a.program.now.files) a.parent a.node.now above in
     (spread_first a.program.now c.requires.whole a.parent a.node.now
-    (record { base = base; object = None; knows = Parameters None }) [] base.last above a.rows.now.items
+    (record { base = base; difference = alike }) [] base.last above a.rows.now.items
     c.requires.there c.requires.told refl refl (sym few.object) (few.known a.program.now.nodes) (sym few.parts)
     refl).told
 
@@ -25,7 +25,7 @@ returns-in_ok-put-in-One c =
     let a = c.args in
     let few = c.in-One.ensures in
     let s = spread_first a.program.now c.requires.whole a.parent a.node.now
-    (record { base = c.in_ok-base-in-One.base; object = None; knows = Parameters None }) _ _ c.row_at.result
+    (record { base = c.in_ok-base-in-One.base; difference = alike }) _ _ c.row_at.result
     a.rows.now.items
     c.requires.there c.requires.told
     (c.in_ok-base-in-One.ensures (joined a.program.now.files) (sym c.in-None.is ∙ c.requires.number))
@@ -39,7 +39,7 @@ returns-in_ok-put-in-Two c =
     let a = c.args in
     let few = c.in-Two.ensures in
     let s = spread_first a.program.now c.requires.whole a.parent a.node.now
-    (record { base = c.in_ok-base-in-Two.base; object = None; knows = Parameters None }) _ _ c.row_at-in-Two.result
+    (record { base = c.in_ok-base-in-Two.base; difference = alike }) _ _ c.row_at-in-Two.result
     a.rows.now.items
     c.requires.there c.requires.told
     (c.in_ok-base-in-Two.ensures (joined a.program.now.files) (sym c.in-None.is ∙ c.requires.number))
@@ -54,7 +54,7 @@ returns-in_ok-put_all-in-Listed c =
     let a = c.args in
     let few = c.in-Listed.ensures in
     let s = spread_first a.program.now c.requires.whole a.parent a.node.now
-    (record { base = c.in_ok-base-in-Listed.base; object = None; knows = InTurn }) _ _ c.row_at-in-Listed.result
+    (record { base = c.in_ok-base-in-Listed.base; difference = InTurn }) _ _ c.row_at-in-Listed.result
     a.rows.now.items
     c.requires.there c.requires.told
     (c.in_ok-base-in-Listed.ensures (joined a.program.now.files) (sym c.in-None.is ∙ c.requires.number))
