@@ -14,7 +14,7 @@ use Rattle.scj_rules.specs.Views.{WrittenClass, DeclaredConstructor, class_at}
 use Rattle.class_headers.specs.Members.{class_written}
 use Rattle.scj_rules.specs.Words.{is_among, StaysBelow}
 use Rattle.class_headers.specs.Ways.{no_way, has_bit, above_in, named_in, doubled, first_way, way_by, first_ways, ends_at, AreDoubled}
-use Rattle.class_headers.specs.ClassNames.{class_named}
+use Rattle.class_headers.specs.NamedNumbers.{found_under}
 use Rattle.class_headers.specs.Columns.{kind_count, IsHeadersOf, AreWaysOf}
 use Rattle.class_headers.specs.Rows.{header_of, header_by, superclass_by, interfaces_by, interfaces_at, framework_header}
 use Rattle.class_headers.specs.declared.ways.Way.{Way}
@@ -214,12 +214,12 @@ module _ (nodes : List Node) (ids : List ℕ) (find : List ℕ → Option ℕ)
 pub headers_are : (forest : Forest) (headers : Headers) (all : List (List ℕ))
     → all ≡ map (λ (c : FrameworkClass). c.name) framework_classes
     ++ filter_map (λ id. option_map (λ (c : WrittenClass). c.name) (class_at forest.nodes id)) (class_nodes forest)
-    → ((name : List ℕ) → class_named headers.names name ≡ position (is_same name) all)
+    → ((name : List ℕ) → found_under headers.names name ≡ position (is_same name) all)
     → headers.rows.items ≡ map framework_header framework_classes ++ filter_map
-    (λ id. option_map (header_by forest.nodes (class_named headers.names)) (class_at forest.nodes id))
+    (λ id. option_map (header_by forest.nodes (found_under headers.names)) (class_at forest.nodes id))
     (class_nodes forest)
     → map (λ v. v.items) headers.interfaces.items ≡ map
-    (λ (h : Header). interfaces_at forest.nodes (class_named headers.names) h.node) headers.rows.items
+    (λ (h : Header). interfaces_at forest.nodes (found_under headers.names) h.node) headers.rows.items
     → AreDoubled (listed (way_by headers.rows.items (map (λ v. v.items) headers.interfaces.items))
     (length headers.rows.items)) (length headers.ways.items) headers.ways.items
     → length headers.cyclic.items ≡ length headers.ways.items
@@ -229,7 +229,7 @@ pub headers_are : (forest : Forest) (headers : Headers) (all : List (List ℕ))
 unfolding declarations_of user_classes class_number class_names
 headers_are forest headers all names found rows lists ways whole exact =
     let users : List WrittenClass = filter_map (class_at forest.nodes) (class_nodes forest) in
-    let finds : class_named headers.names ≡ class_number (class_names users) =
+    let finds : found_under headers.names ≡ class_number (class_names users) =
     λ i name. (found name ∙ ap (λ (ns : List (List ℕ)). position (is_same name) ns) (names
     ∙ ap (λ (ns : List (List ℕ)). map (λ (c : FrameworkClass). c.name) framework_classes ++ ns)
     (map_filter_map (λ (c : WrittenClass). c.name) (class_at forest.nodes) (class_nodes forest)))) i in
@@ -237,12 +237,12 @@ headers_are forest headers all names found rows lists ways whole exact =
     let within = slice_get_within (declarations_of forest).written 6 last.0 last.1 in
     let kinds : kind_count ≤ length (declarations_of forest).written = omega (arith, within) in
     let are_headers : headers.rows.items ≡ map header_of (declarations_of forest).written =
-    rows ∙ all_headers forest.nodes (class_nodes forest) (class_named headers.names) finds in
+    rows ∙ all_headers forest.nodes (class_nodes forest) (found_under headers.names) finds in
     let are_lists : map (λ v. v.items) headers.interfaces.items ≡ map (λ (row : ClassRow). row.interfaces)
     (declarations_of forest).written =
-    lists ∙ ap (map (λ (h : Header). interfaces_at forest.nodes (class_named headers.names) h.node)) are_headers
-    ∙ map-map (λ (h : Header). interfaces_at forest.nodes (class_named headers.names) h.node) header_of
-    (declarations_of forest).written ∙ all_lists forest.nodes (class_nodes forest) (class_named headers.names) finds in
+    lists ∙ ap (map (λ (h : Header). interfaces_at forest.nodes (found_under headers.names) h.node)) are_headers
+    ∙ map-map (λ (h : Header). interfaces_at forest.nodes (found_under headers.names) h.node) header_of
+    (declarations_of forest).written ∙ all_lists forest.nodes (class_nodes forest) (found_under headers.names) finds in
     let first : listed (way_by headers.rows.items (map (λ v. v.items) headers.interfaces.items))
     (length headers.rows.items) ≡ first_ways (declarations_of forest).written =
     (λ i. listed (way_by (are_headers i) (are_lists i)) (length (are_headers i)))

@@ -4,7 +4,7 @@ use Rattle.scj_tree.specs.Recursion.{lookup}
 use Rattle.scj_rules.specs.Words.{is_among}
 use Rattle.scj_rules.specs.Classes.{ClassRow, superclasses, all_interfaces, is_cyclic, class_number}
 use Rattle.class_headers.specs.declared.ways.Way.{Way}
-use Rattle.class_headers.specs.ClassNames.{class_named}
+use Rattle.class_headers.specs.NamedNumbers.{found_under}
 use Rattle.class_headers.specs.Rows.{header_of}
 use Rattle.class_headers.specs.Ways.{no_way, has_bit}
 use Rattle.scj_tree.specs.Forest.{Forest}
@@ -24,7 +24,7 @@ pub record AreWaysOf (all : List ClassRow) (ways : List Way) : Type 0 where
 
 -- the table is that of the program
 pub record IsHeadersOf (forest : Forest) (headers : Headers) : Type 0 where
-  pub names : (name : List ℕ) → class_named headers.names name ≡ class_number (declarations_of forest).names name
+  pub names : (name : List ℕ) → found_under headers.names name ≡ class_number (declarations_of forest).names name
   pub rows : headers.rows.items ≡ map header_of (declarations_of forest).written
   pub interfaces : map (λ v. v.items) headers.interfaces.items ≡ map (λ (row : ClassRow). row.interfaces)
       (declarations_of forest).written

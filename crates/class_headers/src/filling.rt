@@ -5,10 +5,10 @@ ghost use Rattle.scj_builtins.specs.Framework.{framework_classes};
 ghost use Rattle.scj_rules.specs.Views.{class_at};
 ghost use Rattle.class_headers.specs.declared.filling.Header.{Header as Row};
 ghost use Rattle.class_headers.specs.Rows.{framework_header, header_by, interfaces_at};
-ghost use Rattle.class_headers.specs.ClassNames.{class_named};
+ghost use Rattle.class_headers.specs.NamedNumbers.{found_under};
 ghost use Rattle.class_headers.specs.Columns.{IsHeadersOf};
 
-use crate::class_names::ClassNames;
+use crate::named_numbers::NamedNumbers;
 use crate::names::{index_of, names_of};
 use crate::parts::{user_header, user_interfaces};
 use crate::ways::{Way, ends, ways_in};
@@ -35,7 +35,7 @@ pub struct Header {
 #[derive(Drop)]
 pub struct Headers {
     /// The class of each name.
-    pub names: ClassNames,
+    pub names: NamedNumbers,
     /// The classes, each at its number.
     pub rows: Vec<Header>,
     /// The interfaces of each class.
@@ -78,11 +78,11 @@ fn framework_headers(alloc: Global) -> Result<Vec<Header>, AllocError>
 fn user_headers(
     alloc: Global,
     program: &Program,
-    names: &ClassNames,
+    names: &NamedNumbers,
     ids: &[NodeId],
 ) -> Result<Vec<Header>, AllocError>
     ensures { IfOk result (λ headers. headers.items ≡ filter_map
-        (λ id. option_map (header_by program.now.nodes (class_named names.now)) (class_at program.now.nodes id))
+        (λ id. option_map (header_by program.now.nodes (found_under names.now)) (class_at program.now.nodes id))
         ids.now) }
 {
     ids.iter()
@@ -94,11 +94,11 @@ fn user_headers(
 fn headers_of(
     alloc: Global,
     program: &Program,
-    names: &ClassNames,
+    names: &NamedNumbers,
     ids: &[NodeId],
 ) -> Result<Vec<Header>, Memory>
     ensures { IfOk result (λ headers. headers.items ≡ map framework_header framework_classes ++ filter_map
-        (λ id. option_map (header_by program.now.nodes (class_named names.now)) (class_at program.now.nodes id))
+        (λ id. option_map (header_by program.now.nodes (found_under names.now)) (class_at program.now.nodes id))
         ids.now) }
 {
     let mut headers = framework_headers(alloc)?;
@@ -112,10 +112,10 @@ fn headers_of(
 fn interfaces(
     alloc: Global,
     program: &Program,
-    names: &ClassNames,
+    names: &NamedNumbers,
     node: Option<NodeId>,
 ) -> Result<Vec<ClassId>, Memory>
-    ensures { IfOk result (λ found. found.items ≡ interfaces_at program.now.nodes (class_named names.now) node) }
+    ensures { IfOk result (λ found. found.items ≡ interfaces_at program.now.nodes (found_under names.now) node) }
 {
     match node {
         Some(node) => {
@@ -131,11 +131,11 @@ fn interfaces(
 fn interfaces_of(
     alloc: Global,
     program: &Program,
-    names: &ClassNames,
+    names: &NamedNumbers,
     rows: &[Header],
 ) -> Result<Vec<Vec<ClassId>>, Memory>
     ensures { IfOk result (λ lists. map (λ v. v.items) lists.items
-        ≡ map (λ (h : Row). interfaces_at program.now.nodes (class_named names.now) h.node) rows.now) }
+        ≡ map (λ (h : Row). interfaces_at program.now.nodes (found_under names.now) h.node) rows.now) }
 {
     let mut lists = Vec::new(alloc);
     for row in rows {

@@ -45,12 +45,3 @@ impl Hash for NameKey {
         state.write(self.name.bytes());
     }
 }
-
-/// A member's name with the class that declares it.
-#[derive(Clone, Copy, Debug, PartialEq, Eq, Hash)]
-pub struct MemberKey {
-    /// The class.
-    pub class: u32,
-    /// The name.
-    pub name: NameKey,
-}

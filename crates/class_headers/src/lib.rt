@@ -2,11 +2,11 @@
 //! kinds, and names that are forbidden.
 #![tactic(auto)]
 
-pub mod class_names;
 pub mod classes;
 pub mod filling;
 pub mod keys;
 pub mod kinds;
+pub mod named_numbers;
 pub mod names;
 pub mod parts;
 pub mod supers;
@@ -14,4 +14,5 @@ pub mod ways;
 
 pub use classes::WrittenClasses;
 pub use filling::{Header, Headers, headers_in};
-pub use keys::{MemberKey, NameKey};
+pub use keys::NameKey;
+pub use named_numbers::NamedNumbers;

@@ -5,11 +5,11 @@ ghost use Rattle.scj_builtins.specs.declared.classes.FrameworkClass.{FrameworkCl
 ghost use Rattle.scj_builtins.specs.Framework.{framework_classes};
 ghost use Rattle.scj_base.specs.Bytes.{is_same};
 ghost use Rattle.scj_rules.specs.Views.{WrittenClass, class_at};
-ghost use Rattle.class_headers.specs.ClassNames.{class_named};
+ghost use Rattle.class_headers.specs.NamedNumbers.{found_under};
 
-use crate::class_names::ClassNames;
+use crate::named_numbers::NamedNumbers;
 use node_views::class_name;
-use scj_base::{ClassId, Memory, Name, NodeId};
+use scj_base::{Memory, Name, NodeId};
 use scj_builtins::framework_classes;
 use scj_tree::Program;
 use std::alloc::{AllocError, Global};
@@ -45,18 +45,22 @@ pub fn names_of(alloc: Global, program: &Program, ids: &[NodeId]) -> Result<Vec<
     Ok(names)
 }
 
+/// How many classes are found by a hash table: no accepted program has more.
+const FEW: usize = 512;
+
 /// The first place of each name.
-pub fn index_of(alloc: Global, names: &[Name]) -> Result<ClassNames, Memory>
-    ensures { IfOk result (λ index. (name : List ℕ) → class_named index name ≡ position (is_same name) names.now) }
+#[tactic(auto, using(crate::proofs::PartLemmas::all_numbered))]
+pub fn index_of(alloc: Global, names: &[Name]) -> Result<NamedNumbers, Memory>
+    ensures { IfOk result (λ index. (name : List ℕ) → found_under index name ≡ position (is_same name) names.now) }
 {
     let mut number = names.len();
     if number > u32::MAX as usize {
         return Err(Memory);
     }
-    let mut index = ClassNames::new(alloc);
+    let mut index = NamedNumbers::new(alloc);
     while number > 0 {
         number -= 1;
-        index.enter(names[number], ClassId::at(number as u32))?;
+        index.enter(FEW, number, names[number], number as u32)?;
     }
     Ok(index)
 }

@@ -2,15 +2,15 @@
 
 ghost use Rattle.std.specs.Prelude.{◌≡◌, [], filter_map, is_some, IfOk, option_map, option_and_then, unwrap_or, if◌then◌else◌};
 ghost use Rattle.scj_rules.specs.Views.{WrittenClass, class_at, constructor_at, named_super};
-ghost use Rattle.class_headers.specs.ClassNames.{class_named};
+ghost use Rattle.class_headers.specs.NamedNumbers.{found_under};
 ghost use Rattle.class_headers.specs.Rows.{superclass_by, interfaces_by, header_by};
 ghost use Rattle.std.specs.List.{find};
 ghost use Rattle.scj_builtins.specs.declared.kinds.ClassKind.TheVariants.{Abstract as abstract_class, Concrete as concrete_class};
 ghost use Rattle.scj_rules.specs.declared.scopes.Written.{Written as Named};
 ghost use Rattle.scj_rules.specs.Definitions.{read};
 
-use crate::class_names::ClassNames;
 use crate::filling::Header;
+use crate::named_numbers::NamedNumbers;
 use node_views::{
     class_extends, class_members, class_modifiers, interface_nodes, is_constructor, named_super,
 };
@@ -23,8 +23,8 @@ use std::alloc::{AllocError, Global};
 
 /// The superclass that a class names, and `Object` where it names none.
 #[tactic(auto, unfolding(crate::specs::Rows::superclass_by))]
-fn superclass(names: &ClassNames, extends: Option<Written>) -> Option<ClassId>
-    ensures { result ≡ superclass_by (class_named names.now) extends }
+fn superclass(names: &NamedNumbers, extends: Option<Written>) -> Option<ClassId>
+    ensures { result ≡ superclass_by (found_under names.now) extends }
 {
     match extends {
         Some(written) => names.class_of(&written.name),
@@ -55,8 +55,8 @@ fn kind(is_abstract: bool) -> ClassKind
 
 /// The header of the class at a node.
 #[tactic(auto, using(crate::proofs::PartLemmas::parts_are))]
-pub fn user_header(program: &Program, names: &ClassNames, id: NodeId) -> Option<Header>
-    ensures { result ≡ option_map (header_by program.now.nodes (class_named names.now))
+pub fn user_header(program: &Program, names: &NamedNumbers, id: NodeId) -> Option<Header>
+    ensures { result ≡ option_map (header_by program.now.nodes (found_under names.now))
         (class_at program.now.nodes id) }
 {
     let modifiers = class_modifiers(program, id)?;
@@ -72,11 +72,11 @@ pub fn user_header(program: &Program, names: &ClassNames, id: NodeId) -> Option<
 fn named_classes(
     alloc: Global,
     program: &Program,
-    names: &ClassNames,
+    names: &NamedNumbers,
     nodes: &[NodeId],
 ) -> Result<Vec<ClassId>, AllocError>
     ensures { IfOk result (λ found. found.items ≡ filter_map
-        (λ id. option_and_then (λ (w : Named). class_named names.now w.name) (read program.now.nodes named_super id))
+        (λ id. option_and_then (λ (w : Named). found_under names.now w.name) (read program.now.nodes named_super id))
         nodes.now) }
 {
     nodes
@@ -89,11 +89,11 @@ fn named_classes(
 pub fn user_interfaces(
     alloc: Global,
     program: &Program,
-    names: &ClassNames,
+    names: &NamedNumbers,
     id: NodeId,
 ) -> Result<Vec<ClassId>, Memory>
     ensures { IfOk result
-        (λ found. found.items ≡ interfaces_by (class_named names.now)
+        (λ found. found.items ≡ interfaces_by (found_under names.now)
         (unwrap_or (option_map (λ (c : WrittenClass). c.implements) (class_at program.now.nodes id)) [])) }
 {
     let found = named_classes(alloc, program, names, interface_nodes(program, id))?;
@@ -101,8 +101,8 @@ pub fn user_interfaces(
 }
 
 /// The class that a node names.
-fn interface(program: &Program, names: &ClassNames, node: NodeId) -> Option<ClassId>
-    ensures { result ≡ option_and_then (λ (w : Named). class_named names.now w.name)
+fn interface(program: &Program, names: &NamedNumbers, node: NodeId) -> Option<ClassId>
+    ensures { result ≡ option_and_then (λ (w : Named). found_under names.now w.name)
         (read program.now.nodes named_super node) }
 {
     let written = named_super(program, node)?;

@@ -1,5 +1,6 @@
 pub mod BuildingLemmas
 pub mod FieldLemmas
+pub mod InheritedLemmas
 pub mod InterfaceLemmas
 pub mod MemberLemmas
 pub mod NameLemmas

@@ -1,4 +1,5 @@
 pub mod Fields
+pub mod Inherited
 pub mod Members
 pub mod Tables
 pub mod Walks

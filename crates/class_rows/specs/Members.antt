@@ -11,6 +11,7 @@ use Rattle.scj_rules.specs.Views.{DeclaredMethod, field_at, method_at}
 use Rattle.scj_rules.specs.Classes.{field_nodes, field_number, method_nodes, method_number, is_callable}
 use Rattle.scj_rules.specs.Contexts.{declarations_of}
 use Rattle.class_headers.specs.Members.{members_in}
+use Rattle.class_headers.specs.NamedNumbers.{found_under}
 use Rattle.class_rows.specs.declared.members.MemberKind.{MemberKind}
 use Rattle.class_rows.specs.declared.members.MemberKind.TheVariants.{Field, Method}
 use Rattle.class_rows.specs.declared.members.Members.{Members}
@@ -65,7 +66,7 @@ in_class class key found = if class == key.class then found else None
 -- the table is that of the members of the kind
 pub record IsMembersOf (kind : MemberKind) (forest : Forest) (members : Members) : Type 0 where
   pub nodes : members.nodes.items ≡ member_nodes kind forest
-  pub firsts : (name : List ℕ) → get is_same members.firsts name ≡ first_declared kind forest name
+  pub firsts : (name : List ℕ) → found_under members.firsts name ≡ first_declared kind forest name
   pub named : (class first : ℕ) (name : List ℕ) → Some first ≡ first_declared kind forest name →
       get is_same_own members.named (own_key class first) ≡ first_named kind forest.nodes name
       (members_in (declarations_of forest) class)

@@ -1,15 +1,25 @@
 -- What the table of the classes of a program holds.
 unfoldable pub use Rattle.class_headers.specs.Members.{class_written, members_in}
 pub use Rattle.class_headers.specs.Columns.{IsHeadersOf, AreWaysOf}
-use Rattle.std.specs.Prelude.{◌≡◌, ℕ, Bool, true, not, List, length, Option, Some, None}
+use Rattle.std.specs.Prelude.{◌≡◌, ℕ, Bool, true, not, List, length, slice_get, Option, Some, None, option_map}
+use Rattle.scj_builtins.specs.declared.classes.FrameworkClass.{FrameworkClass}
+use Rattle.scj_builtins.specs.Framework.{framework_classes, runnable, safelet}
 use Rattle.scj_tree.specs.Forest.{Forest}
 use Rattle.scj_tree.specs.Recursion.{listed}
+use Rattle.scj_rules.specs.Words.{or_else}
 use Rattle.scj_rules.specs.Views.{WrittenClass}
 use Rattle.scj_rules.specs.Classes.{ClassRow, is_well_headed}
 use Rattle.scj_rules.specs.Contexts.{Declarations, declarations_of}
 use Rattle.class_rows.specs.declared.members.MemberKind.TheVariants.{Field, Method}
 use Rattle.class_rows.specs.declared.tables.ClassTable.{ClassTable}
+use Rattle.class_rows.specs.Inherited.{AreInherited}
 use Rattle.class_rows.specs.Members.{IsMembersOf}
+
+-- the name of the framework's class of a number, or of the class that is written
+unfoldable pub name_of : Declarations → ℕ → Option (List ℕ)
+name_of p class =
+    or_else (option_map (λ (c : FrameworkClass). c.name) (slice_get framework_classes class))
+    (option_map (λ (c : WrittenClass). c.name) (class_written p class))
 
 -- nothing in the header is forbidden, where there is one
 unfoldable pub is_good_header : Declarations → ℕ → Option WrittenClass → Bool
@@ -31,7 +41,10 @@ AreUnderObject forest marks =
 -- the table is that of the program
 pub record IsTableOf (forest : Forest) (table : ClassTable) : Type 0 where
   pub headers : IsHeadersOf forest table.headers
+  pub count : table.count ≡ length (declarations_of forest).classes
   pub under_object : AreUnderObject forest table.under_object.items
   pub ways : AreWaysOf (declarations_of forest).classes table.ways.items
   pub fields : IsMembersOf Field forest table.fields
   pub methods : IsMembersOf Method forest table.methods
+  pub of_safelet : AreInherited (declarations_of forest) safelet table.of_safelet
+  pub of_runnable : AreInherited (declarations_of forest) runnable table.of_runnable

@@ -12,9 +12,10 @@ use crate::counted::{interfaces_of, superclass_of};
 use crate::tables::ClassTable;
 use class_headers::WrittenClasses;
 use class_headers::ways::is_marked;
+use node_views::class_name;
 use scj_base::ids::SAFELET;
 use scj_base::{ClassId, Name, NodeId};
-use scj_builtins::ClassKind;
+use scj_builtins::{ClassKind, framework_classes};
 use scj_tree::Program;
 use std::marker::Model;
 
@@ -38,7 +39,7 @@ impl<'a> Model for Classes<'a> {
 }
 
 impl<'a> Classes<'a> {
-    ghost use Rattle.class_rows.specs.Tables.{IsTableOf, class_written, is_under_object, members_in};
+    ghost use Rattle.class_rows.specs.Tables.{IsTableOf, class_written, is_under_object, members_in, name_of};
 
     /// The classes of a program, from its table.
     pub fn new(program: &'a Program, table: &'a ClassTable) -> Classes<'a>
@@ -70,8 +71,15 @@ impl<'a> Classes<'a> {
         self.written().count()
     }
 
+    /// The same, as a number of the width of theirs.
+    pub fn class_count(&self) -> u32
+        ensures { result ≡ length (declarations_of self.now).classes }
+    {
+        self.table.count
+    }
+
     /// How many names of classes there are: each class has one.
-    #[tactic(auto, using(crate::proofs::NameLemmas::names_length))]
+    #[tactic(auto, using(scj_rules::proofs::WithinLemmas::as_many_names))]
     pub fn name_count(&self) -> usize
         ensures { result ≡ length (declarations_of self.now).names }
     {
@@ -83,6 +91,17 @@ impl<'a> Classes<'a> {
         ensures { result ≡ class_number (declarations_of self.now).names name.now }
     {
         self.written().class_of(name)
+    }
+
+    /// The name of a class.
+    #[tactic(auto, unfolding(crate::specs::Tables::name_of))]
+    pub fn name(&self, class: ClassId) -> Option<Name>
+        ensures { result ≡ name_of (declarations_of self.now) class }
+    {
+        match framework_classes().get(class.number() as usize) {
+            Some(class) => Some(class.name),
+            None => class_name(self.program(), self.class_node(class)?),
+        }
     }
 
     /// What a class may be used for.

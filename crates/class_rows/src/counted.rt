@@ -28,7 +28,7 @@ fn has_good_header(alloc: Global, written: &WrittenClasses, class: ClassId) -> R
 }
 
 /// How many classes there are, if they can be numbered.
-fn count_of(written: &WrittenClasses) -> Result<u32, Memory>
+pub fn count_of(written: &WrittenClasses) -> Result<u32, Memory>
     ensures { IfOk result (λ count. count ≡ length (declarations_of written.now).written) }
 {
     let count = written.count();

@@ -5,6 +5,7 @@ pub mod chains;
 pub mod classes;
 mod counted;
 pub mod fields;
+pub mod inherited;
 pub mod lookups;
 pub mod members;
 pub mod tables;

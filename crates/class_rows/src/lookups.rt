@@ -16,7 +16,6 @@ use crate::chains::Chain;
 use crate::classes::Classes;
 use crate::fields::FieldRef;
 use crate::members::{MemberKind, Members, OwnKey};
-use class_headers::NameKey;
 use class_headers::ways::{has_bit, way_at};
 use method_rows::{MethodRef, MethodSource, framework_method};
 use scj_base::ids::{RUNNABLE, SAFELET};
@@ -100,11 +99,11 @@ impl<'a> Classes<'a> {
     fn first_declared(&self, kind: MemberKind, name: &Name) -> Option<NodeId>
         ensures { result ≡ first_declared kind self.now name.now }
     {
-        let key = NameKey::of(*name);
-        self.members_like(kind).firsts.get(&key).copied()
+        self.members_like(kind).firsts.node_of(name)
     }
 
     /// The node of the first member that a user class declares itself with the name for which one stands.
+    #[tactic(auto, using(crate::proofs::MemberLemmas::none_declared))]
     fn member_like(
         &self,
         kind: MemberKind,

@@ -3,21 +3,24 @@
 ghost use Rattle.std.specs.Prelude.{◌≡◌, ◌==◌, ◌+◌, ◌≤◌, ◌++◌, ℕ, List, filter, find, position, IfOk, OnOk, option_map, option_and_then};
 ghost use Rattle.std.specs.Option.{option_or};
 ghost use Rattle.std.specs.HashMap.{get};
-ghost use Rattle.scj_base.specs.Bytes.{is_same};
 ghost use Rattle.scj_rules.specs.declared.views.Declared.{Declared};
 ghost use Rattle.scj_rules.specs.Views.{field_at};
 ghost use Rattle.scj_rules.specs.Contexts.{declarations_of};
 ghost use Rattle.class_headers.specs.Members.{members_in};
+ghost use Rattle.class_headers.specs.NamedNumbers.{found_under};
 ghost use Rattle.class_rows.specs.declared.members.OwnKey.{OwnKey as Key};
 ghost use Rattle.class_rows.specs.Members.{is_member, member_nodes, name_at, first_named, first_number, is_like, is_same_own, in_class, IsMembersOf};
 
-use class_headers::{NameKey, WrittenClasses};
+use class_headers::{NamedNumbers, WrittenClasses};
 use node_views::{is_constructor, is_field, is_method, method_name};
 use scj_base::{ClassId, Memory, Name, NodeId};
 use scj_builtins::FRAMEWORK_METHOD_COUNT;
 use scj_tree::{Node, Program};
 use std::alloc::Global;
 use std::collections::HashMap;
+
+/// How many members are found by a hash table.
+const FEW: usize = 4096;
 
 /// Which members are meant.
 #[derive(Clone, Copy, Debug)]
@@ -43,7 +46,7 @@ pub struct Members {
     /// Their nodes, each at its number behind the first.
     pub(crate) nodes: Vec<NodeId>,
     /// The first of each name.
-    pub(crate) firsts: HashMap<NameKey, NodeId>,
+    pub(crate) firsts: NamedNumbers,
     /// The first of each name in each class. A walk along a chain asks for the name once, and then for numbers.
     pub(crate) named: HashMap<OwnKey, NodeId>,
     /// The number of each, by its node.
@@ -102,23 +105,31 @@ fn add_nodes(
     Ok(())
 }
 
+/// The number of a node.
+fn number_of(id: NodeId) -> u32
+    ensures { result ≡ id }
+{
+    id.place() as u32
+}
+
 /// The first of each name among these nodes. The last is entered first, so that the first stays.
+#[tactic(auto, using(crate::proofs::MemberLemmas::first_entered))]
 fn firsts_of(
     alloc: Global,
     program: &Program,
     kind: MemberKind,
     ids: &[NodeId],
-) -> Result<HashMap<NameKey, NodeId>, Memory>
+) -> Result<NamedNumbers, Memory>
     ensures { IfOk result
-        (λ firsts. (name : List ℕ) → get is_same firsts name ≡ first_named kind program.now.nodes name ids.now) }
+        (λ firsts. (name : List ℕ) → found_under firsts name ≡ first_named kind program.now.nodes name ids.now) }
 {
-    let mut firsts = HashMap::new(alloc);
+    let mut firsts = NamedNumbers::new(alloc);
     let mut at = ids.len();
     while at > 0 {
         at -= 1;
         let id = ids[at];
         if let Some(name) = name_at(program, kind, id) {
-            firsts.insert(NameKey::of(name), id)?;
+            firsts.enter(FEW, at, name, number_of(id))?;
         }
     }
     Ok(firsts)
@@ -126,29 +137,30 @@ fn firsts_of(
 
 /// The first of the name that a node's member has.
 fn first_like(
-    firsts: &HashMap<NameKey, NodeId>,
+    firsts: &NamedNumbers,
     program: &Program,
     kind: MemberKind,
     id: NodeId,
 ) -> Option<NodeId>
-    ensures { result ≡ option_and_then (get is_same firsts.now) (name_at kind program.now.nodes id) }
+    ensures { result ≡ option_and_then (found_under firsts.now) (name_at kind program.now.nodes id) }
 {
     let name = name_at(program, kind, id)?;
-    firsts.get(&NameKey::of(name)).copied()
+    firsts.node_of(&name)
 }
 
 /// Enters those of these nodes that declare members of the kind, under a class and the firsts of their names. The last
 /// is entered first, so that the first stays.
+#[tactic(auto, using(crate::proofs::MemberLemmas::own_entered))]
 fn add_names(
     map: &mut HashMap<OwnKey, NodeId>,
-    firsts: &HashMap<NameKey, NodeId>,
+    firsts: &NamedNumbers,
     program: &Program,
     kind: MemberKind,
     class: ClassId,
     members: &[NodeId],
 ) -> Result<(), Memory>
     ensures { OnOk result ((key : Key) → get is_same_own map.new key ≡ option_or
-        (in_class class key (find (is_like kind program.now.nodes (get is_same firsts.now) key.first) members.now))
+        (in_class class key (find (is_like kind program.now.nodes (found_under firsts.now) key.first) members.now))
         (get is_same_own map.old key)) }
 {
     let mut at = members.len();
@@ -167,6 +179,7 @@ fn add_names(
 }
 
 /// The first place of each node in a list, where the places begin with this number.
+#[tactic(auto, using(crate::proofs::MemberLemmas::places_all))]
 pub fn places_of(alloc: Global, ids: &[NodeId], first: u32) -> Result<HashMap<usize, u32>, Memory>
     requires { first ≤ 100 }
     ensures { IfOk result
@@ -197,6 +210,7 @@ fn first_number(kind: MemberKind) -> u32
 }
 
 /// The nodes of the members of a kind of all classes.
+#[tactic(auto, using(crate::proofs::MemberLemmas::nodes_more, crate::proofs::MemberLemmas::nodes_all, crate::proofs::MemberLemmas::nodes_end))]
 fn nodes_of(
     alloc: Global,
     classes: &WrittenClasses,
@@ -217,15 +231,16 @@ fn nodes_of(
 }
 
 /// The first of each name in each class.
+#[tactic(auto, using(crate::proofs::MemberLemmas::names_none, crate::proofs::MemberLemmas::names_more, crate::proofs::MemberLemmas::names_all))]
 fn named_of(
     alloc: Global,
     classes: &WrittenClasses,
     kind: MemberKind,
-    firsts: &HashMap<NameKey, NodeId>,
+    firsts: &NamedNumbers,
 ) -> Result<HashMap<OwnKey, NodeId>, Memory>
     ensures { IfOk result
         (λ named. (key : Key) → get is_same_own named key ≡ find
-        (is_like kind classes.now.nodes (get is_same firsts.now) key.first)
+        (is_like kind classes.now.nodes (found_under firsts.now) key.first)
         (members_in (declarations_of classes.now) key.class)) }
 {
     let count = classes.count();

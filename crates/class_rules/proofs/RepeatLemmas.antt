@@ -1,5 +1,10 @@
 -- Names of which an earlier one is the same.
 use Rattle.std.proofs.Common.{◌≡◌, arith, ℕ, ◌||◌, true, not, cond, List, [], ◌∷◌, ◌++◌, map, filter_map, flat_map, Option, option_map, refl, ap}
+use Rattle.std.specs.List.{list_any}
+use Rattle.std.specs.BTreeMap.{is_at}
+use Rattle.std.specs.Cmp.Lexicographic.{slice_cmp}
+use Rattle.std.specs.Ordering.{nat_cmp}
+use Rattle.std.proofs.lemmas.Map.Text.{is_eq-slice_cmp}
 use Rattle.std.proofs.lemmas.List.Folds.{flat_map-map}
 use Rattle.std.proofs.lemmas.Grind.{common_steps}
 use Rattle.std.proofs.lemmas.Cmp.{nat_list_eq_equiv}
@@ -30,6 +35,11 @@ twice_alike known there [] h = refl
 twice_alike known there (w ∷ ws) h =
     let later = twice_alike (w.name ∷ known) (w.name ∷ there) ws (λ n. ap (λ b. is_same n w.name || b) (h n)) in
     grind (arith, common_steps, h w.name, later)
+
+-- a key of the set is found by the order as by its bytes
+pub known_in_order : (n : List ℕ) (keys : List (List ℕ)) → list_any (is_at (slice_cmp nat_cmp n)) keys ≡ is_one_of n keys
+known_in_order n [] = refl
+known_in_order n (k ∷ keys) = λ i. is_eq-slice_cmp n k i || known_in_order n keys i
 
 pub name_noted : (found : List Found) (known after : List (List ℕ)) (rule : Rule) (w : Written) (others : List Written)
     → ((n : List ℕ) → is_one_of n after ≡ cond (is_same w.name n) true (is_one_of n known))

@@ -5,13 +5,12 @@ ghost use Rattle.std.specs.List.{cons_option};
 ghost use Rattle.scj_rules.specs.declared.scopes.Written.{Written as Named};
 ghost use Rattle.class_rules.specs.Members.{member_name, left_twice};
 
-use class_headers::NameKey;
 use node_views::{callable_name, field_written};
-use scj_base::{Found, Memory, NodeId, Rule};
+use scj_base::{Found, Memory, Name, NodeId, Rule};
 use scj_rules::{Written, report_if};
 use scj_tree::Program;
 use std::alloc::Global;
-use std::collections::HashSet;
+use std::collections::BTreeSet;
 
 /// The name at a node of a member that a rule lets a class have once, and where it is named.
 #[tactic(auto, unfolding(crate::specs::Members::member_name))]
@@ -27,7 +26,7 @@ fn member_name(program: &Program, rule: Rule, id: NodeId) -> Option<Written>
 /// Notes that a rule is broken at a name, if there is one and it is known already, and makes it known.
 fn note_name(
     found: &mut Vec<Found>,
-    known: &mut HashSet<NameKey>,
+    known: &mut BTreeSet<Name>,
     name: Option<Written>,
     rule: Rule,
 ) -> Result<(), Memory>
@@ -37,7 +36,7 @@ fn note_name(
     let Some(written) = name else {
         return Ok(());
     };
-    let is_new = known.insert(NameKey::of(written.name))?;
+    let is_new = known.insert(written.name)?;
     report_if(found, !is_new, rule, written.place)?;
     Ok(())
 }
@@ -54,7 +53,7 @@ pub fn note_repeats(
     ensures { OnOk result (found.new.items ≡ found.old.items
         ++ left_twice rule [] (filter_map (member_name rule program.now.nodes) members.now)) }
 {
-    let mut known = HashSet::new(alloc);
+    let mut known = BTreeSet::new(alloc);
     let mut others = members;
     while let [id, rest @ ..] = others {
         note_name(found, &mut known, member_name(program, rule, *id), rule)?;

@@ -1,6 +1,6 @@
 //! The one safelet of a program.
 
-ghost use Rattle.std.specs.Prelude.{◌≡◌, ◌++◌, ◌<◌, option_map, IfOk, OnOk, length};
+ghost use Rattle.std.specs.Prelude.{◌≡◌, ◌++◌, ◌<◌, option_map, OnOk, length};
 ghost use Rattle.scj_rules.specs.ClassRules.{c8};
 ghost use Rattle.scj_rules.specs.Contexts.{declarations_of};
 ghost use Rattle.class_rules.specs.Parts.{written_class};
@@ -10,16 +10,6 @@ use crate::parts::{ClassParts, parts_of};
 use class_rows::Classes;
 use scj_base::{ClassId, Found, Memory, Pos, Rule};
 use scj_rules::report_if;
-
-/// How many classes there are, the framework's among them.
-pub fn class_count(classes: &Classes<'_>) -> Result<u32, Memory>
-    ensures { IfOk result (λ count. count ≡ length (declarations_of classes.now).classes) }
-{
-    match u32::try_from(classes.count()) {
-        Ok(count) => Ok(count),
-        Err(_) => Err(Memory),
-    }
-}
 
 /// A class, where it is a safelet of the program.
 #[tactic(auto, unfolding(crate::specs::Safelets::safelet_at))]
@@ -45,7 +35,7 @@ fn safelet_at<'a>(classes: &Classes<'a>, class: ClassId) -> Option<ClassParts<'a
 pub fn note_c8(found: &mut Vec<Found>, classes: &Classes<'_>) -> Result<(), Memory>
     ensures { OnOk result (found.new.items ≡ found.old.items ++ c8 (declarations_of classes.now)) }
 {
-    let count = class_count(classes)?;
+    let count = classes.class_count();
     let mut is_seen = false;
     for number in 0..count {
         if let Some(c) = safelet_at(classes, ClassId::at(number)) {

@@ -19,6 +19,7 @@ use std::alloc::Global;
 
 /// The table of the classes of a program, and the breaks of the rules on classes and members and of the limits, in the
 /// order of a report; by the contexts of its nodes and the numbers of its variables, which later phases ask too.
+#[tactic(auto, using(crate::proofs::ClassLemmas::is_report))]
 pub fn build(
     alloc: Global,
     program: &Program,

@@ -13,7 +13,6 @@ use class_headers::ways::is_marked;
 use class_rows::Classes;
 use class_rules::parts::parts_of;
 use class_rules::rules::note_rules;
-use class_rules::safelets::class_count;
 use scj_base::{ClassId, Found, Memory};
 use std::alloc::Global;
 use symbol_table::{SymbolTable, tour};
@@ -32,6 +31,7 @@ fn note_class(alloc: Global, found: &mut Vec<Found>, table: &SymbolTable<'_>) ->
 }
 
 /// Marks of the classes among these.
+#[tactic(auto, using(scj_rules::proofs::ChainLemmas::is_same_number, crate::proofs::NotedLemmas::marked_before))]
 fn marks_of(alloc: Global, classes: &[ClassId], count: u32) -> Result<Vec<bool>, Memory>
     ensures { IfOk result (λ marks. (class : ℕ) → lookup false marks.items class ≡ true →
         is_among class classes.now ≡ true) }
@@ -97,7 +97,7 @@ pub fn note_classes(
     ensures { OnOk result (FindSame found.new.items (found.old.items
         ++ over_classes (declarations_of classes.now) (class_found (declarations_of classes.now)))) }
 {
-    let count = class_count(classes)?;
+    let count = classes.class_count();
     let order = in_order(alloc, classes, count)?;
     let mut table = SymbolTable::new(alloc, classes)?;
     note_each(alloc, found, &mut table, &order, count)?;

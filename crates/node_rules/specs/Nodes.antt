@@ -2,28 +2,19 @@
 use Rattle.std.specs.Prelude.{ℕ, nat_le, Bool, true, false, ◌&&◌, List, [], ◌++◌, Option, Some, slice_get, option_map, if◌then◌else◌}
 use Rattle.scj_base.specs.declared.findings.Found.{Found}
 use Rattle.scj_base.specs.declared.findings.Rule.TheVariants.{K2}
-use Rattle.scj_builtins.specs.declared.classes.FrameworkClass.{FrameworkClass}
-use Rattle.scj_builtins.specs.Framework.{framework_classes}
 use Rattle.scj_tree.specs.declared.nodes.Node.{Node}
 use Rattle.scj_tree.specs.declared.nodes.Node.TheVariants.{Method as method_node, Constructor as constructor_node}
 use Rattle.scj_tree.specs.declared.kinds.NodeKind.{NodeKind}
 use Rattle.scj_tree.specs.declared.kinds.NodeKind.TheVariants.{Class, Field, Method, Constructor, Parameter, Local, LocalWithValue, TypeArgument, New, Cast, NewArray}
-use Rattle.scj_rules.specs.Words.{broken, found_at, holds, or_else}
-use Rattle.scj_rules.specs.Views.{WrittenClass, variable_at}
+use Rattle.scj_rules.specs.Words.{broken, found_at, holds}
+use Rattle.scj_rules.specs.Views.{variable_at}
 use Rattle.scj_rules.specs.Classes.{is_callable}
 use Rattle.scj_rules.specs.ClassRules.{node_breaks}
 use Rattle.scj_rules.specs.LimitRules.{most_locals, k3, node_limits}
 use Rattle.scj_rules.specs.Contexts.{Declarations}
 use Rattle.scj_rules.specs.Phases.{over_nodes}
 use Rattle.node_views.specs.Parts.{naming}
-use Rattle.class_rows.specs.Tables.{class_written}
 use Rattle.node_contexts.specs.Numbers.{owner_of, number_before}
-
--- the name of the framework's class of a number, or of the class that is written
-unfoldable pub name_of : Declarations → ℕ → Option (List ℕ)
-name_of p class =
-    or_else (option_map (λ (c : FrameworkClass). c.name) (slice_get framework_classes class))
-    (option_map (λ (c : WrittenClass). c.name) (class_written p class))
 
 -- K3 at a node
 unfoldable pub parameter_limit : Declarations → Node → List Found

@@ -1,20 +1,18 @@
 //! Words that stand where they can't, and constructors with another name than their class.
 
-ghost use Rattle.std.specs.Prelude.{◌≡◌, IfOk, slice_get};
+ghost use Rattle.std.specs.Prelude.{◌≡◌, slice_get};
 ghost use Rattle.scj_base.specs.Bytes.{is_same};
 ghost use Rattle.scj_rules.specs.Words.{holds};
 ghost use Rattle.scj_rules.specs.Views.{modifiers_at};
 ghost use Rattle.scj_rules.specs.Classes.{ClassRow};
 ghost use Rattle.scj_rules.specs.ClassRules.{has_method_words, is_misplaced_on_class, is_misplaced_on_field, is_misplaced_on_variable, is_misplaced_on_method, is_misplaced_on_constructor};
 ghost use Rattle.scj_rules.specs.Contexts.{contexts_in, declarations_of};
-ghost use Rattle.node_rules.specs.Nodes.{name_of};
 
 use crate::framework_methods::is_framework_method;
 use class_rows::Classes;
 use node_contexts::Contexts;
-use node_views::{class_name, modifiers_at};
-use scj_base::{ClassId, Memory, Name, NodeId};
-use scj_builtins::framework_classes;
+use node_views::modifiers_at;
+use scj_base::{ClassId, Name, NodeId};
 use scj_rules::Modifiers;
 
 /// Whether words stand there that a method alone can have.
@@ -53,46 +51,34 @@ pub fn is_misplaced_on_method(
     id: NodeId,
     name: &Name,
     flags: Option<NodeId>,
-) -> Result<bool, Memory>
+) -> bool
     requires { contexts.now ≡ contexts_in classes.now }
-    ensures { IfOk result
-        (λ is_wrong. is_wrong ≡ is_misplaced_on_method (declarations_of classes.now) id name.now
-        (modifiers_at classes.now.nodes flags)) }
+    ensures { result ≡ is_misplaced_on_method (declarations_of classes.now) id name.now
+        (modifiers_at classes.now.nodes flags) }
 {
     if flags.is_none() {
-        return Ok(false);
+        return false;
     }
     let m = modifiers_at(classes.program(), flags);
     if m.defines_scope || (m.is_static && m.is_abstract) {
-        return Ok(true);
+        return true;
     }
     if !m.is_synchronized {
-        return Ok(false);
+        return false;
     }
     if m.is_static || m.is_abstract {
-        return Ok(true);
+        return true;
     }
     is_framework_method(classes, contexts.get(id).class, id, name)
 }
 
-/// The name of a class.
-#[tactic(auto, unfolding(crate::specs::Nodes::name_of))]
-fn name_of(classes: &Classes<'_>, class: ClassId) -> Option<Name>
-    ensures { result ≡ name_of (declarations_of classes.now) class }
-{
-    match framework_classes().get(class.number() as usize) {
-        Some(class) => Some(class.name),
-        None => class_name(classes.program(), classes.class_node(class)?),
-    }
-}
-
 /// Whether a class has this name.
-#[tactic(auto, using(crate::proofs::NameLemmas::name_is, crate::proofs::NameLemmas::name_held))]
+#[tactic(auto, using(class_rows::proofs::NameLemmas::name_is, crate::proofs::NameLemmas::name_held))]
 fn has_name(classes: &Classes<'_>, class: ClassId, name: &Name) -> bool
     ensures { result ≡ holds (slice_get (declarations_of classes.now).classes class)
         (λ (row : ClassRow). is_same row.name name.now) }
 {
-    match &name_of(classes, class) {
+    match &classes.name(class) {
         Some(own) => own == name,
         None => false,
     }

@@ -81,7 +81,7 @@ fn note_asked(
             ..
         } => {
             note_type(found, classes, *result_type)?;
-            let is_wrong = is_misplaced_on_method(classes, contexts, id, name.get(), *flags)?;
+            let is_wrong = is_misplaced_on_method(classes, contexts, id, name.get(), *flags);
             report_if(found, is_wrong, Rule::C11, *place)?;
             note_k3(found, program, *parameters)
         }
@@ -141,8 +141,7 @@ fn note_asked(
     }
 }
 
-/// Notes what is broken at a node. Most nodes are of kinds that no rule asks, so their kind is looked at first.
-#[tactic(auto, using(crate::proofs::NodeLemmas::unasked))]
+/// Notes what is broken at a node.
 fn note_node(
     found: &mut Vec<Found>,
     classes: &Classes<'_>,
@@ -154,17 +153,14 @@ fn note_node(
     requires numbers { numbers.now ≡ numbers_before (declarations_of classes.now) }
     ensures { OnOk result (found.new.items ≡ found.old.items ++ noted_at (declarations_of classes.now) id) }
 {
-    let program = classes.program();
-    if !is_asked_kind(&program.kind(id)) {
-        return Ok(());
-    }
     note_asked(found, classes, contexts, id)?;
-    note_late(found, program, contexts, id, told(numbers, 0, id))?;
+    note_late(found, classes.program(), contexts, id, told(numbers, 0, id))?;
     Ok(())
 }
 
-/// Notes what is broken at the nodes, by the numbers of their variables.
-#[tactic(auto, using(scj_tree::proofs::RecursionLemmas::joined_next), unfolding(scj_tree::specs::Recursion::joined_below))]
+/// Notes what is broken at the nodes, by the numbers of their variables. Most nodes are of kinds that no rule asks, so
+/// their kind is looked at first.
+#[tactic(auto, using(crate::proofs::NodeLemmas::unasked, scj_tree::proofs::RecursionLemmas::joined_next, crate::proofs::NodeLemmas::all_noted), unfolding(scj_tree::specs::Recursion::joined_below, scj_rules::specs::Contexts::declarations_of))]
 pub fn note_nodes(
     found: &mut Vec<Found>,
     classes: &Classes<'_>,
@@ -175,8 +171,13 @@ pub fn note_nodes(
     requires numbers { numbers.now ≡ numbers_before (declarations_of classes.now) }
     ensures { OnOk result (FindSame found.new.items (found.old.items ++ nodes_broken (declarations_of classes.now))) }
 {
-    for place in 0..classes.program().len() {
-        note_node(found, classes, contexts, numbers, NodeId::at(place as u32))?;
+    let program = classes.program();
+    for place in 0..program.len() {
+        let id = NodeId::at(place as u32);
+        if !is_asked_kind(&program.kind(id)) {
+            continue;
+        }
+        note_node(found, classes, contexts, numbers, id)?;
     }
     Ok(())
 }

@@ -4,7 +4,6 @@ use Rattle.std.proofs.lemmas.Bool.{true≢false}
 use Rattle.std.proofs.lemmas.Bool.Decides.{nat_tests}
 use Rattle.std.proofs.lemmas.Grind.{common_steps}
 use Rattle.std.proofs.lemmas.List.Folds.{find-append}
-use Rattle.std.specs.HashMap.{get}
 use Rattle.scj_base.specs.Bytes.{is_same}
 use Rattle.scj_tree.specs.Forest.{Forest}
 use Rattle.scj_rules.specs.Words.{along, holds, or_else, chain_behind, is_among}
@@ -19,7 +18,7 @@ use Rattle.class_rows.specs.Tables.{members_in}
 use Rattle.class_rows.proofs.OwnLemmas.{declared_row_is, own_field_row}
 use Rattle.class_rows.proofs.InterfaceLemmas.{framework_append}
 use Rattle.class_rows.proofs.WalkLemmas.{along_append}
-use Rattle.symbol_table.specs.Names.{found_at, member, members_of, members_on, nearest_named}
+use Rattle.symbol_table.specs.Names.{found_at, kept_under, member, members_of, members_on, nearest_named}
 use Rattle.symbol_table.specs.Scopes.{rows_of, IsScope, classes_of, is_framework}
 use Rattle.symbol_table.proofs.LevelLemmas.{no_members}
 use Rattle.symbol_table.specs.declared.scopes.Scope.{Scope}
@@ -125,7 +124,7 @@ module _ (forest : Forest) (scope : Scope) (s : IsScope forest scope) where
     own_at = own_method rows name
 
     abbrev nearest : Option FoundMethod
-    nearest = option_map (found_at forest.nodes) (get is_same scope.above.methods.nearest name)
+    nearest = option_map (found_at forest.nodes) (kept_under scope.above.methods.nearest name)
 
     pub framework_row_is : framework_row_named rows at name
         ≡ or_else (method_named rows root name) (along own_at (all_interfaces rows at))
@@ -170,6 +169,6 @@ module _ (forest : Forest) (scope : Scope) (s : IsScope forest scope) where
         grind (arith, user, s.under.chain, users_above)
 
     pub field_is : option_and_then (λ class. field_named rows class name) (superclass_in rows at)
-        ≡ option_map (found_field forest.nodes) (get is_same scope.above.fields.nearest name)
+        ≡ option_map (found_field forest.nodes) (kept_under scope.above.fields.nearest name)
     unfolding field_named classes_above chain_behind superclasses along
     field_is = grind (arith, common_steps, s.under.behind, fields_along forest name above, s.above.fields.nearest name)

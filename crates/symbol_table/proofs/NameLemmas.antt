@@ -4,14 +4,13 @@ use Rattle.std.proofs.lemmas.Cmp.{nat_list_eq_equiv}
 use Rattle.std.proofs.lemmas.Grind.{common_steps}
 use Rattle.std.proofs.lemmas.List.{same_from_push}
 use Rattle.std.proofs.lemmas.Slice.Eq.{bytes_eq-Decides}
-use Rattle.std.specs.HashMap.{get}
 use Rattle.scj_base.specs.Bytes.{is_same}
 use Rattle.scj_tree.specs.declared.nodes.Node.{Node}
 use Rattle.class_rows.specs.declared.members.MemberKind.{MemberKind}
 use Rattle.class_rows.specs.Members.{name_at}
 use Rattle.class_rows.specs.declared.fields.FieldRef.{FieldRef as Member}
 use Rattle.symbol_table.specs.declared.names.Names.{Names}
-use Rattle.symbol_table.specs.Names.{befores, if_abstract, nearest_named, AreNamed}
+use Rattle.symbol_table.specs.Names.{befores, if_abstract, kept_under, nearest_named, AreNamed}
 
 pub same_name : (xs ys : List ℕ) → is_same xs ys ≡ true → xs ≡ ys
 same_name xs ys h = (bytes_eq-Decides xs ys).0 h
@@ -44,11 +43,11 @@ module _ (kind : MemberKind) (nodes : List Node) (m : Member) (behind : List Mem
 
   module _ (names now : Names) (own : List ℕ) (e : Some own ≡ name_at kind nodes m.node) where
     pub added : AreNamed kind nodes names behind
-        → ((name : List ℕ) → get is_same now.nearest name
-        ≡ (if is_same own name then Some m else get is_same names.nearest name))
-        → ((name : List ℕ) → get is_same now.abstracts name
-        ≡ (if is_same own name then if_abstract nodes (Some m) else get is_same names.abstracts name))
-        → now.before.items ≡ names.before.items ++ get is_same names.nearest own ∷ [] →
+        → ((name : List ℕ) → kept_under now.nearest name
+        ≡ (if is_same own name then Some m else kept_under names.nearest name))
+        → ((name : List ℕ) → kept_under now.abstracts name
+        ≡ (if is_same own name then if_abstract nodes (Some m) else kept_under names.abstracts name))
+        → now.before.items ≡ names.before.items ++ kept_under names.nearest own ∷ [] →
         AreNamed kind nodes now (m ∷ behind)
     added a near abstracts before =
         let turned = λ (name : List ℕ). nat_list_eq_equiv.symm own name in
@@ -62,10 +61,10 @@ module _ (kind : MemberKind) (nodes : List Node) (m : Member) (behind : List Mem
 
     pub taken : (was : Option Member) → AreNamed kind nodes names (m ∷ behind) →
         names.before.items ≡ now.before.items ++ was ∷ []
-        → ((name : List ℕ) → get is_same now.nearest name
-        ≡ (if is_same own name then was else get is_same names.nearest name))
-        → ((name : List ℕ) → get is_same now.abstracts name
-        ≡ (if is_same own name then if_abstract nodes was else get is_same names.abstracts name)) →
+        → ((name : List ℕ) → kept_under now.nearest name
+        ≡ (if is_same own name then was else kept_under names.nearest name))
+        → ((name : List ℕ) → kept_under now.abstracts name
+        ≡ (if is_same own name then if_abstract nodes was else kept_under names.abstracts name)) →
         AreNamed kind nodes now behind
     taken was a before near abstracts =
         let both = same_from_push now.before.items (befores kind nodes behind) was (named own)

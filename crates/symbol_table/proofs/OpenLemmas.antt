@@ -1,7 +1,10 @@
 -- Abstract methods that user classes declare and that stay open.
 use Rattle.std.proofs.Common.{◌≡◌, ℕ, ◌≤◌, Bool, true, false, ◌&&◌, ◌||◌, List, [], ◌∷◌, ◌++◌, filter, filter_map, find, flat_map, map, Option, None, Some, refl, sym, ap, ◌∙◌, arith, is_some, option_map, unwrap_or}
+use Rattle.std.specs.BTreeMap.{is_at}
+use Rattle.std.specs.Cmp.Lexicographic.{slice_cmp}
 use Rattle.std.specs.List.{list_any, position_or_len}
 use Rattle.std.specs.Map.{lookup, values_of}
+use Rattle.std.specs.Ordering.{nat_cmp}
 use Rattle.std.proofs.lemmas.Bool.Decides.{nat_tests}
 use Rattle.std.proofs.lemmas.Cmp.{nat_list_eq_equiv}
 use Rattle.std.proofs.lemmas.Grind.{common_steps}
@@ -214,7 +217,8 @@ module _ (forest : Forest) (scope : Scope) (s : IsScope forest scope) where
       let parts = find-append (is_named nodes name) own above in
       let mine = first_any nodes left name own m.0 in
       let theirs = first_passes nodes left name above m.0 in
-      let value = value_any (passes nodes left) (is_same name) scope.above.methods.abstracts.entries m.0 in
+      let value = value_any (passes nodes left) (is_at (slice_cmp nat_cmp name)) scope.above.methods.abstracts.entries
+      m.0 in
       let abstracts = s.above.methods.abstracts name in
       grind (arith, common_steps, m.1, m.2, h, parts, mine, theirs, value, abstracts)
 

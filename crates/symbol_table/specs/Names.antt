@@ -1,6 +1,8 @@
 -- The members of the classes that are entered, and the nearest of each name.
 use Rattle.std.specs.Prelude.{◌≡◌, ℕ, Bool, List, [], ◌∷◌, ◌++◌, map, flat_map, Option, None, Some, if◌then◌else◌, find}
-use Rattle.std.specs.HashMap.{get}
+use Rattle.std.specs.BTreeMap.{BTreeMap, get}
+use Rattle.std.specs.Cmp.Lexicographic.{slice_cmp}
+use Rattle.std.specs.Ordering.{nat_cmp}
 use Rattle.scj_base.specs.Bytes.{is_same}
 use Rattle.scj_tree.specs.declared.nodes.Node.{Node}
 use Rattle.scj_tree.specs.Forest.{Forest}
@@ -56,9 +58,13 @@ befores kind nodes (m ∷ behind) =
       | Some name ↦ befores kind nodes behind ++ nearest_named kind nodes name behind ∷ []
     ]
 
+-- the member that is kept under a name
+abbrev pub kept_under : BTreeMap (List ℕ) Member → List ℕ → Option Member
+kept_under members name = get (slice_cmp nat_cmp) members name
+
 -- what is kept is what these members tell
 pub record AreNamed (kind : MemberKind) (nodes : List Node) (names : Names) (members : List Member) : Type 0 where
-  pub nearest : (name : List ℕ) → get is_same names.nearest name ≡ nearest_named kind nodes name members
+  pub nearest : (name : List ℕ) → kept_under names.nearest name ≡ nearest_named kind nodes name members
   pub abstracts : (name : List ℕ) →
-      get is_same names.abstracts name ≡ if_abstract nodes (nearest_named kind nodes name members)
+      kept_under names.abstracts name ≡ if_abstract nodes (nearest_named kind nodes name members)
   pub before : names.before.items ≡ befores kind nodes members

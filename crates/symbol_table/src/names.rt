@@ -1,27 +1,26 @@
 //! The members of the classes that are entered, with the nearest of each name.
 
 ghost use Rattle.std.specs.Prelude.{◌≡◌, ◌++◌, ◌∷◌, [], ℕ, List, None, Some, if◌then◌else◌, OnOk};
-ghost use Rattle.std.specs.HashMap.{get};
 ghost use Rattle.scj_base.specs.Bytes.{is_same};
 ghost use Rattle.class_rows.specs.declared.fields.FieldRef.{FieldRef as Row};
-ghost use Rattle.symbol_table.specs.Names.{if_abstract, members_on, AreNamed};
+ghost use Rattle.symbol_table.specs.Names.{if_abstract, kept_under, members_on, AreNamed};
 
-use class_headers::NameKey;
 use class_rows::members::{MemberKind, name_at};
 use class_rows::{Classes, FieldRef as Member};
 use node_views::is_abstract_method;
 use scj_base::{ClassId, Memory, Name};
 use scj_tree::Program;
 use std::alloc::Global;
-use std::collections::HashMap;
+use std::collections::BTreeMap;
 
-/// The members of one kind that the entered classes declare. Methods stand in rows like those of fields.
+/// The members of one kind that the entered classes declare. Methods stand in rows like those of fields. They stand in
+/// trees: mostly few are entered, and names that collide in a hash table would cost more.
 #[derive(Drop)]
 pub struct Names {
     /// The nearest of each name.
-    pub nearest: HashMap<NameKey, Member>,
+    pub nearest: BTreeMap<Name, Member>,
     /// Those of them that are abstract methods.
-    pub abstracts: HashMap<NameKey, Member>,
+    pub abstracts: BTreeMap<Name, Member>,
     /// Which was the nearest of its name when each was entered, the last at the end.
     pub before: Vec<Option<Member>>,
 }
@@ -38,23 +37,23 @@ fn if_abstract(program: &Program, member: &Option<Member>) -> Option<Member>
 
 /// Keeps a member under a name, or none.
 fn keep(
-    members: &mut HashMap<NameKey, Member>,
+    members: &mut BTreeMap<Name, Member>,
     name: &Name,
     member: &Option<Member>,
 ) -> Result<(), Memory>
-    ensures { OnOk result ((other : List ℕ) → get is_same members.new other
-        ≡ (if is_same name.now other then member.now else get is_same members.old other)) }
+    ensures { OnOk result ((other : List ℕ) → kept_under members.new other
+        ≡ (if is_same name.now other then member.now else kept_under members.old other)) }
 {
-    let key = NameKey::of(*name);
     match member {
         Some(member) => {
-            members.insert(key, *member)?;
+            members.insert(*name, *member)?;
+            Ok(())
         }
         None => {
-            members.remove(&key);
+            members.remove(name);
+            Ok(())
         }
     }
-    Ok(())
 }
 
 /// Notes the nearest member of a name.
@@ -64,11 +63,11 @@ fn note(
     name: &Name,
     member: &Option<Member>,
 ) -> Result<(), Memory>
-    ensures nearest { OnOk result ((other : List ℕ) → get is_same names.new.nearest other
-        ≡ (if is_same name.now other then member.now else get is_same names.old.nearest other)) }
-    ensures abstracts { OnOk result ((other : List ℕ) → get is_same names.new.abstracts other
+    ensures nearest { OnOk result ((other : List ℕ) → kept_under names.new.nearest other
+        ≡ (if is_same name.now other then member.now else kept_under names.old.nearest other)) }
+    ensures abstracts { OnOk result ((other : List ℕ) → kept_under names.new.abstracts other
         ≡ (if is_same name.now other then if_abstract program.now.nodes member.now
-        else get is_same names.old.abstracts other)) }
+        else kept_under names.old.abstracts other)) }
     ensures before { OnOk result (names.new.before.items ≡ names.old.before.items) }
 {
     keep(&mut names.nearest, name, member)?;
@@ -120,17 +119,17 @@ impl Names {
         ensures before { result.before.items ≡ [] }
     {
         Names {
-            nearest: HashMap::new(alloc),
-            abstracts: HashMap::new(alloc),
+            nearest: BTreeMap::new(alloc),
+            abstracts: BTreeMap::new(alloc),
             before: Vec::new(alloc),
         }
     }
 
     /// The nearest member of a name.
     pub fn nearest_of(&self, name: &Name) -> Option<Member>
-        ensures { result ≡ get is_same self.now.nearest name.now }
+        ensures { result ≡ kept_under self.now.nearest name.now }
     {
-        self.nearest.get(&NameKey::of(*name)).copied()
+        self.nearest.get(name).copied()
     }
 }
 

@@ -2,7 +2,7 @@
 
 ghost use Rattle.std.specs.Prelude.{◌≡◌};
 ghost use Rattle.std.specs.List.{list_any};
-ghost use Rattle.std.specs.HashMap.{values};
+ghost use Rattle.std.specs.BTreeMap.{values};
 ghost use Rattle.scj_rules.specs.Contexts.{declarations_of};
 ghost use Rattle.class_rows.specs.declared.fields.FieldRef.{FieldRef as Row};
 ghost use Rattle.class_rows.specs.Tables.{members_in};
@@ -11,13 +11,12 @@ ghost use Rattle.symbol_table.specs.Symbols.{leaves_declared_open};
 
 use crate::looks::as_method;
 use crate::table::SymbolTable;
-use class_headers::NameKey;
 use class_rows::FieldRef as Member;
 use method_rows::declared;
 use node_views::{is_abstract_method, method_name};
 use scj_base::{Name, NodeId};
 use scj_builtins::FRAMEWORK_CLASS_COUNT;
-use std::collections::HashMap;
+use std::collections::BTreeMap;
 
 impl<'a> SymbolTable<'a> {
     /// Whether the method of a name that the user classes of the chain give the class is abstract.
@@ -60,7 +59,7 @@ impl<'a> SymbolTable<'a> {
     }
 
     /// Whether one of these members is left open.
-    fn leaves_one(&self, members: &HashMap<NameKey, Member>) -> bool
+    fn leaves_one(&self, members: &BTreeMap<Name, Member>) -> bool
         ensures { result
             ≡ list_any (λ (m : Row). leaves_at self.now.forest.nodes (rows_of self.now.forest) self.now.class m.node)
             (values members.now) }

@@ -52,9 +52,7 @@ fn leave_over(classes: &mut Vec<ClassId>, number: u32) -> Result<(), Memory> {
 pub fn tour(alloc: Global, classes: &Classes<'_>) -> Result<Vec<ClassId>, Memory>
     ensures { IfOk result (λ order. All (λ class. class < length (declarations_of classes.now).classes) order.items) }
 {
-    let Ok(count) = u32::try_from(classes.count()) else {
-        return Err(Memory);
-    };
+    let count = classes.class_count();
     let (first, next) = group(alloc, classes, count)?;
     let mut order = Vec::new(alloc);
     let mut left_over = Vec::new(alloc);

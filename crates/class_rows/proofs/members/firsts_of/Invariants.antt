@@ -1,6 +1,5 @@
 use Rattle.std.proofs.Common.{◌≡◌, ◌≤◌, ℕ, List, length, drop}
-use Rattle.std.specs.HashMap.{get}
-use Rattle.scj_base.specs.Bytes.{is_same}
+use Rattle.class_headers.specs.NamedNumbers.{found_under, HasNoFew}
 use Rattle.class_rows.specs.Members.{first_named}
 use Rattle.class_rows.proofs.members.firsts_of.Given as goal
 
@@ -8,7 +7,8 @@ use Rattle.class_rows.proofs.members.firsts_of.Given as goal
 abbrev pub invariant-loop-at : goal.invariant-loop-at
 invariant-loop-at l = record {
   within : l.at ≤ length l.ids;
-  entered : (name : List ℕ) → get is_same l.firsts name ≡ first_named l.kind l.program.nodes name (drop l.at l.ids);
+  few : HasNoFew l.firsts 4096 l.at;
+  entered : (name : List ℕ) → found_under l.firsts name ≡ first_named l.kind l.program.nodes name (drop l.at l.ids);
 }
 
 abbrev pub decreases-loop-at : goal.decreases-loop-at

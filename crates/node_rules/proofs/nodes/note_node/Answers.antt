@@ -15,7 +15,7 @@ returns c =
     let number : c.told.result ≡ number_before p id =
     c.told.ensures ∙ ap (λ (ns : List ℕ). lookup 0 ns id) c.requires.numbers ∙ sym (number_at p id) in
     let late : c.note_late.new.found.items ≡ c.note_asked.new.found.items ++ too_late p id c.told.result =
-    rw (← c.program-program.ensures) c.in_ok-note_late.ensures in
+    rw (← c.program.ensures) c.in_ok-note_late.ensures in
     late ∙ ap (λ n. c.note_asked.new.found.items ++ too_late p id n) number
     ∙ ap (λ (fs : List Found). fs ++ too_late p id (number_before p id)) c.in_ok-note_asked.ensures
     ∙ append_assoc c.args.found.now.items (found_there p id) (too_late p id (number_before p id))

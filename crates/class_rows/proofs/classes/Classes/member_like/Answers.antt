@@ -1,11 +1,7 @@
 use Rattle.std.proofs.Common.{◌∙◌, sym}
-use Rattle.class_rows.proofs.MemberLemmas.{none_declared}
 use Rattle.class_rows.proofs.classes.Classes.member_like.Goals as goal
 
 pub returns-in-Some : goal.returns-in-Some
 returns-in-Some c = λ name e.
     (rw (c.number.ensures, c.place.ensures) at (c.copied.ensures ∙ c.get.ensures.value))
     ∙ c.members_like.ensures.named c.args.class c.in-Some.id name (sym c.in-Some.is ∙ e)
-
-pub returns-in-None : goal.returns-in-None
-returns-in-None c = λ name e. none_declared c.args.kind c.args.self.now name c.args.class (sym c.in-None.is ∙ e)

@@ -1,0 +1,17 @@
+-- Numbers by names: the first ones in a hash table, and those behind them in a tree.
+use Rattle.std.specs.Prelude.{◌≡◌, ◌≤◌, ℕ, List, Option, None}
+use Rattle.std.specs.Option.{option_or}
+use Rattle.std.specs.HashMap.{get}
+use Rattle.std.specs.BTreeMap.{get as get_ordered}
+use Rattle.std.specs.Cmp.Lexicographic.{slice_cmp}
+use Rattle.std.specs.Ordering.{nat_cmp}
+use Rattle.scj_base.specs.Bytes.{is_same}
+use Rattle.class_headers.specs.declared.named_numbers.NamedNumbers.{NamedNumbers}
+
+-- the number that is found under a name
+abbrev pub found_under : NamedNumbers → List ℕ → Option ℕ
+found_under names name = option_or (get is_same names.few name) (get_ordered (slice_cmp nat_cmp) names.many name)
+
+-- the hash table has no name yet, where one behind the first ones is to come
+abbrev pub HasNoFew : NamedNumbers → ℕ → ℕ → Type 0
+HasNoFew names limit rank = limit ≤ rank → (name : List ℕ) → get is_same names.few name ≡ None
