@@ -61,7 +61,7 @@ fn target(
 }
 
 /// A call of a method.
-#[tactic(auto, unfolding(scj_rules::specs::Bindings::method_binding, scj_rules::specs::Contexts::declarations_of))]
+#[tactic(auto, using(method_rows::proofs::MethodLemmas::builtin_told), unfolding(scj_rules::specs::Bindings::method_binding, scj_rules::specs::Contexts::declarations_of))]
 fn method_binding(
     at: &At<'_>,
     receiver: &Receiver,
@@ -72,7 +72,7 @@ fn method_binding(
         (found_method at.now.facts.now.nodes method.now) }
 {
     let program = at.facts.program();
-    if let Some(number) = builtin(program, method) {
+    if let Some(number) = builtin(method) {
         return Binding::Builtin(target(at, receiver, method, arguments, number));
     }
     let Some(number) = at.facts.classes().method_number(node(program, method)) else {

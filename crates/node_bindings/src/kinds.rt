@@ -24,8 +24,7 @@ use scj_tree::NodeKind::{
 };
 use scj_tree::{Node, NodeKind};
 use type_rules::forms::is_form_part;
-use type_rules::names::{meaning_there, written_type};
-use type_words::array_of;
+use type_rules::names::{array_written, meaning_there};
 
 /// What a name stands for.
 #[tactic(auto, unfolding(program_facts::specs::Meanings::meant, scj_rules::specs::Bindings::meaning_binding))]
@@ -72,14 +71,6 @@ fn superclass_binding(facts: &Facts<'_>, class: Option<ClassId>) -> Binding
         Some(class) => class_binding(facts.classes().superclass(class)),
         None => Binding::Plain,
     }
-}
-
-/// The type of a new array of what is written.
-fn array_written(facts: &Facts<'_>, element: NodeId) -> Option<Ty>
-    ensures { result ≡ option_and_then array_of (written_type (declarations_of facts.now) element) }
-{
-    let t = written_type(facts, element)?;
-    array_of(&t)
 }
 
 /// A new array.

@@ -1,15 +1,23 @@
--- The variables that are known at a node, from the last one on.
-use Rattle.std.proofs.Common.{◌≡◌, ℕ, zero, suc, ◌-◌, ◌<◌, ◌≤◌, true, false, List, length, find, refl, sym, ◌∙◌, arith, Option, Some, None, cond}
+-- Steps on chains, and the variables that are known at a node, from the last one on.
+use Rattle.std.proofs.Common.{◌≡◌, ℕ, zero, suc, ◌-◌, ◌<◌, ◌≤◌, true, false, List, [], ◌∷◌, length, find, refl, sym, ap, ◌∙◌, arith, Option, Some, None, cond}
 use Rattle.scj_tree.specs.Forest.{Forest}
 use Rattle.scj_rules.specs.Words.{chain}
 use Rattle.scj_rules.specs.Contexts.{declarations_of, variable_named, known_variables, variable_before, context}
 use Rattle.program_facts.specs.Tables.{chain_from}
-use Rattle.program_facts.specs.Told.{declares}
+use Rattle.program_facts.specs.Told.{declares, seek}
 
--- the variable of the name among so many from one on
-unfoldable pub seek : Forest → List ℕ → ℕ → Option ℕ → Option ℕ
-seek forest name bound from =
-    find (declares forest.nodes name) (chain_from (variable_before (declarations_of forest)) bound from)
+-- one step on a chain
+pub chain_here : (next : ℕ → Option ℕ) (left a : ℕ) → 0 < left → chain next left a ≡ a
+    ∷ chain_from next (left - 1) (next a)
+unfolding chain
+chain_here next zero a h = absurd (omega (arith, h))
+chain_here next (suc left) a h = grind (arith)
+
+pub chain_ended : (next : ℕ → Option ℕ) (left : ℕ) (o : Option ℕ) → left ≤ 0 → chain_from next left o ≡ []
+unfolding chain
+chain_ended next zero None h = refl
+chain_ended next zero (Some a) h = refl
+chain_ended next (suc left) o h = absurd (omega (arith, h))
 
 module _ (forest : Forest) (name : List ℕ) where
   pub first : (id : ℕ) → variable_named (declarations_of forest) id name ≡ seek forest name (length forest.nodes)
@@ -19,9 +27,9 @@ module _ (forest : Forest) (name : List ℕ) where
 
   sought : (left v : ℕ) → 0 < left → seek forest name left (Some v) ≡ cond (declares forest.nodes name v) (Some v)
       (seek forest name (left - 1) (context (declarations_of forest) v).last)
-  unfolding seek chain
-  sought zero v l = absurd (omega (arith, l))
-  sought (suc left) v l = grind (arith)
+  unfolding seek
+  sought left v l =
+      ap (find (declares forest.nodes name)) (chain_here (variable_before (declarations_of forest)) left v l)
 
   pub found_here : (left v : ℕ) → 0 < left → true ≡ declares forest.nodes name v → Some v ≡ seek forest name left
       (Some v)
@@ -36,7 +44,6 @@ module _ (forest : Forest) (name : List ℕ) where
   none_before left = refl
 
   pub none_left : (left : ℕ) (o : Option ℕ) → left ≤ 0 → seek forest name left o ≡ None
-  unfolding seek chain
-  none_left zero None l = refl
-  none_left zero (Some v) l = refl
-  none_left (suc left) o l = absurd (omega (arith, l))
+  unfolding seek
+  none_left left o l =
+      ap (find (declares forest.nodes name)) (chain_ended (variable_before (declarations_of forest)) left o l)

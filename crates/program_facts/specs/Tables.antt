@@ -2,20 +2,20 @@
 -- lie, and the scopes of variables.
 use Rattle.std.specs.Prelude.{◌≡◌, ◌<◌, ◌^◌, ℕ, List, [], length, slice_get, Option, Some, None, is_some, unwrap_or, if◌then◌else◌}
 use Rattle.std.specs.BTreeMap.{BTreeMap, get}
-use Rattle.std.specs.BTreeSet.{BTreeSet, contains}
 use Rattle.std.specs.Cmp.Lexicographic.{slice_cmp}
 use Rattle.std.specs.Ordering.{nat_cmp}
 use Rattle.scj_base.specs.Bytes.{is_same}
 use Rattle.scj_tree.specs.Forest.{Forest}
+use Rattle.scj_tree.specs.Recursion.{listed}
 use Rattle.scj_rules.specs.Words.{chain, ◌>>=◌}
 use Rattle.scj_rules.specs.declared.contexts.Context.{Context}
 use Rattle.scj_rules.specs.declared.scopes.Definition.{Definition}
 use Rattle.scj_rules.specs.declared.typing.Scope.{Scope}
 use Rattle.scj_rules.specs.Definitions.{is_reserved, first_definition}
-use Rattle.scj_rules.specs.Views.{DeclaredMethod, method_at, field_at}
+use Rattle.scj_rules.specs.Views.{method_at, field_at}
 use Rattle.scj_rules.specs.Contexts.{Declarations, declarations_of, contexts_in, in_class}
 use Rattle.scj_rules.specs.ScopeRules.{defined_by_chain, parent_scope, scope_of_definition}
-use Rattle.scj_rules.specs.StaticScopes.{is_implied_immortal, is_inherited_by_safelet, class_scope, runs_in, field_scope}
+use Rattle.scj_rules.specs.StaticScopes.{is_implied_immortal, class_scope, runs_in, field_scope}
 use Rattle.scj_rules.specs.UseRules.{variable_scope_at}
 use Rattle.class_rows.specs.Fields.{no_field}
 use Rattle.method_rows.specs.Methods.{no_method}
@@ -65,6 +65,12 @@ pub record IsTreeOf (forest : Forest) (tree : ScopeTree) : Type 0 where
   pub marked : AreRowsOf (is_implied_immortal (declarations_of forest)) tree.implied.items
   pub said : AreRowsOf (row_of (declarations_of forest)) tree.rows.items
 
+-- both tell it of each class
+pub record IsWholeTree (forest : Forest) (tree : ScopeTree) : Type 0 where
+  pub marks : tree.implied.items ≡ listed (is_implied_immortal (declarations_of forest))
+      (length (declarations_of forest).classes)
+  pub rows : tree.rows.items ≡ listed (row_of (declarations_of forest)) (length (declarations_of forest).classes)
+
 -- a chain from a number that may be missing
 abbrev pub chain_from : (ℕ → Option ℕ) → ℕ → Option ℕ → List ℕ
 chain_from next bound None = []
@@ -87,15 +93,8 @@ run_at p id = in_class p id (λ class. scope_of_member p class id)
 abbrev pub AreRunRows : Declarations → BTreeMap ℕ (Option Scope) → Type 0
 AreRunRows p rows = (id : ℕ) (row : Option Scope) → get nat_cmp rows id ≡ Some row → row ≡ run_at p id
 
--- the nodes under a name are those of the methods of that name that a class inherits as Safelet's
-abbrev pub AreInherited : Declarations → BTreeMap (List ℕ) (BTreeSet ℕ) → Type 0
-AreInherited p inherited = (m : DeclaredMethod) (nodes : BTreeSet ℕ) →
-    get (slice_cmp nat_cmp) inherited m.declared.name ≡ Some nodes →
-    contains nat_cmp nodes m.declared.node ≡ is_inherited_by_safelet p m
-
--- both are those of the program
+-- the rows are those of the program
 pub record AreRuns (forest : Forest) (runs : Runs) : Type 0 where
-  pub inherits : AreInherited (declarations_of forest) runs.inherited
   pub told : AreRunRows (declarations_of forest) runs.rows
 
 -- each row tells of a variable the scope that it has

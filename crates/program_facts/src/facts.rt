@@ -5,8 +5,7 @@ ghost use Rattle.std.specs.Prelude.{◌≡◌, ◌<◌, ◌^◌, Some, IfSome, l
 ghost use Rattle.scj_rules.specs.Classes.{class_number};
 ghost use Rattle.scj_rules.specs.Contexts.{declarations_of, contexts_in, context};
 ghost use Rattle.scj_rules.specs.ScopeRules.{scope_number};
-ghost use Rattle.scj_rules.specs.StaticScopes.{is_implied_immortal, is_inherited_by_safelet};
-ghost use Rattle.method_rows.specs.Methods.{found_method};
+ghost use Rattle.scj_rules.specs.StaticScopes.{is_implied_immortal};
 ghost use Rattle.scj_rules.specs.UseRules.{variable_scope_at};
 ghost use Rattle.program_facts.specs.Meanings.{IsMeaningAt, AreMeanings};
 ghost use Rattle.program_facts.specs.Tables.{IsNaming, IsTreeOf, AreRuns, AreVariables, row_of, scope_of_member};
@@ -14,7 +13,6 @@ ghost use Rattle.program_facts.specs.Tables.{IsNaming, IsTreeOf, AreRuns, AreVar
 use crate::meanings::NodeMeaning;
 use crate::tables::{Runs, ScopeNames, ScopeRow, ScopeTree, Variables};
 use class_rows::Classes;
-use method_rows::MethodRef;
 use node_contexts::Contexts;
 use scj_base::{ClassId, Name, NodeId, ScopeId};
 use scj_rules::{Context, Scope};
@@ -92,7 +90,7 @@ impl<'a> Facts<'a> {
         facts
     }
 
-    /// The same, with what is said of the first classes.
+    /// The same, with what is told of classes, which may be the first ones alone.
     pub fn with_tree(self, tree: &'a ScopeTree) -> Facts<'a>
         requires { IsTreeOf self tree.now }
         ensures { result ≡ self.entry }
@@ -233,18 +231,6 @@ impl<'a> Facts<'a> {
         let runs = self.runs()?;
         let place = node.place();
         Some(*runs.rows.get(&place)?)
-    }
-
-    /// Whether a class inherits a method as one of `Safelet`, if that is told of its name.
-    pub fn inherited_told(&self, method: &MethodRef) -> Option<bool>
-        ensures { IfSome result (λ mark. mark ≡ is_inherited_by_safelet (declarations_of self.now)
-            (found_method self.now.nodes method.now).method) }
-    {
-        let runs = self.runs()?;
-        let name = method_rows::name(self.program(), method);
-        let nodes = runs.inherited.get(&name)?;
-        let place = method_rows::node(self.program(), method).place();
-        Some(nodes.contains(&place))
     }
 
     /// The scope of the variable that a node declares, if that is told.

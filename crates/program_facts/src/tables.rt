@@ -2,7 +2,7 @@
 
 use scj_base::{Name, ScopeId};
 use scj_rules::{ClassScope, Scope};
-use std::collections::{BTreeMap, BTreeSet};
+use std::collections::BTreeMap;
 
 /// The scopes of a program by their names.
 #[derive(Drop)]
@@ -33,8 +33,6 @@ pub struct ScopeTree {
 /// Where the methods of a program run, and its fields lie, by their nodes.
 #[derive(Drop)]
 pub struct Runs {
-    /// The nodes of the methods of a name that classes inherit as those of `Safelet`, as far as names are entered.
-    pub inherited: BTreeMap<Name, BTreeSet<usize>>,
     pub rows: BTreeMap<usize, Option<Scope>>,
 }
 

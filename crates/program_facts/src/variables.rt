@@ -1,8 +1,8 @@
 //! The variables that are known at a node, and whether there is an object that `this` names.
 
-ghost use Rattle.std.specs.Prelude.{◌≡◌};
+ghost use Rattle.std.specs.Prelude.{◌≡◌, length};
 ghost use Rattle.scj_rules.specs.Contexts.{declarations_of, variable_named, has_object};
-ghost use Rattle.program_facts.specs.Told.{declares};
+ghost use Rattle.program_facts.specs.Told.{declares, seek};
 
 use crate::facts::Facts;
 use node_contexts::is_static_member;
@@ -26,21 +26,27 @@ fn declares(program: &Program, id: NodeId, name: &Name) -> bool
 
 impl<'a> Facts<'a> {
     /// The variable of a name that is known at a node: the last one that is declared.
-    #[tactic(auto, using(crate::proofs::VariableLemmas::first, crate::proofs::VariableLemmas::found_here, crate::proofs::VariableLemmas::passed_here, crate::proofs::VariableLemmas::none_before, crate::proofs::VariableLemmas::none_left))]
+    #[tactic(auto, using(crate::proofs::VariableLemmas::first))]
     pub fn variable_named(&self, id: NodeId, name: &Name) -> Option<NodeId>
         ensures { result ≡ variable_named (declarations_of self.now) id name.now }
     {
+        self.variable_from(self.context(id).last, name)
+    }
+
+    /// The same, where the last variable that is known there is told.
+    #[tactic(auto, using(crate::proofs::VariableLemmas::found_here, crate::proofs::VariableLemmas::passed_here, crate::proofs::VariableLemmas::none_before, crate::proofs::VariableLemmas::none_left), unfolding(scj_rules::specs::Contexts::declarations_of))]
+    pub fn variable_from(&self, last: Option<NodeId>, name: &Name) -> Option<NodeId>
+        ensures { result ≡ seek self.now name.now (length self.now.nodes) last }
+    {
         let program = self.program();
-        let mut next = self.context(id).last;
+        let contexts = self.contexts();
+        let mut variable = last?;
         let mut left = program.len();
         while left > 0 {
-            let Some(variable) = next else {
-                return None;
-            };
             if declares(program, variable, name) {
                 return Some(variable);
             }
-            next = self.context(variable).last;
+            variable = contexts.get(variable).last?;
             left -= 1;
         }
         None

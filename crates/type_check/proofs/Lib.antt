@@ -1,4 +1,3 @@
 pub mod KindLemmas
 pub mod PassLemmas
 pub mod RowLemmas
-pub mod ValueLemmas

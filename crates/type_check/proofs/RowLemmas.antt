@@ -1,12 +1,12 @@
 -- What rows tell, before any is kept and with one that is.
-use Rattle.std.proofs.Common.{◌≡◌, ◌≢◌, ◌<◌, ◌≤◌, ℕ, zero, suc, List, Option, Some, length, replicate, set, slice_get, refl, sym, ap, ◌∙◌, ⊎_elim}
+use Rattle.std.proofs.Common.{◌≡◌, ◌≢◌, ◌<◌, ◌≤◌, ℕ, List, Option, Some, length, replicate, set, slice_get, sym, ap, ◌∙◌, ⊎_elim}
 use Rattle.std.proofs.lemmas.Bool.{cases_lt, cases_eq}
 use Rattle.std.proofs.lemmas.List.{get_or-set_same, get_or-set_other, set_past}
 use Rattle.scj_base.specs.declared.places.Pos.{Pos}
 use Rattle.scj_tree.specs.declared.nodes.Node.{Node}
 use Rattle.scj_tree.specs.declared.nodes.Node.TheVariants.{SimpleName}
 use Rattle.scj_tree.specs.Forest.{Forest}
-use Rattle.scj_tree.specs.Recursion.{lookup}
+use Rattle.scj_tree.proofs.RecursionLemmas.{lookup-replicate}
 use Rattle.scj_rules.specs.Contexts.{declarations_of}
 use Rattle.scj_rules.specs.Types.{meaning}
 use Rattle.program_facts.specs.declared.meanings.NameMeaning.{NameMeaning}
@@ -14,15 +14,10 @@ use Rattle.program_facts.specs.declared.meanings.NodeMeaning.{NodeMeaning}
 use Rattle.program_facts.specs.declared.meanings.NodeMeaning.TheVariants.{Name as of_name, Nothing as of_other}
 use Rattle.program_facts.specs.Meanings.{meant, IsMeaningAt, AreMeanings}
 
-nothing_at : (count id : ℕ) → lookup of_other (replicate count of_other) id ≡ of_other
-nothing_at zero id = refl
-nothing_at (suc count) zero = refl
-nothing_at (suc count) (suc id) = nothing_at count id
-
 pub none_told : (forest : Forest) (count : ℕ) (rows : List NodeMeaning) → rows ≡ replicate count of_other →
     AreMeanings forest rows
 unfolding IsMeaningAt
-none_told forest count rows e id = rw e (rw (nothing_at count id) tt)
+none_told forest count rows e id = rw e (rw (lookup-replicate of_other count id) tt)
 
 -- one more is told
 pub one_told : (forest : Forest) (rows : List NodeMeaning) (id : ℕ) (row : NodeMeaning) → AreMeanings forest rows →

@@ -3,7 +3,7 @@ use Rattle.std.specs.Prelude.{Bool, true, false, Option, Some, None}
 use Rattle.scj_tree.specs.declared.kinds.NodeKind.{NodeKind}
 use Rattle.scj_tree.specs.declared.kinds.NodeKind.TheVariants.{Flags, IntType, BooleanType, ClassType, Parameters, Block, ExpressionStatement, Number, True, False}
 use Rattle.scj_tree.specs.declared.nodes.Node.{Node}
-use Rattle.scj_tree.specs.declared.nodes.Node.TheVariants.{FieldAccess, Call}
+use Rattle.scj_tree.specs.declared.nodes.Node.TheVariants.{Class, Field, Method, LocalWithValue, SuperCall, Cast, Parenthesized, This, FieldAccess, Call, New, NewArray}
 use Rattle.scj_rules.specs.declared.typing.Ty.{Ty}
 use Rattle.scj_rules.specs.declared.typing.Ty.TheVariants.{Int, Bool as Boolean}
 
@@ -26,3 +26,21 @@ unfoldable pub names_member : Node → Bool
 names_member (FieldAccess place name object) = true
 names_member (Call place name object arguments) = true
 names_member _ = false
+
+-- classes, their members, and what else may break two rules
+unfoldable pub is_declaration : Node → Bool
+is_declaration (Class place name flags header members) = true
+is_declaration (Field place name flags declared_type equals value) = true
+is_declaration (Method place name flags result_type parameters body) = true
+is_declaration (LocalWithValue place name_place name flags declared_type value) = true
+is_declaration (SuperCall place arguments) = true
+is_declaration _ = false
+
+-- expressions that are seldom written
+unfoldable pub is_seldom : Node → Bool
+is_seldom (Cast place name_place name operand) = true
+is_seldom (Parenthesized place inner) = true
+is_seldom (New place name_place name arguments) = true
+is_seldom (NewArray place element length) = true
+is_seldom (This place) = true
+is_seldom _ = false

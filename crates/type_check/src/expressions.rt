@@ -6,7 +6,7 @@ ghost use Rattle.scj_tree.specs.declared.nodes.Node.TheVariants.{SimpleName as a
 ghost use Rattle.scj_rules.specs.Words.{broken};
 ghost use Rattle.scj_rules.specs.Types.{binary_type, element_type, meaning, unary_type};
 ghost use Rattle.scj_rules.specs.TypeRules.{misfits_operands, misfits_operand, misfits_index, t1, t3, t4, t13, type_of, type_of_meaning};
-ghost use Rattle.program_facts.specs.Meanings.{AreMeanings};
+ghost use Rattle.program_facts.specs.Meanings.{IsMeaningAt, AreMeanings};
 ghost use Rattle.program_facts.specs.Told.{declared, types};
 
 use crate::rows::keep;
@@ -15,7 +15,8 @@ use program_facts::{At, NodeMeaning};
 use scj_base::{Found, Memory, Name, NodeId, Pos, Rule};
 use scj_rules::{Ty, report_if};
 use type_rules::expressions::{lacks_field, lacks_object_of_field, misfits_index};
-use type_rules::names::{binary_type, field_accessed, meaning, receiver};
+use type_rules::members::{field_in, field_row};
+use type_rules::names::{binary_type, meaning, receiver};
 use type_rules::results::{access_type, type_of_meaning};
 use type_words::{element_type, is_no_reference, unary_type};
 
@@ -78,8 +79,7 @@ pub fn judge_element(
     let (Some(a), Some(_i)) = (at.type_of(array), at.type_of(index)) else {
         return Ok(None);
     };
-    let misfits = misfits_index(at, array, index);
-    report_if(found, misfits, Rule::T3, place)?;
+    report_if(found, misfits_index(at, array, index), Rule::T3, place)?;
     Ok(element_type(&a))
 }
 
@@ -109,29 +109,33 @@ pub fn judge_name(
     Ok(type_of_meaning(at.facts, &meaning))
 }
 
-/// Notes an access to what is no reference, to a field that isn't there or to one of no object, and tells its type.
-#[tactic(auto, unfolding(scj_rules::specs::TypeRules::t3, scj_rules::specs::TypeRules::t4, scj_rules::specs::TypeRules::t13, scj_rules::specs::TypeRules::type_of))]
+/// Notes an access to what is no reference, to a field that isn't there or to one of no object, and tells its type and
+/// its row.
+#[tactic(auto, unfolding(scj_rules::specs::TypeRules::t3, scj_rules::specs::TypeRules::t4, scj_rules::specs::TypeRules::t13, scj_rules::specs::TypeRules::type_of, program_facts::specs::Meanings::IsMeaningAt, program_facts::specs::Meanings::member_named))]
 pub fn judge_access(
     found: &mut Vec<Found>,
     at: &At<'_>,
     place: Pos,
     name: &Name,
     object: NodeId,
-) -> Result<Option<Ty>, Memory>
-    ensures type_of { IfOk result (λ t. t ≡ type_of (declared at.now) (types at.now) at.now.id
+) -> Result<(Option<Ty>, NodeMeaning), Memory>
+    requires { slice_get at.now.facts.now.nodes at.now.id ≡ Some (an_access place name.now object) }
+    ensures type_of { IfOk result (λ r. r.0 ≡ type_of (declared at.now) (types at.now) at.now.id
         (an_access place name.now object)) }
     ensures found { let node = an_access place name.now object in OnOk result (found.new.items ≡ found.old.items
         ++ (t3 (declared at.now) (types at.now) at.now.id node ++ (t4 (declared at.now) (types at.now) at.now.id node
         ++ t13 (declared at.now) (types at.now) at.now.id node))) }
+    ensures row { IfOk result (λ r. IsMeaningAt at.now.facts.now at.now.id r.1) }
 {
     let Some(r) = receiver(at, object) else {
-        return Ok(None);
+        return Ok((None, NodeMeaning::Nothing));
     };
-    let field = field_accessed(at, &r, name);
+    let row = field_row(at, &r, name);
+    let field = field_in(&row);
     report_if(found, is_no_reference(&r), Rule::T3, place)?;
     let lacks = lacks_field(at.facts, &r, name, &field);
     report_if(found, lacks, Rule::T4, place)?;
     let is_apart = lacks_object_of_field(at, &r, &field);
     report_if(found, is_apart, Rule::T13, place)?;
-    Ok(access_type(at, &r, name))
+    Ok((access_type(at.facts, &r, name, &field), row))
 }

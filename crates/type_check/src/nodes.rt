@@ -2,20 +2,20 @@
 
 ghost use Rattle.std.specs.Prelude.{◌≡◌, ◌++◌, Some, true, IfOk, OnOk, slice_get};
 ghost use Rattle.scj_rules.specs.TypeRules.{type_breaks, type_of};
-ghost use Rattle.type_check.specs.Kinds.{names_member};
+ghost use Rattle.type_check.specs.Kinds.{names_member, is_declaration, is_seldom};
 ghost use Rattle.type_words.specs.Returns.{all_returns};
-ghost use Rattle.program_facts.specs.Meanings.{AreMeanings};
+ghost use Rattle.program_facts.specs.Meanings.{IsMeaningAt, AreMeanings};
 ghost use Rattle.program_facts.specs.Told.{declared, types};
 
 use crate::expressions::{judge_access, judge_binary, judge_element, judge_name, judge_unary};
-use crate::rows::{keep, row_of_member};
-use crate::values::{class_named, type_of_call, type_of_new, type_of_new_array};
+use crate::rows::keep;
+use crate::values::{class_named, type_of_new, type_of_new_array};
 use program_facts::{At, NodeMeaning};
 use scj_base::{Found, Memory, Rule};
 use scj_rules::{Ty, report_if};
 use scj_tree::Node;
 use type_rules::calls::{
-    is_misplaced_form, lacks_form, makes_no_object, misfits_class, misfits_new, note_call,
+    is_misplaced_form, judge_call, lacks_form, makes_no_object, misfits_class, misfits_new,
 };
 use type_rules::expressions::{has_form_elements, misfits_cast, misfits_length};
 use type_rules::statements::{
@@ -24,7 +24,7 @@ use type_rules::statements::{
 };
 
 /// Notes what breaks the rules on types at a node, and tells the type of its kind, which it has where nothing does.
-#[tactic(auto, unfolding(crate::specs::Kinds::names_member, scj_rules::specs::TypeRules::type_of, scj_rules::specs::TypeRules::type_breaks, scj_rules::specs::TypeRules::t1, scj_rules::specs::TypeRules::t2, scj_rules::specs::TypeRules::t3, scj_rules::specs::TypeRules::t4, scj_rules::specs::TypeRules::t5, scj_rules::specs::TypeRules::t6, scj_rules::specs::TypeRules::t7, scj_rules::specs::TypeRules::t8, scj_rules::specs::TypeRules::t9, scj_rules::specs::TypeRules::t10, scj_rules::specs::TypeRules::t11, scj_rules::specs::TypeRules::t12, scj_rules::specs::TypeRules::t13, scj_rules::specs::TypeRules::t14))]
+#[tactic(auto, unfolding(crate::specs::Kinds::names_member, crate::specs::Kinds::is_declaration, crate::specs::Kinds::is_seldom, scj_rules::specs::TypeRules::type_of, scj_rules::specs::TypeRules::type_breaks, scj_rules::specs::TypeRules::t1, scj_rules::specs::TypeRules::t2, scj_rules::specs::TypeRules::t3, scj_rules::specs::TypeRules::t4, scj_rules::specs::TypeRules::t5, scj_rules::specs::TypeRules::t6, scj_rules::specs::TypeRules::t7, scj_rules::specs::TypeRules::t8, scj_rules::specs::TypeRules::t9, scj_rules::specs::TypeRules::t10, scj_rules::specs::TypeRules::t11, scj_rules::specs::TypeRules::t12, scj_rules::specs::TypeRules::t13, scj_rules::specs::TypeRules::t14))]
 pub fn judge(
     found: &mut Vec<Found>,
     at: &At<'_>,
@@ -39,6 +39,101 @@ pub fn judge(
     ensures found { OnOk result (found.new.items ≡ found.old.items
         ++ type_breaks (declared at.now) (types at.now) at.now.id node.now) }
     ensures rows { OnOk result (AreMeanings at.now.facts.now rows.new.items) }
+{
+    match node {
+        Node::Parameter { place, name, .. } | Node::Local { place, name, .. } => {
+            let is_twice = at.facts.variable_named(at.id, name.get()).is_some();
+            report_if(found, is_twice, Rule::T2, *place)?;
+            Ok(None)
+        }
+        Node::Class { .. }
+        | Node::Field { .. }
+        | Node::Method { .. }
+        | Node::LocalWithValue { .. }
+        | Node::SuperCall { .. } => judge_declaration(found, at, returns, node),
+        Node::Assign {
+            place,
+            target,
+            value,
+        } => {
+            let misfits = misfits_assignment(at, *target, *value);
+            report_if(found, misfits, Rule::T7, *place)?;
+            Ok(None)
+        }
+        Node::If { condition, .. } | Node::While { condition, .. } | Node::For { condition, .. } =>
+            {
+                note_condition(found, at, *condition)?;
+                Ok(None)
+            }
+        Node::Return { place, value } => match value {
+            Some(value) => {
+                report_if(found, misfits_result(at, *value), Rule::T9, *place)?;
+                Ok(None)
+            }
+            None => {
+                report_if(found, lacks_value(at), Rule::T9, *place)?;
+                Ok(None)
+            }
+        },
+        Node::Binary {
+            place,
+            operator,
+            left,
+            right,
+        } => judge_binary(found, at, *place, *operator, *left, *right),
+        Node::Unary {
+            place,
+            operator,
+            operand,
+        } => judge_unary(found, at, *place, *operator, *operand),
+        Node::SimpleName { place, name } => judge_name(found, at, rows, *place, name.get()),
+        Node::FieldAccess { .. } | Node::Call { .. } => judge_member(found, at, rows, node),
+        Node::Element {
+            place,
+            array,
+            index,
+        } => judge_element(found, at, *place, *array, *index),
+        Node::Cast { .. }
+        | Node::Parenthesized { .. }
+        | Node::New { .. }
+        | Node::NewArray { .. }
+        | Node::This { .. } => judge_seldom(found, at, node),
+        Node::Number { .. } => Ok(Some(Ty::Int)),
+        Node::True { .. } | Node::False { .. } => Ok(Some(Ty::Bool)),
+        Node::Null { .. } => Ok(Some(Ty::NullTy)),
+        Node::Text { .. } => Ok(Some(Ty::Label)),
+        Node::Flags { .. }
+        | Node::DefineScope { .. }
+        | Node::ScopeName { .. }
+        | Node::Supers { .. }
+        | Node::SuperType { .. }
+        | Node::TypeArgument { .. }
+        | Node::IntType { .. }
+        | Node::BooleanType { .. }
+        | Node::ClassType { .. }
+        | Node::VoidType { .. }
+        | Node::LongType { .. }
+        | Node::Constructor { .. }
+        | Node::Parameters { .. }
+        | Node::Block { .. }
+        | Node::Empty { .. }
+        | Node::ExpressionStatement { .. } => Ok(None),
+    }
+}
+
+/// The same of what declares, which may break two rules. The room that the places take is cleared for it alone.
+#[tactic(auto, unfolding(crate::specs::Kinds::is_declaration, scj_rules::specs::TypeRules::type_of, scj_rules::specs::TypeRules::type_breaks, scj_rules::specs::TypeRules::t1, scj_rules::specs::TypeRules::t2, scj_rules::specs::TypeRules::t3, scj_rules::specs::TypeRules::t4, scj_rules::specs::TypeRules::t5, scj_rules::specs::TypeRules::t6, scj_rules::specs::TypeRules::t7, scj_rules::specs::TypeRules::t8, scj_rules::specs::TypeRules::t9, scj_rules::specs::TypeRules::t10, scj_rules::specs::TypeRules::t11, scj_rules::specs::TypeRules::t12, scj_rules::specs::TypeRules::t13, scj_rules::specs::TypeRules::t14))]
+fn judge_declaration(
+    found: &mut Vec<Found>,
+    at: &At<'_>,
+    returns: &[bool],
+    node: &Node,
+) -> Result<Option<Ty>, Memory>
+    requires returns { returns.now ≡ all_returns at.now.facts.now.nodes }
+    requires declaration { is_declaration node.now ≡ true }
+    ensures type_of { IfOk result (λ t. t ≡ type_of (declared at.now) (types at.now) at.now.id node.now) }
+    ensures found { OnOk result (found.new.items ≡ found.old.items
+        ++ type_breaks (declared at.now) (types at.now) at.now.id node.now) }
 {
     match node {
         Node::Class { place, name, .. } => {
@@ -77,11 +172,6 @@ pub fn judge(
             report_if(found, misfits, Rule::T14, *place)?;
             Ok(None)
         }
-        Node::Parameter { place, name, .. } | Node::Local { place, name, .. } => {
-            let is_twice = at.facts.variable_named(at.id, name.get()).is_some();
-            report_if(found, is_twice, Rule::T2, *place)?;
-            Ok(None)
-        }
         Node::LocalWithValue {
             place,
             name_place,
@@ -101,41 +191,20 @@ pub fn judge(
             report_if(found, misfits, Rule::T6, *place)?;
             Ok(None)
         }
-        Node::Assign {
-            place,
-            target,
-            value,
-        } => {
-            let misfits = misfits_assignment(at, *target, *value);
-            report_if(found, misfits, Rule::T7, *place)?;
-            Ok(None)
-        }
-        Node::If { condition, .. } | Node::While { condition, .. } | Node::For { condition, .. } =>
-            {
-                note_condition(found, at, *condition)?;
-                Ok(None)
-            }
-        Node::Return { place, value } => match value {
-            Some(value) => {
-                report_if(found, misfits_result(at, *value), Rule::T9, *place)?;
-                Ok(None)
-            }
-            None => {
-                report_if(found, lacks_value(at), Rule::T9, *place)?;
-                Ok(None)
-            }
-        },
-        Node::Binary {
-            place,
-            operator,
-            left,
-            right,
-        } => judge_binary(found, at, *place, *operator, *left, *right),
-        Node::Unary {
-            place,
-            operator,
-            operand,
-        } => judge_unary(found, at, *place, *operator, *operand),
+        _ => Ok(None),
+    }
+}
+
+/// The same of expressions that are seldom written. The room that their parts take is cleared for them alone.
+#[tactic(auto, unfolding(crate::specs::Kinds::is_seldom, scj_rules::specs::TypeRules::type_of, scj_rules::specs::TypeRules::type_breaks, scj_rules::specs::TypeRules::t1, scj_rules::specs::TypeRules::t2, scj_rules::specs::TypeRules::t3, scj_rules::specs::TypeRules::t4, scj_rules::specs::TypeRules::t5, scj_rules::specs::TypeRules::t6, scj_rules::specs::TypeRules::t7, scj_rules::specs::TypeRules::t8, scj_rules::specs::TypeRules::t9, scj_rules::specs::TypeRules::t10, scj_rules::specs::TypeRules::t11, scj_rules::specs::TypeRules::t12, scj_rules::specs::TypeRules::t13, scj_rules::specs::TypeRules::t14))]
+fn judge_seldom(found: &mut Vec<Found>, at: &At<'_>, node: &Node) -> Result<Option<Ty>, Memory>
+    requires { is_seldom node.now ≡ true }
+    ensures type_of { IfOk result (λ t. t ≡ type_of (declared at.now) (types at.now) at.now.id node.now) }
+    ensures found { OnOk result (found.new.items ≡ found.old.items
+        ++ type_breaks (declared at.now) (types at.now) at.now.id node.now) }
+{
+    match node {
+        Node::Parenthesized { inner, .. } => Ok(at.type_of(*inner)),
         Node::Cast {
             place,
             name,
@@ -149,26 +218,14 @@ pub fn judge(
             report_if(found, misfits, Rule::T12, *place)?;
             Ok(class_named(at.facts, name.get()))
         }
-        Node::Parenthesized { inner, .. } => Ok(at.type_of(*inner)),
-        Node::SimpleName { place, name } => judge_name(found, at, rows, *place, name.get()),
-        Node::FieldAccess { .. } | Node::Call { .. } => judge_member(found, at, rows, node),
-        Node::Element {
-            place,
-            array,
-            index,
-        } => judge_element(found, at, *place, *array, *index),
         Node::New {
             place,
             name,
             arguments,
             ..
         } => {
-            report_if(
-                found,
-                misfits_new(at, name.get(), arguments.items()),
-                Rule::T6,
-                *place,
-            )?;
+            let misfits = misfits_new(at, name.get(), arguments.items());
+            report_if(found, misfits, Rule::T6, *place)?;
             let has_none = makes_no_object(at, name.get(), arguments.items());
             report_if(found, has_none, Rule::T11, *place)?;
             report_if(found, is_misplaced_form(at, name.get()), Rule::T14, *place)?;
@@ -191,47 +248,26 @@ pub fn judge(
                 None => Ok(None),
             }
         }
-        Node::Number { .. } => Ok(Some(Ty::Int)),
-        Node::True { .. } | Node::False { .. } => Ok(Some(Ty::Bool)),
-        Node::Null { .. } => Ok(Some(Ty::NullTy)),
-        Node::Text { .. } => Ok(Some(Ty::Label)),
-        Node::Flags { .. }
-        | Node::DefineScope { .. }
-        | Node::ScopeName { .. }
-        | Node::Supers { .. }
-        | Node::SuperType { .. }
-        | Node::TypeArgument { .. }
-        | Node::IntType { .. }
-        | Node::BooleanType { .. }
-        | Node::ClassType { .. }
-        | Node::VoidType { .. }
-        | Node::LongType { .. }
-        | Node::Constructor { .. }
-        | Node::Parameters { .. }
-        | Node::Block { .. }
-        | Node::Empty { .. }
-        | Node::ExpressionStatement { .. } => Ok(None),
+        _ => Ok(None),
     }
 }
 
-/// The same of an access or a call. What it stands for is looked up first, and kept.
-#[tactic(auto, using(crate::proofs::RowLemmas::one_told), unfolding(crate::specs::Kinds::names_member, scj_rules::specs::TypeRules::type_of, scj_rules::specs::TypeRules::type_breaks, scj_rules::specs::TypeRules::t1, scj_rules::specs::TypeRules::t2, scj_rules::specs::TypeRules::t3, scj_rules::specs::TypeRules::t4, scj_rules::specs::TypeRules::t5, scj_rules::specs::TypeRules::t6, scj_rules::specs::TypeRules::t7, scj_rules::specs::TypeRules::t8, scj_rules::specs::TypeRules::t9, scj_rules::specs::TypeRules::t10, scj_rules::specs::TypeRules::t11, scj_rules::specs::TypeRules::t12, scj_rules::specs::TypeRules::t13, scj_rules::specs::TypeRules::t14))]
-fn judge_member(
+/// The same of an access or a call, by the rows of the nodes before it, with its own row.
+#[tactic(auto, unfolding(crate::specs::Kinds::names_member, program_facts::specs::Meanings::IsMeaningAt, scj_rules::specs::TypeRules::type_of, scj_rules::specs::TypeRules::type_breaks, scj_rules::specs::TypeRules::t1, scj_rules::specs::TypeRules::t2, scj_rules::specs::TypeRules::t3, scj_rules::specs::TypeRules::t4, scj_rules::specs::TypeRules::t5, scj_rules::specs::TypeRules::t6, scj_rules::specs::TypeRules::t7, scj_rules::specs::TypeRules::t8, scj_rules::specs::TypeRules::t9, scj_rules::specs::TypeRules::t10, scj_rules::specs::TypeRules::t11, scj_rules::specs::TypeRules::t12, scj_rules::specs::TypeRules::t13, scj_rules::specs::TypeRules::t14))]
+fn judge_there(
     found: &mut Vec<Found>,
     at: &At<'_>,
-    rows: &mut Vec<NodeMeaning>,
+    rows: &[NodeMeaning],
     node: &Node,
-) -> Result<Option<Ty>, Memory>
+) -> Result<(Option<Ty>, NodeMeaning), Memory>
     requires there { slice_get at.now.facts.now.nodes at.now.id ≡ Some node.now }
-    requires rows { AreMeanings at.now.facts.now rows.old.items }
+    requires rows { AreMeanings at.now.facts.now rows.now }
     requires member { names_member node.now ≡ true }
-    ensures type_of { IfOk result (λ t. t ≡ type_of (declared at.now) (types at.now) at.now.id node.now) }
+    ensures type_of { IfOk result (λ r. r.0 ≡ type_of (declared at.now) (types at.now) at.now.id node.now) }
     ensures found { OnOk result (found.new.items ≡ found.old.items
         ++ type_breaks (declared at.now) (types at.now) at.now.id node.now) }
-    ensures rows { OnOk result (AreMeanings at.now.facts.now rows.new.items) }
+    ensures row { IfOk result (λ r. IsMeaningAt at.now.facts.now at.now.id r.1) }
 {
-    let row = row_of_member(at, rows, node);
-    keep(rows, at.id, row);
     let facts = at.facts.again().with_meanings(rows);
     let at = At {
         facts: &facts,
@@ -250,10 +286,28 @@ fn judge_member(
             name,
             object,
             arguments,
-        } => {
-            note_call(found, &at, *place, name.get(), object, arguments.items())?;
-            Ok(type_of_call(&at, name.get(), object, arguments.items()))
-        }
-        _ => Ok(None),
+        } => judge_call(found, &at, *place, name.get(), object, arguments.items()),
+        _ => Ok((None, NodeMeaning::Nothing)),
     }
+}
+
+/// The same, which keeps the row.
+#[tactic(auto, using(crate::proofs::RowLemmas::one_told))]
+fn judge_member(
+    found: &mut Vec<Found>,
+    at: &At<'_>,
+    rows: &mut Vec<NodeMeaning>,
+    node: &Node,
+) -> Result<Option<Ty>, Memory>
+    requires there { slice_get at.now.facts.now.nodes at.now.id ≡ Some node.now }
+    requires rows { AreMeanings at.now.facts.now rows.old.items }
+    requires member { names_member node.now ≡ true }
+    ensures type_of { IfOk result (λ t. t ≡ type_of (declared at.now) (types at.now) at.now.id node.now) }
+    ensures found { OnOk result (found.new.items ≡ found.old.items
+        ++ type_breaks (declared at.now) (types at.now) at.now.id node.now) }
+    ensures rows { OnOk result (AreMeanings at.now.facts.now rows.new.items) }
+{
+    let (t, row) = judge_there(found, at, rows, node)?;
+    keep(rows, at.id, row);
+    Ok(t)
 }

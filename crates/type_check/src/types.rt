@@ -12,7 +12,7 @@ ghost use Rattle.type_words.specs.Returns.{all_returns};
 
 use crate::kinds::type_of_kind;
 use crate::nodes::judge;
-use crate::rows::nothing_told;
+use crate::rows::filled;
 use program_facts::{At, Facts, NodeMeaning};
 use scj_base::{Found, Memory, NodeId};
 use scj_rules::{Ty, put_in_order};
@@ -73,7 +73,7 @@ pub fn check_types(
     let program = facts.program();
     let returns = returning(alloc, program)?;
     let mut types = Vec::with_capacity(alloc, program.len())?;
-    let mut rows = nothing_told(alloc, program.len())?;
+    let mut rows = filled(alloc, NodeMeaning::Nothing, program.len())?;
     let mut found = Vec::new(alloc);
     for place in 0..program.len() {
         let id = NodeId::at(place as u32);

@@ -1,9 +1,9 @@
-//! The types of calls and of what is made, where they break no rule.
+//! The types of what is made, where it breaks no rule.
 
 ghost use Rattle.std.specs.Prelude.{◌≡◌, None, option_and_then, if◌then◌else◌};
 ghost use Rattle.scj_rules.specs.Contexts.{declarations_of};
-ghost use Rattle.scj_rules.specs.Types.{call_receiver, all_types, array_of, is_form_part};
-ghost use Rattle.scj_rules.specs.TypeRules.{call_type, class_type_named, written_type};
+ghost use Rattle.scj_rules.specs.Types.{all_types, array_of, is_form_part};
+ghost use Rattle.scj_rules.specs.TypeRules.{class_type_named, written_type};
 ghost use Rattle.program_facts.specs.Told.{declared, types};
 
 use program_facts::{At, Facts};
@@ -11,39 +11,17 @@ use scj_base::{Name, NodeId};
 use scj_rules::Ty;
 use type_rules::arguments::are_typed;
 use type_rules::forms::is_form_part;
-use type_rules::names::{call_receiver, written_type};
-use type_rules::results::call_type;
-use type_words::array_of;
+use type_rules::names::array_written;
 
 /// The type of a class where it is named.
 pub fn class_named(facts: &Facts<'_>, name: &Name) -> Option<Ty>
     ensures { result ≡ class_type_named (declarations_of facts.now) name.now }
 {
-    let class = facts.class_of(name)?;
-    Some(Ty::Class(class))
-}
-
-/// The type of a call.
-#[tactic(auto, using(crate::proofs::ValueLemmas::typed_then))]
-pub fn type_of_call(
-    at: &At<'_>,
-    name: &Name,
-    object: &Option<NodeId>,
-    arguments: &[NodeId],
-) -> Option<Ty>
-    ensures { result ≡ option_and_then
-        (λ r. option_and_then (λ ts. call_type (declared at.now) r name.now) (all_types (types at.now) arguments.now))
-        (call_receiver (declared at.now) (types at.now) at.now.id object.now) }
-{
-    let r = call_receiver(at, object)?;
-    if !are_typed(at, arguments) {
-        return None;
-    }
-    call_type(at, &r, name)
+    Some(Ty::Class(facts.class_of(name)?))
 }
 
 /// The type of a `new`; the parts of a form have none.
-#[tactic(auto, using(crate::proofs::ValueLemmas::typed_then))]
+#[tactic(auto, using(type_rules::proofs::CallLemmas::typed_then))]
 pub fn type_of_new(at: &At<'_>, name: &Name, arguments: &[NodeId]) -> Option<Ty>
     ensures { result ≡ (if is_form_part (declared at.now) at.now.id then None else option_and_then
         (λ ts. class_type_named (declared at.now) name.now) (all_types (types at.now) arguments.now)) }
@@ -60,6 +38,5 @@ pub fn type_of_new_array(at: &At<'_>, element: NodeId, length: NodeId) -> Option
         (λ n. option_and_then array_of (written_type (declared at.now) element)) (types at.now length) }
 {
     let _length = at.type_of(length)?;
-    let t = written_type(at.facts, element)?;
-    array_of(&t)
+    array_written(at.facts, element)
 }

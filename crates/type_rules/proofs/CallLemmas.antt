@@ -1,5 +1,5 @@
 -- What is broken at a call, where its receiver and its method are told.
-use Rattle.std.proofs.Common.{◌≡◌, ℕ, Bool, true, false, not, ◌&&◌, List, [], ◌++◌, Option, Some, None, is_some, refl, append-nil}
+use Rattle.std.proofs.Common.{◌≡◌, ℕ, Bool, true, false, not, ◌&&◌, List, [], ◌++◌, Option, Some, None, is_some, option_and_then, if◌then◌else◌, refl, append-nil}
 use Rattle.scj_base.specs.declared.findings.Found.{Found}
 use Rattle.scj_base.specs.declared.findings.Rule.TheVariants.{T3, T5, T6, T13}
 use Rattle.scj_base.specs.declared.places.Pos.{Pos}
@@ -17,6 +17,11 @@ typed_test None true = refl
 typed_test None false = refl
 typed_test (Some x) true = refl
 typed_test (Some x) false = refl
+
+pub typed_then : {A B : Type 0} (o : Option A) (x : Option B) →
+    option_and_then (λ _. x) o ≡ (if is_some o then x else None)
+typed_then None x = refl
+typed_then (Some y) x = refl
 
 module _ (p : Declarations) (types : Types) (id : ℕ) (place : Pos) (name : List ℕ) (object : Option ℕ)
     (arguments : List ℕ) where

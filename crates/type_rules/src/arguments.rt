@@ -95,11 +95,19 @@ fn all_fit(at: &At<'_>, takes: &Takes, ids: &[NodeId]) -> bool
 }
 
 /// Whether the arguments have types, and their number or types don't fit (JLS 15.9.3, 15.12.2, 8.8.7).
-#[tactic(auto, using(crate::proofs::ArgumentLemmas::misfit_is))]
 pub fn misfit(at: &At<'_>, takes: &Takes, ids: &[NodeId]) -> bool
     ensures { result ≡ misfit (declared at.now) (types at.now) (taken at.now.facts.now.nodes takes.now) ids.now }
 {
-    are_typed(at, ids) && !all_fit(at, takes, ids)
+    misfit_typed(at, takes, ids, are_typed(at, ids))
+}
+
+/// The same, where it is told whether they have types.
+#[tactic(auto, using(crate::proofs::ArgumentLemmas::misfit_is))]
+pub(crate) fn misfit_typed(at: &At<'_>, takes: &Takes, ids: &[NodeId], typed: bool) -> bool
+    requires { typed ≡ is_some (all_types (types at.now) ids.now) }
+    ensures { result ≡ misfit (declared at.now) (types at.now) (taken at.now.facts.now.nodes takes.now) ids.now }
+{
+    typed && !all_fit(at, takes, ids)
 }
 
 /// The parameters of a class's constructor: none where none is written (JLS 8.8.9).

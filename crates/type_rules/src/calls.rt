@@ -1,27 +1,32 @@
 //! What is broken at calls, at `new` and at classes.
 
-ghost use Rattle.std.specs.Prelude.{◌≡◌, ◌++◌, ◌&&◌, OnOk};
+ghost use Rattle.std.specs.Prelude.{◌≡◌, ◌++◌, ◌&&◌, IfOk, OnOk, Some, is_some, option_map, slice_get};
 ghost use Rattle.scj_tree.specs.declared.nodes.Node.TheVariants.{Call as a_call};
 ghost use Rattle.scj_rules.specs.Words.{holds};
 ghost use Rattle.scj_rules.specs.Classes.{class_number, superclass_in};
 ghost use Rattle.scj_rules.specs.Contexts.{declarations_of};
-ghost use Rattle.scj_rules.specs.Types.{called_method, kind_is};
-ghost use Rattle.scj_rules.specs.TypeRules.{type_breaks, cannot_be_called, misfits_new, has_untyped_argument, has_other_than_int, is_never_made, makes_no_object, is_misplaced_form, calls_unwritten, takes_arguments, misfits_class, lacks_form};
+ghost use Rattle.scj_rules.specs.Types.{all_types, kind_is};
+ghost use Rattle.scj_rules.specs.TypeRules.{type_breaks, type_of, cannot_be_called, misfits_new, has_untyped_argument, has_other_than_int, is_never_made, makes_no_object, is_misplaced_form, calls_unwritten, takes_arguments, misfits_class, lacks_form};
 ghost use Rattle.method_rows.specs.Methods.{found_method};
 ghost use Rattle.type_rules.specs.Parameters.{breaks_on};
+ghost use Rattle.program_facts.specs.Meanings.{IsMeaningAt};
 ghost use Rattle.program_facts.specs.Told.{declared, types};
 
-use crate::arguments::{Takes, are_typed, constructor_parameters, misfit, takes_arguments};
+use crate::arguments::{
+    Takes, are_typed, constructor_parameters, misfit, misfit_typed, takes_arguments,
+};
 use crate::expressions::{is_form_named, lacks_object, misfits_length};
 use crate::forms::{form_in, has_form, is_form_part, super_arguments};
-use crate::names::{call_receiver, method_called};
+use crate::members::{method_in, method_row};
+use crate::names::call_receiver;
+use crate::results::call_type;
 use crate::statements::has_framework_size;
 use method_rows::{MethodRef, is_callable_row, is_static, result_type};
-use program_facts::{At, Facts};
+use program_facts::{At, Facts, NodeMeaning};
 use scj_base::ids::{OBJECT, SAFELET};
 use scj_base::{ClassId, Found, Memory, Name, NodeId, Pos, Rule};
 use scj_builtins::{ClassKind, FRAMEWORK_CLASS_COUNT};
-use scj_rules::{Receiver, report_if};
+use scj_rules::{Receiver, Ty, report_if};
 use type_words::{is_long, is_no_reference, is_value};
 
 /// Whether a method isn't callable, as size methods aren't, or not on this receiver: a static one through a value.
@@ -37,53 +42,65 @@ fn cannot_be_called(facts: &Facts<'_>, receiver: &Receiver, method: &MethodRef) 
         || (is_value(receiver) && is_static(program, method))
 }
 
-/// Notes what is broken at a call whose receiver is known.
+/// Notes what is broken at a call, by its receiver and the method that this has, and tells whether its arguments have
+/// types.
 #[tactic(auto, unfolding(crate::specs::Parameters::taken, crate::specs::Parameters::breaks_on))]
 fn note_called(
     found: &mut Vec<Found>,
     at: &At<'_>,
     place: Pos,
-    name: &Name,
     receiver: &Receiver,
+    method: &Option<MethodRef>,
     arguments: &[NodeId],
-) -> Result<(), Memory>
-    ensures { let p = declared at.now in
-        OnOk result (found.new.items ≡ found.old.items ++ breaks_on p (types at.now) at.now.id place receiver.now
-        (called_method p receiver.now name.now) arguments.now) }
+) -> Result<bool, Memory>
+    ensures typed { IfOk result (λ typed. typed ≡ is_some (all_types (types at.now) arguments.now)) }
+    ensures found { OnOk result (found.new.items ≡ found.old.items
+        ++ breaks_on (declared at.now) (types at.now) at.now.id place receiver.now
+        (option_map (found_method at.now.facts.now.nodes) method.now) arguments.now) }
 {
     let typed = are_typed(at, arguments);
     let is_plain = is_no_reference(receiver);
     report_if(found, is_plain && typed, Rule::T3, place)?;
-    let Some(method) = method_called(at, receiver, name) else {
-        return report_if(found, !is_plain && typed, Rule::T5, place);
+    let Some(method) = method else {
+        report_if(found, !is_plain && typed, Rule::T5, place)?;
+        return Ok(typed);
     };
-    let lacks = !is_plain && cannot_be_called(at.facts, receiver, &method);
+    let lacks = !is_plain && cannot_be_called(at.facts, receiver, method);
     report_if(found, lacks && typed, Rule::T5, place)?;
-    let misfits = !lacks && misfit(at, &Takes::Method(method), arguments);
+    let misfits = !lacks && misfit_typed(at, &Takes::Method(*method), arguments, typed);
     report_if(found, misfits, Rule::T6, place)?;
     let is_apart = lacks_object(at.facts, at.id, receiver)
-        && (!lacks && !is_static(at.facts.program(), &method));
+        && (!lacks && !is_static(at.facts.program(), method));
     report_if(found, is_apart && typed, Rule::T13, place)?;
-    Ok(())
+    Ok(typed)
 }
 
-/// Notes what is broken at a call.
-#[tactic(auto, using(crate::proofs::CallLemmas::call_breaks, crate::proofs::CallLemmas::no_breaks))]
-pub fn note_call(
+/// Notes what is broken at a call, and tells its type and its row.
+#[tactic(auto, using(crate::proofs::CallLemmas::call_breaks, crate::proofs::CallLemmas::no_breaks, crate::proofs::CallLemmas::typed_then), unfolding(scj_rules::specs::TypeRules::type_of, scj_rules::specs::TypeRules::call_type, program_facts::specs::Meanings::IsMeaningAt, program_facts::specs::Meanings::member_named))]
+pub fn judge_call(
     found: &mut Vec<Found>,
     at: &At<'_>,
     place: Pos,
     name: &Name,
     object: &Option<NodeId>,
     arguments: &[NodeId],
-) -> Result<(), Memory>
-    ensures { OnOk result (found.new.items ≡ found.old.items
+) -> Result<(Option<Ty>, NodeMeaning), Memory>
+    requires { slice_get at.now.facts.now.nodes at.now.id ≡ Some (a_call place name.now object.now arguments.now) }
+    ensures type_of { IfOk result (λ r. r.0 ≡ type_of (declared at.now) (types at.now) at.now.id
+        (a_call place name.now object.now arguments.now)) }
+    ensures found { OnOk result (found.new.items ≡ found.old.items
         ++ type_breaks (declared at.now) (types at.now) at.now.id (a_call place name.now object.now arguments.now)) }
+    ensures row { IfOk result (λ r. IsMeaningAt at.now.facts.now at.now.id r.1) }
 {
-    match call_receiver(at, object) {
-        Some(receiver) => note_called(found, at, place, name, &receiver, arguments),
-        None => Ok(()),
+    let Some(receiver) = call_receiver(at, object) else {
+        return Ok((None, NodeMeaning::Nothing));
+    };
+    let row = method_row(at, &receiver, name);
+    let method = method_in(&row);
+    if !note_called(found, at, place, &receiver, &method, arguments)? {
+        return Ok((None, row));
     }
+    Ok((call_type(at.facts, &method), row))
 }
 
 /// Whether an argument in a form has no type, and is no part of the form itself.

@@ -1,9 +1,9 @@
 //! What names, accesses and calls mean, and which types fit.
 
-ghost use Rattle.std.specs.Prelude.{◌≡◌, ◌&&◌, None, Some, if◌then◌else◌, option_map, slice_get};
+ghost use Rattle.std.specs.Prelude.{◌≡◌, ◌&&◌, None, Some, if◌then◌else◌, option_and_then, option_map, slice_get};
 ghost use Rattle.scj_tree.specs.declared.nodes.Node.TheVariants.{SimpleName};
 ghost use Rattle.scj_rules.specs.Contexts.{declarations_of};
-ghost use Rattle.scj_rules.specs.Types.{type_written, are_same, assigns, binary_type, are_comparable, meaning, receiver, call_receiver, accessed_field, called_method};
+ghost use Rattle.scj_rules.specs.Types.{type_written, array_of, are_same, assigns, binary_type, are_comparable, meaning, receiver, call_receiver, accessed_field, called_method};
 ghost use Rattle.scj_rules.specs.TypeRules.{written_type};
 ghost use Rattle.method_rows.specs.Methods.{found_method};
 ghost use Rattle.class_rows.specs.Fields.{found_field};
@@ -19,7 +19,7 @@ use scj_base::vocabulary::{
 use scj_base::{Name, NodeId, Pos};
 use scj_rules::{Receiver, Ty, WrittenType};
 use scj_tree::Node;
-use type_words::{are_same, class_of_receiver, is_reference};
+use type_words::{are_same, array_of, class_of_receiver, is_reference};
 
 /// The type that is written; `long` is none of the types of an expression.
 #[tactic(auto, unfolding(scj_rules::specs::Types::type_written))]
@@ -56,6 +56,14 @@ pub fn written_type(facts: &Facts<'_>, node: NodeId) -> Option<Ty>
         Some(Node::LongType { .. }) => None,
         _ => Some(Ty::Void),
     }
+}
+
+/// The type of a new array of what is written.
+pub fn array_written(facts: &Facts<'_>, element: NodeId) -> Option<Ty>
+    ensures { result ≡ option_and_then array_of (written_type (declarations_of facts.now) element) }
+{
+    let t = written_type(facts, element)?;
+    array_of(&t)
 }
 
 /// Whether a value of the first type may be assigned to a variable of the second (JLS 5.2).
@@ -107,14 +115,14 @@ pub fn binary_type(facts: &Facts<'_>, operator: u8, a: &Ty, b: &Ty) -> Option<Ty
 }
 
 /// What a name stands for at a node (JLS 6.5).
-#[tactic(auto, unfolding(program_facts::specs::Meanings::meant, scj_rules::specs::Types::meaning, scj_rules::specs::Types::class_meaning))]
+#[tactic(auto, using(program_facts::proofs::VariableLemmas::first), unfolding(program_facts::specs::Meanings::meant, scj_rules::specs::Types::meaning, scj_rules::specs::Types::class_meaning))]
 pub fn meaning(facts: &Facts<'_>, id: NodeId, name: &Name) -> NameMeaning
     ensures { meant facts.now.nodes result ≡ meaning (declarations_of facts.now) id name.now }
 {
-    if let Some(variable) = facts.variable_named(id, name) {
+    let context = facts.context(id);
+    if let Some(variable) = facts.variable_from(context.last, name) {
         return NameMeaning::Variable(variable);
     }
-    let context = facts.context(id);
     if let Some(class) = context.class {
         if let Some(field) = facts.classes().field_named(class, name) {
             return NameMeaning::Field(field);

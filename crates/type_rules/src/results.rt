@@ -1,17 +1,18 @@
 //! The types of what names, accesses and calls stand for.
 
-ghost use Rattle.std.specs.Prelude.{◌≡◌};
-ghost use Rattle.scj_rules.specs.Types.{type_written};
+ghost use Rattle.std.specs.Prelude.{◌≡◌, option_and_then, option_map};
+ghost use Rattle.scj_rules.specs.Classes.{FoundMethod};
+ghost use Rattle.scj_rules.specs.Types.{type_written, accessed_field};
 ghost use Rattle.scj_rules.specs.Contexts.{declarations_of};
-ghost use Rattle.scj_rules.specs.TypeRules.{type_of_meaning, access_type, call_type};
+ghost use Rattle.scj_rules.specs.TypeRules.{type_of_meaning, access_type, declared_type_of};
+ghost use Rattle.method_rows.specs.Methods.{found_method};
 ghost use Rattle.class_rows.specs.Fields.{found_field};
 ghost use Rattle.program_facts.specs.Meanings.{meant};
-ghost use Rattle.program_facts.specs.Told.{declared};
 
-use crate::names::{field_accessed, method_called, type_written, written_type};
+use crate::names::{type_written, written_type};
 use class_rows::FieldRef;
-use method_rows::result_type;
-use program_facts::{At, Facts, NameMeaning};
+use method_rows::{MethodRef, result_type};
+use program_facts::{Facts, NameMeaning};
 use scj_base::Name;
 use scj_rules::{Receiver, Ty};
 use scj_tree::Node;
@@ -46,24 +47,35 @@ pub fn type_of_meaning(facts: &Facts<'_>, meaning: &NameMeaning) -> Option<Ty>
     }
 }
 
-/// The type of a field or of an array's length, accessed at a node.
+/// The type of an array's length, or of the field that a receiver has.
 #[tactic(auto, unfolding(scj_rules::specs::TypeRules::access_type))]
-pub fn access_type(at: &At<'_>, receiver: &Receiver, name: &Name) -> Option<Ty>
-    ensures { result ≡ access_type (declared at.now) receiver.now name.now }
+pub fn access_type(
+    facts: &Facts<'_>,
+    receiver: &Receiver,
+    name: &Name,
+    field: &Option<FieldRef>,
+) -> Option<Ty>
+    requires { option_map (found_field facts.now.nodes) field.now ≡ accessed_field (declarations_of facts.now)
+        receiver.now name.now }
+    ensures { result ≡ access_type (declarations_of facts.now) receiver.now name.now }
 {
     if is_array_value(receiver) && is_length(name) {
         return Some(Ty::Int);
     }
-    type_of_field(at.facts, &field_accessed(at, receiver, name)?)
+    match field {
+        Some(field) => type_of_field(facts, field),
+        None => None,
+    }
 }
 
-/// The type of a call at a node: the method's result.
-#[tactic(auto, unfolding(scj_rules::specs::TypeRules::call_type))]
-pub fn call_type(at: &At<'_>, receiver: &Receiver, name: &Name) -> Option<Ty>
-    ensures { result ≡ call_type (declared at.now) receiver.now name.now }
+/// The type of a call: the result of the method that a receiver has.
+pub fn call_type(facts: &Facts<'_>, method: &Option<MethodRef>) -> Option<Ty>
+    ensures { result ≡ option_and_then
+        (λ (f : FoundMethod). declared_type_of (declarations_of facts.now) f.method.declared)
+        (option_map (found_method facts.now.nodes) method.now) }
 {
-    match method_called(at, receiver, name) {
-        Some(method) => type_written(at.facts, &result_type(at.facts.program(), &method)),
+    match method {
+        Some(method) => type_written(facts, &result_type(facts.program(), method)),
         None => None,
     }
 }

@@ -7,7 +7,7 @@ ghost use Rattle.scj_rules.specs.Views.{type_at};
 ghost use Rattle.scj_rules.specs.declared.views.WrittenType.TheVariants.{Long as long_type, Void as void_type};
 ghost use Rattle.scj_rules.specs.Words.{holds};
 ghost use Rattle.scj_rules.specs.Contexts.{declarations_of, context};
-ghost use Rattle.scj_rules.specs.TypeRules.{result_of_member, superclass_at, misfits_value, misfits_initial_value, misfits_assignment, is_length_target, misfits_condition, lacks_value, misfits_result, ends_without_return, has_framework_size, misfits_long, misfits_super_call};
+ghost use Rattle.scj_rules.specs.TypeRules.{result_of_member, misfits_value, misfits_initial_value, misfits_assignment, is_length_target, misfits_condition, lacks_value, misfits_result, ends_without_return, has_framework_size, misfits_long, misfits_super_call};
 ghost use Rattle.program_facts.specs.Told.{declared, types};
 ghost use Rattle.type_words.specs.Returns.{all_returns};
 
@@ -201,18 +201,14 @@ pub fn misfits_long(
     }
 }
 
-/// The superclass of the class in which a node stands.
-pub fn superclass_at(facts: &Facts<'_>, id: NodeId) -> Option<ClassId>
-    ensures { result ≡ superclass_at (declarations_of facts.now) id }
-{
-    facts.classes().superclass(facts.context(id).class?)
-}
-
 /// Whether the arguments of a super call don't fit, where no form is due.
 pub fn misfits_super_call(at: &At<'_>, arguments: &[NodeId]) -> bool
     ensures { result ≡ misfits_super_call (declared at.now) (types at.now) at.now.id arguments.now }
 {
-    let Some(superclass) = superclass_at(at.facts, at.id) else {
+    let Some(class) = at.facts.context(at.id).class else {
+        return false;
+    };
+    let Some(superclass) = at.facts.classes().superclass(class) else {
         return false;
     };
     !has_form(superclass) && misfit(at, &constructor_parameters(at.facts, superclass), arguments)

@@ -12,16 +12,12 @@ use Rattle.scj_rules.specs.Types.{returns_of}
 use Rattle.type_words.specs.Returns.{returns_next, all_returns, is_returning_kind}
 
 -- one more is told
-pub told_next : {A : Type 0} (default : A) (step : ℕ → (ℕ → A) → A) (k : ℕ) →
-    bottom_up default step (k + 1) ≡ bottom_up default step k ++ step k (lookup default (bottom_up default step k)) ∷ []
-unfolding bottom_up
-told_next default step k = ap (bottom_up default step) (let g : k + 1 ≡ suc k = omega arith in g)
-
 pub bottom_up-more : {A : Type 0} (default : A) (step : ℕ → (ℕ → A) → A) (k : ℕ) (said : List A) (v : A) →
     said ≡ bottom_up default step k → v ≡ step k (lookup default said) → said ++ v ∷ [] ≡ bottom_up default step (k + 1)
+unfolding bottom_up
 bottom_up-more {A} default step k said v e f =
     ap (λ x. said ++ x ∷ []) f ∙ ap (λ (s : List A). s ++ step k (lookup default s) ∷ []) e
-    ∙ sym (told_next default step k)
+    ∙ ap (bottom_up default step) (let next : suc k ≡ k + 1 = omega arith in next)
 
 pub body_returns : (nodes : List Node) (body : ℕ) →
     lookup false (all_returns nodes) body ≡ lookup false (bottom_up false (returns_next nodes) (suc body)) body

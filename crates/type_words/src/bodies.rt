@@ -139,14 +139,15 @@ fn returns_at(program: &Program, returns: &[bool], id: NodeId) -> bool
 }
 
 /// Whether each node always returns.
-#[tactic(auto, using(crate::proofs::ReturnLemmas::told_next), unfolding(crate::specs::Returns::all_returns, scj_tree::specs::Recursion::bottom_up))]
+#[tactic(auto, unfolding(crate::specs::Returns::all_returns, scj_tree::specs::Recursion::bottom_up))]
 pub fn returning(alloc: Global, program: &Program) -> Result<Vec<bool>, Memory>
     ensures { IfOk result (λ returns. returns.items ≡ all_returns program.now.nodes) }
 {
-    let mut returns = Vec::with_capacity(alloc, program.len())?;
+    let mut returns = vec![in alloc; false; program.len()]?;
     for place in 0..program.len() {
-        let value = returns_at(program, &returns, NodeId::at(place as u32));
-        returns.push(value)?;
+        let known = returns.as_slice();
+        let value = returns_at(program, &known[..place], NodeId::at(place as u32));
+        returns[place] = value;
     }
     Ok(returns)
 }

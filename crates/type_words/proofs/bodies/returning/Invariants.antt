@@ -1,8 +1,11 @@
-use Rattle.std.proofs.Common.{◌≡◌, false}
+use Rattle.std.proofs.Common.{◌≡◌, false, length, take}
 use Rattle.scj_tree.specs.Recursion.{bottom_up}
 use Rattle.type_words.specs.Returns.{returns_next}
 use Rattle.type_words.proofs.bodies.returning.Given as goal
 
--- the nodes so far are told
+-- the nodes so far are told, in a row for all
 abbrev pub invariant-loop-place : goal.invariant-loop-place
-invariant-loop-place l = l.returns.items ≡ bottom_up false (returns_next l.program.nodes) l.place
+invariant-loop-place l = record {
+  whole : length l.returns.items ≡ length l.program.nodes;
+  told : take l.place l.returns.items ≡ bottom_up false (returns_next l.program.nodes) l.place;
+}
