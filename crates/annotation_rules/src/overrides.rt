@@ -16,8 +16,8 @@ use scj_base::{ClassId, Found, Memory, Rule};
 use scj_builtins::FRAMEWORK_CLASS_COUNT;
 use scj_rules::{Scope, report_if};
 use static_scopes::{
-    are_same_scope, has_other_runs_in, has_unknown_runs_in, parameter_scope, result_scope, runs_in,
-    scoped_variable, this_in,
+    are_same_scope, has_other_runs_in, has_unknown_runs_in, is_plain, parameter_scope,
+    result_scope, runs_in, scoped_variable, this_in,
 };
 
 /// Whether a scope and the one above are there and aren't the same, as a class sees them.
@@ -108,9 +108,22 @@ fn overrides_scopes(facts: &Facts, method: &MethodRef) -> bool
     }
 }
 
-/// Notes A1, A6 to A8 and A9 at a method.
-#[tactic(auto, unfolding(scj_rules::specs::AnnotationRules::a6_of, scj_rules::specs::AnnotationRules::a7_and_a8_of, method_rows::specs::Methods::found_method))]
-pub fn note_method(found: &mut Vec<Found>, facts: &Facts, method: &MethodRef) -> Result<(), Memory>
+/// Notes A6 at a method.
+#[tactic(auto, unfolding(scj_rules::specs::AnnotationRules::a6_of, method_rows::specs::Methods::found_method))]
+fn note_override(found: &mut Vec<Found>, facts: &Facts, method: &MethodRef) -> Result<(), Memory>
+    ensures { let f = found_method facts.now.nodes method.now in
+        OnOk result (found.new.items ≡ found.old.items ++ a6_of (declarations_of facts.now) f.on f.method) }
+{
+    if overrides_scopes(facts, method) {
+        let declared = declared(facts.program(), method);
+        report_if(found, true, Rule::A6, declared.place)?;
+    }
+    Ok(())
+}
+
+/// Notes A1, A6 to A8 and A9 at a method before which something may be written.
+#[tactic(auto, unfolding(scj_rules::specs::AnnotationRules::a7_and_a8_of, method_rows::specs::Methods::found_method))]
+fn note_written(found: &mut Vec<Found>, facts: &Facts, method: &MethodRef) -> Result<(), Memory>
     ensures { let f = found_method facts.now.nodes method.now in let p = declarations_of facts.now in
         let t = scoped_result p f.on f.method in
         OnOk result (found.new.items ≡ found.old.items ++ (broken_value t.scope (is_unknown_scope p t) A1
@@ -122,8 +135,7 @@ pub fn note_method(found: &mut Vec<Found>, facts: &Facts, method: &MethodRef) ->
     let current = runs_in(facts, method);
     let thing = scoped_variable(method.on, &current, modifiers.is_static, &declared);
     note_unknown(found, facts, &thing)?;
-    let is_other = overrides_scopes(facts, method);
-    report_if(found, is_other, Rule::A6, declared.place)?;
+    note_override(found, facts, method)?;
     if let Some(written) = &modifiers.runs_in {
         let is_unknown = has_unknown_runs_in(facts, method, written);
         report_if(found, is_unknown, Rule::A7, written.place)?;
@@ -132,4 +144,19 @@ pub fn note_method(found: &mut Vec<Found>, facts: &Facts, method: &MethodRef) ->
     }
     note_contradiction(found, facts, &thing)?;
     Ok(())
+}
+
+/// Notes A1, A6 to A8 and A9 at a method. Before most nothing is written, and A6 alone may be broken.
+#[tactic(auto, unfolding(scj_rules::specs::AnnotationRules::a7_and_a8_of))]
+pub fn note_method(found: &mut Vec<Found>, facts: &Facts, method: &MethodRef) -> Result<(), Memory>
+    ensures { let f = found_method facts.now.nodes method.now in let p = declarations_of facts.now in
+        let t = scoped_result p f.on f.method in
+        OnOk result (found.new.items ≡ found.old.items ++ (broken_value t.scope (is_unknown_scope p t) A1
+        ++ ((a6_of p f.on f.method ++ a7_and_a8_of p f.on f.method)
+        ++ broken_value t.scope (contradicts p t) A9))) }
+{
+    if is_plain(facts.program(), method) {
+        return note_override(found, facts, method);
+    }
+    note_written(found, facts, method)
 }

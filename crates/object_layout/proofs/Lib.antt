@@ -3,7 +3,6 @@ pub mod BodyLemmas
 pub mod ClassLemmas
 pub mod FieldLemmas
 pub mod FieldTableLemmas
-pub mod NameLemmas
 pub mod ObjectLemmas
 pub mod SafeletLemmas
 pub mod SlotLemmas

@@ -1,5 +1,5 @@
 -- The place of a field by the table, and its slot.
-use Rattle.std.proofs.Common.{◌≡◌, ℕ, ◌+◌, ◌<◌, ◌≤◌, ◌==◌, List, length, map, position, get_or, refl, sym, ap, ◌∙◌, arith, Option, Some, None, Bool, true, false, slice_get, option_map, option_and_then}
+use Rattle.std.proofs.Common.{◌≡◌, ℕ, ◌+◌, ◌<◌, ◌≤◌, ◌==◌, List, length, map, position, get_or, refl, sym, ap, ◌∙◌, arith, Option, Some, None, true, false, slice_get, option_map, option_and_then}
 use Rattle.std.specs.List.{position_or_len}
 use Rattle.std.proofs.lemmas.Bool.{eqb-true, lt-ltb, ne_eqb, eq-eqb}
 use Rattle.std.proofs.lemmas.List.{length-map}
@@ -16,9 +16,6 @@ use Rattle.object_layout.specs.ObjectTables.{instance_nodes, slot_of_node, IsObj
 use Rattle.object_layout.specs.Slots.{HasPlaces}
 use Rattle.object_layout.proofs.FieldLemmas.{field_nodes_are}
 use Rattle.object_layout.proofs.FieldTableLemmas.{place_by_node}
-
-abbrev is_here : ℕ → ℕ → Bool
-is_here field other = field == other
 
 module _ (places fields : List ℕ) (field : ℕ) (has : HasPlaces places fields) where
   -- where the field stands, the table has the place
@@ -85,7 +82,7 @@ slot_from hidden fields None = refl
 slot_from hidden fields (Some f) = ap (option_map (λ k. hidden + k)) (place_by_node fields f)
 
 -- the slot of a field by its node
-slot_at_node : (p : Declarations) (class field : ℕ)
+pub slot_at_node : (p : Declarations) (class field : ℕ)
     → option_and_then (slot_of_node p class) (slice_get (field_nodes p.classes) field) ≡ slot_of p class field
 unfolding slot_of instance_nodes slot_of_node
 slot_at_node p class field =
@@ -94,11 +91,6 @@ slot_at_node p class field =
     ap (λ (ids : List ℕ). option_and_then slot (slice_get ids field)) (field_nodes_are p)
     ∙ ap (option_and_then slot) (slice_get-map (λ (f : Declared). f.node) (declared_fields p) field)
     ∙ slot_from (hidden_fields p.classes class) (instance_fields p.classes class) (field_numbered p field)
-
-pub slot_by_node : (p : Declarations) (class field : ℕ) (nodes : List ℕ) → nodes ≡ field_nodes p.classes →
-    option_and_then (slot_of_node p class) (slice_get nodes field) ≡ slot_of p class field
-slot_by_node p class field nodes e =
-    ap (λ (ids : List ℕ). option_and_then (slot_of_node p class) (slice_get ids field)) e ∙ slot_at_node p class field
 
 pub slot_in_row : (p : Declarations) (class node : ℕ) (row : ObjectRow) → IsObjectRowOf p class row
     → option_map (λ k. row.hidden + k) (position (λ other. node == other) row.fields.items) ≡ slot_of_node p class node

@@ -4,8 +4,10 @@ use Rattle.scj_tree.specs.Forest.{Forest}
 use Rattle.scj_rules.specs.Classes.{hidden_fields}
 use Rattle.scj_rules.specs.Contexts.{Declarations, declarations_of}
 use Rattle.scj_rules.specs.Layout.{slots}
+use Rattle.object_layout.specs.declared.object_tables.ObjectTable.{ObjectTable}
 use Rattle.object_layout.specs.declared.objects.ObjectRow.{ObjectRow}
-use Rattle.object_layout.specs.ObjectTables.{instance_kinds, literal_nodes, slot_of_node, IsObjectRowOf, AreObjectRows}
+use Rattle.object_layout.specs.ObjectTables.{instance_kinds, literal_nodes, slot_of_node, IsObjectRowOf}
+use Rattle.object_layout.specs.Objects.{IsObjectTableOf}
 use Rattle.object_layout.proofs.ObjectLemmas.{hidden_past, slots_past, kinds_past, literals_past, nodes_past}
 
 missing_past : {A : Type 0} (xs : List A) (i : ℕ) → slice_get xs i ≡ None → length xs ≤ i
@@ -13,16 +15,18 @@ missing_past [] i e = omega arith
 missing_past (x ∷ xs) zero e = absurd (cc)
 missing_past (x ∷ xs) (suc i) e = omega (arith, missing_past xs i e)
 
-module _ (forest : Forest) (rows : List ObjectRow) (class : ℕ)
-    (are : AreObjectRows (declarations_of forest) (length (declarations_of forest).classes) rows) where
+module _ (forest : Forest) (table : ObjectTable) (class : ℕ) (is : IsObjectTableOf forest table) where
   abbrev p : Declarations
   p = declarations_of forest
 
+  abbrev rows : List ObjectRow
+  rows = table.rows.items
+
   there : (row : ObjectRow) → Some row ≡ slice_get rows class → IsObjectRowOf p class row
-  there row e = are.each class row (sym e)
+  there row e = is.rows.each class row (sym e)
 
   past : None ≡ slice_get rows class → length p.classes ≤ class
-  past e = (let l = missing_past rows class (sym e) in let w = are.whole in omega (arith, l, w))
+  past e = (let l = missing_past rows class (sym e) in let w = is.rows.whole in omega (arith, l, w))
 
   pub hidden_there : (row : ObjectRow) → Some row ≡ slice_get rows class → row.hidden ≡ hidden_fields p.classes class
   hidden_there row e = (there row e).hidden

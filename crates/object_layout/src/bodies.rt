@@ -15,11 +15,11 @@ use scj_rules::Body;
 use scj_tree::Program;
 
 /// The body of a method that is found.
-#[tactic(auto, unfolding(scj_rules::specs::Bodies::body_of_method))]
+#[tactic(auto, using(method_rows::proofs::MethodLemmas::builtin_told), unfolding(scj_rules::specs::Bodies::body_of_method))]
 fn body_of_method(program: &Program, method: &MethodRef) -> Option<Body>
     ensures { result ≡ body_of_method (found_method program.now.nodes method.now) }
 {
-    match method_rows::builtin(program, method) {
+    match method_rows::builtin(method) {
         None => Some(Body::Written(method_rows::node(program, method))),
         Some(number) => {
             if number == MISSION_CLEAN_UP {

@@ -1,8 +1,6 @@
 //! What is written of single classes.
 
-ghost use Rattle.std.specs.Prelude.{◌≡◌, length, option_and_then, option_map, slice_get};
-ghost use Rattle.scj_builtins.specs.Framework.{framework_classes};
-ghost use Rattle.scj_builtins.specs.declared.classes.FrameworkClass.{FrameworkClass as Row};
+ghost use Rattle.std.specs.Prelude.{◌≡◌, length, option_and_then};
 ghost use Rattle.scj_tree.specs.Forest.{IsForest};
 ghost use Rattle.scj_rules.specs.Views.{class_at};
 ghost use Rattle.scj_rules.specs.Contexts.{declarations_of};
@@ -11,8 +9,7 @@ ghost use Rattle.scj_rules.specs.Bodies.{class_node, class_place, constructor_bo
 
 use class_rows::Classes;
 use scj_base::ids::OBJECT;
-use scj_base::{ClassId, Name, NodeId, Pos};
-use scj_builtins::framework_classes;
+use scj_base::{ClassId, NodeId, Pos};
 use scj_rules::Body;
 
 /// The number of the nodes of the program.
@@ -31,28 +28,6 @@ pub fn class_node(classes: &Classes, class: ClassId) -> Option<NodeId>
         (declarations_of classes.now).classes class }
 {
     classes.class_node(class)
-}
-
-/// The name of a class of the framework.
-fn framework_name(class: ClassId) -> Option<Name>
-    ensures { result ≡ option_map (λ (c : Row). c.name) (slice_get framework_classes class) }
-{
-    let all = framework_classes();
-    match all.get(class.number() as usize) {
-        Some(row) => Some(row.name),
-        None => None,
-    }
-}
-
-/// The name of a class.
-#[tactic(auto, using(crate::proofs::NameLemmas::name_of_user, crate::proofs::NameLemmas::name_of_framework))]
-pub fn class_name(classes: &Classes, class: ClassId) -> Option<Name>
-    ensures { result ≡ slice_get (declarations_of classes.now).names class }
-{
-    match class_node(classes, class) {
-        Some(node) => node_views::class_name(classes.program(), node),
-        None => framework_name(class),
-    }
 }
 
 /// Where a user class is named, and the first place of all for one of the framework.

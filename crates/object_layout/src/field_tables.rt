@@ -1,9 +1,7 @@
 //! The table of the fields of a program.
 
-ghost use Rattle.std.specs.Prelude.{◌≡◌, ◌==◌, ℕ, map, position, option_map, option_and_then, slice_get, IfOk};
+ghost use Rattle.std.specs.Prelude.{◌≡◌, ◌==◌, ℕ, map, position, option_and_then, slice_get, IfOk};
 ghost use Rattle.std.specs.HashMap.{get};
-ghost use Rattle.scj_rules.specs.Contexts.{declarations_of};
-ghost use Rattle.scj_rules.specs.Layout.{field_kind, static_place};
 ghost use Rattle.object_layout.specs.FieldTables.{IsFieldTableOf};
 
 use crate::fields::{StaticField, kinds_at, static_nodes, statics_at};
@@ -11,7 +9,6 @@ use class_rows::Classes;
 use class_rows::members::places_of;
 use scj_base::{FieldId, Memory, NodeId};
 use scj_rules::SlotKind;
-use scj_tree::Program;
 use std::alloc::Global;
 use std::collections::HashMap;
 
@@ -74,34 +71,14 @@ pub fn field_table(alloc: Global, classes: &Classes) -> Result<FieldTable, Memor
 }
 
 /// The kind at a number.
-fn kind_numbered(kinds: &[SlotKind], field: FieldId) -> Option<SlotKind>
+pub fn kind_numbered(kinds: &[SlotKind], field: FieldId) -> Option<SlotKind>
     ensures { result ≡ slice_get kinds.now field }
 {
     kinds.get(field.number() as usize).copied()
 }
 
-/// What a field holds.
-#[tactic(auto, using(crate::proofs::FieldTableLemmas::kind_by_table))]
-pub fn field_kind(program: &Program, table: &FieldTable, field: FieldId) -> Option<SlotKind>
-    requires { IsFieldTableOf program.now table.now }
-    ensures { result ≡ field_kind (declarations_of program.now) field }
-{
-    let _ = program;
-    kind_numbered(&table.kinds, field)
-}
-
-/// The place of a static field among all statics.
-#[tactic(auto, using(crate::proofs::FieldTableLemmas::static_place_by_table))]
-pub fn static_place(program: &Program, table: &FieldTable, field: FieldId) -> Option<u32>
-    requires { IsFieldTableOf program.now table.now }
-    ensures { result ≡ static_place (declarations_of program.now) field }
-{
-    let _ = program;
-    place_numbered(&table.static_places, field)
-}
-
 /// The place at a number.
-fn place_numbered(places: &[Option<u32>], field: FieldId) -> Option<u32>
+pub fn place_numbered(places: &[Option<u32>], field: FieldId) -> Option<u32>
     ensures { result ≡ option_and_then (λ place. place) (slice_get places.now field) }
 {
     match places.get(field.number() as usize) {

@@ -1,19 +1,23 @@
 //! The layout of a program.
 
 ghost use Rattle.std.specs.Prelude.{◌≡◌, map, slice_get, IfOk};
-ghost use Rattle.scj_rules.specs.Classes.{hidden_fields, instance_fields, is_sub};
+ghost use Rattle.scj_rules.specs.Classes.{field_nodes, hidden_fields, instance_fields, is_sub};
 ghost use Rattle.scj_rules.specs.Contexts.{declarations_of};
 ghost use Rattle.scj_rules.specs.Bodies.{class_node, class_place, constructor_body, body_named, body_of, class_of_body, is_synchronized_body, locals, safelet_class, size_of};
 ghost use Rattle.scj_rules.specs.ScopeRules.{defined_by_chain};
 ghost use Rattle.scj_rules.specs.Definitions.{read};
 ghost use Rattle.scj_rules.specs.Layout.{class_of_elements, element_kind, field_kind, fields_with_literal, literal_written, slot_of, slots, static_fields, static_place};
 ghost use Rattle.object_layout.specs.Fields.{kind_of_field, static_row};
-ghost use Rattle.object_layout.specs.ObjectTables.{nodes_of_fields};
+ghost use Rattle.object_layout.specs.FieldTables.{IsFieldTableOf};
+ghost use Rattle.object_layout.specs.ObjectTables.{nodes_of_fields, slot_of_node};
+ghost use Rattle.object_layout.specs.Objects.{IsObjectTableOf};
 
+use crate::field_tables::{FieldTable, kind_numbered, place_numbered};
 use crate::fields::StaticField;
-use crate::object_tables::{hidden_in, kinds_in, literals_in, slot_in, slots_in};
+use crate::object_tables::ObjectTable;
+use crate::slots::{place_of, slot_at};
 use crate::tables::{Tables, tables_of};
-use crate::{arrays, bodies, classes, field_tables, parts, sizes};
+use crate::{arrays, bodies, classes, parts, sizes};
 use class_rows::{ClassTable, Classes};
 use program_facts::Facts;
 use scj_base::{ClassId, FieldId, Memory, MethodId, Name, NodeId, Pos, ScopeId};
@@ -81,10 +85,11 @@ impl<'a> Layout<'a> {
     }
 
     /// The name of a class.
+    #[tactic(auto, using(class_rows::proofs::NameLemmas::name_listed))]
     pub fn class_name(&self, class: ClassId) -> Option<Name>
         ensures { result ≡ slice_get (declarations_of self.now).names class }
     {
-        classes::class_name(&self.classes, class)
+        self.classes.name(class)
     }
 
     /// The concrete class that implements `Safelet` (JSR 302: Safelet).
@@ -167,62 +172,112 @@ impl<'a> Layout<'a> {
         parts::literal_written(self.program(), field)
     }
 
+    /// The table of the objects.
+    fn objects(&self) -> &ObjectTable
+        ensures { IsObjectTableOf self.now result.now }
+    {
+        &self.tables.objects
+    }
+
+    /// The table of the fields.
+    fn fields(&self) -> &FieldTable
+        ensures { IsFieldTableOf self.now result.now }
+    {
+        &self.tables.fields
+    }
+
     /// How many fields that nothing declares the objects of a class have: a handler's priority and storage, and a
     /// periodic handler's start and period (JSR 302: PriorityParameters, StorageParameters, PeriodicParameters).
+    #[tactic(auto, using(crate::proofs::TableLemmas::hidden_there, crate::proofs::TableLemmas::hidden_missing))]
     pub fn hidden(&self, class: ClassId) -> u32
         ensures { result ≡ hidden_fields (declarations_of self.now).classes class }
     {
-        hidden_in(self.program(), &self.tables.objects.rows, class)
+        match self.objects().row(class) {
+            Some(row) => row.hidden,
+            None => 0,
+        }
     }
 
     /// How many slots the objects of a class have: the hidden fields and the instance fields (JLS 8.3.1.1).
+    #[tactic(auto, using(crate::proofs::TableLemmas::slots_there, crate::proofs::TableLemmas::slots_missing))]
     pub fn slots(&self, class: ClassId) -> u32
         ensures { result ≡ slots (declarations_of self.now) class }
     {
-        slots_in(self.program(), &self.tables.objects.rows, class)
+        match self.objects().row(class) {
+            Some(row) => row.slots,
+            None => 0,
+        }
     }
 
     /// What the instance fields of the objects of a class hold, in the order of their slots (JLS 4.12.5).
-    #[tactic(auto, unfolding(crate::specs::ObjectTables::instance_kinds))]
+    #[tactic(auto, using(crate::proofs::TableLemmas::kinds_there, crate::proofs::TableLemmas::kinds_missing), unfolding(crate::specs::ObjectTables::instance_kinds))]
     pub fn kinds(&self, class: ClassId) -> &[SlotKind]
         ensures { result.now ≡ map kind_of_field (instance_fields (declarations_of self.now).classes class) }
     {
-        kinds_in(self.program(), &self.tables.objects.rows, class)
+        match self.objects().row(class) {
+            Some(row) => row.kinds.as_slice(),
+            None => &[],
+        }
     }
 
     /// The nodes of the instance fields that a class itself declares with a literal (JLS 8.3.2).
-    #[tactic(auto, unfolding(crate::specs::ObjectTables::literal_nodes))]
+    #[tactic(auto, using(crate::proofs::TableLemmas::literals_there, crate::proofs::TableLemmas::literals_missing), unfolding(crate::specs::ObjectTables::literal_nodes))]
     pub fn literals(&self, class: ClassId) -> &[NodeId]
         ensures { result.now ≡ nodes_of_fields (fields_with_literal (declarations_of self.now) class) }
     {
-        literals_in(self.program(), &self.tables.objects.rows, class)
+        match self.objects().row(class) {
+            Some(row) => row.literals.as_slice(),
+            None => &[],
+        }
+    }
+
+    /// The node of a field.
+    fn field_node(&self, field: FieldId) -> Option<NodeId>
+        ensures { result ≡ slice_get (field_nodes (declarations_of self.now).classes) field }
+    {
+        let nodes = self.classes.field_nodes();
+        nodes.get(field.number() as usize).copied()
+    }
+
+    /// The slot of the field at a node in the objects of a class.
+    #[tactic(auto, using(crate::proofs::TableLemmas::slot_missing, crate::proofs::SlotLemmas::row_fits))]
+    fn slot_of_node(&self, class: ClassId, node: NodeId) -> Option<u32>
+        ensures { result ≡ slot_of_node (declarations_of self.now) class node }
+    {
+        let table = self.objects();
+        match table.row(class) {
+            Some(row) => slot_at(
+                row,
+                place_of(&row.fields, &table.places, table.is_regular, node),
+            ),
+            None => None,
+        }
     }
 
     /// The slot of a field in the objects of a class.
     pub fn slot_of(&self, class: ClassId, field: FieldId) -> Option<u32>
         ensures { result ≡ slot_of (declarations_of self.now) class field }
     {
-        slot_in(
-            self.program(),
-            self.classes.field_nodes(),
-            &self.tables.objects,
-            class,
-            field,
-        )
+        match self.field_node(field) {
+            Some(node) => self.slot_of_node(class, node),
+            None => None,
+        }
     }
 
     /// What a field holds.
+    #[tactic(auto, using(crate::proofs::FieldTableLemmas::kind_by_table))]
     pub fn field_kind(&self, field: FieldId) -> Option<SlotKind>
         ensures { result ≡ field_kind (declarations_of self.now) field }
     {
-        field_tables::field_kind(self.program(), &self.tables.fields, field)
+        kind_numbered(&self.fields().kinds, field)
     }
 
     /// The place of a static field among all statics.
+    #[tactic(auto, using(crate::proofs::FieldTableLemmas::static_place_by_table))]
     pub fn static_place(&self, field: FieldId) -> Option<u32>
         ensures { result ≡ static_place (declarations_of self.now) field }
     {
-        field_tables::static_place(self.program(), &self.tables.fields, field)
+        place_numbered(&self.fields().static_places, field)
     }
 
     /// The static fields in the order of the sources (JLS 8.3.1.1).

@@ -32,16 +32,6 @@ pub struct ObjectRow {
     pub(crate) literals: Vec<NodeId>,
 }
 
-/// The class of a number. There are more classes than numbers of them only where memory is wanting.
-pub fn class_numbered(number: usize) -> Result<ClassId, Memory>
-    ensures { IfOk result (λ class. class ≡ number) }
-{
-    if number > u32::MAX as usize {
-        return Err(Memory);
-    }
-    Ok(ClassId::at(number as u32))
-}
-
 /// How many fields that nothing declares an object of a class has.
 #[tactic(auto, unfolding(scj_rules::specs::Classes::hidden_fields))]
 fn hidden_fields(classes: &Classes, class: ClassId) -> u32
@@ -68,13 +58,12 @@ fn own_nodes(alloc: Global, classes: &Classes, class: ClassId) -> Result<Vec<Nod
 
 /// The instance fields that each class itself declares.
 #[tactic(auto, unfolding(scj_tree::specs::Recursion::listed, crate::specs::ObjectTables::all_own_nodes), using(std::proofs::lemmas::List::map_push))]
-pub fn all_own_nodes(alloc: Global, classes: &Classes) -> Result<Vec<Vec<NodeId>>, Memory>
+fn all_own_nodes(alloc: Global, classes: &Classes) -> Result<Vec<Vec<NodeId>>, Memory>
     ensures { IfOk result (λ all. map (λ v. v.items) all.items ≡ all_own_nodes (declarations_of classes.now)) }
 {
     let mut all = Vec::new(alloc);
-    for number in 0..classes.count() {
-        let class = class_numbered(number)?;
-        let own = own_nodes(alloc, classes, class)?;
+    for number in 0..classes.class_count() {
+        let own = own_nodes(alloc, classes, ClassId::at(number))?;
         all.push(own)?;
     }
     Ok(all)
@@ -176,9 +165,8 @@ pub fn object_rows(alloc: Global, classes: &Classes) -> Result<Vec<ObjectRow>, M
 {
     let own = all_own_nodes(alloc, classes)?;
     let mut rows = Vec::new(alloc);
-    for number in 0..classes.count() {
-        let class = class_numbered(number)?;
-        let row = object_row(alloc, classes, &own, class)?;
+    for number in 0..classes.class_count() {
+        let row = object_row(alloc, classes, &own, ClassId::at(number))?;
         rows.push(row)?;
     }
     Ok(rows)

@@ -1,14 +1,13 @@
 //! The safelet's class.
 
-ghost use Rattle.std.specs.Prelude.{◌≡◌, IfOk};
+ghost use Rattle.std.specs.Prelude.{◌≡◌};
 ghost use Rattle.scj_rules.specs.Contexts.{declarations_of};
 ghost use Rattle.scj_rules.specs.TypeRules.{is_concrete_safelet};
 ghost use Rattle.scj_rules.specs.Bodies.{safelet_class};
 
-use crate::objects::class_numbered;
 use class_rows::Classes;
+use scj_base::ClassId;
 use scj_base::ids::SAFELET;
-use scj_base::{ClassId, Memory};
 use scj_builtins::ClassKind;
 
 /// Whether the class is a safelet that has objects.
@@ -24,14 +23,14 @@ fn is_concrete_safelet(classes: &Classes, class: ClassId) -> bool
 
 /// The first class that is a safelet.
 #[tactic(auto, using(crate::proofs::SafeletLemmas::none_first, crate::proofs::SafeletLemmas::none_more, crate::proofs::SafeletLemmas::safelet_found, crate::proofs::SafeletLemmas::safelet_missing))]
-pub fn safelet_class(classes: &Classes) -> Result<Option<ClassId>, Memory>
-    ensures { IfOk result (λ found. found ≡ safelet_class (declarations_of classes.now)) }
+pub fn safelet_class(classes: &Classes) -> Option<ClassId>
+    ensures { result ≡ safelet_class (declarations_of classes.now) }
 {
-    for number in 0..classes.count() {
-        let class = class_numbered(number)?;
+    for number in 0..classes.class_count() {
+        let class = ClassId::at(number);
         if is_concrete_safelet(classes, class) {
-            return Ok(Some(class));
+            return Some(class);
         }
     }
-    Ok(None)
+    None
 }

@@ -59,7 +59,7 @@ pub fn tables_of(alloc: Global, classes: &Classes) -> Result<Tables, Memory>
     let bodies = body_table(alloc, classes, &contexts)?;
     let fields = field_table(alloc, classes)?;
     let objects = object_table(alloc, classes)?;
-    let safelet = safelet_class(classes)?;
+    let safelet = safelet_class(classes);
     Ok(Tables {
         contexts,
         names,

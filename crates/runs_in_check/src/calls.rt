@@ -148,12 +148,13 @@ fn note_user_method(
 }
 
 /// The user's `run` of a class.
+#[tactic(auto, using(method_rows::proofs::MethodLemmas::builtin_told))]
 fn run_of(facts: &Facts<'_>, class: ClassId) -> Option<MethodRef>
     ensures { option_map (found_method facts.now.nodes) result ≡ run_of (declarations_of facts.now) class }
 {
     let classes = facts.classes();
     let method = classes.method_named(class, &Name::new(b"run"))?;
-    match builtin(classes.program(), &method) {
+    match builtin(&method) {
         Some(_) => None,
         None => Some(method),
     }
@@ -254,7 +255,7 @@ fn method_called(at: &At<'_>, name: &Name, object: &Option<NodeId>) -> Option<Me
 
 /// Notes what is broken at a call, E2 and E3 of a user's method and E7 and E8 of one of the framework's, and tells the
 /// scope of what the method gives.
-#[tactic(auto, using(crate::proofs::CallLemmas::no_call, crate::proofs::CallLemmas::user_call, crate::proofs::CallLemmas::framework_call, crate::proofs::CallLemmas::no_scope_called, crate::proofs::CallLemmas::scope_called))]
+#[tactic(auto, using(crate::proofs::CallLemmas::no_call, crate::proofs::CallLemmas::user_call, crate::proofs::CallLemmas::framework_call, crate::proofs::CallLemmas::no_scope_called, crate::proofs::CallLemmas::scope_called, method_rows::proofs::MethodLemmas::builtin_told))]
 pub fn note_call(
     found: &mut Vec<Found>,
     at: &At<'_>,
@@ -272,8 +273,7 @@ pub fn note_call(
     let Some(method) = method_called(at, name, object) else {
         return Ok(None);
     };
-    let facts = at.facts;
-    match builtin(facts.program(), &method) {
+    match builtin(&method) {
         Some(number) => note_entry(found, at, place, number, arguments)?,
         None => note_user_method(found, at, place, object, arguments, &method)?,
     }

@@ -19,9 +19,6 @@ use Rattle.scj_rules.specs.ScopeRules.{definition_in, scope_of_definition}
 use Rattle.program_facts.specs.Tables.{entered}
 use Rattle.scope_tree.proofs.UserLemmas.{class_count, definition_at_place, no_definition_below, scope_at_place}
 
-same-true : (xs ys : List ℕ) → is_same xs ys ≡ true → xs ≡ ys
-same-true xs ys h = (bytes_eq-Decides xs ys).0 h
-
 pub ordered_same : (xs ys : List ℕ) → is_eq (slice_cmp nat_cmp xs ys) ≡ is_same ys xs
 ordered_same xs ys = is_eq-slice_cmp xs ys ∙ nat_list_eq_equiv.symm xs ys
 
@@ -39,7 +36,7 @@ in_front_first : (scope : Definition → Option ℕ) (class : ℕ) (d : Definiti
 unfolding first_definition
 in_front_first scope class d ds name h =
     let like : is_same name d.scope.name ≡ true → is_reserved name ≡ is_reserved d.scope.name =
-    λ e. ap is_reserved (same-true name d.scope.name e) in
+    λ e. ap is_reserved ((bytes_eq-Decides name d.scope.name).0 e) in
     grind (arith, h, like)
 
 module _ (forest : Forest) (whole : IsForest forest) where

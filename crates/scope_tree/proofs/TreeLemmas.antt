@@ -1,24 +1,12 @@
 -- Chains of scopes, and what tables tell.
-use Rattle.std.proofs.Common.{◌≡◌, ◌-◌, ℕ, zero, suc, ◌<◌, ◌≤◌, false, List, [], ◌∷◌, length, slice_get, Option, Some, None, refl, ap, ◌∙◌, arith, ◌==◌}
+use Rattle.std.proofs.Common.{◌≡◌, ◌-◌, ℕ, ◌<◌, ◌≤◌, false, List, [], length, slice_get, Option, Some, ap, ◌∙◌, arith, ◌==◌}
 use Rattle.std.proofs.lemmas.Bool.Decides.{nat_tests}
 use Rattle.std.proofs.lemmas.Option.{get_or_from_slice_get, slice_get_within}
 use Rattle.scj_tree.specs.Recursion.{lookup, listed}
 use Rattle.scj_tree.proofs.RecursionLemmas.{listed-at, length-listed}
-use Rattle.scj_rules.specs.Words.{is_among, chain}
+use Rattle.scj_rules.specs.Words.{is_among}
 use Rattle.program_facts.specs.Tables.{AreRowsOf, chain_from}
-
--- one step on a chain
-pub chain_here : (next : ℕ → Option ℕ) (left a : ℕ) → 0 < left → chain next left a ≡ a
-    ∷ chain_from next (left - 1) (next a)
-unfolding chain
-chain_here next zero a h = absurd (omega (arith, h))
-chain_here next (suc left) a h = grind (arith)
-
-pub chain_ended : (next : ℕ → Option ℕ) (left : ℕ) (o : Option ℕ) → left ≤ 0 → chain_from next left o ≡ []
-unfolding chain
-chain_ended next zero None h = refl
-chain_ended next zero (Some a) h = refl
-chain_ended next (suc left) o h = absurd (omega (arith, h))
+use Rattle.program_facts.proofs.VariableLemmas.{chain_here}
 
 -- another number than the first is looked for behind it
 pub passed_here : (next : ℕ → Option ℕ) (a scope left : ℕ) → 0 < left → false ≡ (a == scope)

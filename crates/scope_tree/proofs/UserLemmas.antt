@@ -1,5 +1,5 @@
 -- The user classes of a program at their numbers, and the definitions that they write.
-use Rattle.std.proofs.Common.{◌≡◌, ℕ, zero, suc, ◌+◌, ◌-◌, ◌<◌, ◌≤◌, Bool, List, [], ◌∷◌, ◌++◌, length, map, find, filter_map, slice_get, position, Option, Some, None, option_map, option_and_then, refl, sym, ap, ◌∙◌, arith, ⊎_elim, length-append, ◌==◌, ◌||◌, if◌then◌else◌}
+use Rattle.std.proofs.Common.{◌≡◌, ℕ, zero, suc, ◌+◌, ◌-◌, ◌<◌, ◌≤◌, Bool, List, [], ◌∷◌, ◌++◌, length, map, find, filter_map, slice_get, position, Option, Some, None, option_map, option_and_then, refl, sym, ap, ◌∙◌, arith, ⊎_elim, ◌==◌, ◌||◌, if◌then◌else◌}
 use Rattle.std.specs.List.{position_or_len}
 use Rattle.std.proofs.lemmas.Bool.{cases_lt, eq-eqb}
 use Rattle.std.proofs.lemmas.List.{length-map}
@@ -19,8 +19,9 @@ use Rattle.scj_rules.specs.Views.{WrittenClass, class_at, class_of}
 use Rattle.scj_rules.specs.Classes.{ClassRow, class_nodes, user_classes, class_names, user_row, framework_rows_from, written_rows, first_user_class}
 use Rattle.scj_rules.specs.Contexts.{Declarations, declarations_of, number_of_class}
 use Rattle.scj_rules.specs.ScopeRules.{definition_in, scope_of_definition}
+use Rattle.scj_rules.proofs.WithinLemmas.{user_count}
 use Rattle.class_rows.specs.Tables.{class_written}
-use Rattle.class_rows.proofs.RowLemmas.{as_written, class_length}
+use Rattle.class_rows.proofs.RowLemmas.{as_written}
 use Rattle.class_rows.proofs.SoundLemmas.{row_sound}
 
 -- ---- the nodes of the user classes are the classes of the files
@@ -51,7 +52,7 @@ unfolding class_written
 written_stays forest class =
     sym (as_written (option_and_then (λ (row : ClassRow). row.written)) (λ row. refl) forest class)
 
-pub no_user_below : (forest : Forest) (class : ℕ) → class < first_user_class →
+no_user_below : (forest : Forest) (class : ℕ) → class < first_user_class →
     written_in (declarations_of forest).classes class ≡ None
 unfolding class_written
 no_user_below forest class h =
@@ -77,7 +78,7 @@ user_rows_at nodes names [] k = refl
 user_rows_at nodes names (c ∷ users) zero = refl
 user_rows_at nodes names (c ∷ users) (suc k) = user_rows_at nodes names users k
 
-pub user_at : (forest : Forest) (k : ℕ) → written_in (declarations_of forest).classes (first_user_class + k) ≡ slice_get
+user_at : (forest : Forest) (k : ℕ) → written_in (declarations_of forest).classes (first_user_class + k) ≡ slice_get
     (user_classes forest) k
 unfolding declarations_of class_written written_rows framework_classes
 user_at forest k =
@@ -86,23 +87,7 @@ user_at forest k =
     ∙ behind_framework 0 framework_classes (map (user_row forest.nodes (class_names users)) users) k
     ∙ user_rows_at forest.nodes (class_names users) users k
 
--- how many classes there are
-framework-length : (number : ℕ) (cs : List FrameworkClass) → length (framework_rows_from number cs) ≡ length cs
-unfolding framework_rows_from
-framework-length number [] = refl
-framework-length number (c ∷ cs) = ap suc (framework-length (number + 1) cs)
-
-user_count : (forest : Forest) → length (declarations_of forest).classes ≡ first_user_class
-    + length (user_classes forest)
-unfolding declarations_of written_rows framework_classes
-user_count forest =
-    let users = user_classes forest in
-    let a = framework-length 0 framework_classes in
-    let b = length-map users (user_row forest.nodes (class_names users)) in
-    class_length forest
-    ∙ length-append (framework_rows_from 0 framework_classes) (map (user_row forest.nodes (class_names users)) users)
-    ∙ rw (a, b) refl
-
+-- the framework's classes are there
 pub framework_first : (forest : Forest) → first_user_class ≤ length (declarations_of forest).classes
 framework_first forest = omega (arith, user_count forest)
 

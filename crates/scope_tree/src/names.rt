@@ -1,24 +1,24 @@
 //! What single classes write of scopes, and the scopes by their names.
 
-ghost use Rattle.std.specs.Prelude.{◌≡◌, List, ℕ, length, option_and_then, option_map, IfOk, OnOk};
+ghost use Rattle.std.specs.Prelude.{◌≡◌, List, ℕ, option_and_then, option_map, IfOk, OnOk};
 ghost use Rattle.scj_rules.specs.Contexts.{declarations_of};
-ghost use Rattle.scj_rules.specs.Definitions.{definition_of, define_scope_of, flags_of, is_reserved, read, values_of, written_of};
+ghost use Rattle.scj_rules.specs.Definitions.{definition_of, define_scope_of, flags_of, is_reserved, read, values_of};
 ghost use Rattle.scj_rules.specs.ScopeRules.{definition_in, user_class_in};
 ghost use Rattle.scj_rules.specs.Views.{WrittenClass};
 ghost use Rattle.scj_tree.specs.Forest.{IsForest};
-ghost use Rattle.program_facts.specs.Tables.{FindsScopes, IsNaming, entered, scope_named};
+ghost use Rattle.program_facts.specs.Tables.{IsNaming, entered, scope_named};
 
 use class_rows::Classes;
-use node_views::{class_modifiers, class_place};
+use node_views::{class_modifiers, class_place, scope_written};
 use program_facts::ScopeNames;
 use scj_base::{ClassId, Memory, Name, NodeId, Pos, ScopeId};
-use scj_rules::{Definition, Modifiers, Written};
+use scj_rules::{Definition, Modifiers};
 use scj_tree::{Node, Program};
 use std::alloc::Global;
 use std::collections::BTreeMap;
 
 /// The program of the classes is a forest.
-pub fn is_whole(classes: &Classes)
+fn is_whole(classes: &Classes)
     ensures { IsForest classes.now }
 {
     let _count = classes.program().len();
@@ -54,20 +54,6 @@ fn values(program: &Program, class: NodeId) -> Option<(NodeId, NodeId)>
     }
 }
 
-/// The name of a scope that a node writes.
-#[tactic(auto, unfolding(scj_rules::specs::Definitions::written_of))]
-fn written(program: &Program, value: NodeId) -> Option<Written>
-    ensures { result ≡ read program.now.nodes written_of value }
-{
-    match program.get(value)? {
-        Node::ScopeName { place, name } => Some(Written {
-            name: *name.get(),
-            place: *place,
-        }),
-        _ => None,
-    }
-}
-
 /// The definition that the class at a node writes, if it writes one.
 #[tactic(auto, unfolding(scj_rules::specs::Definitions::definition_of, scj_rules::specs::Definitions::definition_with))]
 fn definition(program: &Program, class: Option<NodeId>) -> Option<Definition>
@@ -75,8 +61,8 @@ fn definition(program: &Program, class: Option<NodeId>) -> Option<Definition>
 {
     let class = class?;
     let (scope, parent) = values(program, class)?;
-    let scope = written(program, scope)?;
-    let parent = written(program, parent)?;
+    let scope = scope_written(program, scope)?;
+    let parent = scope_written(program, parent)?;
     Some(Definition {
         class,
         scope,
@@ -143,13 +129,12 @@ fn enter(names: &mut ScopeNames, classes: &Classes, class: ClassId) -> Result<()
     Ok(())
 }
 
-/// The scopes by their names, of so many classes. The last class is entered first, so that the first one of a name
-/// stays.
-fn names_below(alloc: Global, classes: &Classes, count: u32) -> Result<ScopeNames, Memory>
-    requires { count ≡ length (declarations_of classes.now).classes }
-    ensures { IfOk result (λ names. FindsScopes (declarations_of classes.now) names) }
+/// The scopes by their names. The last class is entered first, so that the first one of a name stays.
+pub fn names_of(alloc: Global, classes: &Classes) -> Result<ScopeNames, Memory>
+    ensures { IfOk result (λ names. IsNaming (declarations_of classes.now) names) }
 {
     is_whole(classes);
+    let count = classes.class_count();
     let mut names = ScopeNames {
         scopes: BTreeMap::new(alloc),
     };
@@ -158,16 +143,5 @@ fn names_below(alloc: Global, classes: &Classes, count: u32) -> Result<ScopeName
         left -= 1;
         enter(&mut names, classes, ClassId::at(left))?;
     }
-    Ok(names)
-}
-
-/// The scopes by their names. There are more classes than numbers of them only where memory is wanting.
-pub fn names_of(alloc: Global, classes: &Classes) -> Result<ScopeNames, Memory>
-    ensures { IfOk result (λ names. IsNaming (declarations_of classes.now) names) }
-{
-    let Ok(count) = u32::try_from(classes.count()) else {
-        return Err(Memory);
-    };
-    let names = names_below(alloc, classes, count)?;
     Ok(names)
 }

@@ -105,7 +105,7 @@ pub fn is_implied_immortal(facts: &Facts, class: ClassId) -> bool
 }
 
 /// Whether a scope stands on a chain of parents.
-#[tactic(auto, using(crate::proofs::TreeLemmas::chain_here, crate::proofs::TreeLemmas::passed_here, crate::proofs::TreeLemmas::chain_ended))]
+#[tactic(auto, using(program_facts::proofs::VariableLemmas::chain_here, crate::proofs::TreeLemmas::passed_here, program_facts::proofs::VariableLemmas::chain_ended))]
 fn is_reached(facts: &Facts, a: ScopeId, from: Option<ScopeId>) -> bool
     ensures { let p = declarations_of facts.now in
         result ≡ is_among a (chain_from (parent_scope p) (length p.classes) from) }

@@ -1,2 +1,1 @@
-pub mod SafeletLemmas
 pub mod VariableLemmas

@@ -1,13 +1,12 @@
 //! Where methods run, and the scopes that the framework fixes for its methods.
 
-ghost use Rattle.std.specs.Prelude.{◌≡◌, option_map, IfSome};
-ghost use Rattle.scj_rules.specs.Views.{method_at};
+ghost use Rattle.std.specs.Prelude.{◌≡◌, true, Option, Some, None, option_map, IfSome};
+ghost use Rattle.scj_rules.specs.Views.{method_at, no_modifiers};
 ghost use Rattle.scj_rules.specs.Contexts.{declarations_of};
-ghost use Rattle.scj_rules.specs.StaticScopes.{fixed_for, has_unknown_runs_in, has_other_runs_in, runs_in};
+ghost use Rattle.scj_rules.specs.StaticScopes.{fixed_for, has_unknown_runs_in, has_other_runs_in, free_runs_in, runs_in};
 ghost use Rattle.method_rows.specs.declared.refs.MethodRef.{MethodRef as Row};
 ghost use Rattle.method_rows.specs.Methods.{found_method};
 
-use crate::inherited::is_inherited_by_safelet;
 use crate::things::{is_other_scope, resolve_name, scope_or, written_scope};
 use method_rows::{MethodRef, MethodSource, builtin, declared};
 use node_views::is_method;
@@ -15,16 +14,16 @@ use program_facts::Facts;
 use scj_base::{ClassId, Name, NodeId, ScopeId};
 use scj_builtins::{RunsInKind, framework_method};
 use scj_rules::{Scope, Written};
-use scj_tree::Program;
+use scj_tree::{Node, Program};
 use scope_tree::scopes::{class_scope, defined_by_chain};
 
 /// Where a method of the name runs in a class, if the framework fixes that.
-#[tactic(auto, unfolding(scj_rules::specs::StaticScopes::fixed_for, scj_rules::specs::StaticScopes::fixed_runs_in, scj_rules::specs::StaticScopes::fixed_scope))]
+#[tactic(auto, using(method_rows::proofs::MethodLemmas::builtin_told), unfolding(scj_rules::specs::StaticScopes::fixed_for, scj_rules::specs::StaticScopes::fixed_runs_in, scj_rules::specs::StaticScopes::fixed_scope))]
 fn fixed_for(facts: &Facts, class: ClassId, name: &Name) -> Option<Scope>
     ensures { result ≡ fixed_for (declarations_of facts.now) class name.now }
 {
     let number = match &facts.classes().framework_row_named(class, name) {
-        Some(method) => builtin(facts.program(), method)?,
+        Some(method) => builtin(method)?,
         None => return None,
     };
     let kind = match &framework_method(number) {
@@ -73,7 +72,7 @@ pub fn has_unknown_runs_in(facts: &Facts, method: &MethodRef, written: &Written)
 }
 
 /// Whether `@RunsIn` of a method contradicts what the framework fixes.
-#[tactic(auto, unfolding(scj_rules::specs::StaticScopes::has_other_runs_in, scj_rules::specs::StaticScopes::differs_from))]
+#[tactic(auto, unfolding(scj_rules::specs::StaticScopes::has_other_runs_in, scj_rules::specs::StaticScopes::differs_from, scj_rules::specs::StaticScopes::is_inherited_by_safelet))]
 pub fn has_other_runs_in(
     facts: &Facts,
     class: ClassId,
@@ -90,15 +89,52 @@ pub fn has_other_runs_in(
             return true;
         }
     }
+    let node = method_rows::node(facts.program(), method);
+    let classes = facts.classes();
     match facts.scope_number(&written.name) {
-        Some(scope) => scope != ScopeId::IMMORTAL && is_inherited_by_safelet(facts, method),
+        Some(scope) => {
+            scope != ScopeId::IMMORTAL && classes.is_inherited_of_safelet(node, &method_name)
+        }
         None => false,
     }
 }
 
-/// Where a method runs, found anew.
-#[tactic(auto, unfolding(scj_rules::specs::StaticScopes::runs_in, scj_rules::specs::StaticScopes::free_runs_in, scj_rules::specs::StaticScopes::default_runs_in))]
-pub fn find_runs_in(facts: &Facts, class: ClassId, method: &MethodRef) -> Option<Scope>
+/// Whether nothing is written before the method that a node of a program declares, as before most.
+#[tactic(auto, unfolding(method_rows::specs::Methods::found_method, method_rows::specs::Methods::method_from, scj_rules::specs::Views::method_of))]
+pub fn is_plain(program: &Program, method: &MethodRef) -> bool
+    ensures { result ≡ true → (found_method program.now.nodes method.now).method.declared.modifiers ≡ no_modifiers }
+{
+    match &method.source {
+        MethodSource::Declared(node) => {
+            matches!(program.get(*node), Some(Node::Method { flags: None, .. }))
+        }
+        MethodSource::Framework(_) => false,
+    }
+}
+
+/// Where a method of the name runs in a class that isn't static, where this is written of it.
+#[tactic(auto, unfolding(scj_rules::specs::StaticScopes::free_runs_in, scj_rules::specs::StaticScopes::default_runs_in))]
+fn instance_runs_in(
+    facts: &Facts,
+    class: ClassId,
+    name: &Name,
+    written: &Option<Written>,
+) -> Option<Scope>
+    ensures { result ≡ elim (fixed_for (declarations_of facts.now) class name.now)
+        [ Some s ↦ Some s | None ↦ free_runs_in (declarations_of facts.now) class written.now ] }
+{
+    match fixed_for(facts, class, name) {
+        Some(fixed) => Some(fixed),
+        None => match written {
+            Some(written) => written_scope(facts, class, &Some(Scope::Caller), &written.name),
+            None => scope_or(&class_scope(facts, class), &Some(Scope::Caller)),
+        },
+    }
+}
+
+/// Where a method runs before which something may be written, found anew.
+#[tactic(auto, unfolding(scj_rules::specs::StaticScopes::runs_in))]
+fn written_runs_in(facts: &Facts, class: ClassId, method: &MethodRef) -> Option<Scope>
     ensures { result ≡ runs_in (declarations_of facts.now) class (found_method facts.now.nodes method.now).method }
 {
     let declared = declared(facts.program(), method);
@@ -114,11 +150,17 @@ pub fn find_runs_in(facts: &Facts, class: ClassId, method: &MethodRef) -> Option
     if modifiers.is_static {
         return Some(Scope::Caller);
     }
-    match fixed_for(facts, class, &declared.name) {
-        Some(fixed) => Some(fixed),
-        None => match &modifiers.runs_in {
-            Some(written) => written_scope(facts, class, &Some(Scope::Caller), &written.name),
-            None => scope_or(&class_scope(facts, class), &Some(Scope::Caller)),
-        },
+    instance_runs_in(facts, class, &declared.name, &modifiers.runs_in)
+}
+
+/// Where a method runs, found anew.
+#[tactic(auto, unfolding(scj_rules::specs::StaticScopes::runs_in))]
+pub fn find_runs_in(facts: &Facts, class: ClassId, method: &MethodRef) -> Option<Scope>
+    ensures { result ≡ runs_in (declarations_of facts.now) class (found_method facts.now.nodes method.now).method }
+{
+    let program = facts.program();
+    if is_plain(program, method) {
+        return instance_runs_in(facts, class, &method_rows::name(program, method), &None);
     }
+    written_runs_in(facts, class, method)
 }

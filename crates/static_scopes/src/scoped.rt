@@ -10,7 +10,6 @@ ghost use Rattle.scj_rules.specs.AnnotationRules.{scoped_variable_at, result_sco
 ghost use Rattle.scj_rules.specs.UseRules.{this_at, current_at, variable_scope_at};
 ghost use Rattle.program_facts.specs.Tables.{scope_of_member, run_at, AreRunRows, AreRuns, AreVariables};
 
-use crate::inherited::inherited_of;
 use crate::methods::{find_runs_in, method_at};
 use crate::things::{declaration_scope, find_field_scope, has_no_scope, scoped_variable, this_in};
 use class_rows::FieldRef;
@@ -196,19 +195,12 @@ fn rows_of(alloc: Global, facts: &Facts) -> Result<BTreeMap<usize, Option<Scope>
     Ok(rows)
 }
 
-/// Where the methods of a program run, and its fields lie: first what classes inherit of `Safelet`, by which the rest is
-/// found.
+/// Where the methods of a program run, and its fields lie.
 pub fn runs_of(alloc: Global, facts: &Facts) -> Result<Runs, Memory>
     ensures { IfOk result (λ runs. AreRuns facts.now runs) }
 {
-    let inherited = inherited_of(alloc, facts)?;
-    let mut runs = Runs {
-        inherited,
-        rows: BTreeMap::new(alloc),
-    };
-    let rows = rows_of(alloc, &facts.again().with_runs(&runs))?;
-    runs.rows = rows;
-    Ok(runs)
+    let rows = rows_of(alloc, facts)?;
+    Ok(Runs { rows })
 }
 
 /// The scopes of the variables that nodes declare and that have one.

@@ -1,12 +1,12 @@
 use Rattle.std.proofs.Common.{◌≡◌, ◌∙◌, ◌-◌, ap, arith, refl}
 use Rattle.scope_tree.proofs.NameLemmas.{none_from, entered_from, all_from, scope_from}
-use Rattle.scope_tree.proofs.names.names_below.Goals as goal
+use Rattle.scope_tree.proofs.names.names_of.Goals as goal
 
 pub loop-left-init : goal.loop-left-init
 loop-left-init c = record {
-  within = omega (arith, c.requires);
-  finds = λ name. none_from c.args.classes.now c.is_whole.ensures c.args.count _ name c.requires
-      (rw c.new.ensures.empty refl);
+  within = omega (arith, c.class_count-count.ensures);
+  finds = λ name. none_from c.args.classes.now c.is_whole.ensures c.class_count-count.result _ name
+      c.class_count-count.ensures (rw c.new.ensures.empty refl);
 }
 
 pub loop-left-preserved : goal.loop-left-preserved
@@ -20,5 +20,8 @@ loop-left-preserved c = record {
 pub returns : goal.returns
 returns c =
     let last : c.loop-left.left ≡ 0 = omega (arith, c.loop-left-test.false) in
-    λ name. c.loop-left.invariant.finds name ∙ ap (λ n. scope_from c.args.classes.now n name) last
-    ∙ all_from c.args.classes.now c.is_whole.ensures name
+    record {
+      few = omega (arith, c.class_count-count.ensures);
+      finds = λ name. c.loop-left.invariant.finds name ∙ ap (λ n. scope_from c.args.classes.now n name) last
+          ∙ all_from c.args.classes.now c.is_whole.ensures name;
+    }

@@ -2,7 +2,7 @@ use Rattle.std.proofs.Common.{◌≡◌, ◌≤◌, ℕ, List, length}
 use Rattle.scj_rules.specs.Contexts.{declarations_of}
 use Rattle.program_facts.specs.Tables.{scope_named}
 use Rattle.scope_tree.proofs.NameLemmas.{scope_from}
-use Rattle.scope_tree.proofs.names.names_below.Given as goal
+use Rattle.scope_tree.proofs.names.names_of.Given as goal
 
 -- the scopes of the classes from here on are entered
 abbrev pub invariant-loop-left : goal.invariant-loop-left

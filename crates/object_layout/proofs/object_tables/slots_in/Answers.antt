@@ -1,5 +1,0 @@
-use Rattle.object_layout.proofs.TableLemmas.{slots_missing}
-use Rattle.object_layout.proofs.object_tables.slots_in.Goals as goal
-
-pub returns-in-None : goal.returns-in-None
-returns-in-None c = slots_missing c.args.program.now c.args.rows.now c.args.class c.requires c.in-None.ensures
