@@ -119,6 +119,8 @@ method_chain 30000
 same_chain 30000
 runnable_chain 30000
 cycle 30000
+locked_chain 20000
+locked_runs 10000
 wide_fields 7500
 wide_methods 7500
 same_siblings 30000
@@ -138,13 +140,17 @@ far_scopes 140000
 SHAPES
 before=0
 tell_hostile top_calls $((15 * 200000))
-before=0
-tell_hostile names 60000
-apart=$spent
-before=0
-if command -v cc >/dev/null 2>&1; then
-    tell_hostile colliding 60000
+while read -r others colliding; do
+    before=0
+    tell_hostile "$others" 60000
+    apart=$spent
+    before=0
+    command -v cc >/dev/null 2>&1 || continue
+    tell_hostile "$colliding" 60000
     [ "$spent" -le $((3 * apart)) ] || miss "names that collide take at most 3 times as long as others"
-fi
+done <<'SHAPES'
+names colliding
+fields colliding_fields
+SHAPES
 for shape in semicolons blocks sums literals negations assignments nots long_sum; do tell_memory "$shape" 1048576; done
 exit "$missed"

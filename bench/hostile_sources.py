@@ -11,6 +11,9 @@ something:
     runnable_chain  the same with Runnable at the top              repeats_above   times Runnable above 1,000 methods
     cycle           classes in a circle                            repeats_asked   the same, with calls of its methods
     names           names of classes                               colliding       the same, alike in a hash table
+    fields          fields of one class                            colliding_fields the same, alike in a hash table
+    locked_chain    classes in a chain, each with a synchronized method
+    locked_runs     classes above others that implement Runnable by a synchronized method
     open_methods    abstract methods, a class that has all but one, and classes under it that have that one
 
 In these a chain of 238 classes has something at its top, which is asked COUNT times at its end:
@@ -72,6 +75,13 @@ def runnable_chain(count):
     return chain(count, "implements Runnable", lambda n: "" if n else "public void run() { } ")
 
 
+def locked_runs(count):
+    return [
+        class_of(f"A{n}", "public synchronized void run() { } ") + class_of(f"B{n} extends A{n} implements Runnable", "")
+        for n in range(count)
+    ]
+
+
 def cycle(count):
     return [class_of(f"C{n} extends C{(n + 1) % count}", "") for n in range(count)]
 
@@ -109,9 +119,17 @@ def open_methods(count):
     return [top, under] + [class_of(f"D{n} extends B", "void m0() { } ") for n in range(count)]
 
 
-def names(count):
-    # As long as those that collide.
-    return [class_of(f"N{n:08}", "") for n in range(count)]
+def apart(count):
+    """Names as long as those that collide."""
+    return [f"N{n:08}" for n in range(count)]
+
+
+def empty_classes(names):
+    return [class_of(name, "") for name in names]
+
+
+def class_of_fields(names):
+    return [class_of("C", "".join(f"int {name};\n" for name in names))]
 
 
 def folded(a, b):
@@ -168,7 +186,7 @@ def colliding(count):
         subprocess.run([compiler, "-O2", "-o", program, code], check=True)
         found = subprocess.run([program, str(count)], check=True, stdout=subprocess.PIPE, text=True).stdout.split()
     assert len(found) == count and all(slot(name) == 0 for name in found[:100])
-    return [class_of(name, "") for name in found]
+    return found
 
 
 def asked(count, top, statement, kind=""):
@@ -223,6 +241,8 @@ SHAPES = {
     "same_chain": lambda count: chain(count, member=lambda n: "void m() { } "),
     "runnable_chain": runnable_chain,
     "cycle": cycle,
+    "locked_chain": lambda count: chain(count, member=lambda n: f"synchronized void m{n}() {{ }} "),
+    "locked_runs": locked_runs,
     "wide_fields": lambda count: wide(count, lambda n: f"static int f{n};\n"),
     "wide_methods": lambda count: wide(count, lambda n: f"void m{n}() {{ }}\n"),
     "same_siblings": same_siblings,
@@ -230,7 +250,8 @@ SHAPES = {
     "repeats_above": repeats_above,
     "repeats_asked": lambda count: repeats_above(count, count),
     "open_methods": open_methods,
-    "names": names,
+    "names": lambda count: empty_classes(apart(count)),
+    "fields": lambda count: class_of_fields(apart(count)),
     "top_calls": lambda count: asked(count, "void m() { } ", "m();\n"),
     "unknown_calls": lambda count: asked(count, "", "n();\n"),
     "top_fields": lambda count: asked(count, "int f; ", "f=f;\n"),
@@ -240,7 +261,8 @@ SHAPES = {
     "many_locals": many_locals,
     "many_parameters": many_parameters,
     "far_scopes": far_scopes,
-    "colliding": colliding,
+    "colliding": lambda count: empty_classes(colliding(count)),
+    "colliding_fields": lambda count: class_of_fields(colliding(count)),
     "semicolons": dense(";"),
     "blocks": dense("{}"),
     "sums": dense("x=x" + "+x" * 50 + ";"),
