@@ -121,6 +121,7 @@ runnable_chain 30000
 cycle 30000
 locked_chain 20000
 locked_runs 10000
+narrower_results 20000
 wide_fields 7500
 wide_methods 7500
 same_siblings 30000

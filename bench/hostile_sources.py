@@ -14,6 +14,7 @@ something:
     fields          fields of one class                            colliding_fields the same, alike in a hash table
     locked_chain    classes in a chain, each with a synchronized method
     locked_runs     classes above others that implement Runnable by a synchronized method
+    narrower_results missions in a chain, and methods that give the last one in the place of one that gives the first
     open_methods    abstract methods, a class that has all but one, and classes under it that have that one
 
 In these a chain of 238 classes has something at its top, which is asked COUNT times at its end:
@@ -80,6 +81,14 @@ def locked_runs(count):
         class_of(f"A{n}", "public synchronized void run() { } ") + class_of(f"B{n} extends A{n} implements Runnable", "")
         for n in range(count)
     ]
+
+
+def narrower_results(count):
+    missions = ["abstract " + text for text in chain(count, "extends Mission")]
+    gives = "public C{} getNextMission() {{ return null; }}\n"
+    above = "abstract " + class_of("A extends MissionSequencer", gives.format(0))
+    under = [class_of(f"B{n} extends A", gives.format(count - 1) * min(10_000, count - n)) for n in range(0, count, 10_000)]
+    return missions + [above] + under
 
 
 def cycle(count):
@@ -243,6 +252,7 @@ SHAPES = {
     "cycle": cycle,
     "locked_chain": lambda count: chain(count, member=lambda n: f"synchronized void m{n}() {{ }} "),
     "locked_runs": locked_runs,
+    "narrower_results": narrower_results,
     "wide_fields": lambda count: wide(count, lambda n: f"static int f{n};\n"),
     "wide_methods": lambda count: wide(count, lambda n: f"void m{n}() {{ }}\n"),
     "same_siblings": same_siblings,
