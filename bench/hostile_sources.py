@@ -87,6 +87,7 @@ def narrower_results(count):
     missions = ["abstract " + text for text in chain(count, "extends Mission")]
     gives = "public C{} getNextMission() {{ return null; }}\n"
     above = "abstract " + class_of("A extends MissionSequencer", gives.format(0))
+    # In classes of 10,000 methods, so that each goes into a file.
     under = [class_of(f"B{n} extends A", gives.format(count - 1) * min(10_000, count - n)) for n in range(0, count, 10_000)]
     return missions + [above] + under
 
