@@ -32,7 +32,8 @@ EDITS = {
     "C3": "class_headers/cycles_forgiven",
     "C4": "class_rules/earlier_names_forgotten class_rows/class_lost symbol_table/look_up_begins_at_the_class",
     "C5": "class_rules/earlier_names_forgotten",
-    "C6": "class_rules/parameters_compared_with_themselves symbol_table/names_stay_when_a_class_is_left",
+    "C6": "class_rules/parameters_compared_with_themselves symbol_table/names_stay_when_a_class_is_left "
+    "class_rows/a_step_leads_too_far",
     "C7": "node_views/static_is_abstract class_rules/framework_methods_left_open "
     "symbol_table/open_names_stay_open",
     "C8": "class_table/safelets_left_out "
@@ -40,7 +41,8 @@ EDITS = {
     "C9": "node_rules/cast_of_any_class node_rules/mission_argument_noted",
     "C10": "class_headers/too_many_either_way "
     "class_rules/forbidden_super_by_another_rule class_headers/interfaces_are_forgotten",
-    "C11": "node_rules/local_at_its_value node_rules/static_class",
+    "C11": "node_rules/local_at_its_value node_rules/static_class "
+    "class_rows/another_name_is_told class_table/runs_are_not_told",
     "K1": "class_rules/last_allowed_class_is_too_many",
     "K2": "node_rules/one_local_more",
     "K3": "node_rules/one_parameter_more",
@@ -74,7 +76,7 @@ EDITS = {
     "A5": "static_scopes/field_may_lie_inside",
     "A6": "annotation_rules/override_may_run_elsewhere",
     "A7": "annotation_rules/unknown_runs_in_as_other static_scopes/static_method_may_name_this",
-    "A8": "static_scopes/nothing_defined_fixes_nothing",
+    "A8": "static_scopes/nothing_defined_fixes_nothing class_rows/another_name_is_told",
     "A9": "annotation_rules/contradiction_as_unknown static_scopes/unknown_name_as_known_elsewhere",
     "E1": "",
     "E2": "runs_in_check/caller_refused static_scopes/method_runs_with_its_object",

@@ -1,7 +1,7 @@
 -- The parts of a header, the index of names, and what is read of a list element by element.
 use Rattle.std.proofs.Common.{◌≡◌, ◌∙◌, arith, ℕ, Bool, cond, List, [], ◌∷◌, map, refl, ap, Option, Some, None, is_some, option_map, option_and_then, ◌+◌, length, drop, sym, slice_get, unwrap_or, if◌then◌else◌, ◌<◌, get_or}
 use Rattle.std.specs.Option.{option_or}
-use Rattle.std.specs.List.{filter_map, cons_option, find as first_that, slice_get, position, position_from}
+use Rattle.std.specs.List.{filter_map, find as first_that, slice_get, position, position_from}
 use Rattle.scj_tree.specs.declared.nodes.Node.{Node}
 use Rattle.scj_tree.specs.declared.nodes.Node.TheVariants.{Constructor}
 use Rattle.scj_rules.specs.declared.scopes.Written.{Written}
@@ -33,21 +33,19 @@ pub interfaces_are : (find : List ℕ → Option ℕ) (written : ℕ → Option 
 interfaces_are find written ids found ws e h =
     e ∙ filter_map_then (λ (w : Written). find w.name) written ids ∙ ap (interfaces_by find) h
 
-first_more : (nodes : List Node) (id : ℕ) (o : Option Node) (cs : List DeclaredConstructor) (later : Option ℕ) →
-    later ≡ first_node cs
-    → cond (is_some (option_and_then (constructor_of nodes id) o)) (Some id) later
-    ≡ first_node (cons_option (option_and_then (constructor_of nodes id) o) cs)
+-- a constructor that is read at a node is that node's
+pub node_of_constructor : (nodes : List Node) (id : ℕ) (o : Option Node) (c : DeclaredConstructor) →
+    option_and_then (constructor_of nodes id) o ≡ Some c → c.node ≡ id
 unfolding constructor_of
-first_more nodes id None cs later e = e
-first_more nodes id (Some (Constructor place name flags parameters super_call body)) cs later e = refl
-first_more nodes id (Some _) cs later e = e
+node_of_constructor nodes id None c h = cc
+node_of_constructor nodes id (Some (Constructor place name flags parameters super_call body)) c h = cc
+node_of_constructor nodes id (Some _) c h = cc
 
 pub first_is : (nodes : List Node) (ids : List ℕ) →
     first_that (λ id. is_some (constructor_at nodes id)) ids ≡ first_node (filter_map (constructor_at nodes) ids)
 first_is nodes [] = refl
 first_is nodes (id ∷ ids) =
-    first_more nodes id (slice_get nodes id) (filter_map (constructor_at nodes) ids)
-    (first_that (λ i. is_some (constructor_at nodes i)) ids) (first_is nodes ids)
+    grind (arith, common_steps, first_is nodes ids, node_of_constructor nodes id (slice_get nodes id))
 
 -- the header of a class from what is read at its node
 abbrev pub parts : List Node → (List ℕ → Option ℕ) → ℕ → Option WrittenClass → Modifiers → Header
@@ -82,11 +80,8 @@ pub one_more_numbered : (names : List (List ℕ)) (number next : ℕ) (name othe
     after ≡ cond (is_same name other) (Some number) before
     → after ≡ position_from (is_same other) number (drop number names)
 one_more_numbered names number next name other before after h same e numbered put =
-    put ∙ ap (λ t. cond t (Some number) before) (nat_list_eq_equiv.symm name other)
-    ∙ ap (cond (is_same other name) (Some number))
-    (numbered ∙ ap (λ n. position_from (is_same other) n (drop n names)) same)
-    ∙ ap (λ (x : List ℕ). position_from (is_same other) number (x ∷ drop (number + 1) names)) e
-    ∙ sym (at_drop_more (position_from (is_same other) number) names number name h)
+    let here = at_drop_more (position_from (is_same other) number) names number name h in
+    grind (arith, common_steps, put, same, e, numbered, nat_list_eq_equiv.symm name other, here)
 
 pub all_numbered : (names : List (List ℕ)) (number : ℕ) (other : List ℕ) (found : Option ℕ) → number ≡ 0 →
     found ≡ position_from (is_same other) number (drop number names) → found ≡ position (is_same other) names

@@ -1,5 +1,5 @@
 -- The rows of the classes, and the nodes of which they tell.
-use Rattle.std.proofs.Common.{◌≡◌, ℕ, zero, suc, ◌+◌, ◌<◌, ◌≤◌, List, [], ◌∷◌, ◌++◌, length, map, refl, sym, ap, ◌∙◌, subst, arith, Option, Some, None, slice_get, option_map, option_and_then, unwrap_or, nat_lt, if◌then◌else◌}
+use Rattle.std.proofs.Common.{◌≡◌, ℕ, zero, suc, ◌+◌, ◌<◌, ◌≤◌, List, [], ◌∷◌, ◌++◌, length, map, refl, ap, ◌∙◌, subst, arith, Option, Some, None, slice_get, option_map, option_and_then, unwrap_or, nat_lt, if◌then◌else◌}
 use Rattle.std.proofs.lemmas.Bool.Decides.{nat_tests}
 use Rattle.std.proofs.lemmas.Grind.{common_steps}
 use Rattle.std.specs.List.{filter_map, cons_option}
@@ -42,8 +42,7 @@ pub node_of_class : (nodes : List Node) (id : ℕ) (o : Option Node) (c : Writte
     option_and_then (class_of nodes id) o ≡ Some c → c.node ≡ id
 unfolding class_of
 node_of_class nodes id None c h = cc
-node_of_class nodes id (Some (Class place name flags header members)) c h =
-    ap (λ (w : Option WrittenClass). elim w [ None ↦ id | Some d ↦ d.node ]) (sym h)
+node_of_class nodes id (Some (Class place name flags header members)) c h = cc
 node_of_class nodes id (Some _) c h = cc
 
 pub read_again : (nodes : List Node) (id : ℕ) (c : WrittenClass) → class_at nodes id ≡ Some c →

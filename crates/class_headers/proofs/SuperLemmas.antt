@@ -1,8 +1,8 @@
 -- What is forbidden in a header, part by part, and tests over lists.
-use Rattle.std.proofs.Common.{◌≡◌, ℕ, ◌<◌, nat_lt, Bool, true, false, not, ◌&&◌, ◌||◌, ◌==◌, arith, List, [], ◌∷◌, ◌++◌, filter, flat_map, get_or, Option, Some, None, refl, sym, ap, ◌∙◌, option_map, option_and_then, unwrap_or}
+use Rattle.std.proofs.Common.{◌≡◌, ℕ, ◌<◌, nat_lt, Bool, true, false, not, ◌&&◌, ◌==◌, arith, List, [], ◌∷◌, ◌++◌, filter, flat_map, get_or, Option, Some, None, refl, sym, ap, ◌∙◌, option_map, option_and_then, unwrap_or}
 use Rattle.std.specs.List.{list_any, filter_map, list_all}
 use Rattle.std.proofs.lemmas.Grind.{common_steps}
-use Rattle.std.proofs.lemmas.List.Folds.{Any-from_list_any, list_any-append, list_any_at}
+use Rattle.std.proofs.lemmas.List.Folds.{Any-from_list_any, list_any_at}
 use Rattle.scj_rules.specs.declared.scopes.Written.{Written}
 use Rattle.scj_rules.specs.Words.{is_among}
 use Rattle.scj_rules.specs.Classes.{ClassRow, superclasses, all_interfaces, kinds, kinds_of, with_kinds, forbidden_interfaces, supers_named, forbidden_supers, is_empty}
@@ -37,9 +37,6 @@ pub any_flat : (p : ℕ → Bool) (f : ℕ → List ℕ) (xs : List ℕ) →
     list_any (λ x. list_any p (f x)) xs ≡ list_any p (flat_map f xs)
 any_flat p f [] = refl
 any_flat p f (x ∷ xs) = grind (arith, common_steps, any_flat p f xs)
-
-pub any_both : (p : ℕ → Bool) (xs ys : List ℕ) → list_any p (xs ++ ys) ≡ (list_any p xs || list_any p ys)
-any_both p xs ys = list_any-append p xs ys
 
 -- ---- the kinds of a class
 

@@ -43,8 +43,7 @@ header_is forest headers class t = ap (λ (hs : List Header). slice_get hs class
 pub kind_of : (o : Option ClassRow) → option_map (λ (h : Header). h.kind) (option_map header_of o) ≡ option_map
     (λ (row : ClassRow). row.kind) o
 unfolding header_of
-kind_of None = refl
-kind_of (Some row) = refl
+kind_of o = grind (arith, common_steps)
 
 pub node_is : (forest : Forest) (class : ℕ)
     → option_and_then (λ (h : Header). h.node) (option_map header_of (slice_get (declarations_of forest).written class))
@@ -86,13 +85,8 @@ pub bits_are : (forest : Forest) (headers : Headers) (kind class : ℕ) → IsHe
     ++ all_interfaces (declarations_of forest).written class)
 bits_are forest headers kind class t h =
     let way : Way = lookup no_way headers.ways.items class in
-    grind (
-      arith,
-      common_steps,
-      has_or way.above way.implemented kind,
-      t.ways.above kind class h,
-      t.ways.implemented kind class h,
-    )
+    let both = has_or way.above way.implemented kind in
+    grind (arith, common_steps, both, t.ways.above kind class h, t.ways.implemented kind class h)
 
 first_ways_are : (all : List ClassRow)
     → listed (way_by (map header_of all) (map (λ (row : ClassRow). row.interfaces) all)) (length (map header_of all))

@@ -1,5 +1,5 @@
 -- What is met on ways that go on by ways, and that ways that are far enough end where the chain comes back.
-use Rattle.std.proofs.Common.{◌≡◌, ℕ, zero, suc, ◌+◌, ◌-◌, ◌^◌, ◌<◌, ◌≤◌, Bool, true, false, ◌||◌, ◌==◌, true≢false, nat_lt, List, [], ◌∷◌, ◌++◌, length, map, take, get_or, slice_get, bit_or, Option, Some, None, option_and_then, option_map, unwrap_or, refl, sym, ap, ◌∙◌, subst, arith, zero-add, inl, inr, ◌⊎◌, ⊎_elim}
+use Rattle.std.proofs.Common.{◌≡◌, ℕ, zero, suc, ◌+◌, ◌-◌, ◌^◌, ◌<◌, ◌≤◌, Bool, true, false, ◌||◌, ◌==◌, true≢false, List, [], ◌∷◌, ◌++◌, length, map, take, get_or, slice_get, bit_or, Option, Some, None, option_and_then, option_map, unwrap_or, refl, sym, ap, ◌∙◌, subst, arith, zero-add, inl, inr, ◌⊎◌, ⊎_elim}
 use Rattle.std.specs.Int.Bits.{or_zero_r}
 use Rattle.std.specs.List.{list_any, flat_map}
 use Rattle.std.proofs.Math.Nat.{pow-suc}
@@ -67,8 +67,7 @@ pub list_past : {A B : Type 0} (f : A → List B) (xs : List A) (i : ℕ) → sl
 list_past f xs i e = sym (ap (λ o. unwrap_or o []) (slice_get-map f xs i ∙ ap (option_map f) e))
 
 listed-there : {A : Type 0} (d : A) (f : ℕ → A) (n k : ℕ) → k < n → lookup d (listed f n) k ≡ f k
-listed-there d f n k h = let t : nat_lt k n ≡ true = grind (arith, nat_tests) in
-    listed-at d f n k ∙ (rw t refl)
+listed-there d f n k h = grind (arith, common_steps, nat_tests, h, listed-at d f n k)
 
 listed-map : {A B : Type 0} (g : A → B) (f : ℕ → A) (h : ℕ → B) (n : ℕ) → ((k : ℕ) → k < n → g (f k) ≡ h k) →
     map g (listed f n) ≡ listed h n
@@ -270,8 +269,7 @@ module _ (next : ℕ → Option ℕ) where
 
       module _ (m : ℕ) (far : n ≤ m) where
         held : (x : ℕ) (o : Option ℕ) → holds o (λ e. x == e) ≡ true → o ≡ Some x
-        held x None h = absurd (true≢false (sym h))
-        held x (Some e) h = ap (λ y. Some y) (sym (same_number x e h))
+        held x o h = grind (arith, common_steps, nat_tests, h)
 
         pub ends_are : (x : ℕ) → x < n →
             list_any (ends_at x) (listed (way next own m) n) ≡ is_among x (chain_behind next n x)

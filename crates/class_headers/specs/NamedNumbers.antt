@@ -12,6 +12,6 @@ use Rattle.class_headers.specs.declared.named_numbers.NamedNumbers.{NamedNumbers
 abbrev pub found_under : NamedNumbers → List ℕ → Option ℕ
 found_under names name = option_or (get is_same names.few name) (get_ordered (slice_cmp nat_cmp) names.many name)
 
--- the hash table has no name yet, where one behind the first ones is to come
-abbrev pub HasNoFew : NamedNumbers → ℕ → ℕ → Type 0
-HasNoFew names limit rank = limit ≤ rank → (name : List ℕ) → get is_same names.few name ≡ None
+-- no name stands in the hash table while all that are entered have ranks at or behind the limit
+abbrev pub HasNoFew : NamedNumbers → ℕ → Type 0
+HasNoFew names rank = names.limit ≤ rank → (name : List ℕ) → get is_same names.few name ≡ None

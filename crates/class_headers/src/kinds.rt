@@ -30,7 +30,7 @@ fn has_other(classes: &[ClassId], class: ClassId) -> bool
 }
 
 /// Whether two lists together have more than one class.
-#[tactic(auto, using(crate::proofs::SuperLemmas::any_both), unfolding(scj_rules::specs::Classes::more_than_one))]
+#[tactic(auto, unfolding(scj_rules::specs::Classes::more_than_one))]
 fn more_than_one(there: &[ClassId], brought: &[ClassId]) -> bool
     ensures { result ≡ more_than_one (there.now ++ brought.now) }
 {

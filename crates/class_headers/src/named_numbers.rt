@@ -14,17 +14,21 @@ use std::collections::{BTreeMap, HashMap};
 /// that names that collide in the table cost no more than others.
 #[derive(Drop)]
 pub struct NamedNumbers {
+    /// Ranks below it stand in the hash table.
+    pub(crate) limit: usize,
     pub(crate) few: HashMap<NameKey, u32>,
     pub(crate) many: BTreeMap<Name, u32>,
 }
 
 impl NamedNumbers {
-    /// No names.
-    pub fn new(alloc: Global) -> NamedNumbers
+    /// No names; those of ranks below the limit will stand in the hash table.
+    pub fn new(alloc: Global, limit: usize) -> NamedNumbers
         ensures none { (name : List ℕ) → found_under result name ≡ None }
         ensures few { (name : List ℕ) → get is_same result.few name ≡ None }
+        ensures limit { result.limit ≡ limit }
     {
         NamedNumbers {
+            limit,
             few: HashMap::new(alloc),
             many: BTreeMap::new(alloc),
         }
@@ -56,19 +60,14 @@ impl NamedNumbers {
     }
 
     /// Enters a number under a name, in place of one behind it: in the hash table, if its rank is below the limit.
-    pub fn enter(
-        &mut self,
-        limit: usize,
-        rank: usize,
-        name: Name,
-        number: u32,
-    ) -> Result<(), Memory>
-        requires { HasNoFew self.old limit rank }
-        ensures few { OnOk result (HasNoFew self.new limit rank) }
+    pub fn enter(&mut self, rank: usize, name: Name, number: u32) -> Result<(), Memory>
+        requires { HasNoFew self.old rank }
+        ensures limit { self.new.limit ≡ self.old.limit }
+        ensures few { OnOk result (HasNoFew self.new rank) }
         ensures entered { OnOk result ((other : List ℕ) → found_under self.new other
             ≡ cond (is_same name other) (Some number) (found_under self.old other)) }
     {
-        if rank < limit {
+        if rank < self.limit {
             self.few.insert(NameKey::of(name), number)?;
             Ok(())
         } else {

@@ -57,10 +57,10 @@ pub fn index_of(alloc: Global, names: &[Name]) -> Result<NamedNumbers, Memory>
     if number > u32::MAX as usize {
         return Err(Memory);
     }
-    let mut index = NamedNumbers::new(alloc);
+    let mut index = NamedNumbers::new(alloc, FEW);
     while number > 0 {
         number -= 1;
-        index.enter(FEW, number, names[number], number as u32)?;
+        index.enter(number, names[number], number as u32)?;
     }
     Ok(index)
 }

@@ -1,18 +1,19 @@
 -- Methods that a class inherits as those of an interface, asked of class after class.
-use Rattle.std.proofs.Common.{◌≡◌, ℕ, Bool, true, false, cond, ◌&&◌, List, [], ◌∷◌, refl, sym, ◌∙◌, arith, is_some, Some}
-use Rattle.std.specs.BTreeMap.{BTreeMap, get}
-use Rattle.std.specs.BTreeSet.{BTreeSet, contains}
-use Rattle.std.specs.Cmp.Lexicographic.{slice_cmp}
+use Rattle.std.proofs.Common.{◌≡◌, ℕ, Bool, true, false, ◌&&◌, ◌==◌, List, [], ◌∷◌, refl, ◌∙◌, arith, is_some}
+use Rattle.std.specs.BTreeSet.{contains}
 use Rattle.std.specs.List.{list_any}
-use Rattle.std.specs.Ordering.{nat_cmp, is_eq}
+use Rattle.std.specs.Ordering.{nat_cmp}
 use Rattle.std.proofs.lemmas.List.Folds.{list_any_none}
 use Rattle.std.proofs.lemmas.Bool.Decides.{nat_tests}
-use Rattle.std.proofs.lemmas.Map.Text.{is_eq-slice_cmp}
+use Rattle.std.proofs.lemmas.Grind.{common_steps}
 use Rattle.std.proofs.lemmas.Slice.Eq.{bytes_eq-Decides}
+use Rattle.scj_base.specs.Bytes.{is_same}
 use Rattle.scj_rules.specs.Words.{is_among}
 use Rattle.scj_rules.specs.Classes.{all_interfaces, own_method}
 use Rattle.scj_rules.specs.ClassRules.{has_method_of_node, inherits_as, numbers_from}
 use Rattle.scj_rules.specs.Contexts.{Declarations}
+use Rattle.scj_rules.proofs.ChainLemmas.{same_number}
+use Rattle.class_rows.specs.declared.inherited.Inherited.{Inherited}
 use Rattle.class_rows.specs.Inherited.{is_inherited_as, AreInherited}
 
 -- a member of a list is looked for, where a test holds
@@ -37,14 +38,11 @@ pub none_inherits : (p : Declarations) (interface node : ℕ) (name : List ℕ) 
 none_inherits p interface node name h = list_any_none (inherits_as p (interface ∷ []) node name)
     (numbers_from 0 p.classes) (λ i d l. inherits_is p interface _ _ _ ∙ rw (← h) refl)
 
--- the nodes of one name more are entered
-pub name_entered : (p : Declarations) (interface : ℕ) (old new : BTreeMap (List ℕ) (BTreeSet ℕ)) (name : List ℕ)
-    (nodes : BTreeSet ℕ) → AreInherited p interface old
-    → ((other : List ℕ) → get (slice_cmp nat_cmp) new other
-    ≡ cond (is_eq (slice_cmp nat_cmp name other)) (Some nodes) (get (slice_cmp nat_cmp) old other))
-    → ((node : ℕ) → contains nat_cmp nodes node ≡ is_inherited_as p interface node name)
-    → AreInherited p interface new
-name_entered p interface old new name nodes are put is other found node h =
-    let same : is_eq (slice_cmp nat_cmp name other) ≡ true → name ≡ other =
-    λ e. (bytes_eq-Decides name other).0 (sym (is_eq-slice_cmp name other) ∙ e) in
-    grind (arith, put other, h, are other found node, is node, same)
+-- what is told by the nodes of the methods of the name, where no class is still to tell of it
+pub told_by_nodes : (p : Declarations) (told : Inherited) (interface node : ℕ) (name : List ℕ) →
+    (told.interface == interface) ≡ true → is_same told.name name ≡ true → AreInherited p [] told
+    → contains nat_cmp told.nodes node ≡ is_inherited_as p interface node name
+told_by_nodes p told interface node name e same are =
+    let kind : told.interface ≡ interface = same_number told.interface interface e in
+    let text : told.name ≡ name = (bytes_eq-Decides told.name name).0 same in
+    grind (arith, common_steps, are node, kind, text)

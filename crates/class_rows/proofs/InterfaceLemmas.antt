@@ -1,7 +1,7 @@
 -- Only Runnable and Safelet are implemented by classes as they count, and none has a method of both.
-use Rattle.std.proofs.Common.{◌≡◌, ℕ, zero, suc, ◌+◌, Bool, true, false, cond, not, ◌&&◌, ◌||◌, ◌==◌, List, [], ◌∷◌, ◌++◌, map, find, filter, flat_map, slice_get, Option, Some, None, option_map, unwrap_or, refl, sym, ap, ◌∙◌, arith, add-zero, if◌then◌else◌, ◌⊎◌, inl, inr}
+use Rattle.std.proofs.Common.{◌≡◌, ℕ, zero, suc, ◌+◌, Bool, true, false, cond, not, ◌&&◌, ◌||◌, ◌==◌, List, [], ◌∷◌, ◌++◌, map, filter, flat_map, slice_get, Option, Some, None, option_map, unwrap_or, refl, sym, ap, ◌∙◌, arith, if◌then◌else◌, ◌⊎◌, inl, inr}
 use Rattle.std.specs.List.{list_all}
-use Rattle.std.proofs.lemmas.Bool.{true≢false, and_parts}
+use Rattle.std.proofs.lemmas.Bool.{true≢false}
 use Rattle.std.proofs.lemmas.Bool.Decides.{nat_tests}
 use Rattle.std.proofs.lemmas.Grind.{common_steps}
 use Rattle.std.proofs.lemmas.List.Elements.{filter-append}
@@ -14,7 +14,7 @@ use Rattle.scj_tree.specs.declared.nodes.Node.{Node}
 use Rattle.scj_tree.specs.Forest.{Forest}
 use Rattle.scj_rules.specs.Words.{along, holds, is_among, or_else}
 use Rattle.scj_rules.specs.Views.{WrittenClass, DeclaredMethod}
-use Rattle.scj_rules.specs.Classes.{ClassRow, FoundMethod, all_interfaces, class_names, framework_method, framework_methods_on, framework_row, framework_rows_from, interfaces_in, is_implemented, is_user_class, own_method, superclasses, user_classes, user_row, written_rows}
+use Rattle.scj_rules.specs.Classes.{ClassRow, FoundMethod, all_interfaces, class_names, framework_method, framework_methods_on, framework_row, framework_rows_from, interfaces_in, is_implemented, own_method, superclasses, user_classes, user_row, written_rows}
 use Rattle.scj_rules.specs.Contexts.{declarations_of}
 use Rattle.scj_rules.proofs.ChainLemmas.{is_same_number, or_left, or_right}
 use Rattle.scj_rules.proofs.SubtypeLemmas.{interfaces-implemented}
@@ -23,8 +23,8 @@ use Rattle.class_headers.specs.declared.ways.Way.{Way}
 use Rattle.class_headers.specs.Ways.{no_way, has_bit}
 use Rattle.class_headers.specs.Columns.{AreWaysOf}
 use Rattle.scj_tree.specs.Recursion.{lookup}
-use Rattle.class_rows.specs.Walks.{is_known, implemented_method}
-use Rattle.class_rows.proofs.OwnLemmas.{framework_own, on_method}
+use Rattle.class_rows.specs.Walks.{IsRoot, is_framework, is_known, implemented_method}
+use Rattle.class_rows.proofs.OwnLemmas.{framework_own, method_in, on_method}
 use Rattle.class_rows.proofs.WalkLemmas.{along_append}
 
 abbrev are_known : List ℕ → Bool
@@ -44,10 +44,6 @@ framework_known = refl
 abbrev may_be : Option ClassRow → Bool
 may_be o = holds o (λ (row : ClassRow). is_implemented row.kind)
 
-not_or : (a b : Bool) → (not a || b) ≡ true → a ≡ true → b ≡ true
-not_or true b h e = h
-not_or false b h e = absurd (true≢false (sym e))
-
 module _ (nodes : List Node) (names : List (List ℕ)) where
   no_user : (users : List WrittenClass) (k : ℕ) → may_be (slice_get (map (user_row nodes names) users) k) ≡ false
   unfolding user_row is_implemented
@@ -60,16 +56,10 @@ module _ (nodes : List Node) (names : List (List ℕ)) where
       is_known (n + k) ≡ true
   unfolding first_known framework_rows_from framework_row
   known_at users [] n k t h = absurd (true≢false (sym h ∙ no_user users k))
-  known_at users (c ∷ cs) n zero t h =
-      let first : is_known n ≡ true =
-      not_or (is_implemented c.kind) (is_known n)
-      (and_parts (not (is_implemented c.kind) || is_known n) (first_known (n + 1) cs) t).0 h in
-      ap is_known (add-zero n) ∙ first
+  known_at users (c ∷ cs) n zero t h = grind (arith, common_steps, nat_tests, t, h)
   known_at users (c ∷ cs) n (suc k) t h =
       let same : n + suc k ≡ n + 1 + k = omega arith in
-      ap is_known same
-      ∙ known_at users cs (n + 1) k
-      (and_parts (not (is_implemented c.kind) || is_known n) (first_known (n + 1) cs) t).1 h
+      ap is_known same ∙ known_at users cs (n + 1) k (grind (arith, common_steps, t)) h
 
 implemented_known : (forest : Forest) (k : ℕ) → may_be (slice_get (declarations_of forest).written k) ≡ true →
     is_known k ≡ true
@@ -116,9 +106,7 @@ along_one : {B : Type 0} (f : ℕ → Option B) (i : ℕ) →
     along f xs ≡ (if is_among i xs then f i else None)
 unfolding along
 along_one f i none [] k = refl
-along_one f i none (x ∷ xs) k =
-    let parts = and_parts (is_known x) (are_known xs) k in
-    grind (arith, common_steps, nat_tests, along_one f i none xs parts.1, none x parts.0)
+along_one f i none (x ∷ xs) k = grind (arith, common_steps, nat_tests, k, along_one f i none xs, none x)
 
 pub known_marked : (forest : Forest) (ways : List Way) (class interface : ℕ) →
     AreWaysOf (declarations_of forest).classes ways → is_known interface ≡ true
@@ -129,10 +117,7 @@ known_marked forest ways class interface w e = w.implemented interface class (gr
 none_among : (interface : ℕ) → is_known interface ≡ false → (xs : List ℕ) → are_known xs ≡ true →
     is_among interface xs ≡ false
 none_among interface e [] k = refl
-none_among interface e (x ∷ xs) k =
-    let parts = and_parts (is_known x) (are_known xs) k in
-    let other : (interface == x) ≡ false = grind (arith, nat_tests, parts.0, e) in
-    rw other (none_among interface e xs parts.1)
+none_among interface e (x ∷ xs) k = grind (arith, common_steps, nat_tests, k, e, none_among interface e xs)
 
 pub unknown_not_implemented : (forest : Forest) (class interface : ℕ) → is_known interface ≡ false →
     is_among interface (all_interfaces (declarations_of forest).classes class) ≡ false
@@ -141,9 +126,6 @@ unknown_not_implemented forest class interface e =
 
 -- ---- methods of the two
 
-abbrev named_in : List ℕ → List DeclaredMethod → Option DeclaredMethod
-named_in name = find (λ (m : DeclaredMethod). is_same name m.declared.name)
-
 abbrev run_method : DeclaredMethod
 run_method = unwrap_or (slice_get (framework_methods_on runnable) 0) no_method
 
@@ -151,11 +133,11 @@ abbrev run_name : List ℕ
 run_name = run_method.declared.name
 
 only_run : (name : List ℕ) →
-    named_in name (framework_methods_on runnable) ≡ cond (is_same name run_name) (Some run_method) None
+    method_in name (framework_methods_on runnable) ≡ cond (is_same name run_name) (Some run_method) None
 unfolding framework_methods framework_methods_on framework_method
 only_run name = refl
 
-no_run : named_in run_name (framework_methods_on safelet) ≡ None
+no_run : method_in run_name (framework_methods_on safelet) ≡ None
 unfolding framework_methods framework_methods_on framework_method
 no_run = refl
 
@@ -175,7 +157,7 @@ not_both forest name = go (is_same name run_name) refl
     go true e =
         inr (framework_own forest safelet name (omega arith)
         ∙ ap (option_map (on_method safelet))
-        (ap (λ (n : List ℕ). named_in n (framework_methods_on safelet)) ((bytes_eq-Decides name run_name).0 e)
+        (ap (λ (n : List ℕ). method_in n (framework_methods_on safelet)) ((bytes_eq-Decides name run_name).0 e)
         ∙ no_run))
 
 module _ (forest : Forest) (class : ℕ) (name : List ℕ) where
@@ -211,21 +193,26 @@ module _ (forest : Forest) (class : ℕ) (name : List ℕ) where
   by_safelet e = ap (λ o. or_else o (implemented_method rows class name safelet)) e ∙ found_either
 
   -- the interfaces are the framework's
-  abbrev of_framework : List ℕ → List ℕ
-  of_framework xs = filter (λ c. not (is_user_class c)) xs
-
-  known_stay : (xs : List ℕ) → are_known xs ≡ true → of_framework xs ≡ xs
+  known_stay : (xs : List ℕ) → are_known xs ≡ true → filter is_framework xs ≡ xs
   known_stay [] k = refl
-  known_stay (x ∷ xs) k =
-      let parts = and_parts (is_known x) (are_known xs) k in
-      let kept : not (is_user_class x) ≡ true = grind (arith, nat_tests, parts.0) in
-      rw kept (ap (λ ys. x ∷ ys) (known_stay xs parts.1))
+  known_stay (x ∷ xs) k = grind (arith, common_steps, nat_tests, k, known_stay xs)
 
   pub framework_append : (xs : List ℕ)
-      → or_else (along own (of_framework xs)) (along own (all_interfaces rows class))
-      ≡ along own (of_framework (xs ++ all_interfaces rows class))
+      → or_else (along own (filter is_framework xs)) (along own (all_interfaces rows class))
+      ≡ along own (filter is_framework (xs ++ all_interfaces rows class))
   framework_append xs =
-      along_append own (of_framework xs) (all_interfaces rows class)
-      ∙ ap (λ ys. along own (of_framework xs ++ ys)) (sym (known_stay (all_interfaces rows class)
+      along_append own (filter is_framework xs) (all_interfaces rows class)
+      ∙ ap (λ ys. along own (filter is_framework xs ++ ys)) (sym (known_stay (all_interfaces rows class)
       (all_known forest class)))
-      ∙ ap (along own) (sym (filter-append (λ c. not (is_user_class c)) xs (all_interfaces rows class)))
+      ∙ ap (along own) (sym (filter-append is_framework xs (all_interfaces rows class)))
+
+-- ---- roots
+
+filter_twice : (test : ℕ → Bool) (xs : List ℕ) → filter test (filter test xs) ≡ filter test xs
+filter_twice test [] = refl
+filter_twice test (x ∷ xs) = grind (arith, common_steps, filter_twice test xs)
+
+-- a root has the same of the framework's classes on its chain
+pub same_framework : (rows : List ClassRow) (class root : ℕ) → IsRoot rows class root
+    → filter is_framework (superclasses rows root) ≡ filter is_framework (superclasses rows class)
+same_framework rows class root e = rw e (filter_twice is_framework (superclasses rows class))

@@ -1,8 +1,8 @@
 -- The members of all classes in one list, and what is entered under their names and nodes.
-use Rattle.std.proofs.Common.{◌≡◌, ℕ, zero, suc, ◌+◌, ◌-◌, ◌<◌, ◌≤◌, ◌==◌, ◌&&◌, nat_lt, Bool, true, false, cond, get_or, List, [], ◌∷◌, ◌++◌, length, drop, map, filter, flat_map, slice_get, Option, Some, None, is_some, option_map, option_and_then, refl, sym, ap, ◌∙◌, arith, append_assoc, if◌then◌else◌}
+use Rattle.std.proofs.Common.{◌≡◌, ℕ, zero, suc, ◌+◌, ◌-◌, ◌<◌, ◌≤◌, ◌==◌, nat_lt, Bool, true, false, cond, get_or, List, [], ◌∷◌, ◌++◌, length, drop, map, filter, flat_map, slice_get, Option, Some, None, option_map, option_and_then, refl, sym, ap, ◌∙◌, arith, append_assoc, if◌then◌else◌}
 use Rattle.std.specs.List.{find, filter_map, position, position_from}
 use Rattle.std.specs.Option.{option_or}
-use Rattle.std.proofs.lemmas.Bool.{true≢false, false_from_ne_true}
+use Rattle.std.proofs.lemmas.Bool.{true≢false}
 use Rattle.std.proofs.lemmas.Bool.Decides.{nat_tests}
 use Rattle.std.proofs.lemmas.Grind.{common_steps}
 use Rattle.std.proofs.lemmas.Cmp.{nat_list_eq_equiv}
@@ -10,8 +10,8 @@ use Rattle.std.proofs.lemmas.Slice.Eq.{bytes_eq-Decides}
 use Rattle.std.proofs.lemmas.Iterator.Adapters.{position_from-zero}
 use Rattle.std.proofs.lemmas.List.{drop_more, at_drop_all}
 use Rattle.std.proofs.lemmas.List.Concat.{flat_map-append}
-use Rattle.std.proofs.lemmas.List.Folds.{flat_map-map}
-use Rattle.std.proofs.lemmas.Option.{slice_get_past, get_or_from_slice_get}
+use Rattle.std.proofs.lemmas.List.Folds.{find-append, flat_map-map}
+use Rattle.std.proofs.lemmas.Option.{slice_get_past}
 use Rattle.scj_base.specs.Bytes.{is_same}
 use Rattle.scj_builtins.specs.declared.classes.FrameworkClass.{FrameworkClass}
 use Rattle.scj_builtins.specs.Framework.{framework_classes, framework_methods}
@@ -19,11 +19,9 @@ use Rattle.scj_tree.specs.declared.nodes.Node.{Node}
 use Rattle.scj_tree.specs.Forest.{Forest}
 use Rattle.scj_rules.specs.declared.views.Declared.{Declared}
 use Rattle.scj_rules.specs.Words.{holds}
-use Rattle.scj_rules.specs.Views.{WrittenClass, DeclaredMethod, constructor_at, field_at, method_at}
+use Rattle.scj_rules.specs.Views.{WrittenClass, field_at}
 use Rattle.scj_rules.specs.Classes.{ClassRow, field_nodes, field_number, method_nodes, method_number, counted_from, user_classes, class_names, written_rows, user_row, framework_row, framework_rows_from}
 use Rattle.scj_rules.specs.Contexts.{Declarations, declarations_of}
-use Rattle.scj_rules.proofs.ChainLemmas.{same_number, is_same_number, or_first_false}
-use Rattle.class_headers.proofs.SuperLemmas.{bools}
 use Rattle.class_rows.specs.declared.members.OwnKey.{OwnKey}
 use Rattle.class_rows.specs.declared.members.MemberKind.{MemberKind}
 use Rattle.class_rows.specs.declared.members.MemberKind.TheVariants.{Field, Method}
@@ -42,32 +40,23 @@ own_nodes kind nodes row = filter (is_member kind nodes) (members_of row.written
 abbrev pub nodes_left : MemberKind → Forest → ℕ → List ℕ
 nodes_left kind forest n = flat_map (own_nodes kind forest.nodes) (drop n (declarations_of forest).written)
 
-some_at : {A : Type 0} (xs : List A) (i : ℕ) → i < length xs → (x : A) × (slice_get xs i ≡ Some x)
-some_at [] i h = absurd (omega (arith, h))
-some_at (x ∷ xs) zero h = (x, refl)
-some_at (x ∷ xs) (suc i) h = some_at xs i (omega (arith, h))
-
-members_at : (forest : Forest) (class : ℕ) (row : ClassRow) →
-    slice_get (declarations_of forest).written class ≡ Some row →
-    members_in (declarations_of forest) class ≡ members_of row.written
-unfolding members_in class_written
-members_at forest class row e = rw e refl
+left_more : (kind : MemberKind) (nodes : List Node) (rows : List ClassRow) (n : ℕ) → n < length rows
+    → filter (is_member kind nodes) (members_of (option_and_then (λ (row : ClassRow). row.written) (slice_get rows n)))
+    ++ flat_map (own_nodes kind nodes) (drop (n + 1) rows) ≡ flat_map (own_nodes kind nodes) (drop n rows)
+left_more kind nodes [] n h = absurd (omega (arith, h))
+left_more kind nodes (r ∷ rows) zero h = refl
+left_more kind nodes (r ∷ rows) (suc n) h = let next : suc n + 1 ≡ suc (n + 1) = omega arith in
+    rw next (left_more kind nodes rows n (omega (arith, h)))
 
 pub nodes_more : (kind : MemberKind) (forest : Forest) (n : ℕ) (ids : List ℕ) →
     n < length (declarations_of forest).written
     → (ids ++ filter (is_member kind forest.nodes) (members_in (declarations_of forest) n))
     ++ nodes_left kind forest (n + 1) ≡ ids ++ nodes_left kind forest n
+unfolding members_in class_written
 nodes_more kind forest n ids h =
-    let rows : List ClassRow = (declarations_of forest).written in
-    let there = some_at rows n h in
-    let row : ClassRow = there.0 in
-    let behind : drop n rows ≡ row ∷ drop (n + 1) rows = drop_more rows n row h
-    ∙ ap (λ (r : ClassRow). r ∷ drop (n + 1) rows) (get_or_from_slice_get rows n row row there.1) in
     append_assoc ids (filter (is_member kind forest.nodes) (members_in (declarations_of forest) n))
     (nodes_left kind forest (n + 1))
-    ∙ ap (λ (xs : List ℕ). ids ++ xs)
-    (ap (λ (ms : List ℕ). filter (is_member kind forest.nodes) ms ++ nodes_left kind forest (n + 1))
-    (members_at forest n row there.1) ∙ sym (ap (flat_map (own_nodes kind forest.nodes)) behind))
+    ∙ ap (λ (xs : List ℕ). ids ++ xs) (left_more kind forest.nodes (declarations_of forest).written n h)
 
 pub nodes_end : (kind : MemberKind) (forest : Forest) (n : ℕ) → length (declarations_of forest).written ≤ n →
     nodes_left kind forest n ≡ []
@@ -108,20 +97,12 @@ unfolding is_member
 fields_listed nodes [] = refl
 fields_listed nodes (id ∷ ids) = grind (arith, common_steps, field_there nodes id, fields_listed nodes ids)
 
-fields_of_users : (nodes : List Node) (users : List WrittenClass)
-    → flat_map (λ (c : WrittenClass). filter (is_member Field nodes) c.members) users ≡ flat_map
-    (λ (c : WrittenClass). map (λ (f : Declared). f.node) (filter_map (field_at nodes) c.members)) users
-fields_of_users nodes [] = refl
-fields_of_users nodes (c ∷ users) =
-    rw (fields_listed nodes c.members) (ap (λ ys. map (λ (f : Declared). f.node) (filter_map (field_at nodes) c.members)
-    ++ ys) (fields_of_users nodes users))
-
 pub nodes_all : (kind : MemberKind) (forest : Forest) → nodes_left kind forest 0 ≡ member_nodes kind forest
 unfolding member_nodes is_member declarations_of field_nodes method_nodes user_row framework_row
 nodes_all Field forest =
     let users = user_classes forest in
     of_users (own_nodes Field forest.nodes) (λ n c. refl) forest.nodes users
-    ∙ fields_of_users forest.nodes users ∙ sym (of_users row_fields (λ n c. refl) forest.nodes users)
+    ∙ (λ i. flat_map (λ (c : WrittenClass). fields_listed forest.nodes c.members i) users) ∙ sym (of_users row_fields (λ n c. refl) forest.nodes users)
     ∙ sym (fields_counted (declarations_of forest) 0 (declarations_of forest).written)
 nodes_all Method forest =
     of_users (own_nodes Method forest.nodes) (λ n c. refl) forest.nodes (user_classes forest)
@@ -155,17 +136,7 @@ pub own_entered : (test : ℕ → Bool) (class : ℕ) (key : OwnKey) (members : 
     → cond (is_same_own (own_key class first) key) (Some id) found
     ≡ option_or (in_class class key (find test (drop (at - 1) members))) old
 own_entered test class key members at id first old found some within is_id same before =
-    ap (cond (is_same_own (own_key class first) key) (Some id)) before
-    ∙ go (class == key.class) (first == key.first) (find test (drop at members))
-    ∙ ap (λ (t : Bool). option_or (in_class class key (cond t (Some id) (find test (drop at members)))) old) same
-    ∙ ap (λ (o : Option ℕ). option_or (in_class class key o) old) (find_back test members at id some within is_id)
-  where
-    go : (in_it like : Bool) (later : Option ℕ)
-        → cond (in_it && like) (Some id) (option_or (if in_it then later else None) old) ≡ option_or
-        (if in_it then cond like (Some id) later else None) old
-    go false like later = refl
-    go true true later = refl
-    go true false later = refl
+    grind (arith, common_steps, before, same, find_back test members at id some within is_id)
 
 -- what is found for a key after the classes below a number
 abbrev pub named_below : Forest → (ℕ → Bool) → ℕ → ℕ → Option ℕ
@@ -185,62 +156,25 @@ names_more forest test key n old new h k = grind (arith, common_steps, nat_tests
 pub names_all : (forest : Forest) (test : ℕ → Bool) (class n : ℕ) → length (declarations_of forest).written ≤ n →
     named_below forest test class n ≡ find test (members_in (declarations_of forest) class)
 unfolding members_in class_written
-names_all forest test class n h = go (nat_lt class n) refl
-  where
-    found : Option ClassRow → Option ℕ
-    found o = find test (members_of (option_and_then (λ (row : ClassRow). row.written) o))
-
-    go : (t : Bool) → nat_lt class n ≡ t → (if t then found (slice_get (declarations_of forest).written class)
-        else None) ≡ found (slice_get (declarations_of forest).written class)
-    go true e = refl
-    go false e =
-        let past : n ≤ class = grind (arith, nat_tests) in
-        sym (ap found (slice_get_past (declarations_of forest).written class (omega (arith, h, past))))
+names_all forest test class n h =
+    grind (arith, common_steps, nat_tests, slice_get_past (declarations_of forest).written class, h)
 
 -- ---- the first of a name stands for it
 
 find_passes : (test : ℕ → Bool) (xs : List ℕ) (x : ℕ) → find test xs ≡ Some x → test x ≡ true
 find_passes test [] x h = cc
-find_passes test (y ∷ xs) x h = go (find_passes test xs x) (test y) refl h
-  where
-    go : (find test xs ≡ Some x → test x ≡ true) → (t : Bool) → test y ≡ t →
-        cond t (Some y) (find test xs) ≡ Some x → test x ≡ true
-    go later true e h = let same : y ≡ x = cc in ap test (sym same) ∙ e
-    go later false e h = later h
-
-find_same : (test other : ℕ → Bool) → ((x : ℕ) → test x ≡ other x) → (xs : List ℕ) → find test xs ≡ find other xs
-find_same test other h [] = refl
-find_same test other h (x ∷ xs) =
-    ap (λ (t : Bool). cond t (Some x) (find test xs)) (h x) ∙ ap (cond (other x) (Some x)) (find_same test other h xs)
+find_passes test (y ∷ xs) x h = grind (arith, common_steps, h, find_passes test xs x)
 
 both_names : (name also : List ℕ) (o : Option (List ℕ)) → holds o (is_same name) ≡ true →
     holds o (is_same also) ≡ true → is_same name also ≡ true
 both_names name also None h k = absurd (true≢false (sym h))
 both_names name also (Some own) h k = ap (is_same name) ((bytes_eq-Decides also own).0 k) ∙ h
 
-find_parts : (test : ℕ → Bool) (xs ys : List ℕ) → find test (xs ++ ys) ≡ None →
-    (find test xs ≡ None) × (find test ys ≡ None)
-find_parts test [] ys h = (refl, h)
-find_parts test (x ∷ xs) ys h = go (test x) (find_parts test xs ys) h
-  where
-    go : (t : Bool) → (find test (xs ++ ys) ≡ None → (find test xs ≡ None) × (find test ys ≡ None)) →
-        cond t (Some x) (find test (xs ++ ys)) ≡ None →
-        (cond t (Some x) (find test xs) ≡ None) × (find test ys ≡ None)
-    go true later h = cc
-    go false later h = later h
-
-nothing_holds : {A B : Type 0} (o : Option A) (f : A → B) (test : B → Bool) → is_some o ≡ false →
-    holds (option_map f o) test ≡ false
-nothing_holds None f test e = refl
-nothing_holds (Some x) f test e = absurd (true≢false e)
-
 unnamed : (kind : MemberKind) (nodes : List Node) (name : List ℕ) (id : ℕ) → is_member kind nodes id ≡ false →
     holds (name_at kind nodes id) (is_same name) ≡ false
 unfolding is_member name_at
-unnamed Field nodes name id e = nothing_holds (field_at nodes id) (λ (f : Declared). f.name) (is_same name) e
-unnamed Method nodes name id e =
-    nothing_holds (method_at nodes id) (λ (m : DeclaredMethod). m.declared.name) (is_same name)
-    (or_first_false (is_some (method_at nodes id)) (is_some (constructor_at nodes id)) e)
+unnamed Field nodes name id e = grind (arith, common_steps, e)
+unnamed Method nodes name id e = grind (arith, common_steps, e)
 
 module _ (kind : MemberKind) (forest : Forest) (name : List ℕ) where
   abbrev named : List ℕ → ℕ → Bool
@@ -249,24 +183,19 @@ module _ (kind : MemberKind) (forest : Forest) (name : List ℕ) where
   like_name : (first : ℕ) (also : List ℕ) (o : Option ℕ) → Some first ≡ first_declared kind forest name →
       first_declared kind forest also ≡ o → holds o (λ other. other == first) ≡ is_same name also
   like_name first also None h k =
-      sym (false_from_ne_true (is_same name also)
-      (λ t. let e : Some first ≡ None =
-      h ∙ ap (first_declared kind forest) ((bytes_eq-Decides name also).0 t) ∙ k in cc))
+      let same : is_same name also ≡ true → name ≡ also = (bytes_eq-Decides name also).0 in
+      grind (arith, common_steps, h, k, same)
   like_name first also (Some other) h k =
-      bools (other == first) (is_same name also)
-      (λ e. both_names name also (name_at kind forest.nodes other)
-      (ap (named name) (same_number other first e)
-      ∙ find_passes (named name) (member_nodes kind forest) first (sym h))
-      (find_passes (named also) (member_nodes kind forest) other k))
-      (λ t. is_same_number other first
-      (let e : Some first ≡ Some other = h ∙ ap (first_declared kind forest) ((bytes_eq-Decides name also).0 t) ∙ k in
-      cc))
+      let same : is_same name also ≡ true → name ≡ also = (bytes_eq-Decides name also).0 in
+      let mine = find_passes (named name) (member_nodes kind forest) first (sym h) in
+      let its = find_passes (named also) (member_nodes kind forest) other k in
+      grind (arith, common_steps, nat_tests, h, k, same, mine, its, both_names name also)
 
   pub like_named : (firsts : List ℕ → Option ℕ) → ((also : List ℕ) → firsts also ≡ first_declared kind forest also) →
       (first : ℕ) → Some first ≡ first_declared kind forest name → (members : List ℕ)
       → find (is_like kind forest.nodes firsts first) members ≡ first_named kind forest.nodes name members
   like_named firsts are first h members =
-      find_same (is_like kind forest.nodes firsts first) (named name) (λ id. go (name_at kind forest.nodes id)) members
+      λ i. find (λ id. go (name_at kind forest.nodes id) i) members
     where
       go : (o : Option (List ℕ))
           → holds (option_and_then firsts o) (λ other. other == first) ≡ holds o (is_same name)
@@ -277,46 +206,26 @@ module _ (kind : MemberKind) (forest : Forest) (name : List ℕ) where
   none_filtered : (xs : List ℕ) → find (named name) (filter (is_member kind forest.nodes) xs) ≡ None →
       find (named name) xs ≡ None
   none_filtered [] h = refl
-  none_filtered (x ∷ xs) h = go (is_member kind forest.nodes x) (named name x) refl refl (none_filtered xs) h
-    where
-      go : (m t : Bool) → is_member kind forest.nodes x ≡ m → named name x ≡ t →
-          (find (named name) (filter (is_member kind forest.nodes) xs) ≡ None → find (named name) xs ≡ None)
-          → find (named name)
-          (cond m (x ∷ filter (is_member kind forest.nodes) xs) (filter (is_member kind forest.nodes) xs)) ≡ None →
-          cond t (Some x) (find (named name) xs) ≡ None
-      go true true e f later h =
-          let k = ap (λ (t : Bool).
-          cond t (Some x) (find (named name) (filter (is_member kind forest.nodes) xs))) (sym f) ∙ h in cc
-      go true false e f later h =
-          later (ap (λ (t : Bool). cond t (Some x) (find (named name) (filter (is_member kind forest.nodes) xs)))
-          (sym f) ∙ h)
-      go false true e f later h = absurd (true≢false (sym f ∙ unnamed kind forest.nodes name x e))
-      go false false e f later h = later h
+  none_filtered (x ∷ xs) h =
+      grind (arith, common_steps, h, none_filtered xs, unnamed kind forest.nodes name x)
 
   none_in : (rows : List ClassRow) (i : ℕ) (row : ClassRow) →
       find (named name) (flat_map (own_nodes kind forest.nodes) rows) ≡ None → slice_get rows i ≡ Some row →
       find (named name) (members_of row.written) ≡ None
   none_in [] i row h e = cc
   none_in (r ∷ rows) zero row h e =
-      let same : r ≡ row = cc in
-      ap (λ (q : ClassRow). find (named name) (members_of q.written)) (sym same)
-      ∙ none_filtered (members_of r.written)
-      (find_parts (named name) (own_nodes kind forest.nodes r) (flat_map (own_nodes kind forest.nodes) rows) h).0
+      let parts = find-append (named name) (own_nodes kind forest.nodes r) (flat_map (own_nodes kind forest.nodes) rows) in
+      grind (arith, common_steps, h, e, parts, none_filtered (members_of r.written))
   none_in (r ∷ rows) (suc i) row h e =
-      none_in rows i row
-      (find_parts (named name) (own_nodes kind forest.nodes r) (flat_map (own_nodes kind forest.nodes) rows) h).1 e
+      let parts = find-append (named name) (own_nodes kind forest.nodes r) (flat_map (own_nodes kind forest.nodes) rows) in
+      grind (arith, common_steps, h, e, parts, none_in rows i row)
 
   pub none_declared : (class : ℕ) → None ≡ first_declared kind forest name →
       None ≡ first_named kind forest.nodes name (members_in (declarations_of forest) class)
   unfolding members_in class_written
-  none_declared class h = go (slice_get (declarations_of forest).written class) refl
-    where
-      go : (o : Option ClassRow) → slice_get (declarations_of forest).written class ≡ o →
-          None ≡ find (named name) (members_of (option_and_then (λ (row : ClassRow). row.written) o))
-      go None e = refl
-      go (Some row) e =
-          sym (none_in (declarations_of forest).written class row
-          (ap (find (named name)) (nodes_all kind forest) ∙ sym h) e)
+  none_declared class h =
+      let none = ap (find (named name)) (nodes_all kind forest) ∙ sym h in
+      grind (arith, common_steps, none, none_in (declarations_of forest).written class)
 
 -- ---- numbers
 
@@ -341,13 +250,6 @@ pub numbers_are : (kind : MemberKind) (forest : Forest) (id first : ℕ) (ids : 
     ids ≡ member_nodes kind forest
     → option_map (λ place. first + place) (position (λ other. id == other) ids) ≡ number_at kind forest id
 unfolding number_at member_nodes field_number method_number framework_methods
-numbers_are kind forest id first ids e h =
-    ap (λ (n : ℕ). option_map (λ place. n + place) (position (λ other. id == other) ids)) e
-    ∙ ap (λ (xs : List ℕ). option_map (λ place. first_number kind + place) (position (λ other. id == other) xs)) h
-    ∙ go kind
-  where
-    go : (kind : MemberKind)
-        → option_map (λ place. first_number kind + place) (position (λ other. id == other) (member_nodes kind forest))
-        ≡ number_at kind forest id
-    go Field = no_shift (position (λ other. id == other) (field_nodes (declarations_of forest).classes))
-    go Method = refl
+numbers_are Field forest id first ids e h =
+    rw (e, h) (no_shift (position (λ other. id == other) (field_nodes (declarations_of forest).classes)))
+numbers_are Method forest id first ids e h = rw (e, h) refl

@@ -1,21 +1,21 @@
 -- The own members of a class: what is read at the nodes of its members.
 use Rattle.std.proofs.Common.{◌≡◌, ℕ, ◌<◌, ◌≤◌, List, [], ◌∷◌, refl, sym, ap, ◌∙◌, arith, Option, Some, None, slice_get, option_map, option_and_then, unwrap_or}
-use Rattle.std.specs.List.{find, filter_map, cons_option}
+use Rattle.std.specs.List.{find, filter_map}
 use Rattle.std.proofs.lemmas.Grind.{common_steps}
 use Rattle.scj_base.specs.Bytes.{is_same}
 use Rattle.scj_tree.specs.declared.nodes.Node.{Node}
-use Rattle.scj_tree.specs.declared.nodes.Node.TheVariants.{Constructor}
 use Rattle.scj_tree.specs.Forest.{Forest}
 use Rattle.scj_rules.specs.declared.typing.FoundField.{FoundField}
 use Rattle.scj_rules.specs.declared.views.Declared.{Declared}
 use Rattle.scj_rules.specs.Words.{holds}
-use Rattle.scj_rules.specs.Views.{DeclaredConstructor, DeclaredMethod, constructor_at, constructor_of, field_at, method_at}
-use Rattle.scj_rules.specs.Classes.{ClassRow, FoundMethod, own_field, own_method, first_user_class, framework_methods_on}
+use Rattle.scj_rules.specs.Views.{DeclaredConstructor, DeclaredMethod, constructor_at, field_at, method_at}
+use Rattle.scj_rules.specs.Classes.{ClassRow, FoundMethod, own_field, own_method, first_user_class}
 use Rattle.scj_rules.specs.Contexts.{declarations_of}
 use Rattle.scj_rules.specs.Types.{constructor_in}
 use Rattle.method_rows.specs.declared.refs.MethodRef.{MethodRef}
 use Rattle.method_rows.specs.declared.refs.MethodSource.TheVariants.{Framework as framework_source, Declared as declared_source}
 use Rattle.method_rows.specs.Methods.{found_method, method_from, no_method, framework_numbered, framework_method_on}
+use Rattle.class_headers.proofs.PartLemmas.{node_of_constructor}
 use Rattle.class_rows.specs.declared.fields.FieldRef.{FieldRef}
 use Rattle.class_rows.specs.declared.members.MemberKind.TheVariants.{Field, Method}
 use Rattle.class_rows.specs.Fields.{found_field, no_field}
@@ -36,12 +36,7 @@ pub list_read : {A : Type 0} (list : ClassRow → List A) (read : ℕ → Option
     (members_in (declarations_of forest) class)
 unfolding members_in class_written
 list_read list read same forest class sound =
-    as_written (list_in list) same forest class ∙ go (slice_get (declarations_of forest).written class) refl
-  where
-    go : (o : Option ClassRow) → slice_get (declarations_of forest).written class ≡ o
-        → list_in list o ≡ filter_map read (members_of (option_and_then (λ (row : ClassRow). row.written) o))
-    go None e = refl
-    go (Some row) e = sound row e
+    as_written (list_in list) same forest class ∙ grind (arith, common_steps, sound)
 
 abbrev pub fields_in : Option ClassRow → List Declared
 fields_in = list_in (λ (row : ClassRow). row.fields)
@@ -60,16 +55,6 @@ read_first read name_of none name [] = refl
 read_first read name_of none name (id ∷ more) =
     grind (arith, common_steps, read_first read name_of none name more)
 
-in_row : {A B : Type 0} (f : List A → Option B) → f [] ≡ None → (list : ClassRow → List A) (o : Option ClassRow) →
-    f (list_in list o) ≡ option_and_then (λ (row : ClassRow). f (list row)) o
-in_row f none list None = none
-in_row f none list (Some row) = refl
-
-mapped : {A B C D : Type 0} (f : B → D) (g : A → B) (h : C → D) (k : A → C) → ((x : A) → f (g x) ≡ h (k x)) →
-    (o : Option A) → option_map f (option_map g o) ≡ option_map h (option_map k o)
-mapped f g h k same None = refl
-mapped f g h k same (Some x) = ap (λ y. Some y) (same x)
-
 -- ---- fields
 
 abbrev on_class : ℕ → Declared → FoundField
@@ -87,33 +72,20 @@ pub own_field_row : (forest : Forest) (class : ℕ) (name : List ℕ) (o : Optio
     (declarations_of forest).classes name class
 unfolding own_field found_field name_at
 own_field_row forest class name o e =
-    mapped (found_field forest.nodes) (field_row class) (on_class class) here (λ id. refl) o
-    ∙ ap (option_map (on_class class))
-    (ap (option_map here) e
-    ∙ read_first (field_at forest.nodes) (λ (f : Declared). f.name) no_field name
-    (members_in (declarations_of forest) class)
-    ∙ ap (field_in name) (sym (fields_at forest class))
-    ∙ in_row (field_in name) refl (λ (row : ClassRow). row.fields) (slice_get (declarations_of forest).classes class))
-  where
-    here : ℕ → Declared
-    here id = unwrap_or (field_at forest.nodes id) (no_field id)
+    let members = members_in (declarations_of forest) class in
+    let read = read_first (field_at forest.nodes) (λ (f : Declared). f.name) no_field name members in
+    grind (arith, common_steps, e, read, fields_at forest class)
 
 -- ---- methods
 
 abbrev pub on_method : ℕ → DeclaredMethod → FoundMethod
 on_method class method = record { on = class; method = method }
 
-abbrev method_in : List ℕ → List DeclaredMethod → Option DeclaredMethod
+abbrev pub method_in : List ℕ → List DeclaredMethod → Option DeclaredMethod
 method_in name = find (λ (m : DeclaredMethod). is_same name m.declared.name)
 
 abbrev methods_in : Option ClassRow → List DeclaredMethod
 methods_in = list_in (λ (row : ClassRow). row.methods)
-
-own_method_in : (rows : List ClassRow) (class : ℕ) (name : List ℕ) →
-    option_map (on_method class) (method_in name (methods_in (slice_get rows class))) ≡ own_method rows name class
-unfolding own_method
-own_method_in rows class name = ap (option_map (on_method class))
-    (in_row (method_in name) refl (λ (row : ClassRow). row.methods) (slice_get rows class))
 
 abbrev declared_row : ℕ → ℕ → MethodRef
 declared_row class node = record { on = class; source = declared_source node }
@@ -122,35 +94,24 @@ pub declared_row_is : (forest : Forest) (class : ℕ) (name : List ℕ) (o : Opt
     o ≡ first_named Method forest.nodes name (members_in (declarations_of forest) class)
     → option_map (found_method forest.nodes) (option_map (declared_row class) o) ≡ own_method
     (declarations_of forest).classes name class
-unfolding found_method method_from name_at
+unfolding found_method method_from name_at own_method
 declared_row_is forest class name o h e =
-    mapped (found_method forest.nodes) (declared_row class) (on_method class) here (λ id. refl) o
-    ∙ ap (option_map (on_method class))
-    (ap (option_map here) e
-    ∙ read_first (method_at forest.nodes) (λ (m : DeclaredMethod). m.declared.name) (λ id. no_method) name
-    (members_in (declarations_of forest) class) ∙ ap (method_in name) (sym methods))
-    ∙ own_method_in (declarations_of forest).classes class name
-  where
-    here : ℕ → DeclaredMethod
-    here id = unwrap_or (method_at forest.nodes id) no_method
-
-    methods : methods_in (slice_get (declarations_of forest).classes class) ≡ filter_map (method_at forest.nodes)
-        (members_in (declarations_of forest) class)
-    methods = list_read (λ (row : ClassRow). row.methods) (method_at forest.nodes) (λ row. refl) forest class
-        (λ row e. (row_sound forest class row e).methods ∙ sym (other_methods forest.nodes class row.written h))
+    let members = members_in (declarations_of forest) class in
+    let read = read_first (method_at forest.nodes) (λ (m : DeclaredMethod). m.declared.name) (λ id. no_method) name
+    members in
+    let methods = list_read (λ (row : ClassRow). row.methods) (method_at forest.nodes) (λ row. refl) forest class
+    (λ row e. (row_sound forest class row e).methods ∙ sym (other_methods forest.nodes class row.written h)) in
+    grind (arith, common_steps, e, read, methods)
 
 pub framework_own : (forest : Forest) (class : ℕ) (name : List ℕ) → class < first_user_class →
     own_method (declarations_of forest).classes name class ≡ option_map (on_method class)
     (framework_method_on class name)
-unfolding framework_method_on
+unfolding framework_method_on own_method
 framework_own forest class name h =
     let there = framework_there forest class h in
-    let methods : methods_in (slice_get (declarations_of forest).classes class) ≡ framework_methods_on class =
-    as_written methods_in (λ row. refl) forest class ∙ ap methods_in there.1
-    ∙ (row_sound forest class there.0 there.1).methods
-    ∙ sym (first_methods forest.nodes class there.0.written h) in
-    sym (own_method_in (declarations_of forest).classes class name)
-    ∙ ap (λ ms. option_map (on_method class) (method_in name ms)) methods
+    let read = as_written methods_in (λ row. refl) forest class in
+    let own = (row_sound forest class there.0 there.1).methods in
+    grind (arith, common_steps, there.1, read, own, first_methods forest.nodes class there.0.written h)
 
 abbrev framework_row : ℕ → ℕ → MethodRef
 framework_row class number = record { on = class; source = framework_source number }
@@ -160,10 +121,7 @@ pub framework_row_is : (forest : Forest) (class : ℕ) (name : List ℕ) (o : Op
     → option_map (found_method forest.nodes) (option_map (framework_row class) o) ≡ own_method
     (declarations_of forest).classes name class
 unfolding found_method method_from
-framework_row_is forest class name o h e =
-    mapped (found_method forest.nodes) (framework_row class) (on_method class)
-    (λ number. unwrap_or (framework_numbered number) no_method) (λ number. refl) o
-    ∙ ap (option_map (on_method class)) e ∙ sym (framework_own forest class name h)
+framework_row_is forest class name o h e = grind (arith, common_steps, e, framework_own forest class name h)
 
 -- ---- constructors
 
@@ -179,29 +137,12 @@ unfolding constructor_in
 constructor_is forest class =
     sym (as_written (option_and_then (λ (row : ClassRow). first_of row.constructors)) (λ row. refl) forest class)
 
-at_node : (nodes : List Node) (id : ℕ) (o : Option Node) (c : DeclaredConstructor) →
-    option_and_then (constructor_of nodes id) o ≡ Some c → c.node ≡ id
-unfolding constructor_of
-at_node nodes id None c h = cc
-at_node nodes id (Some (Constructor place name flags parameters super_call body)) c h =
-    ap (λ (w : Option DeclaredConstructor). elim w [ None ↦ id | Some d ↦ d.node ]) (sym h)
-at_node nodes id (Some _) c h = cc
-
 first_again : (nodes : List Node) (ids : List ℕ) →
     option_and_then (constructor_at nodes) (node_of (first_of (filter_map (constructor_at nodes) ids))) ≡ first_of
     (filter_map (constructor_at nodes) ids)
 first_again nodes [] = refl
-first_again nodes (id ∷ ids) = go (constructor_at nodes id) refl (first_again nodes ids)
-  where
-    rest : List DeclaredConstructor
-    rest = filter_map (constructor_at nodes) ids
-
-    go : (o : Option DeclaredConstructor) → constructor_at nodes id ≡ o →
-        option_and_then (constructor_at nodes) (node_of (first_of rest)) ≡ first_of rest
-        → option_and_then (constructor_at nodes) (node_of (first_of (cons_option o rest))) ≡ first_of
-        (cons_option o rest)
-    go None e later = later
-    go (Some c) e later = ap (constructor_at nodes) (at_node nodes id (slice_get nodes id) c e) ∙ e
+first_again nodes (id ∷ ids) =
+    grind (arith, common_steps, first_again nodes ids, node_of_constructor nodes id (slice_get nodes id))
 
 pub constructor_whole : (forest : Forest) (class : ℕ)
     → option_and_then (constructor_at forest.nodes)
@@ -214,6 +155,6 @@ constructor_whole forest class =
     ≡ constructor_in (declarations_of forest).classes class =
     sym (ap first_of (list_read constructors (constructor_at forest.nodes) (λ row. refl) forest class
     (λ row e. (row_sound forest class row e).constructors)))
-    ∙ in_row first_of refl constructors (slice_get (declarations_of forest).classes class) in
+    ∙ grind (arith, common_steps) in
     ap (λ o. option_and_then (constructor_at forest.nodes) (node_of o)) (constructor_is forest class ∙ sym found)
     ∙ first_again forest.nodes (members_in (declarations_of forest) class) ∙ found

@@ -1,5 +1,5 @@
 -- The rows of the table and the rows of the classes.
-use Rattle.std.proofs.Common.{◌≡◌, ℕ, ◌+◌, List, [], length, refl, sym, ap, ◌∙◌, arith, Option, Some, None, Bool, true, false, not, cond, slice_get, slice_index_or, option_map, option_and_then, if◌then◌else◌}
+use Rattle.std.proofs.Common.{◌≡◌, ℕ, ◌+◌, List, [], length, refl, sym, ap, ◌∙◌, arith, Option, Some, None, Bool, true, false, cond, slice_get, slice_index_or, option_map, option_and_then, if◌then◌else◌}
 use Rattle.std.proofs.lemmas.Bool.Decides.{nat_tests}
 use Rattle.std.proofs.lemmas.Grind.{common_steps}
 use Rattle.std.proofs.lemmas.Option.{slice_get_past}
@@ -56,62 +56,32 @@ keeps f same p class row = ap f (counted_is p class row) ∙ kept f row (has_goo
 pub as_written : {A : Type 0} (f : Option ClassRow → A) →
     ((row : ClassRow) → f (Some (under_object row)) ≡ f (Some row)) → (forest : Forest) (class : ℕ)
     → f (slice_get (declarations_of forest).classes class) ≡ f (slice_get (declarations_of forest).written class)
-as_written f same forest class = ap f (class_get forest class)
-    ∙ go (slice_get (declarations_of forest).written class)
-  where
-    go : (o : Option ClassRow) → f (option_map (counted (declarations_of forest) class) o) ≡ f o
-    go None = refl
-    go (Some row) = keeps (λ (r : ClassRow). f (Some r)) same (declarations_of forest) class row
+as_written f same forest class =
+    let kept = keeps (λ (r : ClassRow). f (Some r)) same (declarations_of forest) class in
+    grind (arith, common_steps, class_get forest class, kept)
 
 -- what a class has as it counts is what it has as it is written, or under Object
 as_it_counts : {A : Type 0} (f : Option ClassRow → A) (bad : A) → ((row : ClassRow) → f (Some (under_object row)) ≡ bad)
     → (forest : Forest) (class : ℕ)
-    → cond (is_under_object (declarations_of forest) class) bad (f (slice_get (declarations_of forest).written class))
-    ≡ f (slice_get (declarations_of forest).classes class)
+    → f (slice_get (declarations_of forest).classes class)
+    ≡ cond (is_under_object (declarations_of forest) class) bad (f (slice_get (declarations_of forest).written class))
 unfolding class_written is_good_header
 as_it_counts f bad under forest class =
-    sym (ap f (class_get forest class) ∙ go (slice_get (declarations_of forest).written class))
-  where
-    p : Declarations
-    p = declarations_of forest
-
-    pick : (t : Bool) (row : ClassRow) → f (Some (if t then row else under_object row)) ≡ cond (not t) bad
-        (f (Some row))
-    pick true row = refl
-    pick false row = under row
-
-    go : (o : Option ClassRow) → f (option_map (counted p class) o)
-        ≡ cond (not (is_good_header p class (option_and_then (λ (row : ClassRow). row.written) o))) bad (f o)
-    go None = refl
-    go (Some row) = ap (λ (r : ClassRow). f (Some r)) (counted_is p class row) ∙ pick (has_good_header p class row) row
+    grind (arith, common_steps, class_get forest class, counted_is (declarations_of forest) class, under)
 
 module _ (forest : Forest) (class : ℕ) where
   abbrev p : Declarations
   p = declarations_of forest
 
-  superclass_counts : cond (is_under_object p class) (Some object) (superclass_in p.written class)
-      ≡ superclass_in p.classes class
+  pub superclass_counts : superclass_in p.classes class
+      ≡ cond (is_under_object p class) (Some object) (superclass_in p.written class)
   superclass_counts = as_it_counts (option_and_then (λ (row : ClassRow). row.superclass)) (Some object) (λ row. refl)
       forest class
 
-  interfaces_count : cond (is_under_object p class) [] (interfaces_in p.written class) ≡ interfaces_in p.classes class
+  pub interfaces_count : interfaces_in p.classes class ≡ cond (is_under_object p class) [] (interfaces_in p.written class)
   interfaces_count =
       as_it_counts (λ (o : Option ClassRow). elim o as (λ _. List ℕ) [ None ↦ [] | Some row ↦ row.interfaces ]) []
       (λ row. refl) forest class
-
-  pub superclass_under : is_under_object p class ≡ true → Some object ≡ superclass_in p.classes class
-  superclass_under e = ap (λ t. cond t (Some object) (superclass_in p.written class)) (sym e) ∙ superclass_counts
-
-  pub superclass_written : is_under_object p class ≡ false →
-      superclass_in p.written class ≡ superclass_in p.classes class
-  superclass_written e = ap (λ t. cond t (Some object) (superclass_in p.written class)) (sym e) ∙ superclass_counts
-
-  pub interfaces_under : is_under_object p class ≡ true → [] ≡ interfaces_in p.classes class
-  interfaces_under e = ap (λ t. cond t [] (interfaces_in p.written class)) (sym e) ∙ interfaces_count
-
-  pub interfaces_written : is_under_object p class ≡ false →
-      interfaces_in p.written class ≡ interfaces_in p.classes class
-  interfaces_written e = ap (λ t. cond t [] (interfaces_in p.written class)) (sym e) ∙ interfaces_count
 
   pub kind_is : option_map (λ (row : ClassRow). row.kind) (slice_get p.written class) ≡ option_map
       (λ (row : ClassRow). row.kind) (slice_get p.classes class)

@@ -1,9 +1,9 @@
 -- What the table of the classes of a program holds.
 unfoldable pub use Rattle.class_headers.specs.Members.{class_written, members_in}
 pub use Rattle.class_headers.specs.Columns.{IsHeadersOf, AreWaysOf}
-use Rattle.std.specs.Prelude.{◌≡◌, ℕ, Bool, true, not, List, length, slice_get, Option, Some, None, option_map}
+use Rattle.std.specs.Prelude.{◌≡◌, ℕ, Bool, true, not, List, [], length, slice_get, Option, Some, None, option_map}
 use Rattle.scj_builtins.specs.declared.classes.FrameworkClass.{FrameworkClass}
-use Rattle.scj_builtins.specs.Framework.{framework_classes, runnable, safelet}
+use Rattle.scj_builtins.specs.Framework.{framework_classes}
 use Rattle.scj_tree.specs.Forest.{Forest}
 use Rattle.scj_tree.specs.Recursion.{listed}
 use Rattle.scj_rules.specs.Words.{or_else}
@@ -12,8 +12,10 @@ use Rattle.scj_rules.specs.Classes.{ClassRow, is_well_headed}
 use Rattle.scj_rules.specs.Contexts.{Declarations, declarations_of}
 use Rattle.class_rows.specs.declared.members.MemberKind.TheVariants.{Field, Method}
 use Rattle.class_rows.specs.declared.tables.ClassTable.{ClassTable}
-use Rattle.class_rows.specs.Inherited.{AreInherited}
+use Rattle.class_rows.specs.declared.inherited.InheritedMethods.{InheritedMethods}
+use Rattle.class_rows.specs.Inherited.{AreInheritedMethods}
 use Rattle.class_rows.specs.Members.{IsMembersOf}
+use Rattle.class_rows.specs.Walks.{AreAncestries}
 
 -- the name of the framework's class of a number, or of the class that is written
 unfoldable pub name_of : Declarations → ℕ → Option (List ℕ)
@@ -44,7 +46,8 @@ pub record IsTableOf (forest : Forest) (table : ClassTable) : Type 0 where
   pub count : table.count ≡ length (declarations_of forest).classes
   pub under_object : AreUnderObject forest table.under_object.items
   pub ways : AreWaysOf (declarations_of forest).classes table.ways.items
+  pub ancestries : AreAncestries (declarations_of forest).classes table.ancestries.items
   pub fields : IsMembersOf Field forest table.fields
   pub methods : IsMembersOf Method forest table.methods
-  pub of_safelet : AreInherited (declarations_of forest) safelet table.of_safelet
-  pub of_runnable : AreInherited (declarations_of forest) runnable table.of_runnable
+  pub inherited : (told : InheritedMethods) → table.inherited ≡ Some told →
+      AreInheritedMethods (declarations_of forest) [] told

@@ -18,17 +18,19 @@ pub struct Chain<'a> {
 
 impl<'a> Model for Chain<'a> {
     ghost use Rattle.std.specs.Prelude.{List, ℕ};
+    ghost use Rattle.scj_rules.specs.Classes.{superclass_in};
+    ghost use Rattle.scj_rules.specs.Contexts.{declarations_of};
 
     ghost Value = { List ℕ };
 
     ghost use Rattle.class_rows.specs.Walks.{chain_from};
 
-    ghost view = { λ a. chain_from a.classes a.left a.at };
+    ghost view = { λ a. chain_from (superclass_in (declarations_of a.classes).classes) a.left a.at };
 }
 
 impl<'a> Chain<'a> {
     /// The next class, which is left no more.
-    #[tactic(auto, using(crate::proofs::WalkLemmas::walk_ends, crate::proofs::WalkLemmas::walk_out, crate::proofs::WalkLemmas::walk_goes))]
+    #[tactic(auto, using(crate::proofs::WalkLemmas::chain_here, crate::proofs::WalkLemmas::chain_ended))]
     pub fn next(&mut self) -> Option<ClassId>
         ensures more { IfSome result (λ class. self.old ≡ class ∷ self.new) }
         ensures end { IfNone result (self.old ≡ [] × self.new ≡ []) }
@@ -59,7 +61,7 @@ impl<'a> Classes<'a> {
     }
 
     /// The class, its superclass and so on.
-    #[tactic(auto, unfolding(crate::specs::Walks::chain_from, scj_rules::specs::Classes::superclasses))]
+    #[tactic(auto, unfolding(scj_rules::specs::Classes::superclasses))]
     pub fn superclasses(&self, class: ClassId) -> Chain<'a>
         ensures { result ≡ superclasses (declarations_of self.now).classes class }
     {
@@ -71,7 +73,7 @@ impl<'a> Classes<'a> {
     }
 
     /// What comes behind a class on its chain.
-    #[tactic(auto, using(crate::proofs::WalkLemmas::walk_behind))]
+    #[tactic(auto, unfolding(scj_rules::specs::Classes::classes_above, scj_rules::specs::Words::chain_behind))]
     pub fn classes_above(&self, class: ClassId) -> Chain<'a>
         ensures { result ≡ classes_above (declarations_of self.now).classes class }
     {

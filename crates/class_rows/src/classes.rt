@@ -2,13 +2,13 @@
 
 ghost use Rattle.std.specs.Prelude.{◌≡◌, length, slice_get, option_map, option_and_then};
 ghost use Rattle.scj_rules.specs.Views.{DeclaredConstructor, WrittenClass, class_at, constructor_at};
-ghost use Rattle.scj_rules.specs.Classes.{ClassRow, class_number, superclass_in, interfaces_in, all_interfaces, is_cyclic};
+ghost use Rattle.scj_rules.specs.Classes.{ClassRow, class_number, superclass_in, all_interfaces, is_cyclic};
 ghost use Rattle.scj_rules.specs.Words.{is_among};
 ghost use Rattle.scj_builtins.specs.Framework.{safelet};
 ghost use Rattle.scj_rules.specs.Contexts.{declarations_of};
 ghost use Rattle.scj_rules.specs.Types.{constructor_in};
 
-use crate::counted::{interfaces_of, superclass_of};
+use crate::counted::superclass_of;
 use crate::tables::ClassTable;
 use class_headers::WrittenClasses;
 use class_headers::ways::is_marked;
@@ -143,13 +143,6 @@ impl<'a> Classes<'a> {
         ensures { result ≡ superclass_in (declarations_of self.now).classes class }
     {
         superclass_of(&self.written(), class, self.is_under_object(class))
-    }
-
-    /// The interfaces as they count.
-    pub fn interfaces(&self, class: ClassId) -> &'a [ClassId]
-        ensures { result.now ≡ interfaces_in (declarations_of self.now).classes class }
-    {
-        interfaces_of(&self.written(), class, self.is_under_object(class))
     }
 
     /// Whether the superclasses as they are written come back to the class.

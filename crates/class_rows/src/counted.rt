@@ -53,7 +53,7 @@ pub fn marks_under_object(alloc: Global, written: &WrittenClasses) -> Result<Vec
 }
 
 /// The superclass of a class as it counts.
-#[tactic(auto, using(crate::proofs::RowLemmas::superclass_under, crate::proofs::RowLemmas::superclass_written))]
+#[tactic(auto, using(crate::proofs::RowLemmas::superclass_counts))]
 pub fn superclass_of(
     written: &WrittenClasses<'_>,
     class: ClassId,
@@ -69,7 +69,7 @@ pub fn superclass_of(
 }
 
 /// The interfaces of a class as it counts.
-#[tactic(auto, using(crate::proofs::RowLemmas::interfaces_under, crate::proofs::RowLemmas::interfaces_written))]
+#[tactic(auto, using(crate::proofs::RowLemmas::interfaces_count))]
 pub fn interfaces_of<'a>(
     written: &WrittenClasses<'a>,
     class: ClassId,

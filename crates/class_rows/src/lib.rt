@@ -1,6 +1,7 @@
 //! The classes of a program, and look-ups among them and their members.
 #![tactic(auto)]
 
+mod ancestries;
 pub mod chains;
 pub mod classes;
 mod counted;
@@ -12,4 +13,5 @@ pub mod tables;
 
 pub use classes::Classes;
 pub use fields::FieldRef;
+pub use inherited::{Inherited, InheritedMethods};
 pub use tables::ClassTable;

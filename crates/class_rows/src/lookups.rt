@@ -1,8 +1,8 @@
 //! Whether a class stands under another, and look-ups of members by name.
 
-ghost use Rattle.std.specs.Prelude.{◌≡◌, ◌<◌, ◌≤◌, ℕ, List, not, filter, option_map};
+ghost use Rattle.std.specs.Prelude.{◌≡◌, ◌<◌, ◌≤◌, ℕ, List, filter, option_map};
 ghost use Rattle.scj_rules.specs.Words.{along, is_among, or_else};
-ghost use Rattle.scj_rules.specs.Classes.{superclasses, all_interfaces, is_sub, own_field, field_named, own_method, method_named, method_above, framework_row_named, field_nodes, field_number, method_nodes, method_number, first_user_class, is_user_class};
+ghost use Rattle.scj_rules.specs.Classes.{superclasses, all_interfaces, is_sub, own_field, field_named, own_method, method_named, method_above, framework_row_named, field_nodes, field_number, method_nodes, method_number, first_user_class};
 ghost use Rattle.scj_rules.specs.Contexts.{declarations_of};
 ghost use Rattle.method_rows.specs.Methods.{found_method};
 ghost use Rattle.class_headers.specs.Columns.{kind_count};
@@ -10,7 +10,7 @@ ghost use Rattle.class_rows.specs.Fields.{found_field};
 ghost use Rattle.class_rows.specs.declared.members.MemberKind.TheVariants.{Field, Method};
 ghost use Rattle.class_rows.specs.Members.{first_declared, first_named, IsMembersOf};
 ghost use Rattle.class_rows.specs.Tables.{members_in};
-ghost use Rattle.class_rows.specs.Walks.{is_known, implemented_method};
+ghost use Rattle.class_rows.specs.Walks.{asked, is_framework, is_known, implemented_method};
 
 use crate::chains::Chain;
 use crate::classes::Classes;
@@ -41,7 +41,7 @@ impl<'a> Classes<'a> {
         has_bit(way_at(&self.table.ways, class).above, kind)
     }
 
-    /// Whether a class stands on the chain of another.
+    /// Whether a class is the other one or stands under it, by a walk up its chain.
     fn is_on_chain(&self, class: ClassId, above: ClassId) -> bool
         ensures { result ≡ is_among above (superclasses (declarations_of self.now).classes class) }
     {
@@ -61,7 +61,10 @@ impl<'a> Classes<'a> {
         if above.number() < KIND_COUNT {
             return self.is_of_kind(class, above);
         }
-        self.is_on_chain(class, above)
+        match self.is_told_under(class, above) {
+            Some(told) => told,
+            None => self.is_on_chain(class, above),
+        }
     }
 
     /// Whether a class of the chain implements the interface. None implements another one than `Runnable` and
@@ -136,14 +139,6 @@ impl<'a> Classes<'a> {
         }
     }
 
-    /// The first field of a name that a class declares itself.
-    pub fn own_field(&self, class: ClassId, name: &Name) -> Option<FieldRef>
-        ensures { option_map (found_field self.now.nodes) result ≡ own_field (declarations_of self.now).classes name.now
-            class }
-    {
-        self.field_like(class, &self.first_declared(MemberKind::Field, name))
-    }
-
     /// The method of a name that a framework class declares itself.
     fn framework_row(&self, class: ClassId, name: &Name) -> Option<MethodRef>
         requires { class < first_user_class }
@@ -159,9 +154,9 @@ impl<'a> Classes<'a> {
         }
     }
 
-    /// The first method of a name, for which a member stands, that a class declares itself.
+    /// The first method of a name, for which a member stands if user classes are asked, that a class declares itself.
     fn method_like(&self, class: ClassId, name: &Name, first: &Option<NodeId>) -> Option<MethodRef>
-        requires { first.now ≡ first_declared Method self.now name.now }
+        requires { first_user_class ≤ class → first.now ≡ first_declared Method self.now name.now }
         ensures { option_map (found_method self.now.nodes) result ≡ own_method (declarations_of self.now).classes
             name.now class }
     {
@@ -189,7 +184,7 @@ impl<'a> Classes<'a> {
     }
 
     /// The field of a name that a class has, its own or the nearest above.
-    #[tactic(auto, using(crate::proofs::WalkLemmas::along_found, crate::proofs::WalkLemmas::along_next, crate::proofs::WalkLemmas::along_end), unfolding(scj_rules::specs::Classes::field_named))]
+    #[tactic(auto, using(crate::proofs::WalkLemmas::along_front, crate::proofs::WalkLemmas::along_end), unfolding(scj_rules::specs::Classes::field_named))]
     pub fn field_named(&self, class: ClassId, name: &Name) -> Option<FieldRef>
         ensures { option_map (found_field self.now.nodes) result ≡ field_named (declarations_of self.now).classes class
             name.now }
@@ -204,35 +199,25 @@ impl<'a> Classes<'a> {
         None
     }
 
-    /// The first method of a name that one of these declares itself.
-    #[tactic(auto, using(crate::proofs::WalkLemmas::along_found, crate::proofs::WalkLemmas::along_next, crate::proofs::WalkLemmas::along_end))]
-    fn first_method(&self, classes: Chain<'_>, name: &Name) -> Option<MethodRef>
+    /// The first method of a name that one of these declares itself, or one of the framework's classes among them, where
+    /// these alone are asked.
+    #[tactic(auto, using(crate::proofs::WalkLemmas::along_front, crate::proofs::WalkLemmas::along_end))]
+    fn first_method(&self, classes: Chain<'_>, of_framework: bool, name: &Name) -> Option<MethodRef>
         ensures { option_map (found_method self.now.nodes) result ≡ along
-            (own_method (declarations_of self.now).classes name.now) classes.entry }
+            (own_method (declarations_of self.now).classes name.now) (asked of_framework classes.entry) }
     {
-        let first = &self.first_declared(MemberKind::Method, name);
+        let first = &if of_framework {
+            None
+        } else {
+            self.first_declared(MemberKind::Method, name)
+        };
         let mut chain = classes;
         while let Some(at) = chain.next() {
+            if of_framework && at.number() >= FRAMEWORK_CLASS_COUNT {
+                continue;
+            }
             if let Some(method) = self.method_like(at, name, first) {
                 return Some(method);
-            }
-        }
-        None
-    }
-
-    /// The first method of a name that one of the framework's classes among these declares itself.
-    #[tactic(auto, using(crate::proofs::WalkLemmas::along_found, crate::proofs::WalkLemmas::along_next, crate::proofs::WalkLemmas::along_end))]
-    fn first_of_framework(&self, classes: Chain<'_>, name: &Name) -> Option<MethodRef>
-        ensures { option_map (found_method self.now.nodes) result ≡ along
-            (own_method (declarations_of self.now).classes name.now)
-            (filter (λ c. not (is_user_class c)) classes.entry) }
-    {
-        let mut chain = classes;
-        while let Some(at) = chain.next() {
-            if at.number() < FRAMEWORK_CLASS_COUNT {
-                if let Some(method) = self.own_method(at, name) {
-                    return Some(method);
-                }
             }
         }
         None
@@ -257,7 +242,7 @@ impl<'a> Classes<'a> {
 
     /// The method of a name that an interface of the chain declares.
     #[tactic(auto, using(crate::proofs::InterfaceLemmas::by_runnable, crate::proofs::InterfaceLemmas::by_safelet))]
-    pub fn interface_method(&self, class: ClassId, name: &Name) -> Option<MethodRef>
+    fn interface_method(&self, class: ClassId, name: &Name) -> Option<MethodRef>
         ensures { option_map (found_method self.now.nodes) result ≡ along
             (own_method (declarations_of self.now).classes name.now)
             (all_interfaces (declarations_of self.now).classes class) }
@@ -292,7 +277,7 @@ impl<'a> Classes<'a> {
         ensures { option_map (found_method self.now.nodes) result ≡ method_named (declarations_of self.now).classes
             class name.now }
     {
-        let found = self.first_method(self.superclasses(class), name);
+        let found = self.first_method(self.superclasses(class), false, name);
         self.or_interface_method(found, class, name)
     }
 
@@ -302,8 +287,20 @@ impl<'a> Classes<'a> {
         ensures { option_map (found_method self.now.nodes) result ≡ method_above (declarations_of self.now).classes
             class name.now }
     {
-        let found = self.first_method(self.classes_above(class), name);
+        let found = self.first_method(self.classes_above(class), false, name);
         self.or_interface_method(found, class, name)
+    }
+
+    /// The nearest framework class that a class is or stands under, where it is told, or else the class.
+    #[tactic(auto, using(crate::proofs::InterfaceLemmas::same_framework))]
+    fn root(&self, class: ClassId) -> ClassId
+        ensures { filter is_framework (superclasses (declarations_of self.now).classes result)
+            ≡ filter is_framework (superclasses (declarations_of self.now).classes class) }
+    {
+        match self.ancestry(class) {
+            Some(told) => told.root,
+            None => class,
+        }
     }
 
     /// The framework's own method of the name, where the class stands under the framework class or implements it.
@@ -312,7 +309,7 @@ impl<'a> Classes<'a> {
         ensures { option_map (found_method self.now.nodes) result ≡ framework_row_named
             (declarations_of self.now).classes class name.now }
     {
-        let found = self.first_of_framework(self.superclasses(class), name);
+        let found = self.first_method(self.superclasses(self.root(class)), true, name);
         self.or_interface_method(found, class, name)
     }
 

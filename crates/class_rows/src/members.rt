@@ -19,7 +19,7 @@ use scj_tree::{Node, Program};
 use std::alloc::Global;
 use std::collections::HashMap;
 
-/// How many members are found by a hash table.
+/// How many members of a kind, the first ones, have their names in the hash table.
 const FEW: usize = 4096;
 
 /// Which members are meant.
@@ -123,13 +123,13 @@ fn firsts_of(
     ensures { IfOk result
         (λ firsts. (name : List ℕ) → found_under firsts name ≡ first_named kind program.now.nodes name ids.now) }
 {
-    let mut firsts = NamedNumbers::new(alloc);
+    let mut firsts = NamedNumbers::new(alloc, FEW);
     let mut at = ids.len();
     while at > 0 {
         at -= 1;
         let id = ids[at];
         if let Some(name) = name_at(program, kind, id) {
-            firsts.enter(FEW, at, name, number_of(id))?;
+            firsts.enter(at, name, number_of(id))?;
         }
     }
     Ok(firsts)

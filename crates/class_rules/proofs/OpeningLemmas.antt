@@ -6,7 +6,6 @@ use Rattle.std.proofs.lemmas.Grind.{common_steps}
 use Rattle.std.proofs.lemmas.List.{drop_all}
 use Rattle.std.proofs.lemmas.List.Elements.{filter-append}
 use Rattle.std.proofs.lemmas.List.Folds.{list_any-append}
-use Rattle.std.proofs.lemmas.Map.Keys.{any_passes_from_place}
 use Rattle.scj_builtins.specs.declared.methods.FrameworkMethod.{FrameworkMethod}
 use Rattle.scj_builtins.specs.Framework.{framework_methods, framework_method_count}
 use Rattle.scj_tree.specs.Forest.{Forest}
@@ -32,13 +31,6 @@ is_beyond m = not (nat_lt m.on first_user_class)
 none_beyond : list_any is_beyond framework_methods ≡ false
 unfolding framework_methods
 none_beyond = refl
-
--- a method of the framework is one of a framework class
-pub row_within : (number : ℕ) (m : FrameworkMethod) → slice_get framework_methods number ≡ Some m →
-    m.on < first_user_class
-row_within number m e =
-    let beyond = any_passes_from_place is_beyond framework_methods number m e in
-    grind (arith, nat_tests, beyond, none_beyond)
 
 -- the rows from one on
 pub rows_from : {A : Type 0} (f : A → Bool) (k : ℕ) (xs : List A) →

@@ -1,5 +1,5 @@
 -- Names of which an earlier one is the same.
-use Rattle.std.proofs.Common.{◌≡◌, arith, ℕ, ◌||◌, true, not, cond, List, [], ◌∷◌, ◌++◌, map, filter_map, flat_map, Option, option_map, refl, ap}
+use Rattle.std.proofs.Common.{◌≡◌, arith, ℕ, ◌||◌, true, not, cond, List, [], ◌∷◌, ◌++◌, map, filter_map, flat_map, refl, ap}
 use Rattle.std.specs.List.{list_any}
 use Rattle.std.specs.BTreeMap.{is_at}
 use Rattle.std.specs.Cmp.Lexicographic.{slice_cmp}
@@ -21,6 +21,7 @@ use Rattle.scj_rules.specs.Words.{named_twice, broken, broken_at_each}
 use Rattle.scj_rules.specs.ClassRules.{c4}
 use Rattle.scj_rules.specs.Views.{field_at}
 use Rattle.node_views.specs.Parts.{naming}
+use Rattle.class_headers.proofs.PartLemmas.{map_filter_map}
 use Rattle.class_rules.specs.declared.parts.ClassParts.{ClassParts}
 use Rattle.class_rules.specs.Parts.{row_of}
 use Rattle.class_rules.specs.Members.{hiding, left_twice, member_name}
@@ -53,11 +54,6 @@ name_noted found known after rule w others h =
 
 -- ---- fields by their names alone
 
-names_read : (view : ℕ → Option Declared) (ids : List ℕ) →
-    filter_map (λ id. option_map naming (view id)) ids ≡ map naming (filter_map view ids)
-names_read view [] = refl
-names_read view (id ∷ ids) = grind (arith, common_steps, names_read view ids)
-
 abbrev places : List Declared → List Found
 places = broken_at_each (λ (f : Declared). f.place) C4
 
@@ -75,6 +71,6 @@ pub c4_named : (forest : Forest) (class : ℕ) (c : ClassParts) (found after who
 unfolding c4 hiding member_name user_row declarations_of
 c4_named forest class c found after whole e h =
     let fields = filter_map (field_at forest.nodes) c.members.now in
-    let names = names_read (field_at forest.nodes) c.members.now in
+    let names = map_filter_map naming (field_at forest.nodes) c.members.now in
     let hidden = flat_map-map (hiding (declarations_of forest) class) naming fields in
     grind (arith, common_steps, e, h, names, fields_twice [] fields, hidden)

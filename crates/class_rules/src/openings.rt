@@ -6,7 +6,6 @@ ghost use Rattle.scj_builtins.specs.Framework.{framework_methods};
 ghost use Rattle.scj_rules.specs.Words.{holds};
 ghost use Rattle.scj_rules.specs.ClassRules.{is_left_open, abstract_methods};
 ghost use Rattle.scj_rules.specs.Contexts.{declarations_of};
-ghost use Rattle.method_rows.specs.Methods.{found_method};
 ghost use Rattle.class_rules.specs.Members.{is_row_left};
 
 use crate::overrides::stays_open;
@@ -16,17 +15,17 @@ use scj_builtins::{FRAMEWORK_METHOD_COUNT, framework_method};
 use symbol_table::SymbolTable;
 
 /// Whether a class leaves a method of the framework open, where it is an abstract one that the class has.
-#[tactic(auto, unfolding(method_rows::specs::Methods::found_method, method_rows::specs::Methods::method_from, method_rows::specs::Methods::framework_numbered, scj_rules::specs::Classes::framework_method, scj_rules::specs::ClassRules::is_left_open), using(crate::proofs::OpeningLemmas::row_within))]
+#[tactic(auto, unfolding(method_rows::specs::Methods::found_method, method_rows::specs::Methods::method_from, method_rows::specs::Methods::framework_numbered, scj_rules::specs::Classes::framework_method, scj_rules::specs::ClassRules::is_left_open))]
 fn leaves_row(table: &SymbolTable<'_>, number: MethodId) -> bool
     ensures { result ≡ holds (slice_get framework_methods number)
         (is_row_left (declarations_of table.now.forest) table.now.class) }
 {
     match &framework_method(number) {
         Some(row) => {
-            if !table.is_sub(row.on) {
+            if !row.is_abstract {
                 return false;
             }
-            if !row.is_abstract {
+            if !table.classes().is_sub(table.class(), row.on) {
                 return false;
             }
             let m = MethodRef {

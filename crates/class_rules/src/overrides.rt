@@ -88,7 +88,6 @@ pub fn is_wrong_override(table: &SymbolTable<'_>, m: &MethodRef, above: &MethodR
 }
 
 /// Whether a method leaves an abstract one open, in whose place it stands in a class.
-#[tactic(auto, using(method_rows::proofs::MethodLemmas::builtin_told))]
 pub fn stays_open(table: &SymbolTable<'_>, m: &MethodRef, instead: &MethodRef) -> bool
     ensures { result ≡ stays_open (declarations_of table.now.forest) table.now.class
         (found_method table.now.forest.nodes m.now).method

@@ -2,7 +2,7 @@
 
 ghost use Rattle.std.specs.Prelude.{◌≡◌, Some, option_map, IfSome};
 ghost use Rattle.scj_rules.specs.Contexts.{declarations_of};
-ghost use Rattle.scj_rules.specs.Views.{class_at, class_of};
+ghost use Rattle.scj_rules.specs.Views.{class_at};
 ghost use Rattle.class_rows.specs.Tables.{class_written};
 ghost use Rattle.class_rules.specs.Parts.{written_class};
 

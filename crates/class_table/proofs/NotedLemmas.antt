@@ -1,8 +1,11 @@
 -- What is found at classes, in whatever order.
-use Rattle.std.proofs.Common.{Option, ◌≡◌, ◌⊎◌, inl, inr, ⊎_elim, ◌<◌, ◌≤◌, ℕ, ◌==◌, Bool, true, false, List, [], ◌∷◌, ◌++◌, length, set, flat_map, refl, sym, ◌∙◌, subst}
-use Rattle.std.specs.List.{Contains}
+use Rattle.std.proofs.Common.{Option, get_or, take, drop, ◌≡◌, ◌⊎◌, inl, inr, ⊎_elim, ◌+◌, ◌<◌, ◌≤◌, ℕ, ◌==◌, ◌&&◌, ◌-◌, not, nat_lt, Bool, true, false, List, [], ◌∷◌, ◌++◌, length, set, flat_map, ap, refl, sym, ◌∙◌, subst, arith}
+use Rattle.std.specs.List.{list_any, Contains}
 use Rattle.std.proofs.lemmas.Bool.{cases_eq, cases_lt, or_cases, or_left, or_right}
-use Rattle.std.proofs.lemmas.List.{get_or-set_other}
+use Rattle.std.proofs.lemmas.Bool.Decides.{nat_tests}
+use Rattle.std.proofs.lemmas.Grind.{common_steps}
+use Rattle.std.proofs.lemmas.List.{get_or-set_other, take_rest}
+use Rattle.std.proofs.lemmas.List.Folds.{Any-from_list_any}
 use Rattle.std.proofs.lemmas.List.Elements.{Contains-append_left, Contains-append_right, Contains-append_cases}
 use Rattle.std.proofs.lemmas.Option.{slice_get_past}
 use Rattle.scj_base.specs.declared.findings.Found.{Found}
@@ -11,14 +14,17 @@ use Rattle.scj_tree.specs.Recursion.{lookup, joined_below}
 use Rattle.scj_tree.proofs.RecursionLemmas.{from_joined, to_joined}
 use Rattle.scj_rules.specs.Words.{is_among, found_at}
 use Rattle.scj_rules.specs.Classes.{ClassRow}
+use Rattle.scj_rules.specs.ClassRules.{numbers_from}
 use Rattle.scj_rules.specs.Contexts.{declarations_of}
 use Rattle.scj_rules.specs.Phases.{at_class, over_classes}
 use Rattle.scj_rules.proofs.ChainLemmas.{same_number, is_same_number}
 use Rattle.scj_rules.proofs.NumberLemmas.{joined_all}
 use Rattle.scj_rules.proofs.ReportLemmas.{none_contained}
+use Rattle.class_headers.proofs.SuperLemmas.{any_alike, bools}
 use Rattle.class_rules.specs.Parts.{class_found}
 use Rattle.node_rules.specs.Findings.{FindSame}
 use Rattle.node_rules.proofs.FindingLemmas.{same_lists, same_then, both_same}
+use Rattle.symbol_table.specs.Symbols.{AreClasses}
 use Rattle.class_table.specs.Noted.{broken_at_class, HasEach}
 
 -- ---- marks
@@ -31,6 +37,11 @@ marked_before marks at class h =
     (cases_eq class at)
 
 -- ---- the classes one after the other
+
+pub first_left : (k : ℕ) (xs : List ℕ) → 1 ≤ length xs → k ≡ get_or xs 0 k → xs ≡ k
+    ∷ take (length xs - 1) (drop 1 xs)
+first_left k [] some here = absurd (omega (arith, some))
+first_left k (x ∷ xs) some here = rw (take_rest (x ∷ xs) 1) (ap (λ c. c ∷ xs) (sym here))
 
 module _ (f : ℕ → List Found) (x : Found) where
   found_from : (ks : List ℕ) → Contains (flat_map f ks) x → (k : ℕ) × (is_among k ks ≡ true) × Contains (f k) x
@@ -82,3 +93,30 @@ module _ (forest : Forest) where
         );
       } in
       rw e (both_same (same_lists refl) (same_then each (same_lists (sym (joined_all broken rows)))))
+
+-- ---- each class is asked
+
+among_numbers : {A : Type 0} (x k : ℕ) (xs : List A) →
+    is_among x (numbers_from k xs) ≡ (not (nat_lt x k) && nat_lt x (k + length xs))
+unfolding numbers_from
+among_numbers x k [] = grind (arith, nat_tests)
+among_numbers x k (y ∷ xs) = grind (arith, common_steps, nat_tests, among_numbers x (k + 1) xs)
+
+among_classes : (forest : Forest) (order : List ℕ) (x : ℕ) → AreClasses forest order → is_among x order ≡ true →
+    x < length (declarations_of forest).classes
+among_classes forest order x are h =
+    let a = Any-from_list_any (λ y. x == y) order h in
+    let low = are a.0 a.1 a.2 in
+    omega (arith, low, a.3, same_number x a.1 a.4)
+
+pub all_asked : (forest : Forest) (order : List ℕ) (f : ℕ → Bool) → HasEach forest order → AreClasses forest order →
+    list_any f order ≡ list_any f (numbers_from 0 (declarations_of forest).classes)
+all_asked forest order f each are =
+    any_alike f order (numbers_from 0 rows) (λ x.
+    bools (is_among x order) (is_among x (numbers_from 0 rows))
+    (λ h. let low = among_classes forest order x are h in
+    grind (arith, nat_tests, among_numbers x 0 rows))
+    (λ h. each x (grind (arith, nat_tests, among_numbers x 0 rows))))
+  where
+    rows : List ClassRow
+    rows = (declarations_of forest).classes

@@ -7,7 +7,7 @@ ghost use Rattle.scj_rules.specs.Phases.{BreaksClassRules};
 ghost use Rattle.scj_rules.specs.Report.{IsReport};
 ghost use Rattle.class_rows.specs.Tables.{IsTableOf};
 
-use crate::classes::note_classes;
+use crate::classes::{in_order, note_classes};
 use class_rows::{ClassTable, Classes};
 use class_rules::safelets::note_c8;
 use node_contexts::Contexts;
@@ -31,11 +31,15 @@ pub fn build(
     ensures table { IfOk result (λ built. IsTableOf program.now built.0) }
     ensures report { IfOk result (λ built. IsReport (BreaksClassRules program.now) built.1.items) }
 {
-    let table = ClassTable::of(alloc, program)?;
+    let mut table = ClassTable::of(alloc, program)?;
+    let order = in_order(alloc, &Classes::new(program, &table))?;
+    table.tell_ancestries(alloc, program, &order)?;
     let classes = Classes::new(program, &table);
     let mut found = Vec::new(alloc);
     note_c8(&mut found, &classes)?;
-    note_classes(alloc, &mut found, &classes)?;
+    let told = note_classes(alloc, &mut found, &classes, &order)?;
+    table.keep_inherited(told);
+    let classes = Classes::new(program, &table);
     note_nodes(&mut found, &classes, contexts, numbers)?;
     put_in_order(&mut found);
     Ok((table, found))

@@ -1,16 +1,19 @@
-//! What is broken at the classes.
+//! What is broken at the classes, and what a tour of them tells.
 
-ghost use Rattle.std.specs.Prelude.{◌≡◌, ◌++◌, ◌<◌, ℕ, true, false, length, flat_map, IfOk, OnOk};
+ghost use Rattle.std.specs.Prelude.{◌≡◌, ◌++◌, ◌<◌, [], ℕ, true, false, length, flat_map, IfOk, OnOk};
 ghost use Rattle.scj_tree.specs.Recursion.{lookup};
 ghost use Rattle.scj_rules.specs.Words.{is_among};
 ghost use Rattle.scj_rules.specs.Contexts.{declarations_of};
 ghost use Rattle.scj_rules.specs.Phases.{over_classes};
+ghost use Rattle.class_rows.specs.Inherited.{AreInheritedMethods};
 ghost use Rattle.class_rules.specs.Parts.{class_found};
 ghost use Rattle.node_rules.specs.Findings.{FindSame};
+ghost use Rattle.symbol_table.specs.Symbols.{AreClasses};
 ghost use Rattle.class_table.specs.Noted.{broken_at_class, HasEach};
 
+use crate::inherited::{no_methods_inherited, note_inherited_methods};
 use class_headers::ways::is_marked;
-use class_rows::Classes;
+use class_rows::{Classes, InheritedMethods};
 use class_rules::parts::parts_of;
 use class_rules::rules::note_rules;
 use scj_base::{ClassId, Found, Memory};
@@ -48,10 +51,11 @@ fn marks_of(alloc: Global, classes: &[ClassId], count: u32) -> Result<Vec<bool>,
 }
 
 /// All classes, in an order in which a table goes quickly from one to the next.
-fn in_order(alloc: Global, classes: &Classes<'_>, count: u32) -> Result<Vec<ClassId>, Memory>
-    requires { count ≡ length (declarations_of classes.now).classes }
-    ensures { IfOk result (λ order. HasEach classes.now order.items) }
+pub fn in_order(alloc: Global, classes: &Classes<'_>) -> Result<Vec<ClassId>, Memory>
+    ensures each { IfOk result (λ order. HasEach classes.now order.items) }
+    ensures classes { IfOk result (λ order. AreClasses classes.now order.items) }
 {
+    let count = classes.class_count();
     let mut order = tour(alloc, classes)?;
     let marks = marks_of(alloc, order.as_slice(), count)?;
     for number in 0..count {
@@ -63,43 +67,46 @@ fn in_order(alloc: Global, classes: &Classes<'_>, count: u32) -> Result<Vec<Clas
     Ok(order)
 }
 
-/// Notes what is broken at each of these classes.
+/// Notes what is broken at each of these classes, and tells which methods they inherit.
 fn note_each(
     alloc: Global,
     found: &mut Vec<Found>,
+    told: &mut InheritedMethods,
     table: &mut SymbolTable<'_>,
     classes: &[ClassId],
-    count: u32,
 ) -> Result<(), Memory>
-    requires { count ≡ length (declarations_of table.old.forest).classes }
-    ensures { OnOk result (found.new.items ≡ found.old.items
+    requires { AreClasses table.old.forest classes.now }
+    ensures found { OnOk result (found.new.items ≡ found.old.items
         ++ flat_map (broken_at_class table.old.forest) classes.now) }
+    ensures told { OnOk result (AreInheritedMethods (declarations_of table.old.forest) classes.now told.old →
+        AreInheritedMethods (declarations_of table.old.forest) [] told.new) }
 {
     let mut others = classes;
     while let [class, rest @ ..] = others {
-        if class.number() >= count {
-            return Err(Memory);
-        }
         table.go_to(*class)?;
         note_class(alloc, found, table)?;
+        note_inherited_methods(told, table)?;
         others = rest;
     }
     Ok(())
 }
 
-/// Notes what is broken at each class.
+/// Notes what is broken at each class, and gives which methods they inherit.
 #[tactic(auto, using(crate::proofs::NotedLemmas::each_noted))]
 pub fn note_classes(
     alloc: Global,
     found: &mut Vec<Found>,
     classes: &Classes<'_>,
-) -> Result<(), Memory>
-    ensures { OnOk result (FindSame found.new.items (found.old.items
+    order: &[ClassId],
+) -> Result<InheritedMethods, Memory>
+    requires each { HasEach classes.now order.now }
+    requires classes { AreClasses classes.now order.now }
+    ensures found { OnOk result (FindSame found.new.items (found.old.items
         ++ over_classes (declarations_of classes.now) (class_found (declarations_of classes.now)))) }
+    ensures told { IfOk result (λ told. AreInheritedMethods (declarations_of classes.now) [] told) }
 {
-    let count = classes.class_count();
-    let order = in_order(alloc, classes, count)?;
+    let mut told = no_methods_inherited(alloc);
     let mut table = SymbolTable::new(alloc, classes)?;
-    note_each(alloc, found, &mut table, &order, count)?;
-    Ok(())
+    note_each(alloc, found, &mut told, &mut table, order)?;
+    Ok(told)
 }

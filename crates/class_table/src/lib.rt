@@ -3,6 +3,7 @@
 
 pub mod checks;
 pub mod classes;
+pub mod inherited;
 
 pub use checks::build;
 pub use class_rows::{ClassTable, Classes};

@@ -13,10 +13,7 @@ use Rattle.scj_builtins.specs.declared.methods.FrameworkMethod.{FrameworkMethod}
 use Rattle.scj_builtins.specs.declared.kinds.ParameterKind.{ParameterKind}
 use Rattle.scj_builtins.specs.Framework.{framework_methods, parameter_list, method_named, number_named}
 use Rattle.scj_builtins.proofs.Places.{named_there}
-use Rattle.method_rows.specs.declared.refs.MethodRef.{MethodRef}
-use Rattle.method_rows.specs.declared.refs.MethodSource.{MethodSource}
-use Rattle.method_rows.specs.declared.refs.MethodSource.TheVariants.{Framework as framework_source, Declared as declared_source}
-use Rattle.method_rows.specs.Methods.{no_method, framework_numbered, framework_method_on, method_from, found_method, builtin_of}
+use Rattle.method_rows.specs.Methods.{no_method, framework_numbered, framework_method_on}
 
 pub part_of_some : (o : Option DeclaredMethod) (d : Declared) →
     option_map (λ (m : DeclaredMethod). m.declared) o ≡ Some d → (unwrap_or o no_method).declared ≡ d
@@ -64,19 +61,6 @@ no_number_of nodes id (Some _) = refl
 
 pub no_number : (nodes : List Node) (id : ℕ) → (unwrap_or (method_at nodes id) no_method).builtin ≡ None
 no_number nodes id = no_number_of nodes id (slice_get nodes id)
-
-pub builtin_told : (nodes : List Node) (m : MethodRef) → (found_method nodes m).method.builtin ≡ builtin_of m.source
-unfolding found_method method_from framework_numbered framework_method builtin_of
-builtin_told nodes m = go m.source
-  where
-    numbered : (o : Option FrameworkMethod) → (unwrap_or (option_map framework_method o) no_method).builtin
-        ≡ option_map (λ (row : FrameworkMethod). row.number) o
-    numbered None = refl
-    numbered (Some row) = refl
-
-    go : (source : MethodSource) → (method_from nodes source).builtin ≡ builtin_of source
-    go (framework_source number) = numbered (slice_get framework_methods number)
-    go (declared_source node) = no_number nodes node
 
 callable_of : (nodes : List Node) (id : ℕ) (node : Option Node) →
     (unwrap_or (option_and_then (method_of nodes id) node) no_method).callable ≡ is_some

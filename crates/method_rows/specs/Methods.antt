@@ -1,7 +1,6 @@
 -- The method for which a short row stands.
 use Rattle.std.specs.Prelude.{ℕ, false, List, [], slice_get, find, Option, None, option_map, unwrap_or}
 use Rattle.scj_builtins.specs.Framework.{framework_methods}
-use Rattle.scj_builtins.specs.declared.methods.FrameworkMethod.{FrameworkMethod}
 use Rattle.scj_tree.specs.declared.nodes.Node.{Node}
 use Rattle.scj_rules.specs.declared.views.WrittenType.TheVariants.{Void as void_type}
 use Rattle.scj_rules.specs.Views.{nowhere, no_modifiers, DeclaredMethod, method_at}
@@ -30,12 +29,6 @@ framework_numbered number = option_map framework_method (slice_get framework_met
 unfoldable pub method_from : List Node → MethodSource → DeclaredMethod
 method_from nodes (framework_source number) = unwrap_or (framework_numbered number) no_method
 method_from nodes (declared_source node) = unwrap_or (method_at nodes node) no_method
-
--- its number, if it is the framework's
-unfoldable pub builtin_of : MethodSource → Option ℕ
-builtin_of (framework_source number) =
-    option_map (λ (m : FrameworkMethod). m.number) (slice_get framework_methods number)
-builtin_of (declared_source node) = None
 
 -- the method that a row stands for, with the class that declares it
 unfoldable pub found_method : List Node → MethodRef → FoundMethod

@@ -1,9 +1,10 @@
 //! What is declared of a method.
 
-ghost use Rattle.std.specs.Prelude.{◌≡◌, length, slice_get, option_map, unwrap_or};
+ghost use Rattle.std.specs.Prelude.{◌≡◌, List, length, slice_get, option_map, unwrap_or};
+ghost use Rattle.scj_tree.specs.declared.nodes.Node.{Node as Row};
 ghost use Rattle.scj_rules.specs.Views.{method_at, parameters_at};
 ghost use Rattle.scj_rules.specs.declared.views.Declared.{Declared as Declaration};
-ghost use Rattle.method_rows.specs.Methods.{builtin_of, found_method, no_method};
+ghost use Rattle.method_rows.specs.Methods.{found_method, no_method};
 
 use crate::framework::{count, made, nothing, parameter_of, result_written};
 use crate::refs::{MethodRef, MethodSource};
@@ -99,9 +100,9 @@ pub fn node(program: &Program, method: &MethodRef) -> NodeId
 }
 
 /// The number of a framework's method.
-#[tactic(auto, unfolding(crate::specs::Methods::builtin_of))]
+#[tactic(auto, unfolding(crate::specs::Methods::found_method, crate::specs::Methods::method_from, crate::specs::Methods::framework_numbered, scj_rules::specs::Classes::framework_method), using(crate::proofs::MethodLemmas::no_number))]
 pub fn builtin(method: &MethodRef) -> Option<MethodId>
-    ensures { result ≡ builtin_of method.now.source }
+    ensures { (nodes : List Row) → result ≡ (found_method nodes method.now).method.builtin }
 {
     match &method.source {
         MethodSource::Framework(id) => match &framework_row(*id) {

@@ -61,7 +61,7 @@ fn target(
 }
 
 /// A call of a method.
-#[tactic(auto, using(method_rows::proofs::MethodLemmas::builtin_told), unfolding(scj_rules::specs::Bindings::method_binding, scj_rules::specs::Contexts::declarations_of))]
+#[tactic(auto, unfolding(scj_rules::specs::Bindings::method_binding, scj_rules::specs::Contexts::declarations_of))]
 fn method_binding(
     at: &At<'_>,
     receiver: &Receiver,

@@ -1,6 +1,6 @@
 //! What fields, arrays and classes stand for.
 
-ghost use Rattle.std.specs.Prelude.{◌≡◌, ◌+◌, IfOk, None, option_and_then};
+ghost use Rattle.std.specs.Prelude.{◌≡◌, ◌+◌, IfOk, option_and_then};
 ghost use Rattle.scj_rules.specs.declared.typing.FoundField.{FoundField};
 ghost use Rattle.scj_rules.specs.declared.typing.Receiver.TheVariants.{Class as the_class};
 ghost use Rattle.scj_rules.specs.Contexts.{declarations_of, context};

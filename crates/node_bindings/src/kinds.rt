@@ -4,19 +4,19 @@ ghost use Rattle.std.specs.Prelude.{◌≡◌, IfOk, None, Some, option_and_then
 ghost use Rattle.scj_tree.specs.Recursion.{lookup};
 ghost use Rattle.scj_rules.specs.Classes.{superclass_in};
 ghost use Rattle.scj_rules.specs.Contexts.{declarations_of};
-ghost use Rattle.scj_tree.specs.declared.nodes.Node.TheVariants.{SimpleName as a_name};
+ghost use Rattle.scj_rules.specs.Definitions.{read};
 ghost use Rattle.scj_rules.specs.Types.{array_of, meaning};
 ghost use Rattle.scj_rules.specs.TypeRules.{written_type};
 ghost use Rattle.scj_rules.specs.Bindings.{array_class, class_binding, meaning_binding, binding_of, binding_at};
 ghost use Rattle.node_contexts.specs.Numbers.{numbers_before};
-ghost use Rattle.program_facts.specs.Meanings.{meant};
+ghost use Rattle.program_facts.specs.Meanings.{meant, simply_named};
 ghost use Rattle.node_bindings.specs.Kinds.{is_bound_kind};
 
 use crate::calls::call_binding;
 use crate::fields::{access_at, array_class, class_binding, field_binding, field_here};
 use crate::numbers::variable_binding;
 use program_facts::{At, Facts, NameMeaning};
-use scj_base::{ClassId, Memory, Name, NodeId, Pos};
+use scj_base::{ClassId, Memory, Name, NodeId};
 use scj_rules::{Binding, Ty};
 use scj_tree::NodeKind::{
     Call, Cast, Class, Constructor, Field, FieldAccess, Local, LocalWithValue, New, NewArray,
@@ -51,15 +51,14 @@ fn name_binding(
     facts: &Facts<'_>,
     numbers: &[u32],
     id: NodeId,
-    place: Pos,
     name: &Name,
 ) -> Result<Binding, Memory>
     requires numbers { numbers.now ≡ numbers_before (declarations_of facts.now) }
-    requires there { slice_get facts.now.nodes id ≡ Some (a_name place name.now) }
+    requires there { read facts.now.nodes simply_named id ≡ Some name.now }
     ensures { IfOk result (λ b. b ≡ meaning_binding (declarations_of facts.now) id
         (meaning (declarations_of facts.now) id name.now)) }
 {
-    let meaning = meaning_there(facts, id, place, name);
+    let meaning = meaning_there(facts, id, name);
     meaning_binding(facts, numbers, id, &meaning)
 }
 
@@ -87,7 +86,7 @@ fn new_array(facts: &Facts<'_>, element: NodeId) -> Result<Binding, Memory>
 }
 
 /// What a node stands for, by its kind.
-#[tactic(auto, unfolding(scj_rules::specs::Bindings::binding_of))]
+#[tactic(auto, unfolding(program_facts::specs::Meanings::simply_named, scj_rules::specs::Bindings::binding_of))]
 fn binding_of(
     facts: &Facts<'_>,
     numbers: &[u32],
@@ -108,7 +107,7 @@ fn binding_of(
         Node::Constructor { .. } | Node::SuperCall { .. } => {
             Ok(superclass_binding(facts, facts.context(id).class))
         }
-        Node::SimpleName { place, name } => name_binding(facts, numbers, id, *place, name.get()),
+        Node::SimpleName { name, .. } => name_binding(facts, numbers, id, name.get()),
         Node::FieldAccess { name, object, .. } => {
             let at = At {
                 facts,

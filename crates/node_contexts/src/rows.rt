@@ -1,11 +1,11 @@
 //! The contexts of the children of a node.
 
-ghost use Rattle.std.specs.Prelude.{◌≡◌, ◌+◌, ◌++◌, ◌∷◌, ℕ, List, [], IfOk, OnOk, None, Some, slice_get};
+ghost use Rattle.std.specs.Prelude.{◌≡◌, ◌+◌, ◌++◌, ◌∷◌, ℕ, List, [], IfOk, OnOk, Some, slice_get};
 ghost use Rattle.scj_tree.specs.declared.nodes.Node.{Node as Tree};
 ghost use Rattle.scj_tree.specs.Forest.{IsForest, joined};
 ghost use Rattle.scj_tree.specs.Parts.{ids_of};
 ghost use Rattle.scj_tree.specs.Recursion.{lookup};
-ghost use Rattle.scj_tree.specs.Shape.{children, optional};
+ghost use Rattle.scj_tree.specs.Shape.{optional};
 ghost use Rattle.scj_rules.specs.Contexts.{outermost, last_variable, number_of_class};
 ghost use Rattle.node_contexts.specs.Packed.{told};
 ghost use Rattle.node_contexts.specs.Steps.{object_in, of_child, declared_behind, last_at, last_behind, AreTold, AreSpread};
@@ -257,29 +257,23 @@ pub fn spread_children(
         Few::Nothing => Ok(()),
         Few::One(child) => {
             let base = row_at(rows, parent).shared(None, parent, node)?;
-            let family = Family {
-                base,
-                difference: Difference::Nothing,
-            };
+            let difference = Difference::Nothing;
+            let family = Family { base, difference };
             put(program, rows, &family, base.last(), child)?;
             Ok(())
         }
         Few::Two(first, second) => {
             let base = row_at(rows, parent).shared(None, parent, node)?;
-            let family = Family {
-                base,
-                difference: Difference::Nothing,
-            };
+            let difference = Difference::Nothing;
+            let family = Family { base, difference };
             let known = put(program, rows, &family, base.last(), first)?;
             put(program, rows, &family, known, second)?;
             Ok(())
         }
         Few::Listed(list) => {
             let base = row_at(rows, parent).shared(None, parent, node)?;
-            let family = Family {
-                base,
-                difference: Difference::InTurn,
-            };
+            let difference = Difference::InTurn;
+            let family = Family { base, difference };
             put_all(program, rows, &family, base.last(), list)?;
             Ok(())
         }

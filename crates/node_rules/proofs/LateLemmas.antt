@@ -1,6 +1,6 @@
 -- The variables that come late: K2 at all members is what one pass over the nodes notes.
-use Rattle.std.proofs.Common.{◌≡◌, ◌<◌, ◌≤◌, ℕ, zero, suc, nat_le, Bool, true, false, List, [], ◌∷◌, ◌++◌, length, drop, filter_map, Option, Some, None, option_map, if◌then◌else◌, refl, sym, ap, ◌∙◌, subst, arith, append-nil, ⊎_elim}
-use Rattle.std.specs.List.{Contains, cons_option}
+use Rattle.std.proofs.Common.{◌≡◌, ◌<◌, ◌≤◌, ℕ, zero, suc, nat_le, Bool, true, false, List, [], ◌∷◌, ◌++◌, length, drop, filter_map, Option, Some, None, if◌then◌else◌, refl, sym, ap, ◌∙◌, subst, arith, append-nil, ⊎_elim}
+use Rattle.std.specs.List.{Contains}
 use Rattle.std.proofs.lemmas.Bool.{true≢false, and_parts, cases_lt, eq-eqb}
 use Rattle.std.proofs.lemmas.Grind.{common_steps}
 use Rattle.std.proofs.lemmas.List.{map-append}
@@ -10,14 +10,12 @@ use Rattle.scj_base.specs.declared.findings.Found.{Found}
 use Rattle.scj_base.specs.declared.findings.Rule.TheVariants.{K2}
 use Rattle.scj_tree.specs.Recursion.{joined_below}
 use Rattle.scj_tree.proofs.RecursionLemmas.{from_joined, to_joined}
-use Rattle.scj_rules.specs.declared.views.Declared.{Declared}
-use Rattle.scj_rules.specs.Words.{found_at, broken, holds}
+use Rattle.scj_rules.specs.Words.{holds}
 use Rattle.scj_rules.specs.Views.{variable_at}
 use Rattle.scj_rules.specs.Classes.{is_callable}
 use Rattle.scj_rules.specs.Contexts.{Declarations}
 use Rattle.scj_rules.specs.LimitRules.{most_locals, is_variable_of, broken_at_declared, k2}
 use Rattle.scj_rules.proofs.ReportLemmas.{none_contained}
-use Rattle.node_views.specs.Parts.{naming}
 use Rattle.node_contexts.specs.Numbers.{owner_of, count_below, number_before}
 use Rattle.node_contexts.proofs.CountLemmas.{one, variables_are, counted, tested, owned, number_is}
 use Rattle.node_rules.specs.Findings.{FindSame}
@@ -34,13 +32,7 @@ broken_append p xs ys = simp (filter_map-append, map-append) refl
 
 broken_once : (p : Declarations) (b : Bool) (id : ℕ) →
     broken_at_all p (if b then id ∷ [] else []) ≡ (if b then broken_at_variable p.nodes id else [])
-broken_once p false id = refl
-broken_once p true id = go (variable_at p.nodes id)
-  where
-    go : (o : Option Declared) → broken_at_declared K2 (cons_option o [])
-        ≡ found_at (option_map naming o) (λ w. broken true K2 w.place)
-    go None = refl
-    go (Some d) = refl
+broken_once p b id = grind (arith, common_steps)
 
 drop_push : (k : ℕ) (xs : List ℕ) (y : ℕ) →
     drop k (xs ++ y ∷ []) ≡ drop k xs ++ (if nat_le k (length xs) then y ∷ [] else [])

@@ -1,8 +1,8 @@
 //! Classes.
 
-ghost use Rattle.std.specs.Prelude.{◌≡◌, [], filter_map, is_some, option_map, option_and_then, unwrap_or};
+ghost use Rattle.std.specs.Prelude.{◌≡◌, [], filter_map, option_map, option_and_then, unwrap_or};
 ghost use Rattle.scj_rules.specs.Definitions.{read};
-ghost use Rattle.scj_rules.specs.Views.{class_at, class_of, named_super, named_supers, WrittenClass};
+ghost use Rattle.scj_rules.specs.Views.{class_at, named_super, named_supers, WrittenClass};
 
 use crate::words::modifiers_at;
 use scj_base::{Name, NodeId, Pos};

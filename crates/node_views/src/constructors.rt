@@ -2,7 +2,7 @@
 
 ghost use Rattle.std.specs.Prelude.{◌≡◌, [], is_some, option_map, option_copied, option_and_then, unwrap_or};
 ghost use Rattle.scj_rules.specs.Definitions.{read};
-ghost use Rattle.scj_rules.specs.Views.{constructor_at, constructor_of, super_arguments, parameters_at, DeclaredConstructor};
+ghost use Rattle.scj_rules.specs.Views.{constructor_at, super_arguments, parameters_at, DeclaredConstructor};
 
 use scj_base::NodeId;
 use scj_tree::{Node, Program};

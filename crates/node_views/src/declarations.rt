@@ -1,9 +1,7 @@
 //! Parameters, locals and fields.
 
-ghost use Rattle.std.specs.Prelude.{◌≡◌, option_map};
-ghost use Rattle.scj_rules.specs.Definitions.{read};
-ghost use Rattle.scj_rules.specs.Views.{declared, variable_at, variable_of, field_at, field_of};
-ghost use Rattle.scj_rules.specs.declared.views.Declared.{Declared as Declaration};
+ghost use Rattle.std.specs.Prelude.{◌≡◌};
+ghost use Rattle.scj_rules.specs.Views.{declared, variable_at, field_at};
 
 use crate::words::{modifiers_at, type_at};
 use scj_base::{Name, NodeId, Pos};

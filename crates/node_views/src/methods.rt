@@ -2,7 +2,7 @@
 
 ghost use Rattle.std.specs.Prelude.{◌≡◌, [], option_map, option_and_then, unwrap_or};
 ghost use Rattle.scj_rules.specs.Definitions.{read};
-ghost use Rattle.scj_rules.specs.Views.{method_at, method_of, parameters_at, callable_name, DeclaredMethod};
+ghost use Rattle.scj_rules.specs.Views.{method_at, parameters_at, callable_name, DeclaredMethod};
 
 use crate::declarations::declared;
 use scj_base::{Name, NodeId};

@@ -1,7 +1,7 @@
 //! The parameters of methods and constructors.
 
-ghost use Rattle.std.specs.Prelude.{◌≡◌, ℕ, List, [], length, filter_map, slice_get, option_map, option_and_then, unwrap_or};
-ghost use Rattle.scj_rules.specs.Views.{variable_at, parameters_at, parameters_of};
+ghost use Rattle.std.specs.Prelude.{◌≡◌, length, filter_map, slice_get, option_map, option_and_then};
+ghost use Rattle.scj_rules.specs.Views.{variable_at, parameters_at};
 ghost use Rattle.scj_rules.specs.declared.views.Declared.{Declared as Declaration};
 
 use crate::declarations::variable_at;

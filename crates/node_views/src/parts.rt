@@ -2,7 +2,7 @@
 
 ghost use Rattle.std.specs.Prelude.{◌≡◌, option_map};
 ghost use Rattle.scj_rules.specs.Words.{holds};
-ghost use Rattle.scj_rules.specs.Views.{modifiers_at, modifiers_of, variable_at, variable_of, field_at, field_of, method_at, method_of, class_at, class_of, DeclaredMethod, WrittenClass};
+ghost use Rattle.scj_rules.specs.Views.{modifiers_at, variable_at, field_at, method_at, class_at, DeclaredMethod, WrittenClass};
 ghost use Rattle.scj_rules.specs.declared.views.Declared.{Declared as Declaration};
 ghost use Rattle.node_views.specs.Parts.{naming};
 

@@ -16,7 +16,7 @@ use Rattle.scj_rules.specs.Contexts.{Declarations, declarations_of}
 use Rattle.scj_rules.specs.Layout.{slots, fields_with_literal, field_literal, literal_written}
 use Rattle.scj_rules.specs.declared.views.Declared.{Declared}
 use Rattle.class_rows.specs.Tables.{members_in}
-use Rattle.program_facts.proofs.VariableLemmas.{chain_here}
+use Rattle.class_rows.proofs.WalkLemmas.{chain_here}
 use Rattle.scope_tree.proofs.TreeLemmas.{table_tells}
 use Rattle.scope_tree.proofs.UserLemmas.{framework_first}
 use Rattle.object_layout.specs.Fields.{kind_of_field, kind_at, is_instance_at}

@@ -15,7 +15,7 @@ use scj_rules::Body;
 use scj_tree::Program;
 
 /// The body of a method that is found.
-#[tactic(auto, using(method_rows::proofs::MethodLemmas::builtin_told), unfolding(scj_rules::specs::Bodies::body_of_method))]
+#[tactic(auto, unfolding(scj_rules::specs::Bodies::body_of_method))]
 fn body_of_method(program: &Program, method: &MethodRef) -> Option<Body>
     ensures { result ≡ body_of_method (found_method program.now.nodes method.now) }
 {

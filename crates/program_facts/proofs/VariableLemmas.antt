@@ -1,23 +1,9 @@
--- Steps on chains, and the variables that are known at a node, from the last one on.
-use Rattle.std.proofs.Common.{◌≡◌, ℕ, zero, suc, ◌-◌, ◌<◌, ◌≤◌, true, false, List, [], ◌∷◌, length, find, refl, sym, ap, ◌∙◌, arith, Option, Some, None, cond}
+-- The variables that are known at a node, from the last one on.
+use Rattle.std.proofs.Common.{◌≡◌, ℕ, ◌-◌, ◌<◌, ◌≤◌, true, false, List, length, find, refl, sym, ap, ◌∙◌, arith, Option, Some, None, cond}
 use Rattle.scj_tree.specs.Forest.{Forest}
-use Rattle.scj_rules.specs.Words.{chain}
 use Rattle.scj_rules.specs.Contexts.{declarations_of, variable_named, known_variables, variable_before, context}
-use Rattle.program_facts.specs.Tables.{chain_from}
+use Rattle.class_rows.proofs.WalkLemmas.{chain_here, chain_ended}
 use Rattle.program_facts.specs.Told.{declares, seek}
-
--- one step on a chain
-pub chain_here : (next : ℕ → Option ℕ) (left a : ℕ) → 0 < left → chain next left a ≡ a
-    ∷ chain_from next (left - 1) (next a)
-unfolding chain
-chain_here next zero a h = absurd (omega (arith, h))
-chain_here next (suc left) a h = grind (arith)
-
-pub chain_ended : (next : ℕ → Option ℕ) (left : ℕ) (o : Option ℕ) → left ≤ 0 → chain_from next left o ≡ []
-unfolding chain
-chain_ended next zero None h = refl
-chain_ended next zero (Some a) h = refl
-chain_ended next (suc left) o h = absurd (omega (arith, h))
 
 module _ (forest : Forest) (name : List ℕ) where
   pub first : (id : ℕ) → variable_named (declarations_of forest) id name ≡ seek forest name (length forest.nodes)

@@ -1,6 +1,5 @@
 -- What simple names, accesses and calls stand for, by short rows.
-use Rattle.std.specs.Prelude.{ℕ, ◌≡◌, List, Option, Some, None, slice_get}
-use Rattle.scj_base.specs.declared.places.Pos.{Pos}
+use Rattle.std.specs.Prelude.{ℕ, ◌≡◌, List, Option, Some, None}
 use Rattle.scj_tree.specs.declared.nodes.Node.{Node}
 use Rattle.scj_tree.specs.declared.nodes.Node.TheVariants.{SimpleName, FieldAccess, Call}
 use Rattle.scj_tree.specs.Forest.{Forest}
@@ -24,6 +23,11 @@ meant nodes (field_row field) = a_field (found_field nodes field)
 meant nodes (class_row class) = a_class class
 meant nodes no_row = nothing
 
+-- the name of a simple name
+unfoldable pub simply_named : Node → Option (List ℕ)
+simply_named (SimpleName place name) = Some name
+simply_named _ = None
+
 -- the name of an access or a call
 unfoldable pub member_named : Node → Option (List ℕ)
 member_named (FieldAccess place name object) = Some name
@@ -40,8 +44,7 @@ IsMember forest name _ = Unit
 
 -- the row tells what the node's name stands for, or which field or method of the node's name the class has
 unfoldable pub IsMeaningAt : Forest → ℕ → NodeMeaning → Type 0
-IsMeaningAt forest id (of_name row) =
-    (place : Pos) (name : List ℕ) → slice_get forest.nodes id ≡ Some (SimpleName place name) →
+IsMeaningAt forest id (of_name row) = (name : List ℕ) → read forest.nodes simply_named id ≡ Some name →
     meant forest.nodes row ≡ meaning (declarations_of forest) id name
 IsMeaningAt forest id of_other = Unit
 IsMeaningAt forest id row = (name : List ℕ) → read forest.nodes member_named id ≡ Some name → IsMember forest name row

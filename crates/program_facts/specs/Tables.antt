@@ -1,13 +1,13 @@
 -- What the tables of a program hold: the scopes by their names, what is said of classes, where methods run and fields
 -- lie, and the scopes of variables.
-use Rattle.std.specs.Prelude.{◌≡◌, ◌<◌, ◌^◌, ℕ, List, [], length, slice_get, Option, Some, None, is_some, unwrap_or, if◌then◌else◌}
+use Rattle.std.specs.Prelude.{◌≡◌, ◌<◌, ◌^◌, ℕ, List, length, slice_get, Option, Some, None, is_some, unwrap_or, if◌then◌else◌}
 use Rattle.std.specs.BTreeMap.{BTreeMap, get}
 use Rattle.std.specs.Cmp.Lexicographic.{slice_cmp}
 use Rattle.std.specs.Ordering.{nat_cmp}
 use Rattle.scj_base.specs.Bytes.{is_same}
 use Rattle.scj_tree.specs.Forest.{Forest}
 use Rattle.scj_tree.specs.Recursion.{listed}
-use Rattle.scj_rules.specs.Words.{chain, ◌>>=◌}
+use Rattle.scj_rules.specs.Words.{◌>>=◌}
 use Rattle.scj_rules.specs.declared.contexts.Context.{Context}
 use Rattle.scj_rules.specs.declared.scopes.Definition.{Definition}
 use Rattle.scj_rules.specs.declared.typing.Scope.{Scope}
@@ -70,11 +70,6 @@ pub record IsWholeTree (forest : Forest) (tree : ScopeTree) : Type 0 where
   pub marks : tree.implied.items ≡ listed (is_implied_immortal (declarations_of forest))
       (length (declarations_of forest).classes)
   pub rows : tree.rows.items ≡ listed (row_of (declarations_of forest)) (length (declarations_of forest).classes)
-
--- a chain from a number that may be missing
-abbrev pub chain_from : (ℕ → Option ℕ) → ℕ → Option ℕ → List ℕ
-chain_from next bound None = []
-chain_from next bound (Some a) = chain next bound a
 
 -- ---- members and variables
 

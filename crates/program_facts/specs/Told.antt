@@ -10,8 +10,8 @@ use Rattle.scj_rules.specs.Views.{variable_at}
 use Rattle.scj_rules.specs.Contexts.{Declarations, declarations_of, variable_before}
 use Rattle.scj_rules.specs.TypeRules.{Types}
 use Rattle.scj_rules.specs.UseRules.{Scopes}
+use Rattle.class_rows.specs.Walks.{chain_from}
 use Rattle.program_facts.specs.declared.told.At.{At}
-use Rattle.program_facts.specs.Tables.{chain_from}
 
 abbrev pub declared : At → Declarations
 declared at = declarations_of at.facts.now

@@ -101,30 +101,17 @@ module _ (at : At) (place : Pos) (name : List ℕ) (object : Option ℕ) where
   framework_call f number (o ∷ r ∷ []) h k = rw (← h, ← k) refl
   framework_call f number _ h k = rw (← h, ← k) refl
 
-  abbrev scope_there : List ℕ → Option Scope
-  scope_there ids = scope_of (declared at) (types at) (scopes at) at.id (Call place name object ids)
-
   abbrev of_method : FoundMethod → Option Scope
   of_method =
       scope_of_call (declared at) (receiver_scope (declared at) (scopes at) at.id object)
       (current_at (declared at) at.id)
 
-  scope_is : (o : Option FoundMethod) (ids : List ℕ) →
-      o ≡ method_called (declared at) (types at) at.id object name → (o >>= of_method) ≡ scope_there ids
+  pub scope_there : (ids : List ℕ) → scope_of (declared at) (types at) (scopes at) at.id (Call place name object ids)
+      ≡ (method_called (declared at) (types at) at.id object name >>= of_method)
   unfolding scope_of
-  scope_is o ids h =
-      ap (λ (f : Option FoundMethod). f >>= of_method) h ∙ joined (call_receiver (declared at) (types at) at.id object)
+  scope_there ids = go (call_receiver (declared at) (types at) at.id object)
     where
-      joined : (r : Option Receiver)
-          → ((r >>= (λ r. called_method (declared at) r name)) >>= of_method)
-          ≡ (r >>= (λ r. called_method (declared at) r name >>= of_method))
-      joined None = refl
-      joined (Some r) = refl
-
-  pub no_scope_called : (ids : List ℕ) →
-      None ≡ method_called (declared at) (types at) at.id object name → None ≡ scope_there ids
-  no_scope_called ids h = scope_is None ids h
-
-  pub scope_called : (f : FoundMethod) (ids : List ℕ) →
-      Some f ≡ method_called (declared at) (types at) at.id object name → of_method f ≡ scope_there ids
-  scope_called f ids h = scope_is (Some f) ids h
+      go : (r : Option Receiver) → (r >>= (λ r. called_method (declared at) r name >>= of_method))
+          ≡ ((r >>= (λ r. called_method (declared at) r name)) >>= of_method)
+      go None = refl
+      go (Some r) = refl

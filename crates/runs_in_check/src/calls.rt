@@ -148,7 +148,6 @@ fn note_user_method(
 }
 
 /// The user's `run` of a class.
-#[tactic(auto, using(method_rows::proofs::MethodLemmas::builtin_told))]
 fn run_of(facts: &Facts<'_>, class: ClassId) -> Option<MethodRef>
     ensures { option_map (found_method facts.now.nodes) result ≡ run_of (declarations_of facts.now) class }
 {
@@ -255,7 +254,7 @@ fn method_called(at: &At<'_>, name: &Name, object: &Option<NodeId>) -> Option<Me
 
 /// Notes what is broken at a call, E2 and E3 of a user's method and E7 and E8 of one of the framework's, and tells the
 /// scope of what the method gives.
-#[tactic(auto, using(crate::proofs::CallLemmas::no_call, crate::proofs::CallLemmas::user_call, crate::proofs::CallLemmas::framework_call, crate::proofs::CallLemmas::no_scope_called, crate::proofs::CallLemmas::scope_called, method_rows::proofs::MethodLemmas::builtin_told))]
+#[tactic(auto, using(crate::proofs::CallLemmas::no_call, crate::proofs::CallLemmas::user_call, crate::proofs::CallLemmas::framework_call, crate::proofs::CallLemmas::scope_there))]
 pub fn note_call(
     found: &mut Vec<Found>,
     at: &At<'_>,

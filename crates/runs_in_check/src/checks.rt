@@ -32,7 +32,7 @@ use std::alloc::Global;
 use type_words::is_reference;
 
 /// Notes what is broken at a node, and tells its scope.
-#[tactic(auto, unfolding(scj_rules::specs::AnnotationRules::annotation_breaks, scj_rules::specs::AnnotationRules::a1, scj_rules::specs::AnnotationRules::a2, scj_rules::specs::AnnotationRules::a3_to_a5, scj_rules::specs::AnnotationRules::a6_to_a8, scj_rules::specs::AnnotationRules::a9, scj_rules::specs::AnnotationRules::scoped_declaration_at, scj_rules::specs::UseRules::scope_of, scj_rules::specs::UseRules::use_breaks, scj_rules::specs::UseRules::e1, scj_rules::specs::UseRules::e2, scj_rules::specs::UseRules::e3, scj_rules::specs::UseRules::e4_and_e5, scj_rules::specs::UseRules::e6, scj_rules::specs::UseRules::e7, scj_rules::specs::UseRules::e8, scj_rules::specs::UseRules::e9, scj_rules::specs::UseRules::e10))]
+#[tactic(auto, unfolding(program_facts::specs::Meanings::simply_named, scj_rules::specs::AnnotationRules::annotation_breaks, scj_rules::specs::AnnotationRules::a1, scj_rules::specs::AnnotationRules::a2, scj_rules::specs::AnnotationRules::a3_to_a5, scj_rules::specs::AnnotationRules::a6_to_a8, scj_rules::specs::AnnotationRules::a9, scj_rules::specs::AnnotationRules::scoped_declaration_at, scj_rules::specs::UseRules::scope_of, scj_rules::specs::UseRules::use_breaks, scj_rules::specs::UseRules::e1, scj_rules::specs::UseRules::e2, scj_rules::specs::UseRules::e3, scj_rules::specs::UseRules::e4_and_e5, scj_rules::specs::UseRules::e6, scj_rules::specs::UseRules::e7, scj_rules::specs::UseRules::e8, scj_rules::specs::UseRules::e9, scj_rules::specs::UseRules::e10))]
 fn judge(found: &mut Vec<Found>, at: &At<'_>, node: &Node) -> Result<Option<Scope>, Memory>
     requires { slice_get at.now.facts.now.nodes at.now.id ≡ Some node.now }
     ensures scope { IfOk result (λ scope. scope
@@ -43,7 +43,7 @@ fn judge(found: &mut Vec<Found>, at: &At<'_>, node: &Node) -> Result<Option<Scop
 {
     let facts = at.facts;
     match node {
-        Node::SimpleName { place, name } => Ok(scope_of_name(at, *place, name.get())),
+        Node::SimpleName { name, .. } => Ok(scope_of_name(at, name.get())),
         Node::Assign {
             place,
             target,

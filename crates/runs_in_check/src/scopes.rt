@@ -1,7 +1,7 @@
 //! The static scopes of expressions, kind by kind, and scopes beside each other, where some may be missing.
 
-ghost use Rattle.std.specs.Prelude.{◌≡◌, Some, not, option_and_then, slice_get};
-ghost use Rattle.scj_tree.specs.declared.nodes.Node.TheVariants.{SimpleName};
+ghost use Rattle.std.specs.Prelude.{◌≡◌, Some, not, option_and_then};
+ghost use Rattle.scj_rules.specs.Definitions.{read};
 ghost use Rattle.scj_rules.specs.Words.{holds};
 ghost use Rattle.scj_rules.specs.Contexts.{declarations_of};
 ghost use Rattle.scj_rules.specs.Types.{meaning, receiver, accessed_field};
@@ -9,13 +9,13 @@ ghost use Rattle.scj_rules.specs.StaticScopes.{are_same_scope};
 ghost use Rattle.scj_rules.specs.UseRules.{current_at, misfit_scope, receiver_scope, scope_of_field, scope_of_meaning, scope_of_new, scope_in_class, scope_of_call, scope_of_element};
 ghost use Rattle.class_rows.specs.Fields.{found_field};
 ghost use Rattle.method_rows.specs.Methods.{found_method};
-ghost use Rattle.program_facts.specs.Meanings.{meant};
+ghost use Rattle.program_facts.specs.Meanings.{simply_named};
 ghost use Rattle.program_facts.specs.Told.{declared, types, scopes};
 
 use class_rows::FieldRef;
 use method_rows::MethodRef;
 use program_facts::{At, Facts, NameMeaning};
-use scj_base::{ClassId, Name, NodeId, Pos};
+use scj_base::{ClassId, Name, NodeId};
 use scj_rules::{Scope, Ty};
 use scope_tree::scopes::class_scope;
 use static_scopes::{
@@ -46,10 +46,9 @@ pub fn is_other(scope: &Option<Scope>, other: &Scope) -> bool
 pub fn receiver_scope(at: &At<'_>, object: &Option<NodeId>) -> Option<Scope>
     ensures { result ≡ receiver_scope (declared at.now) (scopes at.now) at.now.id object.now }
 {
-    let facts = at.facts;
     match object {
         Some(object) => at.scope_of(*object),
-        None => this_at(facts, at.id),
+        None => this_at(at.facts, at.id),
     }
 }
 
@@ -80,12 +79,12 @@ pub fn scope_of_new(facts: &Facts<'_>, id: NodeId, class: ClassId) -> Option<Sco
 
 /// The scope of a simple name.
 #[tactic(auto, unfolding(scj_rules::specs::UseRules::scope_of_meaning, program_facts::specs::Meanings::meant))]
-pub fn scope_of_name(at: &At<'_>, place: Pos, name: &Name) -> Option<Scope>
-    requires { slice_get at.now.facts.now.nodes at.now.id ≡ Some (SimpleName place name.now) }
+pub fn scope_of_name(at: &At<'_>, name: &Name) -> Option<Scope>
+    requires { read at.now.facts.now.nodes simply_named at.now.id ≡ Some name.now }
     ensures { let p = declared at.now in result ≡ scope_of_meaning p at.now.id (meaning p at.now.id name.now) }
 {
     let facts = at.facts;
-    match &names::meaning_there(facts, at.id, place, name) {
+    match &names::meaning_there(facts, at.id, name) {
         NameMeaning::Variable(variable) => variable_scope(facts, *variable),
         NameMeaning::Field(field) => scope_of_field(facts, &this_at(facts, at.id), field),
         NameMeaning::Class(_) | NameMeaning::Nothing => None,
@@ -97,12 +96,11 @@ pub fn scope_of_access(at: &At<'_>, name: &Name, object: NodeId) -> Option<Scope
     ensures { let p = declared at.now in result ≡ option_and_then (λ r. option_and_then
         (scope_of_field p (scopes at.now object)) (accessed_field p r name.now)) (receiver p (types at.now) object) }
 {
-    let facts = at.facts;
     // The proof wants the type named that a receiver may hold.
     let _types: &[Option<Ty>] = at.types;
     let receiver = names::receiver(at, object)?;
     let field = names::field_accessed(at, &receiver, name)?;
-    scope_of_field(facts, &at.scope_of(object), &field)
+    scope_of_field(at.facts, &at.scope_of(object), &field)
 }
 
 /// The scope of what a method gives that is called here.

@@ -28,7 +28,7 @@ fn one_or_none<'a>(child: Option<NodeId>) -> Parts<'a>
     }
 }
 
-/// A child between two that may be missing, and mostly are.
+/// A child between two that may be missing.
 fn between<'a>(first: Option<NodeId>, second: NodeId, third: Option<NodeId>) -> Parts<'a>
     ensures { ids_of result ≡ optional first ++ (second ∷ optional third) }
 {

@@ -5,8 +5,9 @@ use Rattle.std.proofs.lemmas.Option.{get_or_from_slice_get, slice_get_within}
 use Rattle.scj_tree.specs.Recursion.{lookup, listed}
 use Rattle.scj_tree.proofs.RecursionLemmas.{listed-at, length-listed}
 use Rattle.scj_rules.specs.Words.{is_among}
-use Rattle.program_facts.specs.Tables.{AreRowsOf, chain_from}
-use Rattle.program_facts.proofs.VariableLemmas.{chain_here}
+use Rattle.class_rows.specs.Walks.{chain_from}
+use Rattle.class_rows.proofs.WalkLemmas.{chain_here}
+use Rattle.program_facts.specs.Tables.{AreRowsOf}
 
 -- another number than the first is looked for behind it
 pub passed_here : (next : ℕ → Option ℕ) (a scope left : ℕ) → 0 < left → false ≡ (a == scope)

@@ -7,7 +7,7 @@ ghost use Rattle.scj_rules.specs.Classes.{superclasses};
 ghost use Rattle.scj_rules.specs.Contexts.{declarations_of};
 ghost use Rattle.scj_rules.specs.Phases.{BreaksScopeRules, at_class, scope_phase};
 ghost use Rattle.scj_rules.specs.Report.{IsReport};
-ghost use Rattle.scj_rules.specs.ScopeRules.{definition_breaks, definition_in, has_wrong_parent, is_cyclic_scope, is_defined_already, is_handler, is_wrong_class, lacks_scope, lies_in_parent, makes_scope, misfits_parent, needs_scope, s1, s2, s3, s4, s5, s6, scope_breaks, scope_written_on_chain, user_class_in};
+ghost use Rattle.scj_rules.specs.ScopeRules.{definition_breaks, definition_in, has_wrong_parent, is_defined_already, is_handler, is_wrong_class, lacks_scope, lies_in_parent, makes_scope, misfits_parent, needs_scope, s1, s2, s3, s4, s5, s6, scope_breaks, scope_written_on_chain, user_class_in};
 
 use crate::names::{definition_in, is_reserved, modifiers_in, place_in};
 use crate::scopes::{is_cyclic, scope_written_in};
@@ -74,7 +74,7 @@ fn is_wrong_class(facts: &Facts, class: ClassId) -> bool
 }
 
 /// The scope that a class of the chain writes for its instances, the first that does.
-#[tactic(auto, using(class_rows::proofs::WalkLemmas::along_found, class_rows::proofs::WalkLemmas::along_next, class_rows::proofs::WalkLemmas::along_end), unfolding(scj_rules::specs::ScopeRules::scope_written_on_chain))]
+#[tactic(auto, using(class_rows::proofs::WalkLemmas::along_front, class_rows::proofs::WalkLemmas::along_end), unfolding(scj_rules::specs::ScopeRules::scope_written_on_chain))]
 fn scope_written_on_chain(facts: &Facts, class: ClassId) -> Option<Written>
     ensures { result ≡ scope_written_on_chain (declarations_of facts.now) class }
 {

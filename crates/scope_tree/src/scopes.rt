@@ -7,7 +7,7 @@ ghost use Rattle.scj_rules.specs.Words.{is_among};
 ghost use Rattle.scj_rules.specs.Contexts.{declarations_of};
 ghost use Rattle.scj_rules.specs.ScopeRules.{defined_by, defined_by_chain, is_cyclic_scope, is_outer, parent_scope, scope_written_in};
 ghost use Rattle.scj_rules.specs.StaticScopes.{class_scope, is_implied_immortal, has_unknown_scope, is_not_scope, implied_scopes, differs_from_above, scope_of_right_class, class_scope_under, class_scope_on};
-ghost use Rattle.program_facts.specs.Tables.{chain_from};
+ghost use Rattle.class_rows.specs.Walks.{chain_from};
 
 use crate::names::{definition_in, modifiers_in};
 use class_rows::chains::Chain;
@@ -34,7 +34,7 @@ fn defined_by(facts: &Facts, class: ClassId) -> Option<ScopeId>
 }
 
 /// The scope that the chain of a class defines, the first class that does; found anew.
-#[tactic(auto, using(class_rows::proofs::WalkLemmas::along_found, class_rows::proofs::WalkLemmas::along_next, class_rows::proofs::WalkLemmas::along_end), unfolding(scj_rules::specs::ScopeRules::defined_by_chain))]
+#[tactic(auto, using(class_rows::proofs::WalkLemmas::along_front, class_rows::proofs::WalkLemmas::along_end), unfolding(scj_rules::specs::ScopeRules::defined_by_chain))]
 pub(crate) fn find_chained(facts: &Facts, class: ClassId) -> Option<ScopeId>
     ensures { result ≡ defined_by_chain (declarations_of facts.now) class }
 {
@@ -105,7 +105,7 @@ pub fn is_implied_immortal(facts: &Facts, class: ClassId) -> bool
 }
 
 /// Whether a scope stands on a chain of parents.
-#[tactic(auto, using(program_facts::proofs::VariableLemmas::chain_here, crate::proofs::TreeLemmas::passed_here, program_facts::proofs::VariableLemmas::chain_ended))]
+#[tactic(auto, using(class_rows::proofs::WalkLemmas::chain_here, crate::proofs::TreeLemmas::passed_here, class_rows::proofs::WalkLemmas::chain_ended))]
 fn is_reached(facts: &Facts, a: ScopeId, from: Option<ScopeId>) -> bool
     ensures { let p = declarations_of facts.now in
         result ≡ is_among a (chain_from (parent_scope p) (length p.classes) from) }

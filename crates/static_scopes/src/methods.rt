@@ -1,6 +1,6 @@
 //! Where methods run, and the scopes that the framework fixes for its methods.
 
-ghost use Rattle.std.specs.Prelude.{◌≡◌, true, Option, Some, None, option_map, IfSome};
+ghost use Rattle.std.specs.Prelude.{◌≡◌, true, Some, None, option_map, IfSome};
 ghost use Rattle.scj_rules.specs.Views.{method_at, no_modifiers};
 ghost use Rattle.scj_rules.specs.Contexts.{declarations_of};
 ghost use Rattle.scj_rules.specs.StaticScopes.{fixed_for, has_unknown_runs_in, has_other_runs_in, free_runs_in, runs_in};
@@ -18,7 +18,7 @@ use scj_tree::{Node, Program};
 use scope_tree::scopes::{class_scope, defined_by_chain};
 
 /// Where a method of the name runs in a class, if the framework fixes that.
-#[tactic(auto, using(method_rows::proofs::MethodLemmas::builtin_told), unfolding(scj_rules::specs::StaticScopes::fixed_for, scj_rules::specs::StaticScopes::fixed_runs_in, scj_rules::specs::StaticScopes::fixed_scope))]
+#[tactic(auto, unfolding(scj_rules::specs::StaticScopes::fixed_for, scj_rules::specs::StaticScopes::fixed_runs_in, scj_rules::specs::StaticScopes::fixed_scope))]
 fn fixed_for(facts: &Facts, class: ClassId, name: &Name) -> Option<Scope>
     ensures { result ≡ fixed_for (declarations_of facts.now) class name.now }
 {

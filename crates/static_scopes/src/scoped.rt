@@ -8,7 +8,7 @@ ghost use Rattle.scj_rules.specs.Contexts.{declarations_of};
 ghost use Rattle.scj_rules.specs.StaticScopes.{runs_in, current_in, declaration_scope, scoped_variable, parameter_scope, field_scope};
 ghost use Rattle.scj_rules.specs.AnnotationRules.{scoped_variable_at, result_scope};
 ghost use Rattle.scj_rules.specs.UseRules.{this_at, current_at, variable_scope_at};
-ghost use Rattle.program_facts.specs.Tables.{scope_of_member, run_at, AreRunRows, AreRuns, AreVariables};
+ghost use Rattle.program_facts.specs.Tables.{run_at, AreRunRows, AreRuns, AreVariables};
 
 use crate::methods::{find_runs_in, method_at};
 use crate::things::{declaration_scope, find_field_scope, has_no_scope, scoped_variable, this_in};

@@ -1,20 +1,21 @@
 -- The chain of Object and of a class right under another one, and what a class has of those above.
-use Rattle.std.proofs.Common.{◌≡◌, ℕ, zero, suc, ◌<◌, ◌≤◌, List, [], ◌∷◌, length, slice_get, Option, None, Some, ap, ◌∙◌, arith, option_and_then, ◌+◌, filter, filter_map, sym}
+use Rattle.std.proofs.Common.{◌≡◌, ℕ, zero, suc, ◌<◌, List, [], ◌∷◌, length, slice_get, Option, None, Some, ap, ◌∙◌, arith, option_and_then, ◌+◌, filter, sym, filter_map}
 use Rattle.std.proofs.lemmas.List.{length-map}
 use Rattle.std.proofs.lemmas.Grind.{common_steps}
 use Rattle.scj_builtins.specs.Framework.{framework_classes, object, object_name, class_row}
 use Rattle.scj_builtins.specs.declared.kinds.ClassKind.TheVariants.{Concrete as concrete_class}
 use Rattle.scj_tree.specs.Forest.{Forest}
 use Rattle.scj_rules.specs.Words.{chain, chain_behind}
-use Rattle.scj_rules.specs.Classes.{ClassRow, all_interfaces, classes_above, framework_row, framework_rows_from, interfaces_in, superclass_in, superclasses, written_rows, first_user_class, instance_fields, own_instance_fields}
+use Rattle.scj_rules.specs.Classes.{ClassRow, classes_above, framework_row, framework_rows_from, superclass_in, superclasses, written_rows, first_user_class, instance_fields, own_instance_fields}
 use Rattle.scj_rules.specs.Contexts.{declarations_of}
 use Rattle.scj_rules.proofs.WithinLemmas.{user_count}
 use Rattle.scj_rules.specs.Views.{field_at}
 use Rattle.class_rows.specs.Tables.{is_good_header, class_written, members_in}
 use Rattle.class_rows.proofs.RowLemmas.{class_get, counted_is}
 use Rattle.class_rows.proofs.OwnLemmas.{fields_at}
+use Rattle.class_rows.proofs.WalkLemmas.{chain_alone, next_chain}
 use Rattle.class_rows.proofs.SoundLemmas.{framework_there, row_sound}
-use Rattle.symbol_table.specs.Scopes.{IsNext, rows_of, IsPath, IsUnder, classes_of, is_instance, nearest_level, object_level, root_under}
+use Rattle.symbol_table.specs.Scopes.{IsNext, rows_of, IsPath, IsUnder, classes_of, is_instance, nearest_level, object_level}
 use Rattle.symbol_table.specs.declared.levels.Level.{Level}
 
 -- ---- Object
@@ -33,44 +34,7 @@ module _ (forest : Forest) where
   no_superclass = ap (λ (o : Option ClassRow). option_and_then (λ (row : ClassRow). row.superclass) o) object_at
 
   pub object_chain : superclasses (rows_of forest) object ≡ object ∷ []
-  unfolding superclasses chain
-  object_chain = go (length (rows_of forest)) (omega (arith, user_count forest))
-    where
-      go : (n : ℕ) → 0 < n → chain (superclass_in (rows_of forest)) n object ≡ object ∷ []
-      go zero h = absurd (omega (arith, h))
-      go (suc n) h = grind (arith, common_steps, no_superclass)
-
-  pub none_above : classes_above (rows_of forest) object ≡ []
-  unfolding classes_above chain_behind
-  none_above = grind (arith, common_steps, no_superclass)
-
-  pub object_bare : all_interfaces (rows_of forest) object ≡ []
-  unfolding all_interfaces framework_row
-  object_bare = grind (arith, common_steps, object_chain, object_at)
-
--- ---- a class right under another one
-
-chain_short : (next : ℕ → Option ℕ) (m a : ℕ) → length (chain next (suc m) a) ≤ m →
-    chain next m a ≡ chain next (suc m) a
-unfolding chain
-chain_short next zero a h = absurd (omega (arith, h))
-chain_short next (suc m) a h = grind (arith, common_steps, chain_short next m)
-
-module _ (rows : List ClassRow) (above count class : ℕ) (n : IsNext rows above count class) where
-  pub next_chain : length (superclasses rows above) ≡ count → superclasses rows class ≡ class ∷ superclasses rows above
-  unfolding superclasses chain
-  next_chain d = go (length rows) n.shorter d
-    where
-      go : (m : ℕ) → count < m → length (chain (superclass_in rows) m above) ≡ count →
-          chain (superclass_in rows) m class ≡ class ∷ chain (superclass_in rows) m above
-      go zero h k = absurd (omega (arith, h))
-      go (suc m) h k =
-          let short = chain_short (superclass_in rows) m above (omega (arith, h, k)) in
-          grind (arith, common_steps, n.superclass, short)
-
-  pub next_above : classes_above rows class ≡ superclasses rows above
-  unfolding classes_above chain_behind superclasses
-  next_above = grind (arith, common_steps, n.superclass)
+  object_chain = chain_alone forest object (sym no_superclass)
 
 -- the instance fields that a class declares
 pub fields_of_class : (forest : Forest) (class : ℕ) →
@@ -90,7 +54,7 @@ no_members forest class h =
 -- ---- a class with those above it
 
 pub object_under : (forest : Forest) → IsUnder (rows_of forest) object_level []
-unfolding instance_fields
+unfolding instance_fields classes_above chain_behind
 object_under forest =
     let rows = rows_of forest in
     let members = no_members forest object (omega arith) in
@@ -98,10 +62,8 @@ object_under forest =
     grind (arith, common_steps, fields_of_class forest object, members) in
     record {
       chain = object_chain forest;
-      behind = none_above forest;
+      behind = grind (arith, common_steps, no_superclass forest);
       split = grind (arith, common_steps, object_chain forest);
-      root = grind (arith, common_steps, object_chain forest);
-      bare = object_bare forest;
       count = grind (arith, common_steps, object_chain forest, none);
     }
 
@@ -115,19 +77,16 @@ module _ (forest : Forest) (above level : Level) (behind : List ℕ) (count : �
   those = superclasses rows above.class
 
   chain_is : superclasses rows level.class ≡ level.class ∷ those
-  chain_is = next_chain rows above.class count level.class n (ap length u.chain ∙ sym d)
+  chain_is = next_chain rows level.class above.class n.superclass (omega (arith, n.shorter, ap length u.chain, d))
 
-  level_is : Some level.root ≡ root_under above (interfaces_in rows level.class) level.class →
-      level.field_count ≡ length (own_instance_fields rows level.class) + above.field_count →
+  level_is : level.field_count ≡ length (own_instance_fields rows level.class) + above.field_count →
       IsUnder rows level (above.class ∷ behind)
-  unfolding instance_fields all_interfaces
-  level_is r c =
+  unfolding instance_fields classes_above chain_behind superclasses
+  level_is c =
       record {
         chain = chain_is ∙ ap (λ (xs : List ℕ). level.class ∷ xs) u.chain;
-        behind = next_above rows above.class count level.class n ∙ u.chain;
-        split = grind (arith, common_steps, r, chain_is, u.split, object_chain forest);
-        root = grind (arith, common_steps, r, chain_is, u.root, object_chain forest);
-        bare = grind (arith, common_steps, r, chain_is, u.bare, object_bare forest);
+        behind = grind (arith, common_steps, n.superclass, u.chain);
+        split = grind (arith, common_steps, n.framework, chain_is, u.split, object_chain forest);
         count = grind (arith, common_steps, c, u.count, chain_is);
       }
 
@@ -140,11 +99,10 @@ module _ (forest : Forest) (level : Level) where
   pub next_is : (path : List Level) (above : Level) (count : ℕ) → Some above ≡ nearest_level path →
       IsPath (rows_of forest) path → count ≡ length path →
       IsNext (rows_of forest) above.class count level.class
-      → Some level.root ≡ root_under above (interfaces_in (rows_of forest) level.class) level.class
       → level.field_count ≡ length (own_instance_fields (rows_of forest) level.class) + above.field_count →
       IsUnder (rows_of forest) level (classes_of path)
-  next_is [] above count e p d n r c = cc
-  next_is (l ∷ path) above count e p d n r c =
+  next_is [] above count e p d n c = cc
+  next_is (l ∷ path) above count e p d n c =
       let same : l ≡ above = cc in
       rw same (level_is forest above level (classes_of path) count (rw same at p.0) n
-      (omega (arith, d, length-map path (λ (x : Level). x.class))) r c)
+      (omega (arith, d, length-map path (λ (x : Level). x.class))) c)

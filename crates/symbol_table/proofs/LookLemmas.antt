@@ -6,7 +6,7 @@ use Rattle.std.proofs.lemmas.Grind.{common_steps}
 use Rattle.std.proofs.lemmas.List.Folds.{find-append}
 use Rattle.scj_base.specs.Bytes.{is_same}
 use Rattle.scj_tree.specs.Forest.{Forest}
-use Rattle.scj_rules.specs.Words.{along, holds, or_else, chain_behind, is_among}
+use Rattle.scj_rules.specs.Words.{along, holds, or_else, chain_behind}
 use Rattle.scj_rules.specs.Classes.{first_user_class, is_user_class, own_field, own_method, ClassRow, FoundMethod, all_interfaces, classes_above, field_named, framework_row_named, method_above, method_named, superclass_in, superclasses}
 use Rattle.scj_rules.specs.Contexts.{declarations_of}
 use Rattle.class_rows.specs.declared.members.MemberKind.{MemberKind}
@@ -15,18 +15,14 @@ use Rattle.class_rows.specs.declared.fields.FieldRef.{FieldRef as Member}
 use Rattle.class_rows.specs.Fields.{found_field}
 use Rattle.class_rows.specs.Members.{first_named, name_at}
 use Rattle.class_rows.specs.Tables.{members_in}
+use Rattle.class_rows.specs.Walks.{is_framework}
 use Rattle.class_rows.proofs.OwnLemmas.{declared_row_is, own_field_row}
 use Rattle.class_rows.proofs.InterfaceLemmas.{framework_append}
-use Rattle.class_rows.proofs.WalkLemmas.{along_append}
+use Rattle.class_rows.proofs.WalkLemmas.{along_append, along_front}
 use Rattle.symbol_table.specs.Names.{found_at, kept_under, member, members_of, members_on, nearest_named}
-use Rattle.symbol_table.specs.Scopes.{rows_of, IsScope, classes_of, is_framework}
+use Rattle.symbol_table.specs.Scopes.{rows_of, IsScope, classes_of}
 use Rattle.symbol_table.proofs.LevelLemmas.{no_members}
 use Rattle.symbol_table.specs.declared.scopes.Scope.{Scope}
-
-pub along_front : {B : Type 0} (f : ℕ → Option B) (x : ℕ) (xs : List ℕ) →
-    along f (x ∷ xs) ≡ or_else (f x) (along f xs)
-unfolding along
-along_front f x xs = grind (arith, common_steps)
 
 find_mapped : {A B : Type 0} (test : B → Bool) (f : A → B) (xs : List A) →
     find test (map f xs) ≡ option_map f (find (λ x. test (f x)) xs)
@@ -80,12 +76,6 @@ module _ (forest : Forest) (name : List ℕ) where
 
 -- ---- what a scope tells
 
--- a framework class is among the framework's, where it is among all
-among_framework : (k : ℕ) → k < first_user_class → (xs : List ℕ) →
-    is_among k (filter is_framework xs) ≡ is_among k xs
-among_framework k h [] = refl
-among_framework k h (x ∷ xs) = grind (arith, common_steps, h, among_framework k h xs)
-
 module _ (forest : Forest) (class : ℕ) (name : List ℕ) where
   abbrev own : ℕ → Option FoundMethod
   own = own_method (rows_of forest) name
@@ -109,15 +99,8 @@ module _ (forest : Forest) (scope : Scope) (s : IsScope forest scope) where
   abbrev at : ℕ
   at = scope.level.class
 
-  abbrev root : ℕ
-  root = scope.level.root
-
   abbrev above : List ℕ
   above = classes_of scope.above.path
-
-  pub under_is : (k : ℕ) → k < first_user_class →
-      is_among k (superclasses rows root) ≡ is_among k (superclasses rows at)
-  under_is k h = ap (is_among k) (sym s.under.root) ∙ among_framework k h (superclasses rows at)
 
   module _ (name : List ℕ) where
     abbrev own_at : ℕ → Option FoundMethod
@@ -125,13 +108,6 @@ module _ (forest : Forest) (scope : Scope) (s : IsScope forest scope) where
 
     abbrev nearest : Option FoundMethod
     nearest = option_map (found_at forest.nodes) (kept_under scope.above.methods.nearest name)
-
-    pub framework_row_is : framework_row_named rows at name
-        ≡ or_else (method_named rows root name) (along own_at (all_interfaces rows at))
-    unfolding framework_row_named method_named
-    framework_row_is =
-        let whole = framework_append forest at name (superclasses rows at) in
-        grind (arith, common_steps, whole, s.under.root, s.under.bare)
 
     users_above : along own_at (filter is_user_class above) ≡ nearest
     users_above = grind (arith, common_steps, methods_along forest name above, s.above.methods.nearest name)

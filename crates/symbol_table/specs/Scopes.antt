@@ -1,14 +1,15 @@
 -- What a table keeps: a class, those above it, and the members of those.
-use Rattle.std.specs.Prelude.{◌≡◌, ℕ, ◌<◌, Bool, not, ◌&&◌, ◌==◌, List, [], ◌∷◌, ◌++◌, length, map, filter, Option, None, Some, if◌then◌else◌}
+use Rattle.std.specs.Prelude.{◌≡◌, ℕ, ◌<◌, Bool, false, not, ◌&&◌, List, [], ◌∷◌, ◌++◌, length, map, filter, Option, None, Some}
 use Rattle.scj_builtins.specs.Framework.{object}
 use Rattle.scj_tree.specs.declared.nodes.Node.{Node}
 use Rattle.scj_tree.specs.Forest.{Forest}
 use Rattle.scj_rules.specs.declared.views.Declared.{Declared}
 use Rattle.scj_rules.specs.Words.{along, holds}
 use Rattle.scj_rules.specs.Views.{DeclaredMethod, method_at}
-use Rattle.scj_rules.specs.Classes.{ClassRow, FoundMethod, all_interfaces, classes_above, instance_fields, is_user_class, own_method, superclass_in, superclasses}
+use Rattle.scj_rules.specs.Classes.{ClassRow, FoundMethod, classes_above, instance_fields, is_user_class, own_method, superclass_in, superclasses}
 use Rattle.scj_rules.specs.Contexts.{declarations_of}
 use Rattle.class_rows.specs.declared.members.MemberKind.TheVariants.{Field, Method}
+use Rattle.class_rows.specs.Walks.{is_framework}
 use Rattle.symbol_table.specs.declared.levels.Level.{Level}
 use Rattle.symbol_table.specs.declared.scopes.Entered.{Entered}
 use Rattle.symbol_table.specs.declared.scopes.Scope.{Scope}
@@ -21,27 +22,14 @@ rows_of forest = (declarations_of forest).classes
 abbrev pub is_instance : Declared → Bool
 is_instance f = not f.modifiers.is_static
 
-abbrev pub is_framework : ℕ → Bool
-is_framework class = not (is_user_class class)
-
 abbrev pub object_level : Level
-object_level = record { class = object; root = object; field_count = 0 }
+object_level = record { class = object; field_count = 0 }
 
--- the framework class that a class with these interfaces is or stands under, where it stands right under another one
-abbrev pub bare_root : List ℕ → ℕ → Option ℕ
-bare_root [] class = Some class
-bare_root (interface ∷ others) class = None
-
-abbrev pub root_under : Level → List ℕ → ℕ → Option ℕ
-root_under above interfaces class =
-    if is_user_class class
-    then Some above.root
-    else (if above.class == object then bare_root interfaces class else None)
-
--- a class stands right under another one, which is the last of so many
+-- a class stands right under another one, which is the last of so many; one of the framework's under Object
 pub record IsNext (rows : List ClassRow) (above count class : ℕ) : Type 0 where
   pub superclass : superclass_in rows class ≡ Some above
   pub shorter : count < length rows
+  pub framework : is_user_class class ≡ false → above ≡ object
 
 abbrev pub classes_of : List Level → List ℕ
 classes_of path = map (λ (level : Level). level.class) path
@@ -50,14 +38,12 @@ abbrev pub nearest_level : List Level → Option Level
 nearest_level [] = None
 nearest_level (level ∷ above) = Some level
 
--- a class with those above it: behind the user classes of its chain come framework classes, which implement nothing
+-- a class with those above it: behind the user classes of its chain come framework classes
 pub record IsUnder (rows : List ClassRow) (level : Level) (above : List ℕ) : Type 0 where
   pub chain : superclasses rows level.class ≡ level.class ∷ above
   pub behind : classes_above rows level.class ≡ above
   pub split : superclasses rows level.class
       ≡ filter is_user_class (superclasses rows level.class) ++ filter is_framework (superclasses rows level.class)
-  pub root : filter is_framework (superclasses rows level.class) ≡ superclasses rows level.root
-  pub bare : all_interfaces rows level.root ≡ []
   pub count : level.field_count ≡ length (instance_fields rows level.class)
 
 abbrev pub IsPath : List ClassRow → List Level → Type 0

@@ -1,11 +1,11 @@
 -- What a table of the members in scope at a class is of, and what it tells of the abstract methods there.
-use Rattle.std.specs.Prelude.{ℕ, Bool, List, filter, flat_map}
+use Rattle.std.specs.Prelude.{ℕ, ◌<◌, Bool, List, length, All, filter, flat_map}
 use Rattle.std.specs.List.{list_any}
 use Rattle.scj_tree.specs.Forest.{Forest}
 use Rattle.scj_rules.specs.Views.{DeclaredMethod}
 use Rattle.scj_rules.specs.Classes.{ClassRow, is_user_class, superclasses}
 use Rattle.scj_rules.specs.ClassRules.{own_abstract_methods, is_left_open}
-use Rattle.scj_rules.specs.Contexts.{Declarations}
+use Rattle.scj_rules.specs.Contexts.{Declarations, declarations_of}
 
 -- the classes of a program, at one of them
 pub record AtClass : Type 0 where
@@ -14,6 +14,10 @@ pub record AtClass : Type 0 where
 
 abbrev pub at_class : Forest → ℕ → AtClass
 at_class forest class = record { forest = forest; class = class }
+
+-- these are classes of the program
+abbrev pub AreClasses : Forest → List ℕ → Type 0
+AreClasses forest classes = All (λ class. class < length (declarations_of forest).classes) classes
 
 abbrev pub is_abstract : DeclaredMethod → Bool
 is_abstract m = m.declared.modifiers.is_abstract

@@ -4,7 +4,7 @@ ghost use Rattle.std.specs.Prelude.{◌≡◌, ◌+◌, [], ◌∷◌, length, f
 ghost use Rattle.std.specs.Bool.{OnTrue};
 ghost use Rattle.scj_rules.specs.Views.{field_at};
 ghost use Rattle.scj_rules.specs.Classes.{own_instance_fields};
-ghost use Rattle.symbol_table.specs.Scopes.{classes_of, is_instance, nearest_level, object_level, root_under, rows_of, IsNext, IsPath, IsUnder};
+ghost use Rattle.symbol_table.specs.Scopes.{classes_of, is_instance, nearest_level, object_level, rows_of, IsNext, IsPath, IsUnder};
 
 use class_rows::Classes;
 use node_views::field_at;
@@ -20,8 +20,6 @@ use std::marker::Model;
 pub struct Level {
     /// The class.
     pub class: ClassId,
-    /// The framework class that it is or stands under.
-    pub root: ClassId,
     /// How many instance fields an object has.
     pub field_count: usize,
 }
@@ -107,28 +105,12 @@ fn field_count(classes: &Classes<'_>, above: usize, class: ClassId) -> Result<us
     Ok(own + above)
 }
 
-/// The framework class that a class is or stands under: a framework class stands right under `Object`, and implements
-/// nothing.
-fn root_under(above: &Level, interfaces: &[ClassId], class: ClassId) -> Option<ClassId>
-    ensures { result ≡ root_under above.now interfaces.now class }
-{
-    if class.number() >= FRAMEWORK_CLASS_COUNT {
-        return Some(above.root);
-    }
-    if above.class != OBJECT {
-        return None;
-    }
-    match interfaces {
-        [] => Some(class),
-        _ => None,
-    }
-}
-
-/// Whether a class stands right under another one, which is the last of so many.
+/// Whether a class stands right under another one, which is the last of so many, and is `Object` where the class is the
+/// framework's.
 fn is_next(classes: &Classes<'_>, above: ClassId, count: usize, class: ClassId) -> bool
     ensures { OnTrue result (IsNext (rows_of classes.now) above count class) }
 {
-    if count >= classes.count() {
+    if count >= classes.count() || (class.number() < FRAMEWORK_CLASS_COUNT && above != OBJECT) {
         return false;
     }
     match classes.superclass(class) {
@@ -143,7 +125,6 @@ pub fn object_level() -> Level
 {
     Level {
         class: OBJECT,
-        root: OBJECT,
         field_count: 0,
     }
 }
@@ -165,13 +146,6 @@ pub fn level_under(classes: &Classes<'_>, path: &Path, class: ClassId) -> Result
     if !is_next(classes, above.class, path.len(), class) {
         return Err(Memory);
     }
-    let Some(root) = root_under(&above, classes.interfaces(class), class) else {
-        return Err(Memory);
-    };
     let field_count = field_count(classes, above.field_count, class)?;
-    Ok(Level {
-        class,
-        root,
-        field_count,
-    })
+    Ok(Level { class, field_count })
 }

@@ -1,7 +1,7 @@
 //! Look-ups of members, and of the classes above.
 
-ghost use Rattle.std.specs.Prelude.{◌≡◌, ◌<◌, option_and_then, option_map};
-ghost use Rattle.scj_rules.specs.Classes.{field_named, first_user_class, framework_row_named, is_sub, method_above, method_named, superclass_in};
+ghost use Rattle.std.specs.Prelude.{◌≡◌, option_and_then, option_map};
+ghost use Rattle.scj_rules.specs.Classes.{field_named, framework_row_named, method_above, method_named, superclass_in};
 ghost use Rattle.scj_rules.specs.Contexts.{declarations_of};
 ghost use Rattle.method_rows.specs.Methods.{found_method};
 ghost use Rattle.class_rows.specs.Fields.{found_field};
@@ -10,7 +10,7 @@ ghost use Rattle.symbol_table.specs.Names.{as_method};
 use crate::table::SymbolTable;
 use class_rows::FieldRef;
 use method_rows::{MethodRef, MethodSource};
-use scj_base::{ClassId, Name};
+use scj_base::Name;
 use scj_builtins::FRAMEWORK_CLASS_COUNT;
 
 /// A method among members as a look-up gives it.
@@ -35,15 +35,11 @@ impl<'a> SymbolTable<'a> {
     }
 
     /// The framework's own method of the name, where the class stands under the framework class or implements it.
-    #[tactic(auto, using(crate::proofs::LookLemmas::framework_row_is))]
     pub fn framework_row_named(&self, name: &Name) -> Option<MethodRef>
         ensures { option_map (found_method self.now.forest.nodes) result
             ≡ framework_row_named (declarations_of self.now.forest).classes self.now.class name.now }
     {
-        match self.classes.method_named(self.scope.level.root, name) {
-            Some(method) => Some(method),
-            None => self.classes.interface_method(self.scope.level.class, name),
-        }
+        self.classes.framework_row_named(self.class(), name)
     }
 
     /// What a declaration of the name in the class overrides.
@@ -72,15 +68,5 @@ impl<'a> SymbolTable<'a> {
             Some(method) => Some(method),
             None => self.method_above(name),
         }
-    }
-
-    /// Whether the class is a subclass of a framework class, or implements it.
-    #[tactic(auto, unfolding(scj_rules::specs::Classes::is_sub), using(crate::proofs::LookLemmas::under_is))]
-    pub fn is_sub(&self, above: ClassId) -> bool
-        requires { above < first_user_class }
-        ensures { result ≡ is_sub (declarations_of self.now.forest).classes self.now.class above }
-    {
-        self.classes.is_under(self.scope.level.root, above)
-            || self.classes.implements(self.scope.level.class, above)
     }
 }

@@ -1,6 +1,6 @@
 //! The members of the classes that are entered, with the nearest of each name.
 
-ghost use Rattle.std.specs.Prelude.{◌≡◌, ◌++◌, ◌∷◌, [], ℕ, List, None, Some, if◌then◌else◌, OnOk};
+ghost use Rattle.std.specs.Prelude.{◌≡◌, ◌++◌, ◌∷◌, [], ℕ, List, if◌then◌else◌, OnOk};
 ghost use Rattle.scj_base.specs.Bytes.{is_same};
 ghost use Rattle.class_rows.specs.declared.fields.FieldRef.{FieldRef as Row};
 ghost use Rattle.symbol_table.specs.Names.{if_abstract, kept_under, members_on, AreNamed};

@@ -1,8 +1,8 @@
 //! An order of the classes in which the table goes quickly: each class behind its superclass, and all that stand under
 //! a class together.
 
-ghost use Rattle.std.specs.Prelude.{◌<◌, length, IfOk, All};
-ghost use Rattle.scj_rules.specs.Contexts.{declarations_of};
+ghost use Rattle.std.specs.Prelude.{IfOk};
+ghost use Rattle.symbol_table.specs.Symbols.{AreClasses};
 
 use class_rows::Classes;
 use scj_base::ids::OBJECT;
@@ -50,7 +50,7 @@ fn leave_over(classes: &mut Vec<ClassId>, number: u32) -> Result<(), Memory> {
 /// Classes in that order: those that stand under `Object`. The contract says only that they are classes of the program;
 /// the order counts for speed alone, and a caller that needs each class adds those that are missing.
 pub fn tour(alloc: Global, classes: &Classes<'_>) -> Result<Vec<ClassId>, Memory>
-    ensures { IfOk result (λ order. All (λ class. class < length (declarations_of classes.now).classes) order.items) }
+    ensures { IfOk result (λ order. AreClasses classes.now order.items) }
 {
     let count = classes.class_count();
     let (first, next) = group(alloc, classes, count)?;

@@ -1,18 +1,17 @@
 -- What rows tell, before any is kept and with one that is.
-use Rattle.std.proofs.Common.{◌≡◌, ◌≢◌, ◌<◌, ◌≤◌, ℕ, List, Option, Some, length, replicate, set, slice_get, sym, ap, ◌∙◌, ⊎_elim}
+use Rattle.std.proofs.Common.{◌≡◌, ◌≢◌, ◌<◌, ◌≤◌, ℕ, List, Some, length, replicate, set, sym, ap, ◌∙◌, ⊎_elim}
 use Rattle.std.proofs.lemmas.Bool.{cases_lt, cases_eq}
 use Rattle.std.proofs.lemmas.List.{get_or-set_same, get_or-set_other, set_past}
-use Rattle.scj_base.specs.declared.places.Pos.{Pos}
-use Rattle.scj_tree.specs.declared.nodes.Node.{Node}
-use Rattle.scj_tree.specs.declared.nodes.Node.TheVariants.{SimpleName}
+use Rattle.std.proofs.lemmas.Option.{same_Some}
 use Rattle.scj_tree.specs.Forest.{Forest}
 use Rattle.scj_tree.proofs.RecursionLemmas.{lookup-replicate}
+use Rattle.scj_rules.specs.Definitions.{read}
 use Rattle.scj_rules.specs.Contexts.{declarations_of}
 use Rattle.scj_rules.specs.Types.{meaning}
 use Rattle.program_facts.specs.declared.meanings.NameMeaning.{NameMeaning}
 use Rattle.program_facts.specs.declared.meanings.NodeMeaning.{NodeMeaning}
 use Rattle.program_facts.specs.declared.meanings.NodeMeaning.TheVariants.{Name as of_name, Nothing as of_other}
-use Rattle.program_facts.specs.Meanings.{meant, IsMeaningAt, AreMeanings}
+use Rattle.program_facts.specs.Meanings.{meant, simply_named, IsMeaningAt, AreMeanings}
 
 pub none_told : (forest : Forest) (count : ℕ) (rows : List NodeMeaning) → rows ≡ replicate count of_other →
     AreMeanings forest rows
@@ -31,11 +30,8 @@ one_told forest rows id row are is n =
 
 -- what the name of a node stands for is told by a row of it
 pub name_told : (forest : Forest) (id : ℕ) (name : List ℕ) (row : NameMeaning)
-    → meant forest.nodes row ≡ meaning (declarations_of forest) id name
-    → (place : Pos) → slice_get forest.nodes id ≡ Some (SimpleName place name) → IsMeaningAt forest id (of_name row)
+    → meant forest.nodes row ≡ meaning (declarations_of forest) id name → read forest.nodes simply_named id ≡ Some name
+    → IsMeaningAt forest id (of_name row)
 unfolding IsMeaningAt
-name_told forest id name row e place there other named h =
-    e ∙ ap (meaning (declarations_of forest) id) (name_of _ _ _ _ (sym there ∙ h))
-  where
-    name_of : (a b : Pos) (m n : List ℕ) → ◌≡◌ {A = Option Node} (Some (SimpleName a m)) (Some (SimpleName b n)) → m ≡ n
-    name_of a b m n g = cc
+name_told forest id name row e there other h =
+    e ∙ ap (meaning (declarations_of forest) id) (same_Some name other (sym there ∙ h))

@@ -3,7 +3,7 @@ use Rattle.std.specs.Prelude.{Bool, true, false, Option, Some, None}
 use Rattle.scj_tree.specs.declared.kinds.NodeKind.{NodeKind}
 use Rattle.scj_tree.specs.declared.kinds.NodeKind.TheVariants.{Flags, IntType, BooleanType, ClassType, Parameters, Block, ExpressionStatement, Number, True, False}
 use Rattle.scj_tree.specs.declared.nodes.Node.{Node}
-use Rattle.scj_tree.specs.declared.nodes.Node.TheVariants.{Class, Field, Method, LocalWithValue, SuperCall, Cast, Parenthesized, This, FieldAccess, Call, New, NewArray}
+use Rattle.scj_tree.specs.declared.nodes.Node.TheVariants.{Class, Field, Method, LocalWithValue, SuperCall, Cast, Parenthesized, This, New, NewArray}
 use Rattle.scj_rules.specs.declared.typing.Ty.{Ty}
 use Rattle.scj_rules.specs.declared.typing.Ty.TheVariants.{Int, Bool as Boolean}
 
@@ -20,12 +20,6 @@ type_of_kind (Some IntType) = Some None
 type_of_kind (Some BooleanType) = Some None
 type_of_kind (Some ClassType) = Some None
 type_of_kind _ = None
-
--- the node asks a class for a field or a method
-unfoldable pub names_member : Node → Bool
-names_member (FieldAccess place name object) = true
-names_member (Call place name object arguments) = true
-names_member _ = false
 
 -- classes, their members, and what else may break two rules
 unfoldable pub is_declaration : Node → Bool

@@ -85,7 +85,7 @@ pub fn judge_element(
 
 /// Notes a simple name that stands for nothing, or for a field of no object, and tells its type. What it stands for is
 /// kept.
-#[tactic(auto, using(crate::proofs::RowLemmas::one_told, crate::proofs::RowLemmas::name_told), unfolding(scj_rules::specs::TypeRules::t1, scj_rules::specs::TypeRules::t13))]
+#[tactic(auto, using(crate::proofs::RowLemmas::one_told, crate::proofs::RowLemmas::name_told), unfolding(program_facts::specs::Meanings::simply_named, scj_rules::specs::TypeRules::t1, scj_rules::specs::TypeRules::t13))]
 pub fn judge_name(
     found: &mut Vec<Found>,
     at: &At<'_>,

@@ -1,10 +1,10 @@
 //! What breaks the rules on types at a node, and the type that the node has where nothing does.
 
-ghost use Rattle.std.specs.Prelude.{◌≡◌, ◌++◌, Some, true, IfOk, OnOk, slice_get};
+ghost use Rattle.std.specs.Prelude.{◌≡◌, ◌++◌, Some, true, IfOk, OnOk, is_some, slice_get};
 ghost use Rattle.scj_rules.specs.TypeRules.{type_breaks, type_of};
-ghost use Rattle.type_check.specs.Kinds.{names_member, is_declaration, is_seldom};
+ghost use Rattle.type_check.specs.Kinds.{is_declaration, is_seldom};
 ghost use Rattle.type_words.specs.Returns.{all_returns};
-ghost use Rattle.program_facts.specs.Meanings.{IsMeaningAt, AreMeanings};
+ghost use Rattle.program_facts.specs.Meanings.{member_named, IsMeaningAt, AreMeanings};
 ghost use Rattle.program_facts.specs.Told.{declared, types};
 
 use crate::expressions::{judge_access, judge_binary, judge_element, judge_name, judge_unary};
@@ -24,7 +24,7 @@ use type_rules::statements::{
 };
 
 /// Notes what breaks the rules on types at a node, and tells the type of its kind, which it has where nothing does.
-#[tactic(auto, unfolding(crate::specs::Kinds::names_member, crate::specs::Kinds::is_declaration, crate::specs::Kinds::is_seldom, scj_rules::specs::TypeRules::type_of, scj_rules::specs::TypeRules::type_breaks, scj_rules::specs::TypeRules::t1, scj_rules::specs::TypeRules::t2, scj_rules::specs::TypeRules::t3, scj_rules::specs::TypeRules::t4, scj_rules::specs::TypeRules::t5, scj_rules::specs::TypeRules::t6, scj_rules::specs::TypeRules::t7, scj_rules::specs::TypeRules::t8, scj_rules::specs::TypeRules::t9, scj_rules::specs::TypeRules::t10, scj_rules::specs::TypeRules::t11, scj_rules::specs::TypeRules::t12, scj_rules::specs::TypeRules::t13, scj_rules::specs::TypeRules::t14))]
+#[tactic(auto, unfolding(program_facts::specs::Meanings::member_named, crate::specs::Kinds::is_declaration, crate::specs::Kinds::is_seldom, scj_rules::specs::TypeRules::type_of, scj_rules::specs::TypeRules::type_breaks, scj_rules::specs::TypeRules::t1, scj_rules::specs::TypeRules::t2, scj_rules::specs::TypeRules::t3, scj_rules::specs::TypeRules::t4, scj_rules::specs::TypeRules::t5, scj_rules::specs::TypeRules::t6, scj_rules::specs::TypeRules::t7, scj_rules::specs::TypeRules::t8, scj_rules::specs::TypeRules::t9, scj_rules::specs::TypeRules::t10, scj_rules::specs::TypeRules::t11, scj_rules::specs::TypeRules::t12, scj_rules::specs::TypeRules::t13, scj_rules::specs::TypeRules::t14))]
 pub fn judge(
     found: &mut Vec<Found>,
     at: &At<'_>,
@@ -253,7 +253,7 @@ fn judge_seldom(found: &mut Vec<Found>, at: &At<'_>, node: &Node) -> Result<Opti
 }
 
 /// The same of an access or a call, by the rows of the nodes before it, with its own row.
-#[tactic(auto, unfolding(crate::specs::Kinds::names_member, program_facts::specs::Meanings::IsMeaningAt, scj_rules::specs::TypeRules::type_of, scj_rules::specs::TypeRules::type_breaks, scj_rules::specs::TypeRules::t1, scj_rules::specs::TypeRules::t2, scj_rules::specs::TypeRules::t3, scj_rules::specs::TypeRules::t4, scj_rules::specs::TypeRules::t5, scj_rules::specs::TypeRules::t6, scj_rules::specs::TypeRules::t7, scj_rules::specs::TypeRules::t8, scj_rules::specs::TypeRules::t9, scj_rules::specs::TypeRules::t10, scj_rules::specs::TypeRules::t11, scj_rules::specs::TypeRules::t12, scj_rules::specs::TypeRules::t13, scj_rules::specs::TypeRules::t14))]
+#[tactic(auto, unfolding(program_facts::specs::Meanings::member_named, program_facts::specs::Meanings::IsMeaningAt, scj_rules::specs::TypeRules::type_of, scj_rules::specs::TypeRules::type_breaks, scj_rules::specs::TypeRules::t1, scj_rules::specs::TypeRules::t2, scj_rules::specs::TypeRules::t3, scj_rules::specs::TypeRules::t4, scj_rules::specs::TypeRules::t5, scj_rules::specs::TypeRules::t6, scj_rules::specs::TypeRules::t7, scj_rules::specs::TypeRules::t8, scj_rules::specs::TypeRules::t9, scj_rules::specs::TypeRules::t10, scj_rules::specs::TypeRules::t11, scj_rules::specs::TypeRules::t12, scj_rules::specs::TypeRules::t13, scj_rules::specs::TypeRules::t14))]
 fn judge_there(
     found: &mut Vec<Found>,
     at: &At<'_>,
@@ -262,7 +262,7 @@ fn judge_there(
 ) -> Result<(Option<Ty>, NodeMeaning), Memory>
     requires there { slice_get at.now.facts.now.nodes at.now.id ≡ Some node.now }
     requires rows { AreMeanings at.now.facts.now rows.now }
-    requires member { names_member node.now ≡ true }
+    requires member { is_some (member_named node.now) ≡ true }
     ensures type_of { IfOk result (λ r. r.0 ≡ type_of (declared at.now) (types at.now) at.now.id node.now) }
     ensures found { OnOk result (found.new.items ≡ found.old.items
         ++ type_breaks (declared at.now) (types at.now) at.now.id node.now) }
@@ -301,7 +301,7 @@ fn judge_member(
 ) -> Result<Option<Ty>, Memory>
     requires there { slice_get at.now.facts.now.nodes at.now.id ≡ Some node.now }
     requires rows { AreMeanings at.now.facts.now rows.old.items }
-    requires member { names_member node.now ≡ true }
+    requires member { is_some (member_named node.now) ≡ true }
     ensures type_of { IfOk result (λ t. t ≡ type_of (declared at.now) (types at.now) at.now.id node.now) }
     ensures found { OnOk result (found.new.items ≡ found.old.items
         ++ type_breaks (declared at.now) (types at.now) at.now.id node.now) }

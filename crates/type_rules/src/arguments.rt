@@ -1,8 +1,7 @@
 //! Arguments and the parameters that take them.
 
-ghost use Rattle.std.specs.Prelude.{◌≡◌, None, length, is_some};
+ghost use Rattle.std.specs.Prelude.{◌≡◌, length, is_some};
 ghost use Rattle.std.specs.List.{list_all};
-ghost use Rattle.scj_tree.specs.Recursion.{lookup};
 ghost use Rattle.scj_rules.specs.Contexts.{declarations_of};
 ghost use Rattle.scj_rules.specs.Types.{all_types, constructor_parameters};
 ghost use Rattle.scj_rules.specs.TypeRules.{misfit, takes_arguments};
@@ -62,7 +61,7 @@ fn parameter_type(facts: &Facts<'_>, takes: &Takes, i: usize) -> Option<WrittenT
 }
 
 /// Whether a value of a type fits a parameter or a result of the type that is written.
-pub fn takes_value(facts: &Facts<'_>, written: &WrittenType, t: &Ty) -> bool
+fn takes_value(facts: &Facts<'_>, written: &WrittenType, t: &Ty) -> bool
     ensures { result ≡ takes_value (declarations_of facts.now) t.now written.now }
 {
     match type_written(facts, written) {

@@ -1,13 +1,13 @@
 //! What names, accesses and calls mean, and which types fit.
 
-ghost use Rattle.std.specs.Prelude.{◌≡◌, ◌&&◌, None, Some, if◌then◌else◌, option_and_then, option_map, slice_get};
-ghost use Rattle.scj_tree.specs.declared.nodes.Node.TheVariants.{SimpleName};
+ghost use Rattle.std.specs.Prelude.{◌≡◌, ◌&&◌, None, Some, if◌then◌else◌, option_and_then, option_map};
+ghost use Rattle.scj_rules.specs.Definitions.{read};
 ghost use Rattle.scj_rules.specs.Contexts.{declarations_of};
 ghost use Rattle.scj_rules.specs.Types.{type_written, array_of, are_same, assigns, binary_type, are_comparable, meaning, receiver, call_receiver, accessed_field, called_method};
 ghost use Rattle.scj_rules.specs.TypeRules.{written_type};
 ghost use Rattle.method_rows.specs.Methods.{found_method};
 ghost use Rattle.class_rows.specs.Fields.{found_field};
-ghost use Rattle.program_facts.specs.Meanings.{meant, IsMember};
+ghost use Rattle.program_facts.specs.Meanings.{meant, simply_named, IsMember};
 ghost use Rattle.program_facts.specs.Told.{declared, types};
 
 use class_rows::FieldRef;
@@ -16,7 +16,7 @@ use program_facts::{At, Facts, NameMeaning, NodeMeaning};
 use scj_base::vocabulary::{
     AND_AND, EQUAL, GREATER, GREATER_EQUAL, LESS, LESS_EQUAL, NOT_EQUAL, OR_OR,
 };
-use scj_base::{Name, NodeId, Pos};
+use scj_base::{Name, NodeId};
 use scj_rules::{Receiver, Ty, WrittenType};
 use scj_tree::Node;
 use type_words::{are_same, array_of, class_of_receiver, is_reference};
@@ -139,8 +139,8 @@ pub fn meaning(facts: &Facts<'_>, id: NodeId, name: &Name) -> NameMeaning
 
 /// What a node that is this name stands for. Where its row tells it, nothing is looked up.
 #[tactic(auto, unfolding(program_facts::specs::Meanings::IsMeaningAt))]
-pub fn meaning_there(facts: &Facts<'_>, id: NodeId, place: Pos, name: &Name) -> NameMeaning
-    requires { slice_get facts.now.nodes id ≡ Some (SimpleName place name.now) }
+pub fn meaning_there(facts: &Facts<'_>, id: NodeId, name: &Name) -> NameMeaning
+    requires { read facts.now.nodes simply_named id ≡ Some name.now }
     ensures { meant facts.now.nodes result ≡ meaning (declarations_of facts.now) id name.now }
 {
     match facts.meaning_told(id) {
@@ -150,12 +150,12 @@ pub fn meaning_there(facts: &Facts<'_>, id: NodeId, place: Pos, name: &Name) -> 
 }
 
 /// What stands before a dot.
-#[tactic(auto, unfolding(program_facts::specs::Meanings::meant, scj_rules::specs::Types::receiver, scj_rules::specs::Types::class_at_name, scj_rules::specs::Types::class_in, scj_rules::specs::Contexts::declarations_of))]
+#[tactic(auto, unfolding(program_facts::specs::Meanings::meant, program_facts::specs::Meanings::simply_named, scj_rules::specs::Types::receiver, scj_rules::specs::Types::class_at_name, scj_rules::specs::Types::class_in, scj_rules::specs::Contexts::declarations_of))]
 pub fn receiver(at: &At<'_>, object: NodeId) -> Option<Receiver>
     ensures { result ≡ receiver (declared at.now) (types at.now) object }
 {
-    if let Some(Node::SimpleName { place, name }) = at.facts.program().get(object) {
-        if let NameMeaning::Class(class) = meaning_there(at.facts, object, *place, name.get()) {
+    if let Some(Node::SimpleName { name, .. }) = at.facts.program().get(object) {
+        if let NameMeaning::Class(class) = meaning_there(at.facts, object, name.get()) {
             return Some(Receiver::Class(class));
         }
     }

@@ -1,7 +1,7 @@
 //! The types of expressions, and what an access or a call is asked of.
 
 ghost use Rattle.std.specs.Prelude.{◌≡◌};
-ghost use Rattle.scj_rules.specs.Types.{are_same, is_reference, is_array, element_type, array_of, unary_type, class_of_receiver, names_class, is_value, type_of_receiver, is_no_reference, is_array_value, is_length};
+ghost use Rattle.scj_rules.specs.Types.{are_same, is_reference, is_array, element_type, array_of, unary_type, class_of_receiver, names_class, is_value, is_no_reference, is_array_value, is_length};
 ghost use Rattle.scj_rules.specs.Bindings.{class_of_type};
 
 use scj_base::vocabulary::NOT;

@@ -8,7 +8,7 @@ use Rattle.class_headers.proofs.names.index_of.Given as goal
 abbrev pub invariant-loop-number : goal.invariant-loop-number
 invariant-loop-number l = record {
   within : l.number ≤ length l.names;
-  few : HasNoFew l.index 512 l.number;
+  few : HasNoFew l.index l.number;
   numbered : (name : List ℕ) → found_under l.index name ≡ position_from (is_same name) l.number (drop l.number l.names);
 }
 

@@ -7,7 +7,7 @@ use Rattle.class_rows.proofs.members.firsts_of.Given as goal
 abbrev pub invariant-loop-at : goal.invariant-loop-at
 invariant-loop-at l = record {
   within : l.at ≤ length l.ids;
-  few : HasNoFew l.firsts 4096 l.at;
+  few : HasNoFew l.firsts l.at;
   entered : (name : List ℕ) → found_under l.firsts name ≡ first_named l.kind l.program.nodes name (drop l.at l.ids);
 }
 

@@ -12,11 +12,5 @@ returns c =
     let new = c.insert.new.self.keys in
     rw (c.in-Some.is, c.in_ok-report_if.ensures, c.in_ok-is_new.ensures.added, known_in_order w old)
     (name_noted c.args.found.now.items old new c.args.rule c.in-Some.written others
-    (λ n. grind (
-      arith,
-      common_steps,
-      c.in_ok-is_new.ensures.updates.0 n,
-      known_in_order n new,
-      known_in_order n old,
-      is_eq-slice_cmp w n,
-    )))
+    (λ n. let added = c.in_ok-is_new.ensures.updates.0 n in
+    grind (arith, common_steps, added, known_in_order n new, known_in_order n old, is_eq-slice_cmp w n)))

@@ -2,7 +2,7 @@ use Rattle.std.proofs.Common.{◌≡◌, length}
 use Rattle.scj_rules.specs.Words.{is_among}
 use Rattle.scj_rules.specs.Contexts.{declarations_of}
 use Rattle.scj_rules.specs.ScopeRules.{parent_scope}
-use Rattle.program_facts.specs.Tables.{chain_from}
+use Rattle.class_rows.specs.Walks.{chain_from}
 use Rattle.scope_tree.proofs.scopes.is_reached.Given as goal
 
 abbrev pub invariant-loop-left : goal.invariant-loop-left

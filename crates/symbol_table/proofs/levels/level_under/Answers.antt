@@ -8,4 +8,4 @@ returns-in_default-clause-under c =
 pub returns-clause-under : goal.returns-clause-under
 returns-clause-under c =
     next_is c.args.classes.now _ c.args.path.now c.in-Some.above c.len.result c.in-Some.ensures c.requires c.len.ensures
-    c.if-not-is_next.ensures (rw (← c.interfaces.ensures) c.in-Some-root_under.ensures) c.in_ok-field_count.ensures
+    c.if-not-is_next.ensures c.in_ok-field_count.ensures

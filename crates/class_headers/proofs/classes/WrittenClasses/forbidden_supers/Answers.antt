@@ -7,24 +7,15 @@ use Rattle.class_headers.proofs.classes.WrittenClasses.forbidden_supers.Goals as
 
 pub returns-in_default : goal.returns-in_default
 returns-in_default c =
-    grind (
-      arith,
-      common_steps,
-      forbidden_without (declarations_of c.args.self.now) (class_at c.args.self.now.nodes c.args.node),
-      c.in_default.ensures,
-      c.in_ok-note_interfaces.ensures,
-      c.interface_nodes-interfaces.ensures,
-    )
+    let without = forbidden_without (declarations_of c.args.self.now) (class_at c.args.self.now.nodes c.args.node) in
+    let is = c.interface_nodes-interfaces.ensures in
+    grind (arith, common_steps, without, is, c.in_default.ensures, c.in_ok-note_interfaces.ensures)
 
 pub returns : goal.returns
 returns c =
-    grind (
-      arith,
-      common_steps,
-      forbidden_with (declarations_of c.args.self.now) (class_at c.args.self.now.nodes c.args.node) c.in-Some.name,
-      c.in-Some.ensures,
-      c.in_ok-there.ensures.found,
-      c.in_ok-there.ensures.kinds,
-      c.in_ok-note_interfaces-2.ensures,
-      c.interface_nodes-interfaces.ensures,
-    )
+    let extended = forbidden_with (declarations_of c.args.self.now) (class_at c.args.self.now.nodes c.args.node)
+    c.in-Some.name in
+    let is = c.interface_nodes-interfaces.ensures in
+    let there = c.in_ok-there.ensures in
+    let noted = c.in_ok-note_interfaces-2.ensures in
+    grind (arith, common_steps, extended, is, c.in-Some.ensures, there.found, there.kinds, noted)

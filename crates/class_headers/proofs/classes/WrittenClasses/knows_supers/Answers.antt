@@ -8,13 +8,7 @@ use Rattle.class_headers.proofs.classes.WrittenClasses.knows_supers.Goals as goa
 
 pub returns : goal.returns
 returns c =
-    grind (
-      arith,
-      common_steps,
-      all_known (declarations_of c.args.self.now) (class_at c.args.self.now.nodes c.args.node)
-          c.class_extends-extends.result
-          (read c.args.self.now.nodes named_super) c.interface_nodes.result.now,
-      c.class_extends-extends.ensures,
-      c.interface_nodes.ensures,
-      c.knows_all.ensures,
-    )
+    let all = all_known (declarations_of c.args.self.now) (class_at c.args.self.now.nodes c.args.node)
+    c.class_extends-extends.result (read c.args.self.now.nodes named_super) c.interface_nodes.result.now in
+    let extends = c.class_extends-extends.ensures in
+    grind (arith, common_steps, all, extends, c.interface_nodes.ensures, c.knows_all.ensures)

@@ -6,14 +6,9 @@ use Rattle.class_headers.proofs.classes.WrittenClasses.note_interfaces.Goals as 
 
 pub loop-others-preserved-in_ok-add_kinds : goal.loop-others-preserved-in_ok-add_kinds
 loop-others-preserved-in_ok-add_kinds c =
-    grind (
-      arith,
-      common_steps,
-      one_forbidden (declarations_of c.args.self.now),
-      c.in_ok-kinds.ensures.found,
-      c.in_ok-kinds.ensures.kinds,
-      c.in_ok-add_kinds.ensures,
-    )
+    let one = one_forbidden (declarations_of c.args.self.now) in
+    let kinds = c.in_ok-kinds.ensures in
+    grind (arith, common_steps, one, kinds.found, kinds.kinds, c.in_ok-add_kinds.ensures)
 
 pub returns : goal.returns
 returns c = grind (arith, common_steps, none_forbidden (declarations_of c.args.self.now))

@@ -1,0 +1,6 @@
+use Rattle.class_table.proofs.classes.note_classes.Goals as goal
+
+pub returns-clause-told : goal.returns-clause-told
+returns-clause-told c = rw c.in_ok-table.ensures at
+    (c.in_ok-note_each.ensures.told (rw c.in_ok-table.ensures
+    (c.no_methods_inherited-told.ensures _ _ c.requires.each c.requires.classes)))
