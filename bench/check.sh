@@ -132,6 +132,8 @@ repeats_asked 40000
 top_calls 200000
 unknown_calls 200000
 top_fields 200000
+shared_calls 200000
+shared_fields 200000
 far_accesses 140000
 casts 170000
 far_overrides 27000

@@ -20,6 +20,7 @@ something:
 In these a chain of 238 classes has something at its top, which is asked COUNT times at its end:
 
     top_calls       a method that is called                        top_fields      a field that is named
+    shared_calls    the same, which another class has, too         shared_fields   the same, which another class has, too
     unknown_calls   a method that isn't there                      far_overrides   methods that are overridden
     casts           an object that is given to the top             far_accesses    a field of an object
 
@@ -266,6 +267,8 @@ SHAPES = {
     "top_calls": lambda count: asked(count, "void m() { } ", "m();\n"),
     "unknown_calls": lambda count: asked(count, "", "n();\n"),
     "top_fields": lambda count: asked(count, "int f; ", "f=f;\n"),
+    "shared_calls": lambda count: asked(count, "void m() { } ", "m();\n") + [class_of("D", "void m() { } ")],
+    "shared_fields": lambda count: asked(count, "int f; ", "f=f;\n") + [class_of("D", "int f; ")],
     "far_accesses": lambda count: asked(count, "int f; ", "b.f=1;\n", "B0 b"),
     "casts": lambda count: asked(count, "void m(C0 c) { } ", "m(b);\n", "B0 b"),
     "far_overrides": far_overrides,

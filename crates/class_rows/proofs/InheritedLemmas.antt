@@ -24,8 +24,7 @@ one_interface test a (x ∷ xs) = grind (arith, nat_tests, one_interface test a 
 
 -- where the interface has a method of the name, the class inherits it that implements the interface
 pub inherits_is : (p : Declarations) (interface node : ℕ) (name : List ℕ) (class : ℕ) →
-    inherits_as p (interface ∷ []) node name class
-    ≡ (is_some (own_method p.classes name interface)
+    inherits_as p (interface ∷ []) node name class ≡ (is_some (own_method p.classes name interface)
     && (is_among interface (all_interfaces p.classes class) && has_method_of_node p node name class))
 unfolding inherits_as
 inherits_is p interface node name class =

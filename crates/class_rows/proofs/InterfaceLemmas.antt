@@ -71,25 +71,21 @@ implemented_known forest k h =
 
 all_from : (test : ℕ → Bool) (xs : List ℕ) → ((x : ℕ) → is_among x xs ≡ true → test x ≡ true) → list_all test xs ≡ true
 all_from test [] h = refl
-all_from test (x ∷ xs) h =
-    rw (h x (or_left (x == x) (is_among x xs) (is_same_number x x refl)))
+all_from test (x ∷ xs) h = rw (h x (or_left (x == x) (is_among x xs) (is_same_number x x refl)))
     (all_from test xs (λ y k. h y (or_right (y == x) (is_among y xs) k)))
 
 interfaces_known : (forest : Forest) (class : ℕ) →
     are_known (interfaces_in (declarations_of forest).classes class) ≡ true
-interfaces_known forest class =
-    all_from is_known (interfaces_in (declarations_of forest).classes class)
+interfaces_known forest class = all_from is_known (interfaces_in (declarations_of forest).classes class)
     (λ x h. implemented_known forest x (interfaces-implemented forest class x h))
 
-flat_known : (f : ℕ → List ℕ) → ((x : ℕ) → are_known (f x) ≡ true) → (xs : List ℕ) →
-    are_known (flat_map f xs) ≡ true
+flat_known : (f : ℕ → List ℕ) → ((x : ℕ) → are_known (f x) ≡ true) → (xs : List ℕ) → are_known (flat_map f xs) ≡ true
 flat_known f h [] = refl
 flat_known f h (x ∷ xs) = list_all-append is_known (f x) (flat_map f xs) ∙ rw (h x) (flat_known f h xs)
 
 all_known : (forest : Forest) (class : ℕ) → are_known (all_interfaces (declarations_of forest).classes class) ≡ true
 unfolding all_interfaces
-all_known forest class =
-    flat_known (interfaces_in (declarations_of forest).classes) (interfaces_known forest)
+all_known forest class = flat_known (interfaces_in (declarations_of forest).classes) (interfaces_known forest)
     (superclasses (declarations_of forest).classes class)
 
 -- ---- what is found along such interfaces
@@ -101,9 +97,8 @@ known_other : (x : ℕ) → is_known x ≡ true → (x == safelet) ≡ false →
 known_other x k e = grind (arith, nat_tests)
 
 -- along them only one can have something
-along_one : {B : Type 0} (f : ℕ → Option B) (i : ℕ) →
-    ((x : ℕ) → is_known x ≡ true → (x == i) ≡ false → f x ≡ None) → (xs : List ℕ) → are_known xs ≡ true →
-    along f xs ≡ (if is_among i xs then f i else None)
+along_one : {B : Type 0} (f : ℕ → Option B) (i : ℕ) → ((x : ℕ) → is_known x ≡ true → (x == i) ≡ false → f x ≡ None) →
+    (xs : List ℕ) → are_known xs ≡ true → along f xs ≡ (if is_among i xs then f i else None)
 unfolding along
 along_one f i none [] k = refl
 along_one f i none (x ∷ xs) k = grind (arith, common_steps, nat_tests, k, along_one f i none xs, none x)
@@ -141,19 +136,16 @@ no_run : method_in run_name (framework_methods_on safelet) ≡ None
 unfolding framework_methods framework_methods_on framework_method
 no_run = refl
 
-not_both : (forest : Forest) (name : List ℕ)
-    → (own_method (declarations_of forest).classes name runnable ≡ None)
-    ⊎ (own_method (declarations_of forest).classes name safelet ≡ None)
+not_both : (forest : Forest) (name : List ℕ) → (own_method (declarations_of forest).classes name runnable ≡ None) ⊎
+    (own_method (declarations_of forest).classes name safelet ≡ None)
 unfolding framework_method_on
 not_both forest name = go (is_same name run_name) refl
   where
-    go : (t : Bool) → is_same name run_name ≡ t →
-        (own_method (declarations_of forest).classes name runnable ≡ None)
-        ⊎ (own_method (declarations_of forest).classes name safelet ≡ None)
+    go : (t : Bool) → is_same name run_name ≡ t → (own_method (declarations_of forest).classes name runnable ≡ None) ⊎
+        (own_method (declarations_of forest).classes name safelet ≡ None)
     go false e =
         inl (framework_own forest runnable name (omega arith)
-        ∙ ap (option_map (on_method runnable))
-        (only_run name ∙ ap (λ (t : Bool). cond t (Some run_method) None) e))
+        ∙ ap (option_map (on_method runnable)) (only_run name ∙ ap (λ (t : Bool). cond t (Some run_method) None) e))
     go true e =
         inr (framework_own forest safelet name (omega arith)
         ∙ ap (option_map (on_method safelet))
@@ -174,9 +166,8 @@ module _ (forest : Forest) (class : ℕ) (name : List ℕ) where
       all : List ℕ
       all = all_interfaces rows class
 
-      go : (own runnable ≡ None) ⊎ (own safelet ≡ None)
-          → or_else (implemented_method rows class name runnable) (implemented_method rows class name safelet)
-          ≡ along own all
+      go : (own runnable ≡ None) ⊎ (own safelet ≡ None) → or_else (implemented_method rows class name runnable)
+          (implemented_method rows class name safelet) ≡ along own all
       go (inl e) =
           let along_it = along_one own safelet (λ x k n. ap own (known_other x k n) ∙ e) all (all_known forest class) in
           grind (arith, common_steps, e, along_it)
@@ -200,10 +191,9 @@ module _ (forest : Forest) (class : ℕ) (name : List ℕ) where
   pub framework_append : (xs : List ℕ)
       → or_else (along own (filter is_framework xs)) (along own (all_interfaces rows class))
       ≡ along own (filter is_framework (xs ++ all_interfaces rows class))
-  framework_append xs =
-      along_append own (filter is_framework xs) (all_interfaces rows class)
-      ∙ ap (λ ys. along own (filter is_framework xs ++ ys)) (sym (known_stay (all_interfaces rows class)
-      (all_known forest class)))
+  framework_append xs = along_append own (filter is_framework xs) (all_interfaces rows class)
+      ∙ ap (λ ys. along own (filter is_framework xs ++ ys))
+      (sym (known_stay (all_interfaces rows class) (all_known forest class)))
       ∙ ap (along own) (sym (filter-append is_framework xs (all_interfaces rows class)))
 
 -- ---- roots

@@ -22,7 +22,7 @@ use Rattle.scj_rules.specs.Words.{holds}
 use Rattle.scj_rules.specs.Views.{WrittenClass, field_at}
 use Rattle.scj_rules.specs.Classes.{ClassRow, field_nodes, field_number, method_nodes, method_number, counted_from, user_classes, class_names, written_rows, user_row, framework_row, framework_rows_from}
 use Rattle.scj_rules.specs.Contexts.{Declarations, declarations_of}
-use Rattle.class_rows.specs.declared.members.OwnKey.{OwnKey}
+use Rattle.class_rows.specs.declared.own_members.OwnKey.{OwnKey}
 use Rattle.class_rows.specs.declared.members.MemberKind.{MemberKind}
 use Rattle.class_rows.specs.declared.members.MemberKind.TheVariants.{Field, Method}
 use Rattle.class_rows.specs.Members.{is_member, name_at, first_named, first_declared, is_like, member_nodes, number_at, first_number, own_key, is_same_own, in_class}
@@ -76,8 +76,7 @@ unfolding written_rows
 of_users f none nodes users =
     flat_map-append f (framework_rows_from 0 framework_classes) (map (user_row nodes (class_names users)) users)
     ∙ ap (λ xs. xs ++ flat_map f (map (user_row nodes (class_names users)) users))
-    (of_framework f none 0 framework_classes)
-    ∙ flat_map-map f (user_row nodes (class_names users)) users
+    (of_framework f none 0 framework_classes) ∙ flat_map-map f (user_row nodes (class_names users)) users
 
 abbrev row_fields : ClassRow → List ℕ
 row_fields row = map (λ (f : Declared). f.node) row.fields
@@ -88,8 +87,7 @@ unfolding counted_from
 fields_counted p class [] = refl
 fields_counted p class (row ∷ more) =
     ap (λ ys. ys ++ flat_map row_fields (counted_from p.names p.written (class + 1) more))
-    (keeps row_fields (λ r. refl) p class row)
-    ∙ ap (λ ys. row_fields row ++ ys) (fields_counted p (class + 1) more)
+    (keeps row_fields (λ r. refl) p class row) ∙ ap (λ ys. row_fields row ++ ys) (fields_counted p (class + 1) more)
 
 fields_listed : (nodes : List Node) (ids : List ℕ) →
     filter (is_member Field nodes) ids ≡ map (λ (f : Declared). f.node) (filter_map (field_at nodes) ids)
@@ -104,8 +102,7 @@ nodes_all Field forest =
     of_users (own_nodes Field forest.nodes) (λ n c. refl) forest.nodes users
     ∙ (λ i. flat_map (λ (c : WrittenClass). fields_listed forest.nodes c.members i) users) ∙ sym (of_users row_fields (λ n c. refl) forest.nodes users)
     ∙ sym (fields_counted (declarations_of forest) 0 (declarations_of forest).written)
-nodes_all Method forest =
-    of_users (own_nodes Method forest.nodes) (λ n c. refl) forest.nodes (user_classes forest)
+nodes_all Method forest = of_users (own_nodes Method forest.nodes) (λ n c. refl) forest.nodes (user_classes forest)
 
 -- ---- names
 
@@ -197,8 +194,7 @@ module _ (kind : MemberKind) (forest : Forest) (name : List ℕ) where
   like_named firsts are first h members =
       λ i. find (λ id. go (name_at kind forest.nodes id) i) members
     where
-      go : (o : Option (List ℕ))
-          → holds (option_and_then firsts o) (λ other. other == first) ≡ holds o (is_same name)
+      go : (o : Option (List ℕ)) → holds (option_and_then firsts o) (λ other. other == first) ≡ holds o (is_same name)
       go None = refl
       go (Some also) = like_name first also (firsts also) h (sym (are also))
 
@@ -206,8 +202,7 @@ module _ (kind : MemberKind) (forest : Forest) (name : List ℕ) where
   none_filtered : (xs : List ℕ) → find (named name) (filter (is_member kind forest.nodes) xs) ≡ None →
       find (named name) xs ≡ None
   none_filtered [] h = refl
-  none_filtered (x ∷ xs) h =
-      grind (arith, common_steps, h, none_filtered xs, unnamed kind forest.nodes name x)
+  none_filtered (x ∷ xs) h = grind (arith, common_steps, h, none_filtered xs, unnamed kind forest.nodes name x)
 
   none_in : (rows : List ClassRow) (i : ℕ) (row : ClassRow) →
       find (named name) (flat_map (own_nodes kind forest.nodes) rows) ≡ None → slice_get rows i ≡ Some row →

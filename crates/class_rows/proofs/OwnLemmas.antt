@@ -1,15 +1,16 @@
--- The own members of a class: what is read at the nodes of its members.
-use Rattle.std.proofs.Common.{◌≡◌, ℕ, ◌<◌, ◌≤◌, List, [], ◌∷◌, refl, sym, ap, ◌∙◌, arith, Option, Some, None, slice_get, option_map, option_and_then, unwrap_or}
+-- The own members of a class: what is read at its members' nodes, and what is found where one class alone has a name.
+use Rattle.std.proofs.Common.{◌≡◌, ℕ, ◌<◌, ◌≤◌, ◌==◌, ◌&&◌, true, false, filter, if◌then◌else◌, List, [], ◌∷◌, refl, sym, ap, ◌∙◌, arith, Option, Some, None, slice_get, option_map, option_and_then, unwrap_or}
 use Rattle.std.specs.List.{find, filter_map}
+use Rattle.std.proofs.lemmas.Bool.Decides.{nat_tests}
 use Rattle.std.proofs.lemmas.Grind.{common_steps}
 use Rattle.scj_base.specs.Bytes.{is_same}
 use Rattle.scj_tree.specs.declared.nodes.Node.{Node}
 use Rattle.scj_tree.specs.Forest.{Forest}
 use Rattle.scj_rules.specs.declared.typing.FoundField.{FoundField}
 use Rattle.scj_rules.specs.declared.views.Declared.{Declared}
-use Rattle.scj_rules.specs.Words.{holds}
+use Rattle.scj_rules.specs.Words.{along, holds, is_among}
 use Rattle.scj_rules.specs.Views.{DeclaredConstructor, DeclaredMethod, constructor_at, field_at, method_at}
-use Rattle.scj_rules.specs.Classes.{ClassRow, FoundMethod, own_field, own_method, first_user_class}
+use Rattle.scj_rules.specs.Classes.{ClassRow, FoundMethod, own_field, own_method, first_user_class, is_user_class, superclasses}
 use Rattle.scj_rules.specs.Contexts.{declarations_of}
 use Rattle.scj_rules.specs.Types.{constructor_in}
 use Rattle.method_rows.specs.declared.refs.MethodRef.{MethodRef}
@@ -21,6 +22,7 @@ use Rattle.class_rows.specs.declared.members.MemberKind.TheVariants.{Field, Meth
 use Rattle.class_rows.specs.Fields.{found_field, no_field}
 use Rattle.class_rows.specs.Members.{first_named, name_at}
 use Rattle.class_rows.specs.Tables.{class_written, members_in}
+use Rattle.class_rows.specs.Walks.{is_framework}
 use Rattle.class_rows.proofs.RowLemmas.{as_written, under_object}
 use Rattle.class_rows.proofs.SoundLemmas.{row_sound, members_of, first_methods, other_methods, framework_there}
 
@@ -52,8 +54,7 @@ read_first : {A : Type 0} (read : ℕ → Option A) (name_of : A → List ℕ) (
     (find (λ id. holds (option_map name_of (read id)) (is_same name)) ids)
     ≡ find (λ a. is_same name (name_of a)) (filter_map read ids)
 read_first read name_of none name [] = refl
-read_first read name_of none name (id ∷ more) =
-    grind (arith, common_steps, read_first read name_of none name more)
+read_first read name_of none name (id ∷ more) = grind (arith, common_steps, read_first read name_of none name more)
 
 -- ---- fields
 
@@ -158,3 +159,57 @@ constructor_whole forest class =
     ∙ grind (arith, common_steps) in
     ap (λ o. option_and_then (constructor_at forest.nodes) (node_of o)) (constructor_is forest class ∙ sym found)
     ∙ first_again forest.nodes (members_in (declarations_of forest) class) ∙ found
+
+-- ---- what one class alone declares, or none
+
+module _ (f : ℕ → Option FoundMethod) (owner : ℕ)
+    (h : (x : ℕ) → is_user_class x ≡ true → (x == owner) ≡ false → f x ≡ None) where
+  along_elsewhere : (xs : List ℕ) → (is_user_class owner && is_among owner xs) ≡ false →
+      along f (filter is_framework xs) ≡ along f xs
+  unfolding along
+  along_elsewhere [] n = refl
+  along_elsewhere (x ∷ xs) n = grind (arith, common_steps, nat_tests, n, h x, along_elsewhere xs)
+
+  along_alone : (xs : List ℕ) → along f (filter is_framework xs) ≡ None →
+      along f xs ≡ (if is_among owner xs then f owner else None)
+  unfolding along
+  along_alone [] n = refl
+  along_alone (x ∷ xs) n = grind (arith, common_steps, nat_tests, n, h x, along_alone xs)
+
+along_field : (f : ℕ → Option FoundField) (owner : ℕ) → ((x : ℕ) → (x == owner) ≡ false → f x ≡ None) →
+    (xs : List ℕ) → along f xs ≡ (if is_among owner xs then f owner else None)
+unfolding along
+along_field f owner h [] = refl
+along_field f owner h (x ∷ xs) = grind (arith, common_steps, nat_tests, h x, along_field f owner h xs)
+
+module _ (forest : Forest) (class owner : ℕ) (name : List ℕ) where
+  abbrev rows : List ClassRow
+  rows = (declarations_of forest).classes
+
+  abbrev those : List ℕ
+  those = superclasses rows class
+
+  module _ (h : (x : ℕ) → (x == owner) ≡ false →
+      first_named Field forest.nodes name (members_in (declarations_of forest) x) ≡ None) where
+    field_alone : along (own_field rows name) those ≡ (if is_among owner those then own_field rows name owner else None)
+    field_alone =
+        along_field (own_field rows name) owner (λ x n. sym (own_field_row forest x name None (sym (h x n)))) those
+
+    pub field_above : is_among owner those ≡ true → own_field rows name owner ≡ along (own_field rows name) those
+    field_above e = grind (arith, common_steps, field_alone, e)
+
+    pub field_elsewhere : is_among owner those ≡ false → None ≡ along (own_field rows name) those
+    field_elsewhere e = grind (arith, common_steps, field_alone, e)
+
+  module _ (h : (x : ℕ) → (x == owner) ≡ false →
+      first_named Method forest.nodes name (members_in (declarations_of forest) x) ≡ None) where
+    none_elsewhere : (x : ℕ) → is_user_class x ≡ true → (x == owner) ≡ false → own_method rows name x ≡ None
+    none_elsewhere x u n = sym (declared_row_is forest x name None (grind (arith, nat_tests, u)) (sym (h x n)))
+
+    pub method_elsewhere : (is_user_class owner && is_among owner those) ≡ false →
+        along (own_method rows name) (filter is_framework those) ≡ along (own_method rows name) those
+    method_elsewhere = along_elsewhere (own_method rows name) owner none_elsewhere those
+
+    pub method_alone : along (own_method rows name) (filter is_framework those) ≡ None →
+        along (own_method rows name) those ≡ (if is_among owner those then own_method rows name owner else None)
+    method_alone = along_alone (own_method rows name) owner none_elsewhere those

@@ -91,7 +91,6 @@ module _ (forest : Forest) (class : ℕ) where
 pub marked_at : (forest : Forest) (marks : List Bool) (class : ℕ) → AreUnderObject forest marks →
     slice_index_or marks class false ≡ is_under_object (declarations_of forest) class
 unfolding class_written is_good_header
-marked_at forest marks class e =
-    ap (λ (ms : List Bool). slice_index_or ms class false) e
+marked_at forest marks class e = ap (λ (ms : List Bool). slice_index_or ms class false) e
     ∙ listed-at false (is_under_object (declarations_of forest)) (length (declarations_of forest).written) class
     ∙ grind (arith, common_steps, nat_tests, slice_get_past (declarations_of forest).written class)

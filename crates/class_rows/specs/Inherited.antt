@@ -10,8 +10,7 @@ use Rattle.class_rows.specs.declared.inherited.InheritedMethods.{InheritedMethod
 
 -- some class inherits the method of a name at a node as one of the interface
 abbrev pub is_inherited_as : Declarations → ℕ → ℕ → List ℕ → Bool
-is_inherited_as p interface node name =
-    list_any (inherits_as p (interface ∷ []) node name) (numbers_from 0 p.classes)
+is_inherited_as p interface node name = list_any (inherits_as p (interface ∷ []) node name) (numbers_from 0 p.classes)
 
 -- the nodes that are there, with those of what the others still have to tell, are those of all methods of the name that
 -- classes inherit as the interface's

@@ -1,5 +1,5 @@
--- The members of classes: which have numbers, and the first of each name in a class.
-use Rattle.std.specs.Prelude.{◌≡◌, ℕ, Bool, ◌&&◌, ◌==◌, List, find, is_some, Option, None, Some, option_map, option_and_then, if◌then◌else◌}
+-- The members of classes: which have numbers, the first of each name in a class, and which classes may declare a name.
+use Rattle.std.specs.Prelude.{◌≡◌, ℕ, Bool, true, false, ◌&&◌, ◌==◌, List, find, is_some, Option, None, Some, option_map, option_and_then, if◌then◌else◌}
 use Rattle.std.specs.HashMap.{get}
 use Rattle.scj_base.specs.Bytes.{is_same}
 use Rattle.scj_builtins.specs.Framework.{framework_method_count}
@@ -15,7 +15,8 @@ use Rattle.class_headers.specs.NamedNumbers.{found_under}
 use Rattle.class_rows.specs.declared.members.MemberKind.{MemberKind}
 use Rattle.class_rows.specs.declared.members.MemberKind.TheVariants.{Field, Method}
 use Rattle.class_rows.specs.declared.members.Members.{Members}
-use Rattle.class_rows.specs.declared.members.OwnKey.{OwnKey}
+use Rattle.class_rows.specs.declared.own_members.OwnKey.{OwnKey}
+use Rattle.class_rows.specs.declared.own_members.OwnMembers.{OwnMembers}
 
 -- a member of the kind is declared at a node
 unfoldable pub is_member : MemberKind → List Node → ℕ → Bool
@@ -63,11 +64,23 @@ is_same_own a b = (a.class == b.class) && (a.first == b.first)
 abbrev pub in_class : ℕ → OwnKey → Option ℕ → Option ℕ
 in_class class key found = if class == key.class then found else None
 
+-- the class may declare members of a name, where this is told of who does: none, several, or one class alone
+abbrev pub may_own : Option (Option ℕ) → ℕ → Bool
+may_own None class = false
+may_own (Some None) class = true
+may_own (Some (Some owner)) class = class == owner
+
+-- what is told of who declares a name is right: a class that by it declares no members of the name has none
+abbrev pub AreOwners : OwnMembers → Type 0
+AreOwners own = (key : OwnKey) → may_own (get ◌==◌ own.owners key.first) key.class ≡ false →
+    get is_same_own own.named key ≡ None
+
 -- the table is that of the members of the kind
 pub record IsMembersOf (kind : MemberKind) (forest : Forest) (members : Members) : Type 0 where
   pub nodes : members.nodes.items ≡ member_nodes kind forest
   pub firsts : (name : List ℕ) → found_under members.firsts name ≡ first_declared kind forest name
   pub named : (class first : ℕ) (name : List ℕ) → Some first ≡ first_declared kind forest name →
-      get is_same_own members.named (own_key class first) ≡ first_named kind forest.nodes name
+      get is_same_own members.own.named (own_key class first) ≡ first_named kind forest.nodes name
       (members_in (declarations_of forest) class)
+  pub owners : AreOwners members.own
   pub numbers : (id : ℕ) → get ◌==◌ members.numbers id ≡ number_at kind forest id

@@ -19,8 +19,7 @@ use Rattle.class_rows.specs.Walks.{AreAncestries}
 
 -- the name of the framework's class of a number, or of the class that is written
 unfoldable pub name_of : Declarations → ℕ → Option (List ℕ)
-name_of p class =
-    or_else (option_map (λ (c : FrameworkClass). c.name) (slice_get framework_classes class))
+name_of p class = or_else (option_map (λ (c : FrameworkClass). c.name) (slice_get framework_classes class))
     (option_map (λ (c : WrittenClass). c.name) (class_written p class))
 
 -- nothing in the header is forbidden, where there is one

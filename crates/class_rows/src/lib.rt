@@ -9,6 +9,7 @@ pub mod fields;
 pub mod inherited;
 pub mod lookups;
 pub mod members;
+pub mod own_members;
 pub mod tables;
 
 pub use classes::Classes;

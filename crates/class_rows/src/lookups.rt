@@ -1,11 +1,10 @@
 //! Whether a class stands under another, and look-ups of members by name.
 
-ghost use Rattle.std.specs.Prelude.{◌≡◌, ◌<◌, ◌≤◌, ℕ, List, filter, option_map};
+ghost use Rattle.std.specs.Prelude.{◌≡◌, ◌==◌, ◌<◌, ◌≤◌, ◌&&◌, ℕ, List, false, None, IfSome, filter, option_map};
 ghost use Rattle.scj_rules.specs.Words.{along, is_among, or_else};
-ghost use Rattle.scj_rules.specs.Classes.{superclasses, all_interfaces, is_sub, own_field, field_named, own_method, method_named, method_above, framework_row_named, field_nodes, field_number, method_nodes, method_number, first_user_class};
+ghost use Rattle.scj_rules.specs.Classes.{superclasses, all_interfaces, is_sub, own_field, field_named, own_method, method_named, method_above, framework_row_named, field_nodes, field_number, method_nodes, method_number, first_user_class, is_user_class};
 ghost use Rattle.scj_rules.specs.Contexts.{declarations_of};
 ghost use Rattle.method_rows.specs.Methods.{found_method};
-ghost use Rattle.class_headers.specs.Columns.{kind_count};
 ghost use Rattle.class_rows.specs.Fields.{found_field};
 ghost use Rattle.class_rows.specs.declared.members.MemberKind.TheVariants.{Field, Method};
 ghost use Rattle.class_rows.specs.Members.{first_declared, first_named, IsMembersOf};
@@ -15,10 +14,10 @@ ghost use Rattle.class_rows.specs.Walks.{asked, is_framework, is_known, implemen
 use crate::chains::Chain;
 use crate::classes::Classes;
 use crate::fields::FieldRef;
-use crate::members::{MemberKind, Members, OwnKey};
+use crate::members::{MemberKind, Members};
 use class_headers::ways::{has_bit, way_at};
 use method_rows::{MethodRef, MethodSource, framework_method};
-use scj_base::ids::{RUNNABLE, SAFELET};
+use scj_base::ids::{OBJECT, RUNNABLE, SAFELET};
 use scj_base::{ClassId, FieldId, MethodId, Name, NodeId};
 use scj_builtins::FRAMEWORK_CLASS_COUNT;
 
@@ -33,14 +32,6 @@ fn is_known(interface: ClassId) -> bool
 }
 
 impl<'a> Classes<'a> {
-    /// Whether a kind stands on the chain of a class.
-    fn is_of_kind(&self, class: ClassId, kind: ClassId) -> bool
-        requires { kind < kind_count }
-        ensures { result ≡ is_among kind (superclasses (declarations_of self.now).classes class) }
-    {
-        has_bit(way_at(&self.table.ways, class).above, kind)
-    }
-
     /// Whether a class is the other one or stands under it, by a walk up its chain.
     fn is_on_chain(&self, class: ClassId, above: ClassId) -> bool
         ensures { result ≡ is_among above (superclasses (declarations_of self.now).classes class) }
@@ -59,12 +50,20 @@ impl<'a> Classes<'a> {
         ensures { result ≡ is_among above (superclasses (declarations_of self.now).classes class) }
     {
         if above.number() < KIND_COUNT {
-            return self.is_of_kind(class, above);
+            return has_bit(way_at(&self.table.ways, class).above, above);
         }
         match self.is_told_under(class, above) {
             Some(told) => told,
             None => self.is_on_chain(class, above),
         }
+    }
+
+    /// Whether the other class is a user class, and the class is it or stands under it.
+    fn is_under_user(&self, class: ClassId, above: ClassId) -> bool
+        ensures { result ≡ (is_user_class above
+            && is_among above (superclasses (declarations_of self.now).classes class)) }
+    {
+        above.number() >= FRAMEWORK_CLASS_COUNT && self.is_under(class, above)
     }
 
     /// Whether a class of the chain implements the interface. None implements another one than `Runnable` and
@@ -117,14 +116,21 @@ impl<'a> Classes<'a> {
             result ≡ first_named kind self.now.nodes name (members_in (declarations_of self.now) class) }
     {
         match first {
-            Some(id) => {
-                let key = OwnKey {
-                    class: class.number(),
-                    first: id.place(),
-                };
-                self.members_like(kind).named.get(&key).copied()
-            }
+            Some(id) => self.members_like(kind).own.get(class, *id),
             None => None,
+        }
+    }
+
+    /// The class that alone may declare members of the name for which one stands, `Object` if none; none where several do.
+    #[tactic(auto, using(crate::proofs::MemberLemmas::none_declared))]
+    fn only_owner(&self, kind: MemberKind, first: &Option<NodeId>) -> Option<ClassId>
+        ensures { IfSome result (λ owner. (name : List ℕ) → first.now ≡ first_declared kind self.now name →
+            (class : ℕ) → (class == owner) ≡ false →
+            first_named kind self.now.nodes name (members_in (declarations_of self.now) class) ≡ None) }
+    {
+        match first {
+            Some(id) => self.members_like(kind).own.only_owner(*id),
+            None => Some(OBJECT),
         }
     }
 
@@ -184,12 +190,18 @@ impl<'a> Classes<'a> {
     }
 
     /// The field of a name that a class has, its own or the nearest above.
-    #[tactic(auto, using(crate::proofs::WalkLemmas::along_front, crate::proofs::WalkLemmas::along_end), unfolding(scj_rules::specs::Classes::field_named))]
+    #[tactic(auto, using(crate::proofs::WalkLemmas::along_front, crate::proofs::WalkLemmas::along_end, crate::proofs::OwnLemmas::field_above, crate::proofs::OwnLemmas::field_elsewhere), unfolding(scj_rules::specs::Classes::field_named))]
     pub fn field_named(&self, class: ClassId, name: &Name) -> Option<FieldRef>
         ensures { option_map (found_field self.now.nodes) result ≡ field_named (declarations_of self.now).classes class
             name.now }
     {
         let first = &self.first_declared(MemberKind::Field, name);
+        if let Some(owner) = self.only_owner(MemberKind::Field, first) {
+            if !self.is_under(class, owner) {
+                return None;
+            }
+            return self.field_like(owner, first);
+        }
         let mut chain = self.superclasses(class);
         while let Some(at) = chain.next() {
             if let Some(field) = self.field_like(at, first) {
@@ -271,23 +283,60 @@ impl<'a> Classes<'a> {
         }
     }
 
+    /// The method of a name that the nearest of the framework's classes on a class's chain declares that has one.
+    fn framework_method_above(&self, class: ClassId, name: &Name) -> Option<MethodRef>
+        ensures { option_map (found_method self.now.nodes) result ≡ along
+            (own_method (declarations_of self.now).classes name.now)
+            (filter is_framework (superclasses (declarations_of self.now).classes class)) }
+    {
+        self.first_method(self.superclasses(self.root(class)), true, name)
+    }
+
+    /// The method of a name that a class or the nearest class above declares itself. The classes between are asked only
+    /// where several user classes declare it, where one of the chain and the framework do, or where nothing is told of the
+    /// classes above.
+    #[tactic(auto, using(crate::proofs::OwnLemmas::method_elsewhere))]
+    fn nearest_method(&self, class: ClassId, name: &Name) -> Option<MethodRef>
+        ensures { option_map (found_method self.now.nodes) result ≡ along
+            (own_method (declarations_of self.now).classes name.now)
+            (superclasses (declarations_of self.now).classes class) }
+    {
+        if self.ancestry(class).is_none() {
+            return self.first_method(self.superclasses(class), false, name);
+        }
+        let first = &self.first_declared(MemberKind::Method, name);
+        if let Some(owner) = self.only_owner(MemberKind::Method, first) {
+            let of_framework = self.framework_method_above(class, name);
+            if !self.is_under_user(class, owner) {
+                return of_framework;
+            }
+            if of_framework.is_none() {
+                return self.method_like(owner, name, first);
+            }
+        }
+        self.first_method(self.superclasses(class), false, name)
+    }
+
     /// The method of a name that a class has: the nearest declaration above, or else an interface's.
     #[tactic(auto, unfolding(scj_rules::specs::Classes::method_named), using(crate::proofs::WalkLemmas::along_append))]
     pub fn method_named(&self, class: ClassId, name: &Name) -> Option<MethodRef>
         ensures { option_map (found_method self.now.nodes) result ≡ method_named (declarations_of self.now).classes
             class name.now }
     {
-        let found = self.first_method(self.superclasses(class), false, name);
+        let found = self.nearest_method(class, name);
         self.or_interface_method(found, class, name)
     }
 
     /// What a declaration of the name in the class overrides.
-    #[tactic(auto, unfolding(scj_rules::specs::Classes::method_above), using(crate::proofs::WalkLemmas::along_append))]
+    #[tactic(auto, unfolding(scj_rules::specs::Classes::method_above, scj_rules::specs::Classes::classes_above, scj_rules::specs::Classes::superclasses, scj_rules::specs::Words::chain_behind), using(crate::proofs::WalkLemmas::along_append))]
     pub fn method_above(&self, class: ClassId, name: &Name) -> Option<MethodRef>
         ensures { option_map (found_method self.now.nodes) result ≡ method_above (declarations_of self.now).classes
             class name.now }
     {
-        let found = self.first_method(self.classes_above(class), false, name);
+        let found = match self.superclass(class) {
+            Some(above) => self.nearest_method(above, name),
+            None => None,
+        };
         self.or_interface_method(found, class, name)
     }
 
@@ -309,7 +358,7 @@ impl<'a> Classes<'a> {
         ensures { option_map (found_method self.now.nodes) result ≡ framework_row_named
             (declarations_of self.now).classes class name.now }
     {
-        let found = self.first_method(self.superclasses(self.root(class)), true, name);
+        let found = self.framework_method_above(class, name);
         self.or_interface_method(found, class, name)
     }
 

@@ -8,9 +8,10 @@ ghost use Rattle.scj_rules.specs.Views.{field_at};
 ghost use Rattle.scj_rules.specs.Contexts.{declarations_of};
 ghost use Rattle.class_headers.specs.Members.{members_in};
 ghost use Rattle.class_headers.specs.NamedNumbers.{found_under};
-ghost use Rattle.class_rows.specs.declared.members.OwnKey.{OwnKey as Key};
-ghost use Rattle.class_rows.specs.Members.{is_member, member_nodes, name_at, first_named, first_number, is_like, is_same_own, in_class, IsMembersOf};
+ghost use Rattle.class_rows.specs.declared.own_members.OwnKey.{OwnKey as Key};
+ghost use Rattle.class_rows.specs.Members.{is_member, member_nodes, name_at, first_named, first_number, is_like, is_same_own, in_class, AreOwners, IsMembersOf};
 
+use crate::own_members::OwnMembers;
 use class_headers::{NamedNumbers, WrittenClasses};
 use node_views::{is_constructor, is_field, is_method, method_name};
 use scj_base::{ClassId, Memory, Name, NodeId};
@@ -31,15 +32,6 @@ pub enum MemberKind {
     Method,
 }
 
-/// A class, with the first member of a name, which stands for the name.
-#[derive(Clone, Copy, Debug, PartialEq, Eq, Hash)]
-pub struct OwnKey {
-    /// The class.
-    pub class: u32,
-    /// The place of the first member of the name.
-    pub first: usize,
-}
-
 /// The members of one kind.
 #[derive(Drop)]
 pub struct Members {
@@ -47,8 +39,8 @@ pub struct Members {
     pub(crate) nodes: Vec<NodeId>,
     /// The first of each name.
     pub(crate) firsts: NamedNumbers,
-    /// The first of each name in each class. A walk along a chain asks for the name once, and then for numbers.
-    pub(crate) named: HashMap<OwnKey, NodeId>,
+    /// Those that the classes declare themselves, by these firsts.
+    pub(crate) own: OwnMembers,
     /// The number of each, by its node.
     pub(crate) numbers: HashMap<usize, u32>,
 }
@@ -152,27 +144,24 @@ fn first_like(
 /// is entered first, so that the first stays.
 #[tactic(auto, using(crate::proofs::MemberLemmas::own_entered))]
 fn add_names(
-    map: &mut HashMap<OwnKey, NodeId>,
+    own: &mut OwnMembers,
     firsts: &NamedNumbers,
     program: &Program,
     kind: MemberKind,
     class: ClassId,
     members: &[NodeId],
 ) -> Result<(), Memory>
-    ensures { OnOk result ((key : Key) → get is_same_own map.new key ≡ option_or
+    ensures named { OnOk result ((key : Key) → get is_same_own own.new.named key ≡ option_or
         (in_class class key (find (is_like kind program.now.nodes (found_under firsts.now) key.first) members.now))
-        (get is_same_own map.old key)) }
+        (get is_same_own own.old.named key)) }
+    ensures owners { AreOwners own.old → OnOk result (AreOwners own.new) }
 {
     let mut at = members.len();
     while at > 0 {
         at -= 1;
         let id = members[at];
         if let Some(first) = first_like(firsts, program, kind, id) {
-            let key = OwnKey {
-                class: class.number(),
-                first: first.place(),
-            };
-            map.insert(key, id)?;
+            own.enter(class, first, id)?;
         }
     }
     Ok(())
@@ -230,30 +219,34 @@ fn nodes_of(
     Ok(nodes)
 }
 
-/// The first of each name in each class.
+/// The members that the classes declare themselves.
 #[tactic(auto, using(crate::proofs::MemberLemmas::names_none, crate::proofs::MemberLemmas::names_more, crate::proofs::MemberLemmas::names_all))]
-fn named_of(
+fn own_members_of(
     alloc: Global,
     classes: &WrittenClasses,
     kind: MemberKind,
     firsts: &NamedNumbers,
-) -> Result<HashMap<OwnKey, NodeId>, Memory>
-    ensures { IfOk result
-        (λ named. (key : Key) → get is_same_own named key ≡ find
+) -> Result<OwnMembers, Memory>
+    ensures named { IfOk result
+        (λ own. (key : Key) → get is_same_own own.named key ≡ find
         (is_like kind classes.now.nodes (found_under firsts.now) key.first)
         (members_in (declarations_of classes.now) key.class)) }
+    ensures owners { IfOk result (λ own. AreOwners own) }
 {
     let count = classes.count();
     if count > u32::MAX as usize {
         return Err(Memory);
     }
-    let mut named = HashMap::new(alloc);
+    let mut own = OwnMembers {
+        named: HashMap::new(alloc),
+        owners: HashMap::new(alloc),
+    };
     for number in 0..count {
         let class = ClassId::at(number as u32);
         let members = classes.members(class);
-        add_names(&mut named, firsts, classes.program(), kind, class, members)?;
+        add_names(&mut own, firsts, classes.program(), kind, class, members)?;
     }
-    Ok(named)
+    Ok(own)
 }
 
 /// The members of a kind of all classes.
@@ -266,12 +259,12 @@ pub fn members_of(
 {
     let nodes = nodes_of(alloc, classes, kind)?;
     let firsts = firsts_of(alloc, classes.program(), kind, &nodes)?;
-    let named = named_of(alloc, classes, kind, &firsts)?;
+    let own = own_members_of(alloc, classes, kind, &firsts)?;
     let numbers = places_of(alloc, &nodes, first_number(kind))?;
     Ok(Members {
         nodes,
         firsts,
-        named,
+        own,
         numbers,
     })
 }

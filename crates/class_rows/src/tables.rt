@@ -39,7 +39,6 @@ pub struct ClassTable {
 
 impl ClassTable {
     /// The table of the classes of a program, before a tour of them.
-    #[tactic(auto, using(crate::proofs::BuildingLemmas::ways_counted, crate::proofs::RowLemmas::class_length))]
     pub fn of(alloc: Global, program: &Program) -> Result<ClassTable, Memory>
         ensures { IfOk result (λ table. IsTableOf program.now table) }
     {
