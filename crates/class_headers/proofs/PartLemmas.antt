@@ -65,8 +65,7 @@ pub parts_are : (nodes : List Node) (find : List ℕ → Option ℕ) (id : ℕ)
     (option_map (λ (c : WrittenClass). c.modifiers) (class_at nodes id))
     ≡ option_map (header_by nodes find) (class_at nodes id)
 unfolding header_by
-parts_are nodes find id =
-    grind (arith, common_steps, node_of_class nodes id (slice_get nodes id), first_is nodes)
+parts_are nodes find id = grind (arith, common_steps, node_of_class nodes id (slice_get nodes id), first_is nodes)
 
 -- one class more where the table has none
 pub one_more_behind : (t : Bool) (class : ℕ) (few before after : Option ℕ) → few ≡ None →

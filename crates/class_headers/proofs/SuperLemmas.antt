@@ -29,8 +29,7 @@ any_within p xs ys h k =
 
 pub any_alike : (p : ℕ → Bool) (xs ys : List ℕ) → ((x : ℕ) → is_among x xs ≡ is_among x ys) →
     list_any p xs ≡ list_any p ys
-any_alike p xs ys h =
-    bools (list_any p xs) (list_any p ys) (any_within p xs ys (λ x k. sym (h x) ∙ k))
+any_alike p xs ys h = bools (list_any p xs) (list_any p ys) (any_within p xs ys (λ x k. sym (h x) ∙ k))
     (any_within p ys xs (λ x k. h x ∙ k))
 
 pub any_flat : (p : ℕ → Bool) (f : ℕ → List ℕ) (xs : List ℕ) →
@@ -82,8 +81,7 @@ pub all_known : (p : Declarations) (o : Option WrittenClass) (extends : Option W
     (ids : List ℕ) → extends ≡ extends_of o → filter_map written ids ≡ implements_of o
     → (is_known_if_there p.names extends && list_all (λ id. is_known_if_there p.names (written id)) ids)
     ≡ knows_supers p o
-all_known p o extends written ids e h =
-    grind (arith, common_steps, are_all_known p.names written ids, header_known p o)
+all_known p o extends written ids e h = grind (arith, common_steps, are_all_known p.names written ids, header_known p o)
 
 -- ---- names that are forbidden
 

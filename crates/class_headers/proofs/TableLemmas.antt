@@ -65,9 +65,8 @@ pub superclass_is : (forest : Forest) (headers : Headers) (class : ℕ) → IsHe
 superclass_is forest headers class t = ap (λ (hs : List Header). above_in hs class) t.rows
     ∙ superclass_at (declarations_of forest).written class
 
-pub interfaces_is : (forest : Forest) (headers : Headers) (class : ℕ) → IsHeadersOf forest headers
-    → named_in (map (λ v. v.items) headers.interfaces.items) class ≡ interfaces_in (declarations_of forest).written
-    class
+pub interfaces_is : (forest : Forest) (headers : Headers) (class : ℕ) → IsHeadersOf forest headers →
+    named_in (map (λ v. v.items) headers.interfaces.items) class ≡ interfaces_in (declarations_of forest).written class
 interfaces_is forest headers class t = ap (λ (xs : List (List ℕ)). named_in xs class) t.interfaces
     ∙ lists_at (declarations_of forest).written class
 
@@ -91,8 +90,7 @@ bits_are forest headers kind class t h =
 first_ways_are : (all : List ClassRow)
     → listed (way_by (map header_of all) (map (λ (row : ClassRow). row.interfaces) all)) (length (map header_of all))
     ≡ first_ways all
-first_ways_are all =
-    λ i. listed (λ class. first_way class (superclass_at all class i) (lists_at all class i))
+first_ways_are all = λ i. listed (λ class. first_way class (superclass_at all class i) (lists_at all class i))
     (length-map all header_of i)
 
 module _ (all : List ClassRow) (stays : StaysBelow (superclass_in all) (length all)) (ways : List Way)
@@ -171,8 +169,7 @@ module _ (nodes : List Node) (ids : List ℕ) (find : List ℕ → Option ℕ)
       ++ filter_map (λ id. option_map (header_by nodes find) (class_at nodes id)) ids
       ≡ map header_of (written_rows nodes users)
   unfolding written_rows framework_rows_from framework_classes
-  all_headers =
-      ap (λ hs. map header_of (framework_rows_from 0 framework_classes) ++ hs)
+  all_headers = ap (λ hs. map header_of (framework_rows_from 0 framework_classes) ++ hs)
       (map_filter_map (header_by nodes find) (class_at nodes) ids ∙ (λ i. map (λ c. header_found c i) users)
       ∙ sym (map-map header_of row_of users))
       ∙ sym (map-append header_of (framework_rows_from 0 framework_classes) (map row_of users))
@@ -197,11 +194,9 @@ module _ (nodes : List Node) (ids : List ℕ) (find : List ℕ → Option ℕ)
   all_lists : map list_of (written_rows nodes users)
       ≡ map (λ (row : ClassRow). row.interfaces) (written_rows nodes users)
   unfolding written_rows framework_rows_from framework_row framework_classes header_of interfaces_at
-  all_lists =
-      map-append list_of (framework_rows_from 0 framework_classes) (map row_of users)
+  all_lists = map-append list_of (framework_rows_from 0 framework_classes) (map row_of users)
       ∙ ap (λ (xss : List (List ℕ)). map list_of (framework_rows_from 0 framework_classes) ++ xss)
-      (map-map list_of row_of users ∙ user_lists ids
-      ∙ sym (map-map (λ (row : ClassRow). row.interfaces) row_of users))
+      (map-map list_of row_of users ∙ user_lists ids ∙ sym (map-map (λ (row : ClassRow). row.interfaces) row_of users))
       ∙ sym (map-append (λ (row : ClassRow). row.interfaces) (framework_rows_from 0 framework_classes)
       (map row_of users))
 

@@ -47,8 +47,7 @@ has_one k x h = grind (arith, nat_tests, bit_at-pow_same x, bit_at-pow_other x k
 has_bits : (k : ℕ) (xs : List ℕ) → k < 8 → has_bit (bits_of xs) k ≡ is_among k xs
 unfolding bits_of
 has_bits k [] h = has_none k
-has_bits k (x ∷ xs) h =
-    grind (arith, common_steps, has_or (bit_of x) (bits_of xs) k, has_one k x h, has_bits k xs h)
+has_bits k (x ∷ xs) h = grind (arith, common_steps, has_or (bit_of x) (bits_of xs) k, has_one k x h, has_bits k xs h)
 
 pub bits_push : (xs : List ℕ) (i x bits bit : ℕ) → i < length xs → x ≡ get_or xs i x → bits ≡ bits_of (take i xs) →
     bit ≡ bit_of x → bit_or bits bit ≡ bits_of (take (i + 1) xs)
@@ -84,8 +83,7 @@ one-listed p f n t =
     let l : a.0 < n = omega (arith, a.2, length-listed f n) in
     (a.0, l, ap p (sym (listed-there a.1 f n a.0 l) ∙ a.3) ∙ a.4)
 
-any-listed : {A : Type 0} (p : A → Bool) (f : ℕ → A) (n i : ℕ) → i < n → p (f i) ≡ true →
-    list_any p (listed f n) ≡ true
+any-listed : {A : Type 0} (p : A → Bool) (f : ℕ → A) (n i : ℕ) → i < n → p (f i) ≡ true → list_any p (listed f n) ≡ true
 any-listed p f n i h t =
     list_any_at p (listed f n) i (f i) (omega (arith, h, length-listed f n)) (ap p (listed-there (f i) f n i h) ∙ t)
 
@@ -162,14 +160,11 @@ module _ (next : ℕ → Option ℕ) where
       let r = later c k in
       (suc r.0, omega (arith, r.1), ap (option_and_then (climb next r.0)) f ∙ r.2)
 
-  met : (bound a b : ℕ) → is_among b (chain next bound a) ≡ true →
-      (p : ℕ) × (p < bound) × (climb next p a ≡ Some b)
+  met : (bound a b : ℕ) → is_among b (chain next bound a) ≡ true → (p : ℕ) × (p < bound) × (climb next p a ≡ Some b)
   unfolding chain climb
   met zero a b h = absurd (true≢false (sym h))
-  met (suc bound) a b h =
-      ⊎_elim (λ (e : (b == a) ≡ true). (0, omega arith, ap (λ x. Some x) (sym (same_number b a e))))
-      (λ (k : is_among b (rest bound (next a)) ≡ true).
-      met_later bound a b (λ c. met bound c b) (next a) refl k)
+  met (suc bound) a b h = ⊎_elim (λ (e : (b == a) ≡ true). (0, omega arith, ap (λ x. Some x) (sym (same_number b a e))))
+      (λ (k : is_among b (rest bound (next a)) ≡ true). met_later bound a b (λ c. met bound c b) (next a) refl k)
       (or_cases (b == a) (is_among b (rest bound (next a))) h)
 
   -- what comes back is reached from something that comes back
@@ -249,8 +244,7 @@ module _ (next : ℕ → Option ℕ) where
       twice_is : (m x : ℕ) → x < n → twice (listed (way next own m) n) (way next own m x) ≡ way next own (m + m) x
       twice_is m x h =
           joins (listed (way next own m) n) (climb next m x) (option_and_then (climb next m) (climb next m x))
-          (chain next m x)
-          (rest m (climb next m x)) (from_end m (climb next m x) (λ b e. climb-below m x b h e))
+          (chain next m x) (rest m (climb next m x)) (from_end m (climb next m x) (λ b e. climb-below m x b h e))
           ∙ (rw (climb-add m m x, chain-add m m x) refl)
 
       pub first_is : (x : ℕ)
@@ -286,20 +280,16 @@ module _ (next : ℕ → Option ℕ) where
         none_behind x e = ap (λ o. is_among x (rest n o)) e
 
         -- what is looked up by bits is what is found on the chain
-        shown : (kind : ℕ) (pick : Way → ℕ) (test : ℕ → Bool)
-            → ((x : ℕ) → has_bit (pick (way next own m x)) kind ≡ list_any test (chain next m x)) →
-            has_bit (pick no_way) kind ≡ false → ((x : ℕ) → n ≤ x → (next x ≡ None) × (test x ≡ false))
-            → (x : ℕ) → has_bit (pick (lookup no_way (listed (way next own m) n) x)) kind ≡ list_any test
-            (chain next n x)
+        shown : (kind : ℕ) (pick : Way → ℕ) (test : ℕ → Bool) →
+            ((x : ℕ) → has_bit (pick (way next own m x)) kind ≡ list_any test (chain next m x)) →
+            has_bit (pick no_way) kind ≡ false → ((x : ℕ) → n ≤ x → (next x ≡ None) × (test x ≡ false)) → (x : ℕ) →
+            has_bit (pick (lookup no_way (listed (way next own m) n) x)) kind ≡ list_any test (chain next n x)
         shown kind pick test there none past x =
             ⊎_elim (λ (h : x < n). ap (λ w. has_bit (pick w) kind) (listed-there no_way (way next own m) n x h)
-            ∙ there x
-            ∙ far_test m x test far h)
+            ∙ there x ∙ far_test m x test far h)
             (λ (h : n ≤ x). ap (λ w. has_bit (pick w) kind)
             (lookup-behind no_way (listed (way next own m) n) x (omega (arith, h, length-listed (way next own m) n)))
-            ∙ none
-            ∙ sym (nothing_past n x test (past x h).0 (past x h).1))
-            (cases_lt x n)
+            ∙ none ∙ sym (nothing_past n x test (past x h).0 (past x h).1)) (cases_lt x n)
 
         pub above_are : (kind : ℕ) → kind < 8 → kind < n → ((x : ℕ) → n ≤ x → next x ≡ None) → (x : ℕ) →
             has_bit (lookup no_way (listed (way next own m) n) x).above kind ≡ is_among kind (chain next n x)

@@ -18,10 +18,9 @@ use Rattle.class_rules.specs.Parts.{written_class}
 use Rattle.class_rules.specs.Safelets.{safelet_if, safelet_at, left_from, left_over}
 
 -- the safelets from one number on, and from the next
-next : (rows : List ClassRow) (class : ℕ) (xs : List ClassRow) (i : ℕ) → i < length xs
-    → safelets_from rows class (drop i xs)
-    ≡ cons_option ((slice_get xs i >>= (λ (row : ClassRow). row.written)) >>= safelet_if rows class)
-    (safelets_from rows (class + 1) (drop (i + 1) xs))
+next : (rows : List ClassRow) (class : ℕ) (xs : List ClassRow) (i : ℕ) → i < length xs →
+    safelets_from rows class (drop i xs) ≡ cons_option ((slice_get xs i >>= (λ (row : ClassRow). row.written))
+    >>= safelet_if rows class) (safelets_from rows (class + 1) (drop (i + 1) xs))
 unfolding safelets_from
 next rows class [] i l = absurd (omega (arith, l))
 next rows class (x ∷ xs) zero l = grind (arith, common_steps)
@@ -38,8 +37,7 @@ module _ (forest : Forest) (class : ℕ) where
   left_next : (o : Option WrittenClass) → class < length p.classes → o ≡ safelet_at p class →
       left class ≡ cons_option o (left (class + 1))
   unfolding safelet_at class_written
-  left_next o l e =
-      next p.written class p.written class (omega (arith, l, class_length forest))
+  left_next o l e = next p.written class p.written class (omega (arith, l, class_length forest))
       ∙ ap (λ w. cons_option w (left (class + 1))) (sym e)
 
   -- what is still to be noted

@@ -18,10 +18,7 @@ use Rattle.node_views.specs.Parts.{naming}
 -- a field of a class above has the name
 unfoldable pub hiding : Declarations → ℕ → Written → List Found
 hiding p class w =
-    broken
-    (holds (superclass_in p.classes class) (λ above. is_some (field_named p.classes above w.name)))
-    C4
-    w.place
+    broken (holds (superclass_in p.classes class) (λ above. is_some (field_named p.classes above w.name))) C4 w.place
 
 -- a method breaks a rule: it overrides wrongly, or its body is missing or too much
 abbrev pub is_wrong : Rule → Declarations → ℕ → DeclaredMethod → Bool

@@ -21,9 +21,8 @@ use Rattle.node_rules.specs.Nodes.{nodes_broken}
 use Rattle.node_rules.proofs.FindingLemmas.{same_lists, same_then, both_same}
 use Rattle.class_table.specs.Noted.{broken_at_class}
 
-pub at_written : (forest : Forest) (class : ℕ)
-    → broken_at_class forest class
-    ≡ found_at (class_written (declarations_of forest) class)
+pub at_written : (forest : Forest) (class : ℕ) →
+    broken_at_class forest class ≡ found_at (class_written (declarations_of forest) class)
     (λ (c : WrittenClass). class_found (declarations_of forest) class (own_row (declarations_of forest) c) c)
 unfolding at_class class_written class_breaks c4 c6 c7 user_row declarations_of
 at_written forest class =
@@ -61,11 +60,10 @@ at_other forest class found e =
     sym (ap (λ xs. found ++ xs) (at_written forest class ∙ rw (← e) refl) ∙ append-nil found)
 
 -- what is noted is what is broken
-pub is_report : (forest : Forest) (first classes found sorted : List Found) → first ≡ c8 (declarations_of forest)
-    → FindSame classes
-    (first ++ over_classes (declarations_of forest) (class_found (declarations_of forest)))
-    → FindSame found (classes ++ nodes_broken (declarations_of forest)) → IsStrictlySortedBy report_order sorted
-    → ((f : Found) → Contains sorted f ↔ Contains found f) → IsReport (BreaksClassRules forest) sorted
+pub is_report : (forest : Forest) (first classes found sorted : List Found) → first ≡ c8 (declarations_of forest) →
+    FindSame classes (first ++ over_classes (declarations_of forest) (class_found (declarations_of forest))) →
+    FindSame found (classes ++ nodes_broken (declarations_of forest)) → IsStrictlySortedBy report_order sorted →
+    ((f : Found) → Contains sorted f ↔ Contains found f) → IsReport (BreaksClassRules forest) sorted
 unfolding class_phase
 is_report forest first classes found sorted a b h o same =
     let p = declarations_of forest in

@@ -33,13 +33,11 @@ pub marked_before : (marks : List Bool) (at class : ℕ) → lookup false (set m
     (class ≡ at) ⊎ (lookup false marks class ≡ true)
 marked_before marks at class h =
     ⊎_elim (λ (e : class ≡ at). inl e)
-    (λ (apart : class ≡ at → ⊥). inr (sym (get_or-set_other marks at class true false apart) ∙ h))
-    (cases_eq class at)
+    (λ (apart : class ≡ at → ⊥). inr (sym (get_or-set_other marks at class true false apart) ∙ h)) (cases_eq class at)
 
 -- ---- the classes one after the other
 
-pub first_left : (k : ℕ) (xs : List ℕ) → 1 ≤ length xs → k ≡ get_or xs 0 k → xs ≡ k
-    ∷ take (length xs - 1) (drop 1 xs)
+pub first_left : (k : ℕ) (xs : List ℕ) → 1 ≤ length xs → k ≡ get_or xs 0 k → xs ≡ k ∷ take (length xs - 1) (drop 1 xs)
 first_left k [] some here = absurd (omega (arith, some))
 first_left k (x ∷ xs) some here = rw (take_rest (x ∷ xs) 1) (ap (λ c. c ∷ xs) (sym here))
 

@@ -13,5 +13,4 @@ broken_at_class forest class = at_class (declarations_of forest) (class_found (d
 
 -- each class is among these
 abbrev pub HasEach : Forest → List ℕ → Type 0
-HasEach forest classes =
-    (class : ℕ) → class < length (declarations_of forest).classes → is_among class classes ≡ true
+HasEach forest classes = (class : ℕ) → class < length (declarations_of forest).classes → is_among class classes ≡ true

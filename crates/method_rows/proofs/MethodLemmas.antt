@@ -146,12 +146,11 @@ abbrev is_named : List ℕ → DeclaredMethod → Bool
 is_named name m = is_same name m.declared.name
 
 either : (name : List ℕ) (class : ℕ) (m : FrameworkMethod) (rest : List FrameworkMethod) (on named : Bool) →
-    (m.on == class) ≡ on → is_same name m.name ≡ named
-    → find (is_named name) (map framework_method (filter (λ (r : FrameworkMethod). r.on == class) rest))
-    ≡ option_map framework_method (find (λ (r : FrameworkMethod). (r.on == class) && is_same name r.name) rest)
-    → find (is_named name) (map framework_method (filter (λ (r : FrameworkMethod). r.on == class) (m ∷ rest)))
-    ≡ option_map framework_method
-    (find (λ (r : FrameworkMethod). (r.on == class) && is_same name r.name) (m ∷ rest))
+    (m.on == class) ≡ on → is_same name m.name ≡ named →
+    find (is_named name) (map framework_method (filter (λ (r : FrameworkMethod). r.on == class) rest))
+    ≡ option_map framework_method (find (λ (r : FrameworkMethod). (r.on == class) && is_same name r.name) rest) →
+    find (is_named name) (map framework_method (filter (λ (r : FrameworkMethod). r.on == class) (m ∷ rest)))
+    ≡ option_map framework_method (find (λ (r : FrameworkMethod). (r.on == class) && is_same name r.name) (m ∷ rest))
 unfolding framework_method
 either name class m rest true true e f h = rw (e, f) refl
 either name class m rest true false e f h = rw (e, f) h

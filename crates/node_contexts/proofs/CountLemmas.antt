@@ -164,9 +164,8 @@ place_is p member variable numbers e =
     none true = refl
     none false = refl
 
-    go : (b : Bool) → is_variable_of p member variable ≡ b
-        → (if nat_lt variable (length p.nodes)
-        && b then Some (count_below (is_variable_of p member) variable) else None)
+    go : (b : Bool) → is_variable_of p member variable ≡ b →
+        (if nat_lt variable (length p.nodes) && b then Some (count_below (is_variable_of p member) variable) else None)
         ≡ (if b then Some (lookup 0 numbers variable) else None)
     go false t = none (nat_lt variable (length p.nodes))
     go true t =

@@ -57,9 +57,8 @@ none_among ids other id e = ap (λ o. number_among ids o id) e ∙ go (position 
     go (Some k) = refl
 
 -- the last class of a list
-numbered : (others : List ℕ) (node class : ℕ) (numbers : List (Option ℕ)) (id : ℕ) → node < length numbers
-    → class ≡ first_user_class + length others
-    → number_among others (lookup None (set numbers node (Some class)) id) id
+numbered : (others : List ℕ) (node class : ℕ) (numbers : List (Option ℕ)) (id : ℕ) → node < length numbers →
+    class ≡ first_user_class + length others → number_among others (lookup None (set numbers node (Some class)) id) id
     ≡ number_among (others ++ node ∷ []) (lookup None numbers id) id
 numbered others node class numbers id l e =
     go (position (λ o. id == o) others) (cases_eq id node)

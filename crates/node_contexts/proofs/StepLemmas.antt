@@ -82,14 +82,12 @@ module _ (forest : Forest) (whole : IsForest forest) where
 
 -- before the first child
 pub spread_first : (forest : Forest) → IsForest forest → (parent : ℕ) (node : Node) (family : Family) (rest : List ℕ)
-    (known : Option ℕ) (above : Context) (rows : List Context) → slice_get forest.nodes parent ≡ Some node
-    → AreTold forest (parent + 1) [] rows → family.base ≡ shared (joined forest.files) parent node above
-    → above ≡ lookup outermost rows parent → object_in family.difference ≡ object_of node
-    → ((child : ℕ) → declared_before forest.nodes node child ≡ declared_by forest.nodes
-    (children node) family.difference child)
-    → rest ≡ children node
-    → known ≡ last_variable forest.nodes family.base.last (declared_behind forest.nodes family.difference [])
-    → AreSpread forest parent node family rest known rows
+    (known : Option ℕ) (above : Context) (rows : List Context) → slice_get forest.nodes parent ≡ Some node →
+    AreTold forest (parent + 1) [] rows → family.base ≡ shared (joined forest.files) parent node above →
+    above ≡ lookup outermost rows parent → object_in family.difference ≡ object_of node →
+    ((child : ℕ) → declared_before forest.nodes node child ≡ declared_by forest.nodes (children node) family.difference
+    child) → rest ≡ children node → known ≡ last_variable forest.nodes family.base.last
+    (declared_behind forest.nodes family.difference []) → AreSpread forest parent node family rest known rows
 spread_first forest whole parent node family rest known above rows there t b a o k e l =
     record {
       shared = record {
@@ -198,13 +196,11 @@ spread_next forest parent node family rest known next rows child row e f l s =
         child s.shared.base s.shared.object (sym (s.shared.known child))
         ∙ sym (child-is forest s.shared.whole parent child node s.shared.there among)
 
-    at : (id : ℕ) → id < length forest.nodes
-        → ((q : ℕ) → parent_in forest.nodes id ≡ Some q → parent ≤ q) → is_among id rest ≡ false
-        → (id ≡ child) ⊎ (id ≢ child) → lookup outermost (set rows child row) id ≡ lookup outermost
-        (contexts_in forest) id
+    at : (id : ℕ) → id < length forest.nodes → ((q : ℕ) → parent_in forest.nodes id ≡ Some q → parent ≤ q) →
+        is_among id rest ≡ false → (id ≡ child) ⊎ (id ≢ child) →
+        lookup outermost (set rows child row) id ≡ lookup outermost (contexts_in forest) id
     at id m above other =
-        ⊎_elim
-        (λ (same : id ≡ child). ap (lookup outermost (set rows child row)) same
+        ⊎_elim (λ (same : id ≡ child). ap (lookup outermost (set rows child row)) same
         ∙ get_or-set_same rows child row outermost l ∙ value ∙ ap (lookup outermost (contexts_in forest)) (sym same))
         (λ (apart : id ≢ child). get_or-set_other rows child id row outermost apart
         ∙ s.told.exact id m above (ap (λ b. b || is_among id rest) (ne_eqb id child apart) ∙ other))

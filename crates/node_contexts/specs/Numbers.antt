@@ -16,8 +16,7 @@ count_below test (suc n) = count_below test n + (if test n then 1 else 0)
 
 -- how many variables of its member stand before a node that declares one
 unfoldable pub number_before : Declarations → ℕ → ℕ
-number_before p id =
-    elim (owner_of p id) [ None ↦ 0 | Some member ↦ count_below (is_variable_of p member) id ]
+number_before p id = elim (owner_of p id) [ None ↦ 0 | Some member ↦ count_below (is_variable_of p member) id ]
 
 -- the same of each node
 unfoldable pub numbers_before : Declarations → List ℕ

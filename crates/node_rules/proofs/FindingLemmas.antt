@@ -34,9 +34,8 @@ both_same {us} {vs} {xs} {ys} a b =
         (λ (k : Contains xs f). Contains-append_right vs ys f ((b.exact f).0 k)) (Contains-append_cases us xs f h)
 
 -- lists of which each is joined from two others
-pub joined_parts : (all first second : ℕ → List Found) (n : ℕ) →
-    ((k : ℕ) → FindSame (all k) (first k ++ second k))
-    → FindSame (joined_below all n) (joined_below first n ++ joined_below second n)
+pub joined_parts : (all first second : ℕ → List Found) (n : ℕ) → ((k : ℕ) → FindSame (all k) (first k ++ second k)) →
+    FindSame (joined_below all n) (joined_below first n ++ joined_below second n)
 unfolding joined_below
 joined_parts all first second zero parts = same_lists refl
 joined_parts all first second (suc n) parts =

@@ -98,8 +98,7 @@ of_callable p id f h =
     go (owner_of p id) (and_parts (holds (owner_of p id) (is_callable p.nodes))
     (nat_le most_locals (number_before p id)) (in_if _ (broken_at_variable p.nodes id) f h)).0
   where
-    go : (o : Option ℕ) → holds o (is_callable p.nodes) ≡ true → (m : ℕ) × (o ≡ Some m) ×
-        (is_callable p.nodes m ≡ true)
+    go : (o : Option ℕ) → holds o (is_callable p.nodes) ≡ true → (m : ℕ) × (o ≡ Some m) × (is_callable p.nodes m ≡ true)
     go None t = absurd (true≢false (sym t))
     go (Some m) t = (m, refl, t)
 

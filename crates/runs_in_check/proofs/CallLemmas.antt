@@ -102,8 +102,7 @@ module _ (at : At) (place : Pos) (name : List ℕ) (object : Option ℕ) where
   framework_call f number _ h k = rw (← h, ← k) refl
 
   abbrev of_method : FoundMethod → Option Scope
-  of_method =
-      scope_of_call (declared at) (receiver_scope (declared at) (scopes at) at.id object)
+  of_method = scope_of_call (declared at) (receiver_scope (declared at) (scopes at) at.id object)
       (current_at (declared at) at.id)
 
   pub scope_there : (ids : List ℕ) → scope_of (declared at) (types at) (scopes at) at.id (Call place name object ids)

@@ -115,14 +115,12 @@ module _ (forest : Forest) (types : List (Option Ty)) (right : types ≡ types_i
       false ≡ is_asked (lookup None types id) (kind_of node) →
       scope_of (declarations_of forest) (lookup None types) scopes id node ≡ None
   unfolding is_asked kind_of scope_of
-  scopeless (SimpleName place name) there h =
-      plain_name forest types id place name there right (grind (arith, h))
+  scopeless (SimpleName place name) there h = plain_name forest types id place name there right (grind (arith, h))
   scopeless (This a) there h = cc
   scopeless _ there h = cc
 
   pub no_scope_there : false ≡ holds (option_map kind_of (slice_get forest.nodes id))
-      (is_asked (lookup None types id)) →
-      scope_of_next (declarations_of forest) (lookup None types) id scopes ≡ None
+      (is_asked (lookup None types id)) → scope_of_next (declarations_of forest) (lookup None types) id scopes ≡ None
   unfolding scope_of_next declarations_of
   no_scope_there h = go (slice_get forest.nodes id) refl h
     where

@@ -77,8 +77,7 @@ module _ (p : Declarations) (types : Types) (id : ℕ) (s u : Scopes) (same : (c
   breaks-same : (node : Node) → AllBelow id (children node) →
       use_breaks p types s id node ≡ use_breaks p types u id node
   unfolding AllBelow children use_breaks e1 e2 e3 e4_and_e5 e6 e7 e8 e9 e10
-  breaks-same (SuperCall place ids) b =
-      ap (λ (three : ℕ → List Found). found_at (superclass_at p id) three ++ [])
+  breaks-same (SuperCall place ids) b = ap (λ (three : ℕ → List Found). found_at (superclass_at p id) three ++ [])
       (λ i class. constructed (this_at p id) ids b class i)
   breaks-same (New place name_place name ids) b =
       ap (λ (three : ℕ → List Found). broken (misfits_new p id name) E1 place
@@ -114,8 +113,7 @@ breaks_so_far forest whole types id = go (slice_get p.nodes id) refl
     at : Scopes → Node → List Found
     at scopes node = annotation_breaks p id node ++ use_breaks p types scopes id node
 
-    go : (o : Option Node) → slice_get p.nodes id ≡ o →
-        found_at o (at (to id)) ≡ found_at o (at (to (length p.nodes)))
+    go : (o : Option Node) → slice_get p.nodes id ≡ o → found_at o (at (to id)) ≡ found_at o (at (to (length p.nodes)))
     go None there = refl
     go (Some node) there =
         ap (λ (fs : List Found). annotation_breaks p id node ++ fs) (breaks-same p types id (to id)

@@ -88,12 +88,10 @@ unfoldable pub e3_of : At → Callee → List ℕ → List Found
 e3_of at (Method m object) arguments =
     e3_of_call (declared at) (scopes at) object (current_at (declared at) at.id) arguments
     (found_method at.facts.now.nodes m)
-e3_of at (Constructor class object) arguments =
-    e3_of_constructor (declared at) (scopes at) object arguments class
+e3_of at (Constructor class object) arguments = e3_of_constructor (declared at) (scopes at) object arguments class
 
 -- E7 and E8 of a call of the framework's method of a number
 unfoldable pub entry_breaks : At → Pos → ℕ → List ℕ → List Found
-entry_breaks at place number (o ∷ r ∷ []) =
-    broken (enters_wrong (declared at) (types at) at.id number r) E7 place
+entry_breaks at place number (o ∷ r ∷ []) = broken (enters_wrong (declared at) (types at) at.id number r) E7 place
     ++ (broken (executes_wrong (declared at) (types at) (scopes at) number o r) E8 place ++ [])
 entry_breaks at place number _ = []

@@ -31,8 +31,7 @@ unfolding definition_breaks definition_in
 none_written p class e = rw e refl
 
 -- what is found at a class in its two parts: where it isn't a user class, it writes no definition
-pub parts_of : (p : Declarations) (class : ℕ)
-    → definition_breaks p class ++ found_at (user_class_in p.classes class) (s6 p class)
-    ≡ at_class p (λ class row c. scope_breaks p class c) class
+pub parts_of : (p : Declarations) (class : ℕ) → definition_breaks p class
+    ++ found_at (user_class_in p.classes class) (s6 p class) ≡ at_class p (λ class row c. scope_breaks p class c) class
 unfolding at_class scope_breaks
 parts_of p class = grind (arith, none_written p class)

@@ -172,8 +172,7 @@ module _ (forest : Forest) (whole : IsForest forest) where
   -- the node of a user class
   pub node_at : (k : ℕ) → option_map (λ (c : WrittenClass). c.node) (written_in p.classes (first_user_class + k))
       ≡ slice_get nodes_of k
-  node_at k =
-      ap (option_map (λ (c : WrittenClass). c.node)) (user_at forest k)
+  node_at k = ap (option_map (λ (c : WrittenClass). c.node)) (user_at forest k)
       ∙ sym (slice_get-map (λ (c : WrittenClass). c.node) (user_classes forest) k)
       ∙ ap (λ (xs : List ℕ). slice_get xs k) users_are
 

@@ -37,8 +37,7 @@ module _ (forest : Forest) where
   object_chain = chain_alone forest object (sym no_superclass)
 
 -- the instance fields that a class declares
-pub fields_of_class : (forest : Forest) (class : ℕ) →
-    own_instance_fields (rows_of forest) class ≡ filter is_instance
+pub fields_of_class : (forest : Forest) (class : ℕ) → own_instance_fields (rows_of forest) class ≡ filter is_instance
     (filter_map (field_at forest.nodes) (members_in (declarations_of forest) class))
 unfolding own_instance_fields
 fields_of_class forest class = grind (arith, common_steps, fields_at forest class)
@@ -97,9 +96,8 @@ module _ (forest : Forest) (level : Level) where
   lowest_is (l ∷ path) e s = cc
 
   pub next_is : (path : List Level) (above : Level) (count : ℕ) → Some above ≡ nearest_level path →
-      IsPath (rows_of forest) path → count ≡ length path →
-      IsNext (rows_of forest) above.class count level.class
-      → level.field_count ≡ length (own_instance_fields (rows_of forest) level.class) + above.field_count →
+      IsPath (rows_of forest) path → count ≡ length path → IsNext (rows_of forest) above.class count level.class →
+      level.field_count ≡ length (own_instance_fields (rows_of forest) level.class) + above.field_count →
       IsUnder (rows_of forest) level (classes_of path)
   next_is [] above count e p d n c = cc
   next_is (l ∷ path) above count e p d n c =

@@ -52,9 +52,8 @@ module _ (kind : MemberKind) (forest : Forest) (name : List ℕ) where
         grind (arith, common_steps, along_kept cs, here c, none c, front, own, both)
 
 module _ (forest : Forest) (name : List ℕ) where
-  pub fields_along : (classes : List ℕ) →
-      along (own_field (rows_of forest) name) classes ≡ option_map (found_field forest.nodes)
-      (nearest_named Field forest.nodes name (members_of forest classes))
+  pub fields_along : (classes : List ℕ) → along (own_field (rows_of forest) name) classes ≡ option_map
+      (found_field forest.nodes) (nearest_named Field forest.nodes name (members_of forest classes))
   fields_along classes =
       ap (along (own_field (rows_of forest) name)) (all classes)
       ∙ along_kept Field forest name (own_field (rows_of forest) name) (found_field forest.nodes) (λ _. true)
@@ -64,8 +63,7 @@ module _ (forest : Forest) (name : List ℕ) where
       all [] = refl
       all (x ∷ xs) = ap (λ (ys : List ℕ). x ∷ ys) (all xs)
 
-  pub methods_along : (classes : List ℕ)
-      → along (own_method (rows_of forest) name) (filter is_user_class classes)
+  pub methods_along : (classes : List ℕ) → along (own_method (rows_of forest) name) (filter is_user_class classes)
       ≡ option_map (found_at forest.nodes) (nearest_named Method forest.nodes name (members_of forest classes))
   methods_along =
       along_kept Method forest name (own_method (rows_of forest) name) (found_at forest.nodes) is_user_class
@@ -124,8 +122,7 @@ module _ (forest : Forest) (scope : Scope) (s : IsScope forest scope) where
 
     pub named_is : method_named rows at name ≡ or_else (own_at at) (method_above rows at name)
     unfolding method_named method_above
-    named_is =
-        grind (arith, s.under.chain, s.under.behind, along_front own_at at (above ++ all_interfaces rows at))
+    named_is = grind (arith, s.under.chain, s.under.behind, along_front own_at at (above ++ all_interfaces rows at))
 
     abbrev by_chain : Option FoundMethod
     by_chain = along own_at (filter is_user_class (superclasses rows at))

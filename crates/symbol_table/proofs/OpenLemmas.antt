@@ -64,8 +64,7 @@ module _ (nodes : List Node) where
   first_any : (test : List ℕ → Bool) (name : List ℕ) (ms : List Member) (m : Member) →
       find (is_named name) ms ≡ Some m → is_abstract_at nodes m ≡ true → test name ≡ true →
       list_any (passes test) ms ≡ true
-  first_any test name ms m e a h =
-      any_passes_from_place (passes test) ms (position_or_len (is_named name) ms) m
+  first_any test name ms m e a h = any_passes_from_place (passes test) ms (position_or_len (is_named name) ms) m
       (sym (find_at (is_named name) ms) ∙ e) (first_passes test name ms m e a h)
 
   -- and back: one that passes has a tested name, of which there is a first one
@@ -229,8 +228,7 @@ module _ (forest : Forest) (scope : Scope) (s : IsScope forest scope) where
   own_is = any_mapped (passes nodes left) (member at) (members_in (declarations_of forest) at)
 
   pub leaves_by_own : true ≡ own_nodes_left → true ≡ leaves_declared_open (declarations_of forest) at
-  leaves_by_own h =
-      let t = some_tested nodes left own (sym (h ∙ own_is)) in sym (left_open t.0 t.1)
+  leaves_by_own h = let t = some_tested nodes left own (sym (h ∙ own_is)) in sym (left_open t.0 t.1)
 
   pub leaves_by_others : false ≡ own_nodes_left → others_left ≡ leaves_declared_open (declarations_of forest) at
   leaves_by_others h =

@@ -39,8 +39,7 @@ members_of forest classes = flat_map (members_on forest) classes
 
 -- the first of these members that has the name
 abbrev pub nearest_named : MemberKind → List Node → List ℕ → List Member → Option Member
-nearest_named kind nodes name members =
-    find (λ (m : Member). holds (name_at kind nodes m.node) (is_same name)) members
+nearest_named kind nodes name members = find (λ (m : Member). holds (name_at kind nodes m.node) (is_same name)) members
 
 abbrev pub is_abstract_at : List Node → Member → Bool
 is_abstract_at nodes m = holds (method_at nodes m.node) is_abstract

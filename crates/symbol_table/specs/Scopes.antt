@@ -65,9 +65,7 @@ pub record IsScope (forest : Forest) (scope : Scope) : Type 0 where
 
 -- the method that the user classes of a chain give the class is abstract
 abbrev pub is_left : List ClassRow → ℕ → List ℕ → Bool
-is_left rows class name =
-    holds
-    (along (own_method rows name) (filter is_user_class (superclasses rows class)))
+is_left rows class name = holds (along (own_method rows name) (filter is_user_class (superclasses rows class)))
     (λ (f : FoundMethod). is_abstract f.method)
 
 -- an abstract method stands at the node, and the one of its name that the class has is abstract, too

@@ -87,8 +87,7 @@ module _ (p : Declarations) (types : Types) where
       ∙ ap (λ n. b && all_fit p types ds n (drop (i + 1) ids)) (let next : suc i ≡ i + 1 = omega arith in next)
 
   pub one_fits : (ds : List Declared) (ids : List ℕ) (i id : ℕ) → i < length ids → id ≡ get_or ids i id →
-      fits p types ds i id ≡ true →
-      all_fit p types ds i (drop i ids) ≡ all_fit p types ds (i + 1) (drop (i + 1) ids)
+      fits p types ds i id ≡ true → all_fit p types ds i (drop i ids) ≡ all_fit p types ds (i + 1) (drop (i + 1) ids)
   one_fits ds ids i id l e f = one_more ds ids i id true l e (sym f)
 
   pub one_misfits : (ds : List Declared) (ids : List ℕ) (i id : ℕ) → i < length ids → id ≡ get_or ids i id →

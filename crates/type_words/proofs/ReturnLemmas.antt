@@ -47,5 +47,4 @@ never_returns nodes returns id = go (slice_get nodes id)
     go : (o : Option Node) → is_returning_kind (option_map kind_of o) ≡ false →
         holds o (returns_of nodes returns) ≡ false
     go None h = refl
-    go (Some node) h =
-        sym (asked nodes returns node) ∙ ap (λ b. if b then returns_of nodes returns node else false) h
+    go (Some node) h = sym (asked nodes returns node) ∙ ap (λ b. if b then returns_of nodes returns node else false) h

@@ -8,12 +8,10 @@ use Rattle.class_headers.proofs.classes.WrittenClasses.note_interfaces.Given as 
 
 -- what is forbidden among the rest is still to come
 abbrev pub invariant-loop-others : goal.invariant-loop-others
-invariant-loop-others l =
-    l.found.items ++ forbidden_interfaces (declarations_of l.self).names (declarations_of l.self).written l.there.items
-    (filter_map (read l.self.nodes named_super) l.others)
+invariant-loop-others l = l.found.items ++ forbidden_interfaces (declarations_of l.self).names
+    (declarations_of l.self).written l.there.items (filter_map (read l.self.nodes named_super) l.others)
     ≡ l.initial.found.items ++ forbidden_interfaces (declarations_of l.self).names
-    (declarations_of l.self).written l.initial.there.items
-    (filter_map (read l.self.nodes named_super) l.initial.others)
+    (declarations_of l.self).written l.initial.there.items (filter_map (read l.self.nodes named_super) l.initial.others)
 
 abbrev pub decreases-loop-others : goal.decreases-loop-others
 decreases-loop-others l = length l.others
