@@ -1,2 +1,1 @@
-pub mod NewSlots
 mod NumberLemmas

@@ -1,3 +1,2 @@
 pub mod Continued
 pub mod Periodic
-pub mod Slots

@@ -12,6 +12,5 @@ mod objects;
 mod parameters;
 mod params;
 mod services;
-pub mod slots;
 
 pub use all_operations::{World, operate};

@@ -12,26 +12,23 @@ ghost use Rattle.job_frames.specs.declared.frames.Frame.{Frame as StoredFrame};
 ghost use Rattle.job_frames.specs.Frames.{frame_of};
 
 use crate::asked::element_kind;
-use crate::slots::{hidden_start, values_of};
 use job_frames::{Code, Effect, Frame};
+use object_slots::new_slots;
 use scj_base::{ClassId, Memory, NodeId, RunFault, Value};
 use scj_rules::SlotKind;
 use std::alloc::Global;
 use value_operations::readings::class_at;
 
 /// A new object of a class.
-#[tactic(auto, using(crate::proofs::NewSlots::made_is), unfolding(job_frames::specs::EffectsSeen::effect_seen))]
 fn new_object(alloc: Global, code: &Code<'_>, class: ClassId) -> Result<Effect, Memory>
     ensures { (frame : StoredFrame) → IfOk result (λ effect. Does (code_of code.now)
         (Makes (frame_of (code_of code.now) frame) class (new_slots (code_of code.now).program class)) effect frame) }
 {
-    let layout = code.layout();
-    let hidden = hidden_start(alloc, layout.hidden(class))?;
-    let values = values_of(alloc, layout.kinds(class))?;
+    let slots = new_slots(alloc, code.layout(), class)?;
     Ok(Effect::Makes {
         class,
-        hidden,
-        values,
+        hidden: slots.hidden,
+        values: slots.values,
     })
 }
 

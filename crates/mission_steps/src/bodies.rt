@@ -7,8 +7,8 @@ ghost use Rattle.scj_model.specs.Memory.{new_slots};
 ghost use Rattle.job_frames.specs.Frames.{AreBegun, frames_of};
 ghost use Rattle.run_memory.specs.Contents.{hidden_slots};
 
-use call_operations::slots::{hidden_start, values_of};
 use job_frames::{Code, Frame, FrameStack, NewFrame};
+use object_slots::new_slots;
 use run_state::NewObject;
 use scj_base::{AreaId, ClassId, Memory, Ref};
 use scj_rules::Body;
@@ -52,7 +52,6 @@ pub(crate) fn first_frames(
 }
 
 /// A new object of a class.
-#[tactic(auto, using(call_operations::proofs::NewSlots::made_is))]
 pub(crate) fn new_object(
     alloc: Global,
     code: &Code<'_>,
@@ -62,12 +61,10 @@ pub(crate) fn new_object(
     ensures slots { IfOk result (λ object. new_slots (code_of code.now).program class ≡ hidden_slots object.hidden.items
         ++ object.values.items) }
 {
-    let layout = code.layout();
-    let hidden = hidden_start(alloc, layout.hidden(class))?;
-    let values = values_of(alloc, layout.kinds(class))?;
+    let slots = new_slots(alloc, code.layout(), class)?;
     Ok(NewObject {
         class,
-        hidden,
-        values,
+        hidden: slots.hidden,
+        values: slots.values,
     })
 }

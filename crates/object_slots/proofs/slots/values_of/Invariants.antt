@@ -1,6 +1,6 @@
 use Rattle.std.proofs.Common.{◌≡◌, ◌++◌, length, map}
 use Rattle.scj_model.specs.Memory.{default_value}
-use Rattle.call_operations.proofs.slots.values_of.Given as goal
+use Rattle.object_slots.proofs.slots.values_of.Given as goal
 
 -- those that are left are still to come
 abbrev pub invariant-loop-others : goal.invariant-loop-others

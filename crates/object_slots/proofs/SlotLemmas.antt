@@ -15,7 +15,7 @@ use Rattle.scj_rules.specs.Layout.{kind_of_type}
 use Rattle.object_layout.specs.Fields.{kind_of_field}
 use Rattle.run_memory.specs.Contents.{hidden_slots}
 use Rattle.scj_model.specs.Memory.{default_value, hidden_values, new_slots}
-use Rattle.call_operations.specs.Slots.{hidden_start}
+use Rattle.object_slots.specs.Slots.{hidden_start}
 
 by_kind : (is_periodic is_aperiodic : Bool) →
     hidden_slots (hidden_start (if is_periodic then 4 else (if is_aperiodic then 2 else 0)))

@@ -1,0 +1,6 @@
+//! The slots with which a new object begins.
+#![tactic(auto)]
+
+pub mod slots;
+
+pub use slots::{NewSlots, new_slots};
