@@ -55,7 +55,7 @@ fn told_of(alloc: Global, size: u32) -> Result<Told, Refusal>
             status: Status::Refused,
             text: text.into_bytes(),
         }),
-        Judged::Ready(runnable) => Ok(summarized(alloc, size, &runnable)?),
+        Judged::Ready(runnable) => Ok(summarized(alloc, size, runnable)?),
     }
 }
 
@@ -94,13 +94,12 @@ fn alone(alloc: Global, text: Vec<u8>) -> Result<Sources, Memory>
 }
 
 // The summary of the run of the program of a size.
-fn summarized(alloc: Global, size: u32, runnable: &Runnable) -> Result<Told, Memory>
-    requires named { length runnable.now.checked.program.files ≡ length runnable.now.files }
-    requires names { runnable.now.files ≡ generated_names }
-    ensures status { IfOk result
-        (λ told. told.status ≡ run_status (Ran runnable.now.checked.program runnable.now.plan)) }
+fn summarized(alloc: Global, size: u32, runnable: Runnable) -> Result<Told, Memory>
+    requires named { length runnable.checked.program.files ≡ length runnable.files }
+    requires names { runnable.files ≡ generated_names }
+    ensures status { IfOk result (λ told. told.status ≡ run_status (Ran runnable.checked.program runnable.plan)) }
     ensures text { IfOk result
-        (λ told. told.text.items ≡ gen_out size (Ran runnable.now.checked.program runnable.now.plan)) }
+        (λ told. told.text.items ≡ gen_out size (Ran runnable.checked.program runnable.plan)) }
 {
     let mut kept = KeptTrace::new(alloc);
     match runnable.run(alloc, &mut kept) {

@@ -73,8 +73,8 @@ fn with_plan(
     ensures files { IfOk result (λ runnable. runnable.files ≡ map string_bytes names.now) }
     ensures refusal { IfErr result (λ refusal. RefusesPlan (meaning_of_text plan_text.now) refusal) }
 {
-    let plan = plan_in(alloc, plan_text)?;
     let files = files_of(alloc, names)?;
+    let plan = plan_in(alloc, plan_text)?;
     Ok(Runnable {
         checked,
         files,
@@ -106,8 +106,20 @@ fn status_of(end: RunEnd) -> Status
 }
 
 impl Runnable {
+    /// Runs the program and puts its trace line by line. The program is dropped here, at the one exit of a short
+    /// function: the proof of a drop of a whole program takes seconds at each exit.
+    pub fn run<K: Sink>(self, alloc: Global, out: &mut K) -> Result<Status, Stop>
+        requires named { length self.checked.program.files ≡ length self.files }
+        ensures ok { IfOk result (λ status. HasRun self.checked.program self.plan self.files
+            (sink_run (K.taken out.old) (K.taken out.new) (K.faults out.old) (K.faults out.new)) status) }
+        ensures stop { IfErr result (λ stop. StopsRun self.checked.program self.plan self.files
+            (sink_run (K.taken out.old) (K.taken out.new) (K.faults out.old) (K.faults out.new)) stop) }
+    {
+        self.put_trace(alloc, out)
+    }
+
     /// Runs the program, and puts its trace line by line.
-    pub fn run<K: Sink>(&self, alloc: Global, out: &mut K) -> Result<Status, Stop>
+    fn put_trace<K: Sink>(&self, alloc: Global, out: &mut K) -> Result<Status, Stop>
         requires named { length self.now.checked.program.files ≡ length self.now.files }
         ensures ok { IfOk result (λ status. HasRun self.now.checked.program self.now.plan self.now.files
             (sink_run (K.taken out.old) (K.taken out.new) (K.faults out.old) (K.faults out.new)) status) }
