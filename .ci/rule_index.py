@@ -35,7 +35,7 @@ EDITS = {
     "C6": "class_rules/parameters_compared_with_themselves symbol_table/names_stay_when_a_class_is_left "
     "class_rows/a_step_leads_too_far",
     "C7": "node_views/static_is_abstract class_rules/framework_methods_left_open "
-    "symbol_table/open_names_stay_open",
+    "class_rows/open_names_stay_open",
     "C8": "class_table/safelets_left_out "
     "scj_tree/first_file_left_out",
     "C9": "node_rules/cast_of_any_class node_rules/mission_argument_noted",
@@ -51,7 +51,7 @@ EDITS = {
     "node_contexts/local_known_below_an_if_alone",
     "T2": "program_facts/same_variable_again",
     "T3": "type_check/operands_swapped",
-    "T4": "type_rules/static_field_through_a_value class_rows/field_above_lost class_rows/several_owners",
+    "T4": "type_rules/static_field_through_a_value class_rows/field_above_lost class_rows/one_change_too_late",
     "T5": "type_rules/size_method_called class_rows/framework_root_not_asked",
     "T6": "type_rules/more_arguments_than_parameters node_views/first_parameter_twice",
     "T7": "type_rules/value_and_target_swapped",

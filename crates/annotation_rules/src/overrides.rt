@@ -48,12 +48,8 @@ fn parameters_differ_at(facts: &Facts, method: &MethodRef, above: &MethodRef, i:
     ) {
         (Some(own), Some(other)) => {
             let own = parameter_scope(facts, method, own);
-            differ(
-                facts,
-                method.on,
-                &own,
-                &parameter_scope(facts, above, other),
-            )
+            let other = parameter_scope(facts, above, other);
+            differ(facts, method.on, &own, &other)
         }
         _ => false,
     }

@@ -118,12 +118,8 @@ pub fn note_class(
     let Some(value) = &written else {
         return report_if(found, test, Rule::A2, place);
     };
-    report_if(
-        found,
-        has_unknown_scope(facts, &written),
-        Rule::A1,
-        value.place,
-    )?;
+    let is_unknown = has_unknown_scope(facts, &written);
+    report_if(found, is_unknown, Rule::A1, value.place)?;
     report_if(found, test, Rule::A2, value.place)?;
     Ok(())
 }

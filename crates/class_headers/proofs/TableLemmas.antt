@@ -9,7 +9,7 @@ use Rattle.scj_rules.specs.Classes.{ClassRow, superclass_in, interfaces_in, supe
 use Rattle.scj_rules.specs.Types.{constructor_in}
 use Rattle.scj_rules.specs.Contexts.{declarations_of}
 use Rattle.class_headers.specs.declared.filling.Header.{Header}
-use Rattle.class_headers.specs.declared.filling.Headers.{Headers}
+use Rattle.class_headers.specs.declared.filling.Headers.TheInside.{Inside}
 use Rattle.scj_rules.specs.Views.{WrittenClass, DeclaredConstructor, class_at}
 use Rattle.class_headers.specs.Members.{class_written}
 use Rattle.scj_rules.specs.Words.{is_among, StaysBelow}
@@ -31,11 +31,11 @@ use Rattle.scj_rules.proofs.WithinLemmas.{written-stays}
 use Rattle.class_headers.proofs.SoundLemmas.{framework_there, read_again}
 use Rattle.class_headers.proofs.PartLemmas.{map_filter_map}
 
-pub count_is : (forest : Forest) (headers : Headers) → IsHeadersOf forest headers →
+pub count_is : (forest : Forest) (headers : Inside) → IsHeadersOf forest headers →
     length headers.rows.items ≡ length (declarations_of forest).written
 count_is forest headers t = ap length t.rows ∙ length-map (declarations_of forest).written header_of
 
-pub header_is : (forest : Forest) (headers : Headers) (class : ℕ) → IsHeadersOf forest headers →
+pub header_is : (forest : Forest) (headers : Inside) (class : ℕ) → IsHeadersOf forest headers →
     slice_get headers.rows.items class ≡ option_map header_of (slice_get (declarations_of forest).written class)
 header_is forest headers class t = ap (λ (hs : List Header). slice_get hs class) t.rows
     ∙ slice_get-map header_of (declarations_of forest).written class
@@ -60,12 +60,12 @@ pub lists_at : (all : List ClassRow) (class : ℕ) →
     named_in (map (λ (row : ClassRow). row.interfaces) all) class ≡ interfaces_in all class
 lists_at all class = grind (arith, common_steps, slice_get-map (λ (row : ClassRow). row.interfaces) all class)
 
-pub superclass_is : (forest : Forest) (headers : Headers) (class : ℕ) → IsHeadersOf forest headers →
+pub superclass_is : (forest : Forest) (headers : Inside) (class : ℕ) → IsHeadersOf forest headers →
     above_in headers.rows.items class ≡ superclass_in (declarations_of forest).written class
 superclass_is forest headers class t = ap (λ (hs : List Header). above_in hs class) t.rows
     ∙ superclass_at (declarations_of forest).written class
 
-pub interfaces_is : (forest : Forest) (headers : Headers) (class : ℕ) → IsHeadersOf forest headers →
+pub interfaces_is : (forest : Forest) (headers : Inside) (class : ℕ) → IsHeadersOf forest headers →
     named_in (map (λ v. v.items) headers.interfaces.items) class ≡ interfaces_in (declarations_of forest).written class
 interfaces_is forest headers class t = ap (λ (xs : List (List ℕ)). named_in xs class) t.interfaces
     ∙ lists_at (declarations_of forest).written class
@@ -77,7 +77,7 @@ pub constructor_is : (forest : Forest) (class : ℕ)
 unfolding constructor_in header_of
 constructor_is forest class = grind (arith, common_steps)
 
-pub bits_are : (forest : Forest) (headers : Headers) (kind class : ℕ) → IsHeadersOf forest headers → kind < kind_count
+pub bits_are : (forest : Forest) (headers : Inside) (kind class : ℕ) → IsHeadersOf forest headers → kind < kind_count
     → has_bit (bit_or (lookup no_way headers.ways.items class).above
     (lookup no_way headers.ways.items class).implemented) kind
     ≡ is_among kind (superclasses (declarations_of forest).written class
@@ -200,7 +200,7 @@ module _ (nodes : List Node) (ids : List ℕ) (find : List ℕ → Option ℕ)
       ∙ sym (map-append (λ (row : ClassRow). row.interfaces) (framework_rows_from 0 framework_classes)
       (map row_of users))
 
-pub headers_are : (forest : Forest) (headers : Headers) (all : List (List ℕ))
+pub headers_are : (forest : Forest) (headers : Inside) (all : List (List ℕ))
     → all ≡ map (λ (c : FrameworkClass). c.name) framework_classes
     ++ filter_map (λ id. option_map (λ (c : WrittenClass). c.name) (class_at forest.nodes id)) (class_nodes forest)
     → ((name : List ℕ) → found_under headers.names name ≡ position (is_same name) all)

@@ -9,7 +9,7 @@ use Rattle.class_headers.specs.Rows.{header_of}
 use Rattle.class_headers.specs.Ways.{no_way, has_bit}
 use Rattle.scj_tree.specs.Forest.{Forest}
 use Rattle.scj_rules.specs.Contexts.{declarations_of}
-use Rattle.class_headers.specs.declared.filling.Headers.{Headers}
+use Rattle.class_headers.specs.declared.filling.Headers.TheInside.{Inside}
 
 -- the kinds of classes are below this number
 abbrev pub kind_count : ℕ
@@ -23,7 +23,7 @@ pub record AreWaysOf (all : List ClassRow) (ways : List Way) : Type 0 where
       has_bit (lookup no_way ways class).implemented kind ≡ is_among kind (all_interfaces all class)
 
 -- the table is that of the program
-pub record IsHeadersOf (forest : Forest) (headers : Headers) : Type 0 where
+pub record IsHeadersOf (forest : Forest) (headers : Inside) : Type 0 where
   pub names : (name : List ℕ) → found_under headers.names name ≡ class_number (declarations_of forest).names name
   pub rows : headers.rows.items ≡ map header_of (declarations_of forest).written
   pub interfaces : map (λ v. v.items) headers.interfaces.items ≡ map (λ (row : ClassRow). row.interfaces)

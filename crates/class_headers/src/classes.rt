@@ -8,6 +8,7 @@ ghost use Rattle.scj_rules.specs.Types.{constructor_in};
 ghost use Rattle.scj_rules.specs.Contexts.{declarations_of};
 ghost use Rattle.class_headers.specs.Rows.{header_of};
 ghost use Rattle.class_headers.specs.Columns.{kind_count};
+ghost use Rattle.class_headers.specs.Members.{class_written, members_in};
 ghost use Rattle.class_headers.specs.Ways.{has_bit};
 
 use crate::filling::{Header, Headers};
@@ -16,39 +17,8 @@ use node_views::class_members;
 use scj_base::{ClassId, Name, NodeId};
 use scj_builtins::ClassKind;
 use scj_tree::Program;
-use std::marker::Model;
 
-/// The classes of a program as they are written: the program beside its table. A contract sees the program.
-#[derive(Drop)]
-pub struct WrittenClasses<'a> {
-    program: &'a Program,
-    headers: &'a Headers,
-}
-
-impl<'a> Model for WrittenClasses<'a> {
-    ghost use Rattle.scj_tree.specs.Forest.{Forest};
-
-    ghost Value = { Forest };
-
-    ghost use Rattle.class_headers.specs.Columns.{IsHeadersOf};
-
-    ghost view = { λ a. a.program.now };
-
-    ghost invariant = { λ a. IsHeadersOf a.program.now a.headers.now };
-}
-
-impl<'a> WrittenClasses<'a> {
-    ghost use Rattle.class_headers.specs.Columns.{IsHeadersOf};
-    ghost use Rattle.class_headers.specs.Members.{class_written, members_in};
-
-    /// The classes of a program, from the table of their headers.
-    pub fn new(program: &'a Program, headers: &'a Headers) -> WrittenClasses<'a>
-        requires { IsHeadersOf program.now headers.now }
-        ensures { result ≡ program.now }
-    {
-        WrittenClasses { program, headers }
-    }
-
+impl<'a> Headers<'a> {
     /// The program.
     pub fn program(&self) -> &'a Program
         ensures { result.now ≡ self.now }
@@ -61,22 +31,22 @@ impl<'a> WrittenClasses<'a> {
     pub fn count(&self) -> usize
         ensures { result ≡ length (declarations_of self.now).written }
     {
-        self.headers.rows.len()
+        self.rows.len()
     }
 
     /// The class of a name: the first one that has it.
     pub fn class_of(&self, name: &Name) -> Option<ClassId>
         ensures { result ≡ class_number (declarations_of self.now).names name.now }
     {
-        self.headers.names.class_of(name)
+        self.names.class_of(name)
     }
 
     /// The header of a class.
     #[tactic(auto, using(crate::proofs::TableLemmas::header_is))]
-    fn header(&self, class: ClassId) -> Option<&'a Header>
+    fn header(&self, class: ClassId) -> Option<&Header>
         ensures { option_copied result ≡ option_map header_of (slice_get (declarations_of self.now).written class) }
     {
-        self.headers.rows.get(class.number() as usize)
+        self.rows.get(class.number() as usize)
     }
 
     /// What a class may be used for.
@@ -94,15 +64,15 @@ impl<'a> WrittenClasses<'a> {
     pub fn superclass(&self, class: ClassId) -> Option<ClassId>
         ensures { result ≡ superclass_in (declarations_of self.now).written class }
     {
-        superclass_at(&self.headers.rows, class.number() as usize)
+        superclass_at(&self.rows, class.number() as usize)
     }
 
     /// The interfaces.
     #[tactic(auto, using(crate::proofs::TableLemmas::interfaces_is))]
-    pub fn interfaces(&self, class: ClassId) -> &'a [ClassId]
+    pub fn interfaces(&self, class: ClassId) -> &[ClassId]
         ensures { result.now ≡ interfaces_in (declarations_of self.now).written class }
     {
-        interfaces_at(&self.headers.interfaces, class.number() as usize)
+        interfaces_at(&self.interfaces, class.number() as usize)
     }
 
     /// The node that the table has of a class.
@@ -150,7 +120,7 @@ impl<'a> WrittenClasses<'a> {
     pub fn is_cyclic(&self, class: ClassId) -> bool
         ensures { result ≡ is_cyclic (declarations_of self.now).written class }
     {
-        is_marked(&self.headers.cyclic, class)
+        is_marked(&self.cyclic, class)
     }
 
     /// Whether a class is the kind or stands under it by superclasses.
@@ -158,7 +128,7 @@ impl<'a> WrittenClasses<'a> {
         requires { kind < kind_count }
         ensures { result ≡ is_among kind (superclasses (declarations_of self.now).written class) }
     {
-        has_bit(way_at(&self.headers.ways, class).above, kind)
+        has_bit(way_at(&self.ways, class).above, kind)
     }
 
     /// Whether a class of the chain implements the kind.
@@ -166,7 +136,7 @@ impl<'a> WrittenClasses<'a> {
         requires { kind < kind_count }
         ensures { result ≡ is_among kind (all_interfaces (declarations_of self.now).written class) }
     {
-        has_bit(way_at(&self.headers.ways, class).implemented, kind)
+        has_bit(way_at(&self.ways, class).implemented, kind)
     }
 
     /// The bits of the classes of a chain and of their interfaces.
@@ -176,7 +146,7 @@ impl<'a> WrittenClasses<'a> {
             (superclasses (declarations_of self.now).written class
             ++ all_interfaces (declarations_of self.now).written class) }
     {
-        let way = way_at(&self.headers.ways, class);
+        let way = way_at(&self.ways, class);
         way.above | way.implemented
     }
 }

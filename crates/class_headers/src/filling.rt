@@ -6,7 +6,6 @@ ghost use Rattle.scj_rules.specs.Views.{class_at};
 ghost use Rattle.class_headers.specs.declared.filling.Header.{Header as Row};
 ghost use Rattle.class_headers.specs.Rows.{framework_header, header_by, interfaces_at};
 ghost use Rattle.class_headers.specs.NamedNumbers.{found_under};
-ghost use Rattle.class_headers.specs.Columns.{IsHeadersOf};
 
 use crate::named_numbers::NamedNumbers;
 use crate::names::{index_of, names_of};
@@ -17,6 +16,7 @@ use scj_base::{ClassId, Memory, NodeId};
 use scj_builtins::{ClassKind, FrameworkClass, framework_classes};
 use scj_tree::{Program, class_ids};
 use std::alloc::{AllocError, Global};
+use std::marker::Model;
 
 /// A class as it is written.
 #[derive(Clone, Copy, Debug)]
@@ -31,19 +31,33 @@ pub struct Header {
     pub constructor: Option<NodeId>,
 }
 
-/// The headers of the classes of a program.
+/// The classes of a program as they are written: the program with the table of their headers. A contract sees the
+/// program.
 #[derive(Drop)]
-pub struct Headers {
+pub struct Headers<'a> {
+    pub(crate) program: &'a Program,
     /// The class of each name.
-    pub names: NamedNumbers,
+    pub(crate) names: NamedNumbers,
     /// The classes, each at its number.
-    pub rows: Vec<Header>,
+    pub(crate) rows: Vec<Header>,
     /// The interfaces of each class.
-    pub interfaces: Vec<Vec<ClassId>>,
+    pub(crate) interfaces: Vec<Vec<ClassId>>,
     /// Whether the superclasses come back to the class.
-    pub cyclic: Vec<bool>,
+    pub(crate) cyclic: Vec<bool>,
     /// A way from each class that meets all that is on its chain.
-    pub ways: Vec<Way>,
+    pub(crate) ways: Vec<Way>,
+}
+
+impl<'a> Model for Headers<'a> {
+    ghost use Rattle.scj_tree.specs.Forest.{Forest};
+
+    ghost Value = { Forest };
+
+    ghost use Rattle.class_headers.specs.Columns.{IsHeadersOf};
+
+    ghost view = { λ a. a.program.now };
+
+    ghost invariant = { λ a. IsHeadersOf a.program.now a };
 }
 
 /// The header of a framework class.
@@ -146,8 +160,8 @@ fn interfaces_of(
 }
 
 /// The headers of the classes of a program.
-pub fn headers_in(alloc: Global, program: &Program) -> Result<Headers, Memory>
-    ensures { IfOk result (λ headers. IsHeadersOf program.now headers) }
+pub fn headers_in<'a>(alloc: Global, program: &'a Program) -> Result<Headers<'a>, Memory>
+    ensures { IfOk result (λ headers. headers ≡ program.now) }
 {
     let ids = class_ids(alloc, program)?;
     let all = names_of(alloc, program, &ids)?;
@@ -157,6 +171,7 @@ pub fn headers_in(alloc: Global, program: &Program) -> Result<Headers, Memory>
     let ways = ways_in(alloc, &rows, &interfaces)?;
     let cyclic = ends(alloc, &ways)?;
     Ok(Headers {
+        program,
         names,
         rows,
         interfaces,

@@ -7,7 +7,7 @@ ghost use Rattle.scj_rules.specs.Classes.{kinds, kinds_of, more_than_one, brings
 ghost use Rattle.scj_rules.specs.Contexts.{declarations_of};
 ghost use Rattle.class_headers.specs.Ways.{has_bit};
 
-use crate::classes::WrittenClasses;
+use crate::filling::Headers;
 use crate::ways::has_bit;
 use scj_base::ids::{
     APERIODIC_EVENT_HANDLER, MISSION, MISSION_SEQUENCER, PERIODIC_EVENT_HANDLER, RUNNABLE, SAFELET,
@@ -91,7 +91,7 @@ fn kinds_in(alloc: Global, bits: u8) -> Result<Vec<ClassId>, AllocError>
         .collect(alloc)
 }
 
-impl<'a> WrittenClasses<'a> {
+impl<'a> Headers<'a> {
     /// The kinds of a class.
     pub fn kinds_of(&self, alloc: Global, class: ClassId) -> Result<Vec<ClassId>, Memory>
         ensures { IfOk result (λ kinds. kinds.items ≡ kinds_of (declarations_of self.now).written class) }

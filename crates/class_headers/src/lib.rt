@@ -12,7 +12,6 @@ pub mod parts;
 pub mod supers;
 pub mod ways;
 
-pub use classes::WrittenClasses;
 pub use filling::{Header, Headers, headers_in};
 pub use keys::NameKey;
 pub use named_numbers::NamedNumbers;

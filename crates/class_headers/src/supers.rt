@@ -8,7 +8,7 @@ ghost use Rattle.scj_rules.specs.Classes.{kinds_of, forbidden_interfaces};
 ghost use Rattle.scj_rules.specs.Contexts.{declarations_of};
 ghost use Rattle.class_headers.specs.Supers.{is_known_if_there, knows_supers, is_nameable, may_be_named, is_forbidden, forbidden_name, kinds_named, forbidden_in, is_well_headed_in};
 
-use crate::classes::WrittenClasses;
+use crate::filling::Headers;
 use crate::kinds::{add_kinds, brings_too_many};
 use node_views::{class_extends, interface_nodes, named_super};
 use scj_base::{ClassId, Memory, NodeId};
@@ -39,7 +39,7 @@ fn note_if(is_forbidden: bool, name: Written, found: &mut Vec<Written>) -> Resul
     Ok(())
 }
 
-impl<'a> WrittenClasses<'a> {
+impl<'a> Headers<'a> {
     /// Whether the class is there that is named, where one is.
     fn is_known_if_there(&self, written: Option<Written>) -> bool
         ensures { result ≡ is_known_if_there (declarations_of self.now).names written }

@@ -23,6 +23,7 @@ use Rattle.class_headers.specs.declared.ways.Way.{Way}
 use Rattle.class_headers.specs.Ways.{no_way, has_bit}
 use Rattle.class_headers.specs.Columns.{AreWaysOf}
 use Rattle.scj_tree.specs.Recursion.{lookup}
+use Rattle.class_rows.specs.Members.{rows_of}
 use Rattle.class_rows.specs.Walks.{IsRoot, is_framework, is_known, implemented_method}
 use Rattle.class_rows.proofs.OwnLemmas.{framework_own, method_in, on_method}
 use Rattle.class_rows.proofs.WalkLemmas.{along_append}
@@ -51,9 +52,8 @@ module _ (nodes : List Node) (names : List (List ℕ)) where
   no_user (c ∷ users) zero = grind (arith, common_steps)
   no_user (c ∷ users) (suc k) = no_user users k
 
-  known_at : (users : List WrittenClass) (cs : List FrameworkClass) (n k : ℕ) → first_known n cs ≡ true →
-      may_be (slice_get (framework_rows_from n cs ++ map (user_row nodes names) users) k) ≡ true →
-      is_known (n + k) ≡ true
+  known_at : (users : List WrittenClass) (cs : List FrameworkClass) (n k : ℕ) → first_known n cs ≡ true → may_be
+      (slice_get (framework_rows_from n cs ++ map (user_row nodes names) users) k) ≡ true → is_known (n + k) ≡ true
   unfolding first_known framework_rows_from framework_row
   known_at users [] n k t h = absurd (true≢false (sym h ∙ no_user users k))
   known_at users (c ∷ cs) n zero t h = grind (arith, common_steps, nat_tests, t, h)
@@ -74,19 +74,18 @@ all_from test [] h = refl
 all_from test (x ∷ xs) h = rw (h x (or_left (x == x) (is_among x xs) (is_same_number x x refl)))
     (all_from test xs (λ y k. h y (or_right (y == x) (is_among y xs) k)))
 
-interfaces_known : (forest : Forest) (class : ℕ) →
-    are_known (interfaces_in (declarations_of forest).classes class) ≡ true
-interfaces_known forest class = all_from is_known (interfaces_in (declarations_of forest).classes class)
+interfaces_known : (forest : Forest) (class : ℕ) → are_known (interfaces_in (rows_of forest) class) ≡ true
+interfaces_known forest class = all_from is_known (interfaces_in (rows_of forest) class)
     (λ x h. implemented_known forest x (interfaces-implemented forest class x h))
 
 flat_known : (f : ℕ → List ℕ) → ((x : ℕ) → are_known (f x) ≡ true) → (xs : List ℕ) → are_known (flat_map f xs) ≡ true
 flat_known f h [] = refl
 flat_known f h (x ∷ xs) = list_all-append is_known (f x) (flat_map f xs) ∙ rw (h x) (flat_known f h xs)
 
-all_known : (forest : Forest) (class : ℕ) → are_known (all_interfaces (declarations_of forest).classes class) ≡ true
+all_known : (forest : Forest) (class : ℕ) → are_known (all_interfaces (rows_of forest) class) ≡ true
 unfolding all_interfaces
-all_known forest class = flat_known (interfaces_in (declarations_of forest).classes) (interfaces_known forest)
-    (superclasses (declarations_of forest).classes class)
+all_known forest class = flat_known (interfaces_in (rows_of forest)) (interfaces_known forest)
+    (superclasses (rows_of forest) class)
 
 -- ---- what is found along such interfaces
 
@@ -103,10 +102,9 @@ unfolding along
 along_one f i none [] k = refl
 along_one f i none (x ∷ xs) k = grind (arith, common_steps, nat_tests, k, along_one f i none xs, none x)
 
-pub known_marked : (forest : Forest) (ways : List Way) (class interface : ℕ) →
-    AreWaysOf (declarations_of forest).classes ways → is_known interface ≡ true
-    → has_bit (lookup no_way ways class).implemented interface
-    ≡ is_among interface (all_interfaces (declarations_of forest).classes class)
+pub known_marked : (forest : Forest) (ways : List Way) (class interface : ℕ) → AreWaysOf (rows_of forest) ways →
+    is_known interface ≡ true → has_bit (lookup no_way ways class).implemented interface
+    ≡ is_among interface (all_interfaces (rows_of forest) class)
 known_marked forest ways class interface w e = w.implemented interface class (grind (arith, nat_tests))
 
 none_among : (interface : ℕ) → is_known interface ≡ false → (xs : List ℕ) → are_known xs ≡ true →
@@ -115,9 +113,9 @@ none_among interface e [] k = refl
 none_among interface e (x ∷ xs) k = grind (arith, common_steps, nat_tests, k, e, none_among interface e xs)
 
 pub unknown_not_implemented : (forest : Forest) (class interface : ℕ) → is_known interface ≡ false →
-    is_among interface (all_interfaces (declarations_of forest).classes class) ≡ false
+    is_among interface (all_interfaces (rows_of forest) class) ≡ false
 unknown_not_implemented forest class interface e =
-    none_among interface e (all_interfaces (declarations_of forest).classes class) (all_known forest class)
+    none_among interface e (all_interfaces (rows_of forest) class) (all_known forest class)
 
 -- ---- methods of the two
 
@@ -136,13 +134,13 @@ no_run : method_in run_name (framework_methods_on safelet) ≡ None
 unfolding framework_methods framework_methods_on framework_method
 no_run = refl
 
-not_both : (forest : Forest) (name : List ℕ) → (own_method (declarations_of forest).classes name runnable ≡ None) ⊎
-    (own_method (declarations_of forest).classes name safelet ≡ None)
+not_both : (forest : Forest) (name : List ℕ) →
+    (own_method (rows_of forest) name runnable ≡ None) ⊎ (own_method (rows_of forest) name safelet ≡ None)
 unfolding framework_method_on
 not_both forest name = go (is_same name run_name) refl
   where
-    go : (t : Bool) → is_same name run_name ≡ t → (own_method (declarations_of forest).classes name runnable ≡ None) ⊎
-        (own_method (declarations_of forest).classes name safelet ≡ None)
+    go : (t : Bool) → is_same name run_name ≡ t →
+        (own_method (rows_of forest) name runnable ≡ None) ⊎ (own_method (rows_of forest) name safelet ≡ None)
     go false e =
         inl (framework_own forest runnable name (omega arith)
         ∙ ap (option_map (on_method runnable)) (only_run name ∙ ap (λ (t : Bool). cond t (Some run_method) None) e))
@@ -154,7 +152,7 @@ not_both forest name = go (is_same name run_name) refl
 
 module _ (forest : Forest) (class : ℕ) (name : List ℕ) where
   abbrev rows : List ClassRow
-  rows = (declarations_of forest).classes
+  rows = rows_of forest
 
   abbrev own : ℕ → Option FoundMethod
   own = own_method rows name
@@ -188,9 +186,8 @@ module _ (forest : Forest) (class : ℕ) (name : List ℕ) where
   known_stay [] k = refl
   known_stay (x ∷ xs) k = grind (arith, common_steps, nat_tests, k, known_stay xs)
 
-  pub framework_append : (xs : List ℕ)
-      → or_else (along own (filter is_framework xs)) (along own (all_interfaces rows class))
-      ≡ along own (filter is_framework (xs ++ all_interfaces rows class))
+  pub framework_append : (xs : List ℕ) → or_else (along own (filter is_framework xs))
+      (along own (all_interfaces rows class)) ≡ along own (filter is_framework (xs ++ all_interfaces rows class))
   framework_append xs = along_append own (filter is_framework xs) (all_interfaces rows class)
       ∙ ap (λ ys. along own (filter is_framework xs ++ ys))
       (sym (known_stay (all_interfaces rows class) (all_known forest class)))

@@ -4,6 +4,7 @@ pub mod InheritedLemmas
 pub mod InterfaceLemmas
 pub mod MemberLemmas
 pub mod NameLemmas
+pub mod NearestLemmas
 pub mod OwnLemmas
 pub mod RowLemmas
 pub mod SoundLemmas

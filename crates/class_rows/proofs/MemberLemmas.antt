@@ -22,7 +22,7 @@ use Rattle.scj_rules.specs.Words.{holds}
 use Rattle.scj_rules.specs.Views.{WrittenClass, field_at}
 use Rattle.scj_rules.specs.Classes.{ClassRow, field_nodes, field_number, method_nodes, method_number, counted_from, user_classes, class_names, written_rows, user_row, framework_row, framework_rows_from}
 use Rattle.scj_rules.specs.Contexts.{Declarations, declarations_of}
-use Rattle.class_rows.specs.declared.own_members.OwnKey.{OwnKey}
+use Rattle.class_rows.specs.declared.members.OwnKey.{OwnKey}
 use Rattle.class_rows.specs.declared.members.MemberKind.{MemberKind}
 use Rattle.class_rows.specs.declared.members.MemberKind.TheVariants.{Field, Method}
 use Rattle.class_rows.specs.Members.{is_member, name_at, first_named, first_declared, is_like, member_nodes, number_at, first_number, own_key, is_same_own, in_class}
@@ -118,9 +118,8 @@ find_back test members at id some within is_id =
 
 -- a member with the name or without one, before those that are entered
 pub first_entered : (kind : MemberKind) (nodes : List Node) (key name ids : List ℕ) (at id : ℕ) → 0 < at →
-    at ≤ length ids → id ≡ get_or ids (at - 1) id → Some name ≡ name_at kind nodes id
-    → cond (is_same name key) (Some id) (first_named kind nodes key (drop at ids))
-    ≡ first_named kind nodes key (drop (at - 1) ids)
+    at ≤ length ids → id ≡ get_or ids (at - 1) id → Some name ≡ name_at kind nodes id → cond (is_same name key)
+    (Some id) (first_named kind nodes key (drop at ids)) ≡ first_named kind nodes key (drop (at - 1) ids)
 first_entered kind nodes key name ids at id some within is_id named =
     ap (λ (t : Bool). cond t (Some id) (first_named kind nodes key (drop at ids)))
     (nat_list_eq_equiv.symm name key ∙ ap (λ (o : Option (List ℕ)). holds o (is_same key)) named)
@@ -158,7 +157,7 @@ names_all forest test class n h =
 
 -- ---- the first of a name stands for it
 
-find_passes : (test : ℕ → Bool) (xs : List ℕ) (x : ℕ) → find test xs ≡ Some x → test x ≡ true
+pub find_passes : {A : Type 0} (test : A → Bool) (xs : List A) (x : A) → find test xs ≡ Some x → test x ≡ true
 find_passes test [] x h = cc
 find_passes test (y ∷ xs) x h = grind (arith, common_steps, h, find_passes test xs x)
 

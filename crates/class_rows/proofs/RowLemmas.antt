@@ -62,8 +62,7 @@ as_written f same forest class =
 
 -- what a class has as it counts is what it has as it is written, or under Object
 as_it_counts : {A : Type 0} (f : Option ClassRow → A) (bad : A) → ((row : ClassRow) → f (Some (under_object row)) ≡ bad)
-    → (forest : Forest) (class : ℕ)
-    → f (slice_get (declarations_of forest).classes class)
+    → (forest : Forest) (class : ℕ) → f (slice_get (declarations_of forest).classes class)
     ≡ cond (is_under_object (declarations_of forest) class) bad (f (slice_get (declarations_of forest).written class))
 unfolding class_written is_good_header
 as_it_counts f bad under forest class =

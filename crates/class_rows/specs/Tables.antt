@@ -1,6 +1,6 @@
 -- What the table of the classes of a program holds.
 unfoldable pub use Rattle.class_headers.specs.Members.{class_written, members_in}
-pub use Rattle.class_headers.specs.Columns.{IsHeadersOf, AreWaysOf}
+use Rattle.class_headers.specs.Columns.{AreWaysOf}
 use Rattle.std.specs.Prelude.{◌≡◌, ℕ, Bool, true, not, List, [], length, slice_get, Option, Some, None, option_map}
 use Rattle.scj_builtins.specs.declared.classes.FrameworkClass.{FrameworkClass}
 use Rattle.scj_builtins.specs.Framework.{framework_classes}
@@ -11,10 +11,10 @@ use Rattle.scj_rules.specs.Views.{WrittenClass}
 use Rattle.scj_rules.specs.Classes.{ClassRow, is_well_headed}
 use Rattle.scj_rules.specs.Contexts.{Declarations, declarations_of}
 use Rattle.class_rows.specs.declared.members.MemberKind.TheVariants.{Field, Method}
-use Rattle.class_rows.specs.declared.tables.ClassTable.{ClassTable}
+use Rattle.class_rows.specs.declared.tables.ClassTable.TheInside.{Inside}
 use Rattle.class_rows.specs.declared.inherited.InheritedMethods.{InheritedMethods}
 use Rattle.class_rows.specs.Inherited.{AreInheritedMethods}
-use Rattle.class_rows.specs.Members.{IsMembersOf}
+use Rattle.class_rows.specs.Members.{IsMembersOf, AreNearest}
 use Rattle.class_rows.specs.Walks.{AreAncestries}
 
 -- the name of the framework's class of a number, or of the class that is written
@@ -40,13 +40,14 @@ AreUnderObject forest marks =
     marks ≡ listed (is_under_object (declarations_of forest)) (length (declarations_of forest).written)
 
 -- the table is that of the program
-pub record IsTableOf (forest : Forest) (table : ClassTable) : Type 0 where
-  pub headers : IsHeadersOf forest table.headers
+pub record IsTableOf (forest : Forest) (table : Inside) : Type 0 where
   pub count : table.count ≡ length (declarations_of forest).classes
   pub under_object : AreUnderObject forest table.under_object.items
   pub ways : AreWaysOf (declarations_of forest).classes table.ways.items
   pub ancestries : AreAncestries (declarations_of forest).classes table.ancestries.items
   pub fields : IsMembersOf Field forest table.fields
   pub methods : IsMembersOf Method forest table.methods
+  pub fields_above : AreNearest Field forest table.fields_above
+  pub methods_above : AreNearest Method forest table.methods_above
   pub inherited : (told : InheritedMethods) → table.inherited ≡ Some told →
       AreInheritedMethods (declarations_of forest) [] told

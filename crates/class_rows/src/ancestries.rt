@@ -6,15 +6,12 @@ ghost use Rattle.std.specs.Prelude.{◌≡◌, ◌∷◌, List, IfOk, IfSome, On
 ghost use Rattle.scj_rules.specs.Words.{is_among};
 ghost use Rattle.scj_rules.specs.Classes.{ClassRow, superclasses};
 ghost use Rattle.scj_rules.specs.Contexts.{declarations_of};
-ghost use Rattle.class_rows.specs.Tables.{IsTableOf};
 ghost use Rattle.class_rows.specs.Walks.{AreAncestries, IsAncestry, IsRoot};
 
-use crate::classes::Classes;
 use crate::tables::ClassTable;
 use scj_base::ids::OBJECT;
 use scj_base::{ClassId, Memory};
 use scj_builtins::FRAMEWORK_CLASS_COUNT;
-use scj_tree::Program;
 use std::alloc::Global;
 
 /// What is told of the classes above one.
@@ -41,12 +38,12 @@ fn root_under(class: ClassId, above: ClassId, root: ClassId) -> Option<ClassId>
     if root == above { Some(class) } else { None }
 }
 
-impl<'a> Classes<'a> {
+impl<'a> ClassTable<'a> {
     /// What is told of the classes above a class.
     pub(crate) fn ancestry(&self, class: ClassId) -> Option<Ancestry>
         ensures { IfSome result (λ told. IsAncestry (declarations_of self.now).classes class told) }
     {
-        match self.table.ancestries.get(class.number() as usize) {
+        match self.ancestries.get(class.number() as usize) {
             Some(Some(told)) => Some(*told),
             _ => None,
         }
@@ -128,21 +125,15 @@ fn note_ancestry(told: &mut Vec<Option<Ancestry>>, class: ClassId, ancestry: Opt
     }
 }
 
-impl ClassTable {
+impl<'a> ClassTable<'a> {
     /// Tells of the classes above each of these, a superclass before those under it. Where a superclass comes later,
     /// nothing is told.
-    pub fn tell_ancestries(
-        &mut self,
-        alloc: Global,
-        program: &Program,
-        classes: &[ClassId],
-    ) -> Result<(), Memory>
-        requires { IsTableOf program.now self.old }
-        ensures { OnOk result (IsTableOf program.now self.new) }
+    pub fn tell_ancestries(&mut self, alloc: Global, classes: &[ClassId]) -> Result<(), Memory>
+        ensures { OnOk result (self.new ≡ self.old) }
     {
         self.ancestries = no_ancestries(alloc, self.count)?;
         for class in classes {
-            let ancestry = Classes::new(program, self).next_ancestry(*class);
+            let ancestry = self.next_ancestry(*class);
             note_ancestry(&mut self.ancestries, *class, ancestry);
         }
         Ok(())

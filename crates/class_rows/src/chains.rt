@@ -4,14 +4,14 @@ ghost use Rattle.std.specs.Prelude.{◌≡◌, [], ◌∷◌, IfSome, IfNone};
 ghost use Rattle.scj_rules.specs.Classes.{superclasses, classes_above};
 ghost use Rattle.scj_rules.specs.Contexts.{declarations_of};
 
-use crate::classes::Classes;
+use crate::tables::ClassTable;
 use scj_base::ClassId;
 use std::marker::Model;
 
 /// A walk from class to superclass. A contract sees the classes that are left.
 #[derive(Drop)]
 pub struct Chain<'a> {
-    classes: Classes<'a>,
+    classes: &'a ClassTable<'a>,
     at: Option<ClassId>,
     left: usize,
 }
@@ -25,7 +25,7 @@ impl<'a> Model for Chain<'a> {
 
     ghost use Rattle.class_rows.specs.Walks.{chain_from};
 
-    ghost view = { λ a. chain_from (superclass_in (declarations_of a.classes).classes) a.left a.at };
+    ghost view = { λ a. chain_from (superclass_in (declarations_of a.classes.now).classes) a.left a.at };
 }
 
 impl<'a> Chain<'a> {
@@ -38,35 +38,21 @@ impl<'a> Chain<'a> {
         if self.left == 0 {
             return None;
         }
-        match self.at {
-            Some(class) => {
-                self.at = self.classes.superclass(class);
-                self.left -= 1;
-                Some(class)
-            }
-            None => None,
-        }
+        let class = self.at?;
+        self.at = self.classes.superclass(class);
+        self.left -= 1;
+        Some(class)
     }
 }
 
-impl<'a> Classes<'a> {
-    /// The same classes once more.
-    pub fn again(&self) -> Classes<'a>
-        ensures { result ≡ self.now }
-    {
-        Classes {
-            program: self.program,
-            table: self.table,
-        }
-    }
-
+impl<'a> ClassTable<'a> {
     /// The class, its superclass and so on.
     #[tactic(auto, unfolding(scj_rules::specs::Classes::superclasses))]
-    pub fn superclasses(&self, class: ClassId) -> Chain<'a>
+    pub fn superclasses(&self, class: ClassId) -> Chain<'_>
         ensures { result ≡ superclasses (declarations_of self.now).classes class }
     {
         Chain {
-            classes: self.again(),
+            classes: self,
             at: Some(class),
             left: self.count(),
         }
@@ -74,11 +60,11 @@ impl<'a> Classes<'a> {
 
     /// What comes behind a class on its chain.
     #[tactic(auto, unfolding(scj_rules::specs::Classes::classes_above, scj_rules::specs::Words::chain_behind))]
-    pub fn classes_above(&self, class: ClassId) -> Chain<'a>
+    pub fn classes_above(&self, class: ClassId) -> Chain<'_>
         ensures { result ≡ classes_above (declarations_of self.now).classes class }
     {
         Chain {
-            classes: self.again(),
+            classes: self,
             at: self.superclass(class),
             left: self.count(),
         }

@@ -7,75 +7,47 @@ ghost use Rattle.scj_rules.specs.Words.{is_among};
 ghost use Rattle.scj_builtins.specs.Framework.{safelet};
 ghost use Rattle.scj_rules.specs.Contexts.{declarations_of};
 ghost use Rattle.scj_rules.specs.Types.{constructor_in};
+ghost use Rattle.class_rows.specs.Members.{rows_of};
+ghost use Rattle.class_rows.specs.Tables.{class_written, is_under_object, members_in, name_of};
 
 use crate::counted::superclass_of;
 use crate::tables::ClassTable;
-use class_headers::WrittenClasses;
+use class_headers::Headers;
 use class_headers::ways::is_marked;
 use node_views::class_name;
 use scj_base::ids::SAFELET;
 use scj_base::{ClassId, Name, NodeId};
 use scj_builtins::{ClassKind, framework_classes};
 use scj_tree::Program;
-use std::marker::Model;
 
-/// The classes of a program: the program beside its table. A contract sees the program.
-#[derive(Drop)]
-pub struct Classes<'a> {
-    pub(crate) program: &'a Program,
-    pub(crate) table: &'a ClassTable,
-}
-
-impl<'a> Model for Classes<'a> {
-    ghost use Rattle.scj_tree.specs.Forest.{Forest};
-
-    ghost Value = { Forest };
-
-    ghost use Rattle.class_rows.specs.Tables.{IsTableOf};
-
-    ghost view = { λ a. a.program.now };
-
-    ghost invariant = { λ a. IsTableOf a.program.now a.table.now };
-}
-
-impl<'a> Classes<'a> {
-    ghost use Rattle.class_rows.specs.Tables.{IsTableOf, class_written, is_under_object, members_in, name_of};
-
-    /// The classes of a program, from its table.
-    pub fn new(program: &'a Program, table: &'a ClassTable) -> Classes<'a>
-        requires { IsTableOf program.now table.now }
-        ensures { result ≡ program.now }
-    {
-        Classes { program, table }
-    }
-
+impl<'a> ClassTable<'a> {
     /// The program.
     pub fn program(&self) -> &'a Program
         ensures { result.now ≡ self.now }
     {
-        self.program
+        self.headers.program()
     }
 
     /// The classes as they are written.
-    pub fn written(&self) -> WrittenClasses<'a>
-        ensures { result ≡ self.now }
+    pub fn written(&self) -> &Headers<'a>
+        ensures { result.now ≡ self.now }
     {
-        WrittenClasses::new(self.program, &self.table.headers)
+        &self.headers
     }
 
     /// How many classes there are, the framework's among them.
     #[tactic(auto, using(crate::proofs::RowLemmas::class_length))]
     pub fn count(&self) -> usize
-        ensures { result ≡ length (declarations_of self.now).classes }
+        ensures { result ≡ length (rows_of self.now) }
     {
         self.written().count()
     }
 
     /// The same, as a number of the width of theirs.
     pub fn class_count(&self) -> u32
-        ensures { result ≡ length (declarations_of self.now).classes }
+        ensures { result ≡ length (rows_of self.now) }
     {
-        self.table.count
+        self.count
     }
 
     /// How many names of classes there are: each class has one.
@@ -107,8 +79,7 @@ impl<'a> Classes<'a> {
     /// What a class may be used for.
     #[tactic(auto, using(crate::proofs::RowLemmas::kind_is))]
     pub fn kind(&self, class: ClassId) -> Option<ClassKind>
-        ensures { result ≡ option_map (λ (row : ClassRow). row.kind)
-            (slice_get (declarations_of self.now).classes class) }
+        ensures { result ≡ option_map (λ (row : ClassRow). row.kind) (slice_get (rows_of self.now) class) }
     {
         self.written().kind(class)
     }
@@ -135,14 +106,14 @@ impl<'a> Classes<'a> {
     fn is_under_object(&self, class: ClassId) -> bool
         ensures { result ≡ is_under_object (declarations_of self.now) class }
     {
-        is_marked(&self.table.under_object, class)
+        is_marked(&self.under_object, class)
     }
 
     /// The superclass as it counts.
     pub fn superclass(&self, class: ClassId) -> Option<ClassId>
-        ensures { result ≡ superclass_in (declarations_of self.now).classes class }
+        ensures { result ≡ superclass_in (rows_of self.now) class }
     {
-        superclass_of(&self.written(), class, self.is_under_object(class))
+        superclass_of(self.written(), class, self.is_under_object(class))
     }
 
     /// Whether the superclasses as they are written come back to the class.
@@ -162,10 +133,8 @@ impl<'a> Classes<'a> {
     /// The node of the first constructor of a class.
     #[tactic(auto, using(crate::proofs::OwnLemmas::constructor_is, crate::proofs::OwnLemmas::constructor_whole))]
     pub fn constructor_in(&self, class: ClassId) -> Option<NodeId>
-        ensures node { result ≡ option_map (λ (c : DeclaredConstructor). c.node)
-            (constructor_in (declarations_of self.now).classes class) }
-        ensures whole { option_and_then (constructor_at self.now.nodes) result ≡ constructor_in
-            (declarations_of self.now).classes class }
+        ensures node { result ≡ option_map (λ (c : DeclaredConstructor). c.node) (constructor_in (rows_of self.now) class) }
+        ensures whole { option_and_then (constructor_at self.now.nodes) result ≡ constructor_in (rows_of self.now) class }
     {
         self.written().constructor(class)
     }

@@ -8,7 +8,7 @@ ghost use Rattle.scj_rules.specs.Contexts.{declarations_of};
 ghost use Rattle.class_headers.specs.Ways.{way_in};
 ghost use Rattle.class_rows.specs.Tables.{AreUnderObject, class_written, is_good_header, is_under_object};
 
-use class_headers::WrittenClasses;
+use class_headers::Headers;
 use class_headers::ways::{Way, first_way, is_marked};
 use scj_base::ids::OBJECT;
 use scj_base::{ClassId, Memory};
@@ -16,9 +16,8 @@ use std::alloc::Global;
 
 /// Whether nothing in the header of a class is forbidden.
 #[tactic(auto, using(crate::proofs::BuildingLemmas::good_user, crate::proofs::BuildingLemmas::good_framework))]
-fn has_good_header(alloc: Global, written: &WrittenClasses, class: ClassId) -> Result<bool, Memory>
-    ensures { IfOk result
-        (λ is_good. is_good ≡ is_good_header (declarations_of written.now) class
+fn has_good_header(alloc: Global, written: &Headers<'_>, class: ClassId) -> Result<bool, Memory>
+    ensures { IfOk result (λ is_good. is_good ≡ is_good_header (declarations_of written.now) class
         (class_written (declarations_of written.now) class)) }
 {
     match written.class_node(class) {
@@ -28,7 +27,7 @@ fn has_good_header(alloc: Global, written: &WrittenClasses, class: ClassId) -> R
 }
 
 /// How many classes there are, if they can be numbered.
-pub fn count_of(written: &WrittenClasses) -> Result<u32, Memory>
+pub fn count_of(written: &Headers<'_>) -> Result<u32, Memory>
     ensures { IfOk result (λ count. count ≡ length (declarations_of written.now).written) }
 {
     let count = written.count();
@@ -40,7 +39,7 @@ pub fn count_of(written: &WrittenClasses) -> Result<u32, Memory>
 
 /// Marks for the classes that count as classes under `Object`.
 #[tactic(auto, unfolding(scj_tree::specs::Recursion::listed))]
-pub fn marks_under_object(alloc: Global, written: &WrittenClasses) -> Result<Vec<bool>, Memory>
+pub fn marks_under_object(alloc: Global, written: &Headers<'_>) -> Result<Vec<bool>, Memory>
     ensures { IfOk result (λ marks. AreUnderObject written.now marks.items) }
 {
     let count = count_of(written)?;
@@ -54,11 +53,7 @@ pub fn marks_under_object(alloc: Global, written: &WrittenClasses) -> Result<Vec
 
 /// The superclass of a class as it counts.
 #[tactic(auto, using(crate::proofs::RowLemmas::superclass_counts))]
-pub fn superclass_of(
-    written: &WrittenClasses<'_>,
-    class: ClassId,
-    under_object: bool,
-) -> Option<ClassId>
+pub fn superclass_of(written: &Headers<'_>, class: ClassId, under_object: bool) -> Option<ClassId>
     requires { under_object ≡ is_under_object (declarations_of written.now) class }
     ensures { result ≡ superclass_in (declarations_of written.now).classes class }
 {
@@ -70,11 +65,11 @@ pub fn superclass_of(
 
 /// The interfaces of a class as it counts.
 #[tactic(auto, using(crate::proofs::RowLemmas::interfaces_count))]
-pub fn interfaces_of<'a>(
-    written: &WrittenClasses<'a>,
+pub fn interfaces_of<'t>(
+    written: &'t Headers<'_>,
     class: ClassId,
     under_object: bool,
-) -> &'a [ClassId]
+) -> &'t [ClassId]
     requires { under_object ≡ is_under_object (declarations_of written.now) class }
     ensures { result.now ≡ interfaces_in (declarations_of written.now).classes class }
 {
@@ -86,7 +81,7 @@ pub fn interfaces_of<'a>(
 
 /// The ways of one step from the classes as they count.
 #[tactic(auto, using(crate::proofs::RowLemmas::marked_at), unfolding(scj_tree::specs::Recursion::listed))]
-pub fn ways_of(alloc: Global, written: &WrittenClasses, marks: &[bool]) -> Result<Vec<Way>, Memory>
+pub fn ways_of(alloc: Global, written: &Headers<'_>, marks: &[bool]) -> Result<Vec<Way>, Memory>
     requires { AreUnderObject written.now marks.now }
     ensures { IfOk result (λ ways. ways.items ≡ listed (way_in (declarations_of written.now).classes)
         (length (declarations_of written.now).written)) }

@@ -9,7 +9,7 @@ ghost use Rattle.scj_rules.specs.Contexts.{Declarations, declarations_of};
 ghost use Rattle.method_rows.specs.Methods.{found_method};
 ghost use Rattle.class_rows.specs.Inherited.{is_inherited_as, AreInherited, AreInheritedMethods};
 
-use crate::classes::Classes;
+use crate::tables::ClassTable;
 use method_rows::{MethodRef, builtin};
 use scj_base::ids::{RUNNABLE, SAFELET};
 use scj_base::{ClassId, Name, NodeId};
@@ -40,7 +40,7 @@ pub struct InheritedMethods {
 /// The node of the method of a name that a class has, if it inherits it as one of the interface, which it implements.
 #[tactic(auto, using(crate::proofs::InheritedLemmas::inherits_is))]
 pub fn inherited_node(
-    classes: &Classes<'_>,
+    classes: &ClassTable<'_>,
     interface: ClassId,
     name: &Name,
     class: ClassId,
@@ -67,7 +67,7 @@ pub fn inherited_node(
 /// Whether some class inherits the method of a name at a node as one of the interface: class after class is asked, if
 /// the interface has a method of the name.
 #[tactic(auto, using(crate::proofs::InheritedLemmas::inherits_is, crate::proofs::InheritedLemmas::none_inherits, scj_rules::proofs::NumberLemmas::numbers_next, scj_rules::proofs::NumberLemmas::numbers_end))]
-fn is_inherited_as(classes: &Classes<'_>, interface: ClassId, node: NodeId, name: &Name) -> bool
+fn is_inherited_as(classes: &ClassTable<'_>, interface: ClassId, node: NodeId, name: &Name) -> bool
     ensures { result ≡ is_inherited_as (declarations_of classes.now) interface node name.now }
 {
     if classes.own_method(interface, name).is_none() {
@@ -102,13 +102,13 @@ fn inherited_under<'t>(told: &'t InheritedMethods, name: &Name) -> &'t Inherited
     &told.run
 }
 
-impl<'a> Classes<'a> {
+impl<'a> ClassTable<'a> {
     /// Whether some class inherits the method of a name at a node as one of the interface: by what is told, if it is.
     #[tactic(auto, using(crate::proofs::InheritedLemmas::told_by_nodes))]
     fn is_inherited(&self, interface: ClassId, node: NodeId, name: &Name) -> bool
         ensures { result ≡ is_inherited_as (declarations_of self.now) interface node name.now }
     {
-        if let Some(told) = &self.table.inherited {
+        if let Some(told) = &self.inherited {
             let inherited = inherited_under(told, name);
             if inherited.interface == interface && inherited.name == *name {
                 let place = node.place();

@@ -9,10 +9,10 @@ pub mod fields;
 pub mod inherited;
 pub mod lookups;
 pub mod members;
-pub mod own_members;
+pub mod nearest;
 pub mod tables;
 
-pub use classes::Classes;
 pub use fields::FieldRef;
 pub use inherited::{Inherited, InheritedMethods};
+pub use nearest::NearestMembers;
 pub use tables::ClassTable;

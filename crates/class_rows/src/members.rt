@@ -8,11 +8,10 @@ ghost use Rattle.scj_rules.specs.Views.{field_at};
 ghost use Rattle.scj_rules.specs.Contexts.{declarations_of};
 ghost use Rattle.class_headers.specs.Members.{members_in};
 ghost use Rattle.class_headers.specs.NamedNumbers.{found_under};
-ghost use Rattle.class_rows.specs.declared.own_members.OwnKey.{OwnKey as Key};
-ghost use Rattle.class_rows.specs.Members.{is_member, member_nodes, name_at, first_named, first_number, is_like, is_same_own, in_class, AreOwners, IsMembersOf};
+ghost use Rattle.class_rows.specs.declared.members.OwnKey.{OwnKey as Key};
+ghost use Rattle.class_rows.specs.Members.{is_member, member_nodes, name_at, first_named, first_number, is_like, is_same_own, in_class, IsMembersOf};
 
-use crate::own_members::OwnMembers;
-use class_headers::{NamedNumbers, WrittenClasses};
+use class_headers::{Headers, NamedNumbers};
 use node_views::{is_constructor, is_field, is_method, method_name};
 use scj_base::{ClassId, Memory, Name, NodeId};
 use scj_builtins::FRAMEWORK_METHOD_COUNT;
@@ -32,6 +31,15 @@ pub enum MemberKind {
     Method,
 }
 
+/// A class, with the first member of a name, which stands for the name.
+#[derive(Clone, Copy, Debug, PartialEq, Eq, Hash)]
+pub struct OwnKey {
+    /// The class.
+    pub class: u32,
+    /// The place of the first member of the name.
+    pub first: usize,
+}
+
 /// The members of one kind.
 #[derive(Drop)]
 pub struct Members {
@@ -39,8 +47,8 @@ pub struct Members {
     pub(crate) nodes: Vec<NodeId>,
     /// The first of each name.
     pub(crate) firsts: NamedNumbers,
-    /// Those that the classes declare themselves, by these firsts.
-    pub(crate) own: OwnMembers,
+    /// The first of each name in each class. A walk along a chain asks for the name once, and then for numbers.
+    pub(crate) named: HashMap<OwnKey, NodeId>,
     /// The number of each, by its node.
     pub(crate) numbers: HashMap<usize, u32>,
 }
@@ -144,24 +152,27 @@ fn first_like(
 /// is entered first, so that the first stays.
 #[tactic(auto, using(crate::proofs::MemberLemmas::own_entered))]
 fn add_names(
-    own: &mut OwnMembers,
+    map: &mut HashMap<OwnKey, NodeId>,
     firsts: &NamedNumbers,
     program: &Program,
     kind: MemberKind,
     class: ClassId,
     members: &[NodeId],
 ) -> Result<(), Memory>
-    ensures named { OnOk result ((key : Key) → get is_same_own own.new.named key ≡ option_or
+    ensures { OnOk result ((key : Key) → get is_same_own map.new key ≡ option_or
         (in_class class key (find (is_like kind program.now.nodes (found_under firsts.now) key.first) members.now))
-        (get is_same_own own.old.named key)) }
-    ensures owners { AreOwners own.old → OnOk result (AreOwners own.new) }
+        (get is_same_own map.old key)) }
 {
     let mut at = members.len();
     while at > 0 {
         at -= 1;
         let id = members[at];
         if let Some(first) = first_like(firsts, program, kind, id) {
-            own.enter(class, first, id)?;
+            let key = OwnKey {
+                class: class.number(),
+                first: first.place(),
+            };
+            map.insert(key, id)?;
         }
     }
     Ok(())
@@ -171,8 +182,7 @@ fn add_names(
 #[tactic(auto, using(crate::proofs::MemberLemmas::places_all))]
 pub fn places_of(alloc: Global, ids: &[NodeId], first: u32) -> Result<HashMap<usize, u32>, Memory>
     requires { first ≤ 100 }
-    ensures { IfOk result
-        (λ map. (id : ℕ) → get ◌==◌ map id ≡ option_map (λ place. first + place)
+    ensures { IfOk result (λ map. (id : ℕ) → get ◌==◌ map id ≡ option_map (λ place. first + place)
         (position (λ other. id == other) ids.now)) }
 {
     if ids.len() > u32::MAX as usize - 100 {
@@ -200,11 +210,7 @@ fn first_number(kind: MemberKind) -> u32
 
 /// The nodes of the members of a kind of all classes.
 #[tactic(auto, using(crate::proofs::MemberLemmas::nodes_more, crate::proofs::MemberLemmas::nodes_all, crate::proofs::MemberLemmas::nodes_end))]
-fn nodes_of(
-    alloc: Global,
-    classes: &WrittenClasses,
-    kind: MemberKind,
-) -> Result<Vec<NodeId>, Memory>
+fn nodes_of(alloc: Global, classes: &Headers<'_>, kind: MemberKind) -> Result<Vec<NodeId>, Memory>
     ensures { IfOk result (λ nodes. nodes.items ≡ member_nodes kind classes.now) }
 {
     let count = classes.count();
@@ -219,52 +225,43 @@ fn nodes_of(
     Ok(nodes)
 }
 
-/// The members that the classes declare themselves.
+/// The first of each name in each class.
 #[tactic(auto, using(crate::proofs::MemberLemmas::names_none, crate::proofs::MemberLemmas::names_more, crate::proofs::MemberLemmas::names_all))]
-fn own_members_of(
+fn named_of(
     alloc: Global,
-    classes: &WrittenClasses,
+    classes: &Headers<'_>,
     kind: MemberKind,
     firsts: &NamedNumbers,
-) -> Result<OwnMembers, Memory>
-    ensures named { IfOk result
-        (λ own. (key : Key) → get is_same_own own.named key ≡ find
+) -> Result<HashMap<OwnKey, NodeId>, Memory>
+    ensures { IfOk result (λ named. (key : Key) → get is_same_own named key ≡ find
         (is_like kind classes.now.nodes (found_under firsts.now) key.first)
         (members_in (declarations_of classes.now) key.class)) }
-    ensures owners { IfOk result (λ own. AreOwners own) }
 {
     let count = classes.count();
     if count > u32::MAX as usize {
         return Err(Memory);
     }
-    let mut own = OwnMembers {
-        named: HashMap::new(alloc),
-        owners: HashMap::new(alloc),
-    };
+    let mut named = HashMap::new(alloc);
     for number in 0..count {
         let class = ClassId::at(number as u32);
         let members = classes.members(class);
-        add_names(&mut own, firsts, classes.program(), kind, class, members)?;
+        add_names(&mut named, firsts, classes.program(), kind, class, members)?;
     }
-    Ok(own)
+    Ok(named)
 }
 
 /// The members of a kind of all classes.
-pub fn members_of(
-    alloc: Global,
-    classes: &WrittenClasses,
-    kind: MemberKind,
-) -> Result<Members, Memory>
+pub fn members_of(alloc: Global, classes: &Headers<'_>, kind: MemberKind) -> Result<Members, Memory>
     ensures { IfOk result (λ members. IsMembersOf kind classes.now members) }
 {
     let nodes = nodes_of(alloc, classes, kind)?;
     let firsts = firsts_of(alloc, classes.program(), kind, &nodes)?;
-    let own = own_members_of(alloc, classes, kind, &firsts)?;
+    let named = named_of(alloc, classes, kind, &firsts)?;
     let numbers = places_of(alloc, &nodes, first_number(kind))?;
     Ok(Members {
         nodes,
         firsts,
-        own,
+        named,
         numbers,
     })
 }

@@ -1,26 +1,29 @@
 //! The table of the classes of a program.
 
-ghost use Rattle.std.specs.Prelude.{[], IfOk};
-ghost use Rattle.scj_tree.specs.Forest.{Forest};
+ghost use Rattle.std.specs.Prelude.{◌≡◌, [], IfOk};
 ghost use Rattle.scj_rules.specs.Contexts.{declarations_of};
+ghost use Rattle.class_rows.specs.declared.members.MemberKind.TheVariants.{Field, Method};
 ghost use Rattle.class_rows.specs.Inherited.{AreInheritedMethods};
-ghost use Rattle.class_rows.specs.Tables.{IsTableOf};
+ghost use Rattle.class_rows.specs.Members.{AreNearest};
 
 use crate::ancestries::Ancestry;
 use crate::counted::{count_of, marks_under_object, ways_of};
 use crate::inherited::InheritedMethods;
 use crate::members::{MemberKind, Members, members_of};
+use crate::nearest::NearestMembers;
 use class_headers::ways::{Way, far_ways};
-use class_headers::{Headers, WrittenClasses, headers_in};
+use class_headers::{Headers, headers_in};
 use scj_base::Memory;
 use scj_tree::Program;
 use std::alloc::Global;
+use std::marker::Model;
 
-/// The classes of a program as they are written and as they count, with look-ups of classes and members by name.
+/// The classes of a program as they are written and as they count, with look-ups of classes and members by name. A
+/// contract sees the program.
 #[derive(Drop)]
-pub struct ClassTable {
-    /// The headers as they are written.
-    pub(crate) headers: Headers,
+pub struct ClassTable<'a> {
+    /// The classes as they are written.
+    pub(crate) headers: Headers<'a>,
     /// How many classes there are, the framework's among them.
     pub(crate) count: u32,
     /// Which classes count as classes under `Object`, since something in their headers is forbidden.
@@ -33,23 +36,37 @@ pub struct ClassTable {
     pub(crate) fields: Members,
     /// The methods and constructors.
     pub(crate) methods: Members,
+    /// The nearest fields and methods above each class, once a tour has told them.
+    pub(crate) fields_above: NearestMembers,
+    pub(crate) methods_above: NearestMembers,
     /// Which methods the classes inherit as those of `Safelet` and `Runnable`, once a tour has told it.
     pub(crate) inherited: Option<InheritedMethods>,
 }
 
-impl ClassTable {
+impl<'a> Model for ClassTable<'a> {
+    ghost use Rattle.scj_tree.specs.Forest.{Forest};
+
+    ghost Value = { Forest };
+
+    ghost use Rattle.class_rows.specs.Tables.{IsTableOf};
+
+    ghost view = { λ a. a.headers };
+
+    ghost invariant = { λ a. IsTableOf a.headers a };
+}
+
+impl<'a> ClassTable<'a> {
     /// The table of the classes of a program, before a tour of them.
-    pub fn of(alloc: Global, program: &Program) -> Result<ClassTable, Memory>
-        ensures { IfOk result (λ table. IsTableOf program.now table) }
+    pub fn of(alloc: Global, program: &'a Program) -> Result<ClassTable<'a>, Memory>
+        ensures { IfOk result (λ table. table ≡ program.now) }
     {
         let headers = headers_in(alloc, program)?;
-        let written = WrittenClasses::new(program, &headers);
-        let marks = marks_under_object(alloc, &written)?;
-        let first = ways_of(alloc, &written, &marks)?;
+        let marks = marks_under_object(alloc, &headers)?;
+        let first = ways_of(alloc, &headers, &marks)?;
         let ways = far_ways(alloc, first)?;
-        let fields = members_of(alloc, &written, MemberKind::Field)?;
-        let methods = members_of(alloc, &written, MemberKind::Method)?;
-        let count = count_of(&written)?;
+        let fields = members_of(alloc, &headers, MemberKind::Field)?;
+        let methods = members_of(alloc, &headers, MemberKind::Method)?;
+        let count = count_of(&headers)?;
         Ok(ClassTable {
             headers,
             count,
@@ -58,15 +75,21 @@ impl ClassTable {
             ancestries: Vec::new(alloc),
             fields,
             methods,
+            fields_above: NearestMembers::new(alloc),
+            methods_above: NearestMembers::new(alloc),
             inherited: None,
         })
     }
 
-    /// Keeps which methods the classes inherit, as a tour tells it.
-    pub fn keep_inherited(&mut self, inherited: InheritedMethods)
-        ensures { (forest : Forest) → IsTableOf forest self.old →
-            AreInheritedMethods (declarations_of forest) [] inherited → IsTableOf forest self.new }
+    /// Keeps what a tour tells: which methods the classes inherit, and the nearest fields and methods above them.
+    pub fn keep(&mut self, told: InheritedMethods, fields: NearestMembers, methods: NearestMembers)
+        requires told { AreInheritedMethods (declarations_of self.old) [] told }
+        requires fields { AreNearest Field self.old fields }
+        requires methods { AreNearest Method self.old methods }
+        ensures { self.new ≡ self.old }
     {
-        self.inherited = Some(inherited);
+        self.inherited = Some(told);
+        self.fields_above = fields;
+        self.methods_above = methods;
     }
 }

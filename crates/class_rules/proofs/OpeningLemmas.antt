@@ -15,12 +15,13 @@ use Rattle.scj_rules.specs.Classes.{first_user_class, is_sub, ClassRow, is_user_
 use Rattle.scj_rules.specs.ClassRules.{is_left_open, own_abstract_methods, abstract_methods}
 use Rattle.scj_rules.specs.Contexts.{Declarations, declarations_of}
 use Rattle.scj_rules.proofs.ChainLemmas.{is_same_number}
+use Rattle.class_rows.specs.Members.{is_abstract}
 use Rattle.class_rows.specs.Walks.{is_known}
 use Rattle.class_rows.proofs.InterfaceLemmas.{unknown_not_implemented}
 use Rattle.class_rows.proofs.OwnLemmas.{list_in}
 use Rattle.class_rows.proofs.RowLemmas.{as_written}
 use Rattle.class_rows.proofs.SoundLemmas.{row_sound, framework_there, first_methods}
-use Rattle.symbol_table.specs.Symbols.{is_abstract, declared_abstract_methods, leaves_declared_open}
+use Rattle.symbol_table.specs.Symbols.{declared_abstract_methods, leaves_declared_open}
 use Rattle.class_rules.specs.Members.{is_row_left}
 
 -- ---- the framework's methods by their numbers

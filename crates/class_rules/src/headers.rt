@@ -7,7 +7,7 @@ ghost use Rattle.scj_rules.specs.Contexts.{declarations_of};
 ghost use Rattle.class_rules.specs.Parts.{written_class};
 
 use crate::parts::ClassParts;
-use class_rows::Classes;
+use class_rows::ClassTable;
 use node_views::named_super;
 use scj_base::{ClassId, Found, Memory, Rule};
 use scj_rules::report_if;
@@ -18,15 +18,14 @@ use std::alloc::Global;
 pub fn note_c10(
     alloc: Global,
     found: &mut Vec<Found>,
-    classes: &Classes<'_>,
+    classes: &ClassTable<'_>,
     c: &ClassParts<'_>,
 ) -> Result<(), Memory>
     requires { class_at classes.now.nodes c.now.node ≡ Some (written_class classes.now.nodes c.now) }
     ensures { OnOk result (found.new.items ≡ found.old.items
         ++ c10 (declarations_of classes.now) (written_class classes.now.nodes c.now)) }
 {
-    let written = classes.written();
-    let forbidden = written.forbidden_supers(alloc, c.node)?;
+    let forbidden = classes.written().forbidden_supers(alloc, c.node)?;
     let mut others = forbidden.as_slice();
     while let [name, rest @ ..] = others {
         found.push(Found {
@@ -43,7 +42,7 @@ pub fn note_c10(
 #[tactic(auto, unfolding(scj_rules::specs::ClassRules::c1, scj_rules::specs::ClassRules::c2, scj_rules::specs::ClassRules::c3))]
 pub fn note_header(
     found: &mut Vec<Found>,
-    classes: &Classes<'_>,
+    classes: &ClassTable<'_>,
     class: ClassId,
     c: &ClassParts<'_>,
 ) -> Result<(), Memory>

@@ -18,11 +18,7 @@ use symbol_table::SymbolTable;
 
 /// Notes a field that a class above has, too.
 #[tactic(auto, unfolding(crate::specs::Members::hiding))]
-fn note_hiding(
-    found: &mut Vec<Found>,
-    table: &SymbolTable<'_>,
-    field: &Written,
-) -> Result<(), Memory>
+fn note_hiding(found: &mut Vec<Found>, table: &SymbolTable, field: &Written) -> Result<(), Memory>
     ensures { OnOk result (found.new.items ≡ found.old.items
         ++ hiding (declarations_of table.now.forest) table.now.class field.now) }
 {
@@ -37,9 +33,8 @@ pub fn note_hidings(
     table: &SymbolTable<'_>,
     members: &[NodeId],
 ) -> Result<(), Memory>
-    ensures { OnOk result (found.new.items ≡ found.old.items
-        ++ flat_map (hiding (declarations_of table.now.forest) table.now.class)
-        (filter_map (member_name C4 table.now.forest.nodes) members.now)) }
+    ensures { OnOk result (found.new.items ≡ found.old.items ++ flat_map (hiding (declarations_of table.now.forest)
+        table.now.class) (filter_map (member_name C4 table.now.forest.nodes) members.now)) }
 {
     let mut others = members;
     while let [id, rest @ ..] = others {
@@ -66,9 +61,8 @@ fn note_method(
     id: NodeId,
     rule: Rule,
 ) -> Result<(), Memory>
-    ensures { OnOk result (found.new.items ≡ found.old.items
-        ++ broken_by rule (declarations_of table.now.forest) table.now.class
-        (unwrap_or (method_at table.now.forest.nodes id) no_method)) }
+    ensures { OnOk result (found.new.items ≡ found.old.items ++ broken_by rule (declarations_of table.now.forest)
+        table.now.class (unwrap_or (method_at table.now.forest.nodes id) no_method)) }
 {
     let program = table.classes().program();
     let m = MethodRef {

@@ -22,10 +22,7 @@ fn leaves_row(table: &SymbolTable<'_>, number: MethodId) -> bool
 {
     match &framework_method(number) {
         Some(row) => {
-            if !row.is_abstract {
-                return false;
-            }
-            if !table.classes().is_sub(table.class(), row.on) {
+            if !row.is_abstract || !table.classes().is_sub(table.class(), row.on) {
                 return false;
             }
             let m = MethodRef {

@@ -6,7 +6,7 @@ ghost use Rattle.scj_rules.specs.Contexts.{declarations_of};
 ghost use Rattle.method_rows.specs.Methods.{found_method};
 
 use crate::types::{class_written, have_same_types, is_same_type};
-use class_rows::Classes;
+use class_rows::ClassTable;
 use method_rows::{MethodRef, builtin, declared, is_overridable, is_static, name, result_type};
 use scj_base::ids::{MISSION, MISSION_SEQUENCER};
 use scj_base::{ClassId, Name};
@@ -33,7 +33,7 @@ fn narrower_kind(table: &SymbolTable<'_>, name: &Name) -> Option<ClassId>
 
 /// Whether a result is of a user class under a kind and under the class of another result.
 fn is_narrower(
-    classes: &Classes<'_>,
+    classes: &ClassTable<'_>,
     kind: ClassId,
     written: &WrittenType,
     above: &WrittenType,
@@ -53,8 +53,7 @@ fn is_narrower(
 #[tactic(auto, unfolding(scj_rules::specs::ClassRules::has_types_of, scj_rules::specs::ClassRules::is_result_of))]
 fn has_types_of(table: &SymbolTable<'_>, m: &MethodRef, above: &MethodRef) -> bool
     ensures { result ≡ has_types_of (declarations_of table.now.forest) table.now.class
-        (found_method table.now.forest.nodes m.now).method
-        (found_method table.now.forest.nodes above.now).method }
+        (found_method table.now.forest.nodes m.now).method (found_method table.now.forest.nodes above.now).method }
 {
     let program = table.classes().program();
     if !have_same_types(program, m, above) {
@@ -74,8 +73,7 @@ fn has_types_of(table: &SymbolTable<'_>, m: &MethodRef, above: &MethodRef) -> bo
 /// Whether a method of a class may not stand in the place of the one above.
 pub fn is_wrong_override(table: &SymbolTable<'_>, m: &MethodRef, above: &MethodRef) -> bool
     ensures { result ≡ is_wrong_override (declarations_of table.now.forest) table.now.class
-        (found_method table.now.forest.nodes m.now).method
-        (found_method table.now.forest.nodes above.now).method }
+        (found_method table.now.forest.nodes m.now).method (found_method table.now.forest.nodes above.now).method }
 {
     let program = table.classes().program();
     if !is_overridable(program, above) {
@@ -90,8 +88,7 @@ pub fn is_wrong_override(table: &SymbolTable<'_>, m: &MethodRef, above: &MethodR
 /// Whether a method leaves an abstract one open, in whose place it stands in a class.
 pub fn stays_open(table: &SymbolTable<'_>, m: &MethodRef, instead: &MethodRef) -> bool
     ensures { result ≡ stays_open (declarations_of table.now.forest) table.now.class
-        (found_method table.now.forest.nodes m.now).method
-        (found_method table.now.forest.nodes instead.now).method }
+        (found_method table.now.forest.nodes m.now).method (found_method table.now.forest.nodes instead.now).method }
 {
     let program = table.classes().program();
     let own = declared(program, instead);

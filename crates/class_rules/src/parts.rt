@@ -6,7 +6,7 @@ ghost use Rattle.scj_rules.specs.Views.{class_at};
 ghost use Rattle.class_rows.specs.Tables.{class_written};
 ghost use Rattle.class_rules.specs.Parts.{written_class};
 
-use class_rows::Classes;
+use class_rows::ClassTable;
 use node_views::{class_extends, interface_nodes, modifiers_at};
 use scj_base::{ClassId, Name, NodeId, Pos};
 use scj_rules::{Modifiers, Written};
@@ -33,11 +33,10 @@ pub struct ClassParts<'a> {
 
 /// A user class, by its number.
 #[tactic(auto, unfolding(scj_rules::specs::Views::class_of))]
-pub fn parts_of<'a>(classes: &Classes<'a>, class: ClassId) -> Option<ClassParts<'a>>
+pub fn parts_of<'a>(classes: &ClassTable<'a>, class: ClassId) -> Option<ClassParts<'a>>
     ensures parts { option_map (written_class classes.now.nodes) result
         ≡ class_written (declarations_of classes.now) class }
-    ensures there { IfSome result
-        (λ c. class_at classes.now.nodes c.node ≡ Some (written_class classes.now.nodes c)) }
+    ensures there { IfSome result (λ c. class_at classes.now.nodes c.node ≡ Some (written_class classes.now.nodes c)) }
 {
     let node = classes.class_node(class)?;
     let program = classes.program();

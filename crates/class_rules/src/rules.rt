@@ -35,11 +35,7 @@ fn note_c4(
 
 /// Notes a concrete class that leaves an abstract method open, and the methods whose body is missing or too much.
 #[tactic(auto, unfolding(scj_rules::specs::ClassRules::c7, scj_rules::specs::Classes::user_row, scj_rules::specs::Contexts::declarations_of))]
-fn note_c7(
-    found: &mut Vec<Found>,
-    table: &SymbolTable<'_>,
-    c: &ClassParts<'_>,
-) -> Result<(), Memory>
+fn note_c7(found: &mut Vec<Found>, table: &SymbolTable, c: &ClassParts) -> Result<(), Memory>
     ensures { OnOk result (found.new.items ≡ found.old.items ++ c7 (declarations_of table.now.forest) table.now.class
         (written_class table.now.forest.nodes c.now) (row_of table.now.forest c.now)) }
 {

@@ -7,13 +7,13 @@ ghost use Rattle.class_rules.specs.Parts.{written_class};
 ghost use Rattle.class_rules.specs.Safelets.{safelet_at};
 
 use crate::parts::{ClassParts, parts_of};
-use class_rows::Classes;
+use class_rows::ClassTable;
 use scj_base::{ClassId, Found, Memory, Pos, Rule};
 use scj_rules::report_if;
 
 /// A class, where it is a safelet of the program.
 #[tactic(auto, unfolding(crate::specs::Safelets::safelet_at))]
-fn safelet_at<'a>(classes: &Classes<'a>, class: ClassId) -> Option<ClassParts<'a>>
+fn safelet_at<'a>(classes: &ClassTable<'a>, class: ClassId) -> Option<ClassParts<'a>>
     requires { class < length (declarations_of classes.now).classes }
     ensures { option_map (written_class classes.now.nodes) result ≡ safelet_at (declarations_of classes.now) class }
 {
@@ -32,7 +32,7 @@ fn safelet_at<'a>(classes: &Classes<'a>, class: ClassId) -> Option<ClassParts<'a
 
 /// Notes each safelet behind the first one, or that there is none.
 #[tactic(auto, using(crate::proofs::SafeletLemmas::all_left, crate::proofs::SafeletLemmas::all_noted, crate::proofs::SafeletLemmas::no_safelet, crate::proofs::SafeletLemmas::one_safelet))]
-pub fn note_c8(found: &mut Vec<Found>, classes: &Classes<'_>) -> Result<(), Memory>
+pub fn note_c8(found: &mut Vec<Found>, classes: &ClassTable<'_>) -> Result<(), Memory>
     ensures { OnOk result (found.new.items ≡ found.old.items ++ c8 (declarations_of classes.now)) }
 {
     let count = classes.class_count();

@@ -7,7 +7,7 @@ ghost use Rattle.scj_rules.specs.declared.views.Declared.{Declared as Declaratio
 ghost use Rattle.method_rows.specs.Methods.{found_method};
 ghost use Rattle.class_rules.specs.Types.{types_among, types_left};
 
-use class_rows::Classes;
+use class_rows::ClassTable;
 use method_rows::{MethodRef, MethodSource, parameter_count, parameter_type};
 use node_views::{method_parameters, parameter_nodes, variable_type};
 use scj_base::{ClassId, NodeId};
@@ -40,7 +40,7 @@ pub fn is_same_type(a: &WrittenType, b: &WrittenType) -> bool
 
 /// The class of a written type, where it is a class type.
 #[tactic(auto, unfolding(scj_rules::specs::ClassRules::class_written))]
-pub fn class_written(classes: &Classes<'_>, written: &WrittenType) -> Option<ClassId>
+pub fn class_written(classes: &ClassTable<'_>, written: &WrittenType) -> Option<ClassId>
     ensures { result ≡ class_written (declarations_of classes.now).names written.now }
 {
     match written {

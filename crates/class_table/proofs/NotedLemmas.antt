@@ -1,10 +1,10 @@
 -- What is found at classes, in whatever order.
-use Rattle.std.proofs.Common.{Option, get_or, take, drop, ◌≡◌, ◌⊎◌, inl, inr, ⊎_elim, ◌+◌, ◌<◌, ◌≤◌, ℕ, ◌==◌, ◌&&◌, ◌-◌, not, nat_lt, Bool, true, false, List, [], ◌∷◌, ◌++◌, length, set, flat_map, ap, refl, sym, ◌∙◌, subst, arith}
+use Rattle.std.proofs.Common.{Option, ◌≡◌, ◌⊎◌, inl, inr, ⊎_elim, ◌+◌, ◌<◌, ◌≤◌, ℕ, ◌==◌, ◌&&◌, not, nat_lt, Bool, true, false, List, [], ◌∷◌, ◌++◌, length, set, flat_map, refl, sym, ◌∙◌, subst, arith}
 use Rattle.std.specs.List.{list_any, Contains}
 use Rattle.std.proofs.lemmas.Bool.{cases_eq, cases_lt, or_cases, or_left, or_right}
 use Rattle.std.proofs.lemmas.Bool.Decides.{nat_tests}
 use Rattle.std.proofs.lemmas.Grind.{common_steps}
-use Rattle.std.proofs.lemmas.List.{get_or-set_other, take_rest}
+use Rattle.std.proofs.lemmas.List.{get_or-set_other}
 use Rattle.std.proofs.lemmas.List.Folds.{Any-from_list_any}
 use Rattle.std.proofs.lemmas.List.Elements.{Contains-append_left, Contains-append_right, Contains-append_cases}
 use Rattle.std.proofs.lemmas.Option.{slice_get_past}
@@ -36,10 +36,6 @@ marked_before marks at class h =
     (λ (apart : class ≡ at → ⊥). inr (sym (get_or-set_other marks at class true false apart) ∙ h)) (cases_eq class at)
 
 -- ---- the classes one after the other
-
-pub first_left : (k : ℕ) (xs : List ℕ) → 1 ≤ length xs → k ≡ get_or xs 0 k → xs ≡ k ∷ take (length xs - 1) (drop 1 xs)
-first_left k [] some here = absurd (omega (arith, some))
-first_left k (x ∷ xs) some here = rw (take_rest (x ∷ xs) 1) (ap (λ c. c ∷ xs) (sym here))
 
 module _ (f : ℕ → List Found) (x : Found) where
   found_from : (ks : List ℕ) → Contains (flat_map f ks) x → (k : ℕ) × (is_among k ks ≡ true) × Contains (f k) x

@@ -5,10 +5,9 @@ ghost use Rattle.node_contexts.specs.Numbers.{numbers_before};
 ghost use Rattle.scj_rules.specs.Contexts.{contexts_in, declarations_of};
 ghost use Rattle.scj_rules.specs.Phases.{BreaksClassRules};
 ghost use Rattle.scj_rules.specs.Report.{IsReport};
-ghost use Rattle.class_rows.specs.Tables.{IsTableOf};
 
 use crate::classes::{in_order, note_classes};
-use class_rows::{ClassTable, Classes};
+use class_rows::ClassTable;
 use class_rules::safelets::note_c8;
 use node_contexts::Contexts;
 use node_rules::nodes::note_nodes;
@@ -20,27 +19,25 @@ use std::alloc::Global;
 /// The table of the classes of a program, and the breaks of the rules on classes and members and of the limits, in the
 /// order of a report; by the contexts of its nodes and the numbers of its variables, which later phases ask too.
 #[tactic(auto, using(crate::proofs::ClassLemmas::is_report))]
-pub fn build(
+pub fn build<'a>(
     alloc: Global,
-    program: &Program,
+    program: &'a Program,
     contexts: &Contexts,
     numbers: &[u32],
-) -> Result<(ClassTable, Vec<Found>), Memory>
+) -> Result<(ClassTable<'a>, Vec<Found>), Memory>
     requires contexts { contexts.now ≡ contexts_in program.now }
     requires numbers { numbers.now ≡ numbers_before (declarations_of program.now) }
-    ensures table { IfOk result (λ built. IsTableOf program.now built.0) }
+    ensures table { IfOk result (λ built. built.0 ≡ program.now) }
     ensures report { IfOk result (λ built. IsReport (BreaksClassRules program.now) built.1.items) }
 {
     let mut table = ClassTable::of(alloc, program)?;
-    let order = in_order(alloc, &Classes::new(program, &table))?;
-    table.tell_ancestries(alloc, program, &order)?;
-    let classes = Classes::new(program, &table);
+    let order = in_order(alloc, &table)?;
+    table.tell_ancestries(alloc, &order)?;
     let mut found = Vec::new(alloc);
-    note_c8(&mut found, &classes)?;
-    let told = note_classes(alloc, &mut found, &classes, &order)?;
-    table.keep_inherited(told);
-    let classes = Classes::new(program, &table);
-    note_nodes(&mut found, &classes, contexts, numbers)?;
+    note_c8(&mut found, &table)?;
+    let (inherited, fields, methods) = note_classes(alloc, &mut found, &table, &order)?;
+    table.keep(inherited, fields, methods);
+    note_nodes(&mut found, &table, contexts, numbers)?;
     put_in_order(&mut found);
     Ok((table, found))
 }

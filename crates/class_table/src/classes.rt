@@ -5,7 +5,9 @@ ghost use Rattle.scj_tree.specs.Recursion.{lookup};
 ghost use Rattle.scj_rules.specs.Words.{is_among};
 ghost use Rattle.scj_rules.specs.Contexts.{declarations_of};
 ghost use Rattle.scj_rules.specs.Phases.{over_classes};
+ghost use Rattle.class_rows.specs.declared.members.MemberKind.TheVariants.{Field, Method};
 ghost use Rattle.class_rows.specs.Inherited.{AreInheritedMethods};
+ghost use Rattle.class_rows.specs.Members.{AreNearest};
 ghost use Rattle.class_rules.specs.Parts.{class_found};
 ghost use Rattle.node_rules.specs.Findings.{FindSame};
 ghost use Rattle.symbol_table.specs.Symbols.{AreClasses};
@@ -13,7 +15,7 @@ ghost use Rattle.class_table.specs.Noted.{broken_at_class, HasEach};
 
 use crate::inherited::{no_methods_inherited, note_inherited_methods};
 use class_headers::ways::is_marked;
-use class_rows::{Classes, InheritedMethods};
+use class_rows::{ClassTable, InheritedMethods, NearestMembers};
 use class_rules::parts::parts_of;
 use class_rules::rules::note_rules;
 use scj_base::{ClassId, Found, Memory};
@@ -51,7 +53,7 @@ fn marks_of(alloc: Global, classes: &[ClassId], count: u32) -> Result<Vec<bool>,
 }
 
 /// All classes, in an order in which a table goes quickly from one to the next.
-pub fn in_order(alloc: Global, classes: &Classes<'_>) -> Result<Vec<ClassId>, Memory>
+pub fn in_order(alloc: Global, classes: &ClassTable<'_>) -> Result<Vec<ClassId>, Memory>
     ensures each { IfOk result (λ order. HasEach classes.now order.items) }
     ensures classes { IfOk result (λ order. AreClasses classes.now order.items) }
 {
@@ -80,6 +82,7 @@ fn note_each(
         ++ flat_map (broken_at_class table.old.forest) classes.now) }
     ensures told { OnOk result (AreInheritedMethods (declarations_of table.old.forest) classes.now told.old →
         AreInheritedMethods (declarations_of table.old.forest) [] told.new) }
+    ensures forest { OnOk result (table.new.forest ≡ table.old.forest) }
 {
     let mut others = classes;
     while let [class, rest @ ..] = others {
@@ -91,22 +94,24 @@ fn note_each(
     Ok(())
 }
 
-/// Notes what is broken at each class, and gives which methods they inherit.
+/// Notes what is broken at each class, and gives which methods they inherit, and what stands above them.
 #[tactic(auto, using(crate::proofs::NotedLemmas::each_noted))]
 pub fn note_classes(
     alloc: Global,
     found: &mut Vec<Found>,
-    classes: &Classes<'_>,
+    classes: &ClassTable<'_>,
     order: &[ClassId],
-) -> Result<InheritedMethods, Memory>
+) -> Result<(InheritedMethods, NearestMembers, NearestMembers), Memory>
     requires each { HasEach classes.now order.now }
     requires classes { AreClasses classes.now order.now }
     ensures found { OnOk result (FindSame found.new.items (found.old.items
         ++ over_classes (declarations_of classes.now) (class_found (declarations_of classes.now)))) }
-    ensures told { IfOk result (λ told. AreInheritedMethods (declarations_of classes.now) [] told) }
+    ensures told { IfOk result (λ told. AreInheritedMethods (declarations_of classes.now) [] told.0) }
+    ensures nearest { IfOk result (λ told. AreNearest Field classes.now told.1 × AreNearest Method classes.now told.2) }
 {
     let mut told = no_methods_inherited(alloc);
     let mut table = SymbolTable::new(alloc, classes)?;
     note_each(alloc, found, &mut told, &mut table, order)?;
-    Ok(told)
+    let (fields, methods) = table.into_nearest();
+    Ok((told, fields, methods))
 }

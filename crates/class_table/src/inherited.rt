@@ -50,15 +50,10 @@ fn note_inherited(inherited: &mut Inherited, table: &SymbolTable<'_>) -> Result<
 {
     let classes = table.classes();
     let class = table.class();
-    if classes.implements(class, inherited.interface) {
+    let interface = inherited.interface;
+    if classes.implements(class, interface) {
         let method = table.method_named(&inherited.name);
-        if let Some(node) = inherited_node(
-            classes,
-            inherited.interface,
-            &inherited.name,
-            class,
-            &method,
-        ) {
+        if let Some(node) = inherited_node(classes, interface, &inherited.name, class, &method) {
             inherited.nodes.insert(node.place())?;
         }
     }
@@ -70,9 +65,8 @@ pub fn note_inherited_methods(
     told: &mut InheritedMethods,
     table: &SymbolTable<'_>,
 ) -> Result<(), Memory>
-    ensures { OnOk result ((others : List ℕ) →
-        AreInheritedMethods (declarations_of table.now.forest) (table.now.class ∷ others) told.old →
-        AreInheritedMethods (declarations_of table.now.forest) others told.new) }
+    ensures { OnOk result ((others : List ℕ) → AreInheritedMethods (declarations_of table.now.forest)
+        (table.now.class ∷ others) told.old → AreInheritedMethods (declarations_of table.now.forest) others told.new) }
 {
     note_inherited(&mut told.get_sequencer, table)?;
     note_inherited(&mut told.immortal_memory_size, table)?;

@@ -6,4 +6,4 @@ pub mod classes;
 pub mod inherited;
 
 pub use checks::build;
-pub use class_rows::{ClassTable, Classes};
+pub use class_rows::ClassTable;

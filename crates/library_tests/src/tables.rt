@@ -2,7 +2,7 @@
 
 ghost use Rattle.std.specs.Prelude.{◌≤◌, length};
 
-use class_rows::{ClassTable, Classes};
+use class_rows::ClassTable;
 use node_contexts::Contexts;
 use node_contexts::numbers::number_variables;
 use program_facts::Facts;
@@ -36,8 +36,7 @@ const TWO: &str =
 fn members_are_found(rt: HostRuntime) -> Result<(), Fail> {
     let alloc = rt.alloc();
     let program = program_of(&rt, TWO)?;
-    let table = ClassTable::of(alloc, &program)?;
-    let classes = Classes::new(&program, &table);
+    let classes = ClassTable::of(alloc, &program)?;
     let b = ClassId::at(16);
     let a = ClassId::at(17);
     assert_eq!(rt; classes.count(), 18);
@@ -63,8 +62,7 @@ fn members_are_found(rt: HostRuntime) -> Result<(), Fail> {
 fn methods_are_found(rt: HostRuntime) -> Result<(), Fail> {
     let alloc = rt.alloc();
     let program = program_of(&rt, TWO)?;
-    let table = ClassTable::of(alloc, &program)?;
-    let classes = Classes::new(&program, &table);
+    let classes = ClassTable::of(alloc, &program)?;
     let run = Name::new(b"run");
     if let Some(own) = classes.method_named(ClassId::at(17), &run) {
         assert_eq!(rt; own.on, ClassId::at(16));
@@ -112,11 +110,10 @@ const THREE: &str = "@DefineScope(name=\"X\", parent=\"X\") abstract class A { }
 fn classes_that_may_define_no_scope_are_found(rt: HostRuntime) -> Result<(), Fail> {
     let alloc = rt.alloc();
     let program = program_of(&rt, THREE)?;
-    let table = ClassTable::of(alloc, &program)?;
+    let classes = ClassTable::of(alloc, &program)?;
     let contexts = Contexts::of(alloc, &program)?;
-    let classes = Classes::new(&program, &table);
     let names = scope_tree::names_of(alloc, &classes)?;
-    let facts = Facts::new(classes, &contexts, &names);
+    let facts = Facts::new(&classes, &contexts, &names);
     let (tree, found) = scope_tree::build(alloc, &facts)?;
     let expected = [
         (1, 19, Rule::S4),

@@ -62,12 +62,7 @@ fn target(
 
 /// A call of a method.
 #[tactic(auto, unfolding(scj_rules::specs::Bindings::method_binding, scj_rules::specs::Contexts::declarations_of))]
-fn method_binding(
-    at: &At<'_>,
-    receiver: &Receiver,
-    method: &MethodRef,
-    arguments: &[NodeId],
-) -> Binding
+fn method_binding(at: &At, receiver: &Receiver, method: &MethodRef, arguments: &[NodeId]) -> Binding
     ensures { result ≡ method_binding (declared at.now) (types at.now) receiver.now arguments.now
         (found_method at.now.facts.now.nodes method.now) }
 {
@@ -87,15 +82,9 @@ fn method_binding(
 }
 
 /// A call.
-pub fn call_binding(
-    at: &At<'_>,
-    name: &Name,
-    object: &Option<NodeId>,
-    arguments: &[NodeId],
-) -> Binding
-    ensures { let p = declared at.now in
-        result ≡ plain_or (λ r. plain_or (method_binding p (types at.now) r arguments.now) (called_method p r name.now))
-        (call_receiver p (types at.now) at.now.id object.now) }
+pub fn call_binding(at: &At, name: &Name, object: &Option<NodeId>, arguments: &[NodeId]) -> Binding
+    ensures { let p = declared at.now in result ≡ plain_or (λ r. plain_or (method_binding p (types at.now)
+        r arguments.now) (called_method p r name.now)) (call_receiver p (types at.now) at.now.id object.now) }
 {
     let Some(receiver) = call_receiver(at, object) else {
         return Binding::Plain;

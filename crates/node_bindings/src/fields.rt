@@ -10,7 +10,7 @@ ghost use Rattle.class_rows.specs.Fields.{found_field};
 ghost use Rattle.program_facts.specs.Told.{declared, types};
 
 use class_rows::fields::is_static_field;
-use class_rows::{Classes, FieldRef};
+use class_rows::{ClassTable, FieldRef};
 use program_facts::{At, Facts};
 use scj_base::{ClassId, Memory, Name, NodeId};
 use scj_rules::{Binding, Receiver, Ty};
@@ -29,7 +29,7 @@ pub fn class_binding(class: Option<ClassId>) -> Binding
 
 /// A field, by its number.
 #[tactic(auto, using(class_rows::proofs::FieldLemmas::node_of_found), unfolding(scj_rules::specs::Bindings::field_binding))]
-pub fn field_binding(classes: &Classes<'_>, field: &FieldRef) -> Binding
+pub fn field_binding(classes: &ClassTable<'_>, field: &FieldRef) -> Binding
     ensures { result ≡ field_binding (declarations_of classes.now) (found_field classes.now.nodes field.now).field }
 {
     match classes.field_number(field.node) {
@@ -47,8 +47,7 @@ pub fn field_binding(classes: &Classes<'_>, field: &FieldRef) -> Binding
 /// The field of a name in the class where a node stands.
 #[tactic(auto, unfolding(scj_rules::specs::Types::class_of_receiver))]
 pub fn field_here(facts: &Facts<'_>, id: NodeId, name: &Name) -> Binding
-    ensures { let p = declarations_of facts.now in
-        result ≡ plain_or (λ (row : FoundField). field_binding p row.field)
+    ensures { let p = declarations_of facts.now in result ≡ plain_or (λ (row : FoundField). field_binding p row.field)
         (option_and_then (λ class. accessed_field p (the_class class) name.now) (context p id).class) }
 {
     let Some(class) = facts.context(id).class else {
@@ -90,7 +89,7 @@ fn sum(a: usize, b: u32) -> Result<u32, Memory>
 
 /// The class of an array, behind the others.
 #[tactic(auto, unfolding(scj_rules::specs::Bindings::array_class))]
-pub fn array_class(classes: &Classes<'_>, t: &Ty) -> Result<Option<ClassId>, Memory>
+pub fn array_class(classes: &ClassTable<'_>, t: &Ty) -> Result<Option<ClassId>, Memory>
     ensures { IfOk result (λ class. class ≡ array_class (declarations_of classes.now) t.now) }
 {
     let first = classes.name_count();

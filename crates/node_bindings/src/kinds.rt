@@ -47,12 +47,7 @@ fn meaning_binding(
 }
 
 /// What a simple name stands for.
-fn name_binding(
-    facts: &Facts<'_>,
-    numbers: &[u32],
-    id: NodeId,
-    name: &Name,
-) -> Result<Binding, Memory>
+fn name_binding(facts: &Facts, numbers: &[u32], id: NodeId, name: &Name) -> Result<Binding, Memory>
     requires numbers { numbers.now ≡ numbers_before (declarations_of facts.now) }
     requires there { read facts.now.nodes simply_named id ≡ Some name.now }
     ensures { IfOk result (λ b. b ≡ meaning_binding (declarations_of facts.now) id
@@ -74,9 +69,8 @@ fn superclass_binding(facts: &Facts<'_>, class: Option<ClassId>) -> Binding
 
 /// A new array.
 fn new_array(facts: &Facts<'_>, element: NodeId) -> Result<Binding, Memory>
-    ensures { let p = declarations_of facts.now in
-        IfOk result (λ b. b ≡ class_binding
-        (option_and_then (array_class p) (option_and_then array_of (written_type p element)))) }
+    ensures { let p = declarations_of facts.now in IfOk result (λ b. b
+        ≡ class_binding (option_and_then (array_class p) (option_and_then array_of (written_type p element)))) }
 {
     let Some(t) = array_written(facts, element) else {
         return Ok(Binding::Plain);

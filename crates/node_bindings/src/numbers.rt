@@ -17,13 +17,7 @@ use scj_tree::told;
 fn is_variable_of(facts: &Facts<'_>, member: NodeId, id: NodeId) -> bool
     ensures { result ≡ is_variable_of (declarations_of facts.now) member id }
 {
-    if !is_variable(facts.program(), id) {
-        return false;
-    }
-    match facts.context(id).member {
-        Some(other) => other == member,
-        None => false,
-    }
+    is_variable(facts.program(), id) && facts.context(id).member == Some(member)
 }
 
 /// The place of a variable among those of a member.

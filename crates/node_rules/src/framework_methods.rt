@@ -6,11 +6,11 @@ ghost use Rattle.scj_rules.specs.Classes.{framework_row_named};
 ghost use Rattle.scj_rules.specs.ClassRules.{is_framework_method};
 ghost use Rattle.scj_rules.specs.Contexts.{declarations_of};
 
-use class_rows::Classes;
+use class_rows::ClassTable;
 use scj_base::{ClassId, Name, NodeId};
 
 /// Whether the framework has a method of this name for a class.
-fn has_framework_row(classes: &Classes<'_>, class: Option<ClassId>, name: &Name) -> bool
+fn has_framework_row(classes: &ClassTable<'_>, class: Option<ClassId>, name: &Name) -> bool
     ensures { result ≡ holds class
         (λ number. is_some (framework_row_named (declarations_of classes.now).classes number name.now)) }
 {
@@ -23,7 +23,7 @@ fn has_framework_row(classes: &Classes<'_>, class: Option<ClassId>, name: &Name)
 /// Whether a method overrides one of the framework.
 #[tactic(auto, using(crate::proofs::InheritingLemmas::either_inherited), unfolding(scj_rules::specs::ClassRules::is_framework_method))]
 pub fn is_framework_method(
-    classes: &Classes<'_>,
+    classes: &ClassTable<'_>,
     class: Option<ClassId>,
     node: NodeId,
     name: &Name,

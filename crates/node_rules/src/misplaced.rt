@@ -9,7 +9,7 @@ ghost use Rattle.scj_rules.specs.ClassRules.{has_method_words, is_misplaced_on_c
 ghost use Rattle.scj_rules.specs.Contexts.{contexts_in, declarations_of};
 
 use crate::framework_methods::is_framework_method;
-use class_rows::Classes;
+use class_rows::ClassTable;
 use node_contexts::Contexts;
 use node_views::modifiers_at;
 use scj_base::{ClassId, Name, NodeId};
@@ -46,7 +46,7 @@ pub fn is_misplaced_on_variable(m: &Modifiers) -> bool
 /// Whether a word stands before a method that it can't have.
 #[tactic(auto, unfolding(scj_rules::specs::Contexts::declarations_of))]
 pub fn is_misplaced_on_method(
-    classes: &Classes<'_>,
+    classes: &ClassTable<'_>,
     contexts: &Contexts,
     id: NodeId,
     name: &Name,
@@ -74,20 +74,17 @@ pub fn is_misplaced_on_method(
 
 /// Whether a class has this name.
 #[tactic(auto, using(class_rows::proofs::NameLemmas::name_is, crate::proofs::NameLemmas::name_held))]
-fn has_name(classes: &Classes<'_>, class: ClassId, name: &Name) -> bool
+fn has_name(classes: &ClassTable<'_>, class: ClassId, name: &Name) -> bool
     ensures { result ≡ holds (slice_get (declarations_of classes.now).classes class)
         (λ (row : ClassRow). is_same row.name name.now) }
 {
-    match &classes.name(class) {
-        Some(own) => own == name,
-        None => false,
-    }
+    classes.name(class).is_some_and(|own| own == *name)
 }
 
 /// Whether a word stands before a constructor that it can't have, or its name is another than the class's.
 #[tactic(auto, unfolding(scj_rules::specs::Contexts::declarations_of))]
 pub fn is_misplaced_on_constructor(
-    classes: &Classes<'_>,
+    classes: &ClassTable<'_>,
     contexts: &Contexts,
     id: NodeId,
     name: &Name,

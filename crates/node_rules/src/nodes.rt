@@ -12,7 +12,7 @@ use crate::misplaced::{
     is_misplaced_on_method, is_misplaced_on_variable,
 };
 use crate::types::{names_no_class, names_no_mission, note_element, note_type};
-use class_rows::Classes;
+use class_rows::ClassTable;
 use node_contexts::Contexts;
 use node_views::modifiers_at;
 use scj_base::{Found, Memory, NodeId, Rule};
@@ -46,7 +46,7 @@ fn is_asked_kind(kind: &Option<NodeKind>) -> bool
 #[tactic(auto, unfolding(crate::specs::Nodes::found_there, crate::specs::Nodes::parameter_limit, scj_rules::specs::ClassRules::node_breaks, scj_rules::specs::ClassRules::c9, scj_rules::specs::ClassRules::c11, scj_rules::specs::Contexts::declarations_of))]
 fn note_asked(
     found: &mut Vec<Found>,
-    classes: &Classes<'_>,
+    classes: &ClassTable<'_>,
     contexts: &Contexts,
     id: NodeId,
 ) -> Result<(), Memory>
@@ -144,7 +144,7 @@ fn note_asked(
 /// Notes what is broken at a node.
 fn note_node(
     found: &mut Vec<Found>,
-    classes: &Classes<'_>,
+    classes: &ClassTable<'_>,
     contexts: &Contexts,
     numbers: &[u32],
     id: NodeId,
@@ -163,7 +163,7 @@ fn note_node(
 #[tactic(auto, using(crate::proofs::NodeLemmas::unasked, scj_tree::proofs::RecursionLemmas::joined_next, crate::proofs::NodeLemmas::all_noted), unfolding(scj_tree::specs::Recursion::joined_below, scj_rules::specs::Contexts::declarations_of))]
 pub fn note_nodes(
     found: &mut Vec<Found>,
-    classes: &Classes<'_>,
+    classes: &ClassTable<'_>,
     contexts: &Contexts,
     numbers: &[u32],
 ) -> Result<(), Memory>

@@ -6,7 +6,7 @@ ghost use Rattle.scj_rules.specs.Classes.{is_extended, is_implemented};
 ghost use Rattle.scj_rules.specs.ClassRules.{names_no_class, names_no_type, names_no_mission, at_node, c9_type, c9_element};
 ghost use Rattle.scj_rules.specs.Contexts.{declarations_of};
 
-use class_rows::Classes;
+use class_rows::ClassTable;
 use scj_base::ids::MISSION;
 use scj_base::{Found, Memory, Name, NodeId, Rule};
 use scj_builtins::ClassKind;
@@ -26,7 +26,7 @@ fn is_type_kind(kind: &Option<ClassKind>) -> bool
 
 /// Whether the name is that of no class that a type may name.
 #[tactic(auto, using(crate::proofs::NameLemmas::type_kind))]
-fn names_no_type(classes: &Classes<'_>, name: &Name) -> bool
+fn names_no_type(classes: &ClassTable, name: &Name) -> bool
     ensures { result ≡ names_no_type (declarations_of classes.now) name.now }
 {
     match classes.class_of(name) {
@@ -36,14 +36,14 @@ fn names_no_type(classes: &Classes<'_>, name: &Name) -> bool
 }
 
 /// Whether the name is that of no class.
-pub fn names_no_class(classes: &Classes<'_>, name: &Name) -> bool
+pub fn names_no_class(classes: &ClassTable, name: &Name) -> bool
     ensures { result ≡ names_no_class (declarations_of classes.now) name.now }
 {
     classes.class_of(name).is_none()
 }
 
 /// Whether the name is that of no mission class.
-pub fn names_no_mission(classes: &Classes<'_>, name: &Name) -> bool
+pub fn names_no_mission(classes: &ClassTable, name: &Name) -> bool
     ensures { result ≡ names_no_mission (declarations_of classes.now) name.now }
 {
     match classes.class_of(name) {
@@ -54,7 +54,7 @@ pub fn names_no_mission(classes: &Classes<'_>, name: &Name) -> bool
 
 /// Notes a type of a class that no type may name.
 #[tactic(auto, unfolding(scj_rules::specs::ClassRules::c9_type, scj_rules::specs::Contexts::declarations_of))]
-pub fn note_type(found: &mut Vec<Found>, classes: &Classes<'_>, id: NodeId) -> Result<(), Memory>
+pub fn note_type(found: &mut Vec<Found>, classes: &ClassTable, id: NodeId) -> Result<(), Memory>
     ensures { OnOk result (found.new.items ≡ found.old.items
         ++ at_node (declarations_of classes.now) (c9_type (declarations_of classes.now)) id) }
 {
@@ -68,7 +68,7 @@ pub fn note_type(found: &mut Vec<Found>, classes: &Classes<'_>, id: NodeId) -> R
 
 /// Notes an element type that names no class.
 #[tactic(auto, unfolding(scj_rules::specs::ClassRules::c9_element, scj_rules::specs::Contexts::declarations_of))]
-pub fn note_element(found: &mut Vec<Found>, classes: &Classes<'_>, id: NodeId) -> Result<(), Memory>
+pub fn note_element(found: &mut Vec<Found>, classes: &ClassTable, id: NodeId) -> Result<(), Memory>
     ensures { OnOk result (found.new.items ≡ found.old.items
         ++ at_node (declarations_of classes.now) (c9_element (declarations_of classes.now)) id) }
 {

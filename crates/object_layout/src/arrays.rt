@@ -5,7 +5,7 @@ ghost use Rattle.scj_rules.specs.Contexts.{declarations_of};
 ghost use Rattle.scj_rules.specs.Layout.{element_kind, class_of_elements};
 ghost use Rattle.object_layout.specs.Arrays.{kind_behind, class_behind};
 
-use class_rows::Classes;
+use class_rows::ClassTable;
 use scj_base::ClassId;
 use scj_rules::SlotKind;
 
@@ -42,7 +42,7 @@ fn class_behind(place: u32, count: usize) -> Option<ClassId>
 
 /// What the elements of an array of this class hold.
 #[tactic(auto, using(crate::proofs::ArrayLemmas::no_array, crate::proofs::ArrayLemmas::kind_of_array))]
-pub fn element_kind(classes: &Classes, class: ClassId) -> Option<SlotKind>
+pub fn element_kind(classes: &ClassTable, class: ClassId) -> Option<SlotKind>
     ensures { result ≡ element_kind (declarations_of classes.now) class }
 {
     let count = classes.name_count();
@@ -55,7 +55,7 @@ pub fn element_kind(classes: &Classes, class: ClassId) -> Option<SlotKind>
 
 /// The class of the elements of an array of class type.
 #[tactic(auto, using(crate::proofs::ArrayLemmas::no_elements, crate::proofs::ArrayLemmas::class_of_array))]
-pub fn class_of_elements(classes: &Classes, class: ClassId) -> Option<ClassId>
+pub fn class_of_elements(classes: &ClassTable, class: ClassId) -> Option<ClassId>
     ensures { result ≡ class_of_elements (declarations_of classes.now) class }
 {
     let count = classes.name_count();

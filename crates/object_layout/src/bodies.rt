@@ -5,7 +5,7 @@ ghost use Rattle.scj_rules.specs.Contexts.{declarations_of};
 ghost use Rattle.scj_rules.specs.Bodies.{body_of_method, body_named, body_of, method_node, method_name};
 ghost use Rattle.method_rows.specs.Methods.{found_method};
 
-use class_rows::Classes;
+use class_rows::ClassTable;
 use method_rows::MethodRef;
 use node_views::callable_name;
 use scj_base::ids::MISSION_CLEAN_UP;
@@ -32,7 +32,7 @@ fn body_of_method(program: &Program, method: &MethodRef) -> Option<Body>
 
 /// The body that a call of this name runs on an object of a class.
 #[tactic(auto, unfolding(scj_rules::specs::Bodies::body_named))]
-pub fn body_named(classes: &Classes, class: ClassId, name: &Name) -> Option<Body>
+pub fn body_named(classes: &ClassTable, class: ClassId, name: &Name) -> Option<Body>
     ensures { result ≡ body_named (declarations_of classes.now) class name.now }
 {
     match classes.method_named(class, name) {
@@ -50,7 +50,7 @@ fn node_at(nodes: &[NodeId], place: u32) -> Option<NodeId>
 
 /// The node of a declared method or constructor.
 #[tactic(auto, using(crate::proofs::BodyLemmas::no_framework_node, crate::proofs::BodyLemmas::declared_node))]
-fn method_node(classes: &Classes, method: MethodId) -> Option<NodeId>
+fn method_node(classes: &ClassTable, method: MethodId) -> Option<NodeId>
     ensures { result ≡ method_node (declarations_of classes.now) method }
 {
     let number = method.number();
@@ -62,7 +62,7 @@ fn method_node(classes: &Classes, method: MethodId) -> Option<NodeId>
 
 /// The name of a method or constructor.
 #[tactic(auto, using(crate::proofs::BodyLemmas::nodes_are), unfolding(scj_rules::specs::Bodies::method_name))]
-fn method_name(classes: &Classes, method: MethodId) -> Option<Name>
+fn method_name(classes: &ClassTable, method: MethodId) -> Option<Name>
     ensures { result ≡ method_name (declarations_of classes.now) method }
 {
     match method_node(classes, method) {
@@ -73,7 +73,7 @@ fn method_name(classes: &Classes, method: MethodId) -> Option<Name>
 
 /// The body that a call of a method runs on an object of a class.
 #[tactic(auto, unfolding(scj_rules::specs::Bodies::body_of, scj_rules::specs::Bodies::invoked_method, scj_rules::specs::Bodies::body_named))]
-pub fn body_of(classes: &Classes, class: ClassId, method: MethodId) -> Option<Body>
+pub fn body_of(classes: &ClassTable, class: ClassId, method: MethodId) -> Option<Body>
     ensures { result ≡ body_of (declarations_of classes.now) class method }
 {
     let name = method_name(classes, method)?;

@@ -5,7 +5,7 @@ ghost use Rattle.scj_rules.specs.Contexts.{contexts_in};
 ghost use Rattle.object_layout.specs.BodyTables.{IsBodyTableOf};
 
 use crate::class_numbers::classes_of_bodies;
-use class_rows::Classes;
+use class_rows::ClassTable;
 use node_contexts::Contexts;
 use node_contexts::numbers::count_variables;
 use scj_base::{ClassId, Memory};
@@ -23,7 +23,7 @@ pub struct BodyTable {
 /// The table of the bodies of a program.
 pub fn body_table(
     alloc: Global,
-    classes: &Classes,
+    classes: &ClassTable,
     contexts: &Contexts,
 ) -> Result<BodyTable, Memory>
     requires { contexts.now ≡ contexts_in classes.now }

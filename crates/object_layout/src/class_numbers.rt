@@ -6,7 +6,7 @@ ghost use Rattle.scj_rules.specs.Contexts.{declarations_of, contexts_in};
 ghost use Rattle.scj_rules.specs.Bodies.{class_of_body};
 
 use crate::classes::node_count;
-use class_rows::Classes;
+use class_rows::ClassTable;
 use node_contexts::Contexts;
 use node_contexts::class_numbers::class_numbers;
 use scj_base::{ClassId, Memory, NodeId};
@@ -25,7 +25,7 @@ fn learn(table: &mut Vec<Option<ClassId>>, place: usize, class: &Option<ClassId>
 /// The class in which the body at each node stands.
 pub fn classes_of_bodies(
     alloc: Global,
-    classes: &Classes,
+    classes: &ClassTable,
     contexts: &Contexts,
 ) -> Result<Vec<Option<ClassId>>, Memory>
     requires { contexts.now ≡ contexts_in classes.now }

@@ -7,13 +7,13 @@ ghost use Rattle.scj_rules.specs.Contexts.{declarations_of};
 ghost use Rattle.scj_rules.specs.ScopeRules.{user_class_in};
 ghost use Rattle.scj_rules.specs.Bodies.{class_node, class_place, constructor_body};
 
-use class_rows::Classes;
+use class_rows::ClassTable;
 use scj_base::ids::OBJECT;
 use scj_base::{ClassId, NodeId, Pos};
 use scj_rules::Body;
 
 /// The number of the nodes of the program.
-pub fn node_count(classes: &Classes) -> usize
+pub fn node_count(classes: &ClassTable) -> usize
     ensures value { result ≡ length classes.now.nodes }
     ensures whole { IsForest classes.now }
 {
@@ -22,7 +22,7 @@ pub fn node_count(classes: &Classes) -> usize
 
 /// The node of a user class.
 #[tactic(auto, using(scope_tree::proofs::UserLemmas::written_stays))]
-pub fn class_node(classes: &Classes, class: ClassId) -> Option<NodeId>
+pub fn class_node(classes: &ClassTable, class: ClassId) -> Option<NodeId>
     ensures node { result ≡ class_node (declarations_of classes.now) class }
     ensures class { option_and_then (class_at classes.now.nodes) result ≡ user_class_in
         (declarations_of classes.now).classes class }
@@ -32,7 +32,7 @@ pub fn class_node(classes: &Classes, class: ClassId) -> Option<NodeId>
 
 /// Where a user class is named, and the first place of all for one of the framework.
 #[tactic(auto, unfolding(scj_rules::specs::Bodies::class_place))]
-pub fn class_place(classes: &Classes, class: ClassId) -> Pos
+pub fn class_place(classes: &ClassTable, class: ClassId) -> Pos
     ensures { result ≡ class_place (declarations_of classes.now) class }
 {
     let place = match class_node(classes, class) {
@@ -51,7 +51,7 @@ pub fn class_place(classes: &Classes, class: ClassId) -> Pos
 
 /// What `new` runs for a class.
 #[tactic(auto, unfolding(scj_rules::specs::Bodies::constructor_body))]
-pub fn constructor_body(classes: &Classes, class: ClassId) -> Option<Body>
+pub fn constructor_body(classes: &ClassTable, class: ClassId) -> Option<Body>
     ensures { result ≡ constructor_body (declarations_of classes.now) class }
 {
     if class == OBJECT {

@@ -5,7 +5,7 @@ ghost use Rattle.std.specs.HashMap.{get};
 ghost use Rattle.object_layout.specs.FieldTables.{IsFieldTableOf};
 
 use crate::fields::{StaticField, kinds_at, static_nodes, statics_at};
-use class_rows::Classes;
+use class_rows::ClassTable;
 use class_rows::members::places_of;
 use scj_base::{FieldId, Memory, NodeId};
 use scj_rules::SlotKind;
@@ -54,7 +54,7 @@ fn places_in(alloc: Global, ids: &[NodeId], list: &[NodeId]) -> Result<Vec<Optio
 
 /// The table of the fields of a program.
 #[tactic(auto, using(crate::proofs::FieldTableLemmas::kinds_are, crate::proofs::FieldTableLemmas::statics_are, crate::proofs::FieldTableLemmas::static_places_are))]
-pub fn field_table(alloc: Global, classes: &Classes) -> Result<FieldTable, Memory>
+pub fn field_table(alloc: Global, classes: &ClassTable) -> Result<FieldTable, Memory>
     ensures { IfOk result (λ table. IsFieldTableOf classes.now table) }
 {
     let program = classes.program();

@@ -18,10 +18,10 @@ use crate::object_tables::ObjectTable;
 use crate::slots::{place_of, slot_at};
 use crate::tables::{Tables, tables_of};
 use crate::{arrays, bodies, classes, parts, sizes};
-use class_rows::{ClassTable, Classes};
+use class_rows::ClassTable;
 use program_facts::Facts;
 use scj_base::{ClassId, FieldId, Memory, MethodId, Name, NodeId, Pos, ScopeId};
-use scj_rules::{Body, Checked, SlotKind};
+use scj_rules::{Body, SlotKind};
 use scj_tree::{Program, told};
 use scope_tree::scopes::defined_by_chain;
 use std::alloc::Global;
@@ -30,7 +30,7 @@ use std::marker::Model;
 /// What a machine asks of a program while it runs. A contract sees the program.
 #[derive(Drop)]
 pub struct Layout<'a> {
-    classes: Classes<'a>,
+    classes: &'a ClassTable<'a>,
     tables: Tables,
 }
 
@@ -41,25 +41,17 @@ impl<'a> Model for Layout<'a> {
 
     ghost use Rattle.object_layout.specs.Layouts.{AreTablesOf};
 
-    ghost view = { λ a. a.classes };
+    ghost view = { λ a. a.classes.now };
 
-    ghost invariant = { λ a. AreTablesOf a.classes a.tables };
+    ghost invariant = { λ a. AreTablesOf a.classes.now a.tables };
 }
 
 impl<'a> Layout<'a> {
-    ghost use Rattle.class_rows.specs.Tables.{IsTableOf};
-
-    /// The layout of a program that breaks no rule, from the table of its classes. No other call takes memory.
-    pub fn of(
-        alloc: Global,
-        checked: &'a Checked,
-        table: &'a ClassTable,
-    ) -> Result<Layout<'a>, Memory>
-        requires { IsTableOf checked.now.program table.now }
-        ensures { IfOk result (λ layout. layout ≡ checked.now.program) }
+    /// The layout of a program, from the table of its classes. No other call takes memory.
+    pub fn of(alloc: Global, classes: &'a ClassTable<'a>) -> Result<Layout<'a>, Memory>
+        ensures { IfOk result (λ layout. layout ≡ classes.now) }
     {
-        let classes = Classes::new(checked.program(), table);
-        let tables = tables_of(alloc, &classes)?;
+        let tables = tables_of(alloc, classes)?;
         Ok(Layout { classes, tables })
     }
 
@@ -74,14 +66,14 @@ impl<'a> Layout<'a> {
     pub fn class_node(&self, class: ClassId) -> Option<NodeId>
         ensures { result ≡ class_node (declarations_of self.now) class }
     {
-        classes::class_node(&self.classes, class)
+        classes::class_node(self.classes, class)
     }
 
     /// Where a user class is named. A fault that no node has is told there.
     pub fn class_place(&self, class: ClassId) -> Pos
         ensures { result ≡ class_place (declarations_of self.now) class }
     {
-        classes::class_place(&self.classes, class)
+        classes::class_place(self.classes, class)
     }
 
     /// The name of a class.
@@ -110,21 +102,21 @@ impl<'a> Layout<'a> {
     pub fn constructor(&self, class: ClassId) -> Option<Body>
         ensures { result ≡ constructor_body (declarations_of self.now) class }
     {
-        classes::constructor_body(&self.classes, class)
+        classes::constructor_body(self.classes, class)
     }
 
     /// The body that a call of a method runs on an object of a class (JLS 15.12.4.4).
     pub fn body_of(&self, class: ClassId, method: MethodId) -> Option<Body>
         ensures { result ≡ body_of (declarations_of self.now) class method }
     {
-        bodies::body_of(&self.classes, class, method)
+        bodies::body_of(self.classes, class, method)
     }
 
     /// The body that a call of this name runs on an object of a class.
     pub fn body_named(&self, class: ClassId, name: &Name) -> Option<Body>
         ensures { result ≡ body_named (declarations_of self.now) class name.now }
     {
-        bodies::body_named(&self.classes, class, name)
+        bodies::body_named(self.classes, class, name)
     }
 
     /// How many parameters and locals a body has.
@@ -153,7 +145,7 @@ impl<'a> Layout<'a> {
         ensures { result ≡ defined_by_chain (declarations_of self.now) class }
     {
         let tables = &self.tables;
-        let facts = Facts::new(self.classes.again(), &tables.contexts, &tables.names);
+        let facts = Facts::new(self.classes, &tables.contexts, &tables.names);
         defined_by_chain(&facts.with_tree(&tables.scopes), class)
     }
 
@@ -161,7 +153,7 @@ impl<'a> Layout<'a> {
     pub fn size_of(&self, class: ClassId) -> Option<u32>
         ensures { result ≡ size_of (declarations_of self.now) class }
     {
-        sizes::size_of(&self.classes, class)
+        sizes::size_of(self.classes, class)
     }
 
     /// The node of the literal with which the field at a node is declared (JLS 8.3.2).
@@ -293,13 +285,13 @@ impl<'a> Layout<'a> {
     pub fn element_kind(&self, class: ClassId) -> Option<SlotKind>
         ensures { result ≡ element_kind (declarations_of self.now) class }
     {
-        arrays::element_kind(&self.classes, class)
+        arrays::element_kind(self.classes, class)
     }
 
     /// The class of the elements of the arrays of a class, if they are of class type (JLS 10.1).
     pub fn class_of_elements(&self, class: ClassId) -> Option<ClassId>
         ensures { result ≡ class_of_elements (declarations_of self.now) class }
     {
-        arrays::class_of_elements(&self.classes, class)
+        arrays::class_of_elements(self.classes, class)
     }
 }

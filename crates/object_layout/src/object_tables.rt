@@ -5,7 +5,7 @@ ghost use Rattle.object_layout.specs.Objects.{IsObjectTableOf};
 
 use crate::objects::{ObjectRow, object_rows};
 use crate::slots::{has_all_places, note_places};
-use class_rows::Classes;
+use class_rows::ClassTable;
 use scj_base::{ClassId, Memory};
 use std::alloc::Global;
 
@@ -31,7 +31,7 @@ fn all_places(alloc: Global, count: usize, rows: &[ObjectRow]) -> Result<Vec<u32
 }
 
 /// The table of the objects of a program.
-pub fn object_table(alloc: Global, classes: &Classes) -> Result<ObjectTable, Memory>
+pub fn object_table(alloc: Global, classes: &ClassTable) -> Result<ObjectTable, Memory>
     ensures { IfOk result (λ table. IsObjectTableOf classes.now table) }
 {
     let rows = object_rows(alloc, classes)?;

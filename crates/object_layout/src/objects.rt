@@ -10,7 +10,7 @@ ghost use Rattle.object_layout.specs.ObjectTables.{own_nodes, all_own_nodes, IsO
 
 use crate::fields::{instance_nodes, kinds_at};
 use crate::parts::literal_written;
-use class_rows::Classes;
+use class_rows::ClassTable;
 use scj_base::ids::{APERIODIC_EVENT_HANDLER, PERIODIC_EVENT_HANDLER};
 use scj_base::{ClassId, Memory, NodeId};
 use scj_rules::SlotKind;
@@ -34,7 +34,7 @@ pub struct ObjectRow {
 
 /// How many fields that nothing declares an object of a class has.
 #[tactic(auto, unfolding(scj_rules::specs::Classes::hidden_fields))]
-fn hidden_fields(classes: &Classes, class: ClassId) -> u32
+fn hidden_fields(classes: &ClassTable, class: ClassId) -> u32
     ensures value { result ≡ hidden_fields (declarations_of classes.now).classes class }
     ensures few { result ≤ 4 }
 {
@@ -49,7 +49,7 @@ fn hidden_fields(classes: &Classes, class: ClassId) -> u32
 
 /// The instance fields that a class itself declares.
 #[tactic(auto, using(crate::proofs::ObjectLemmas::own_nodes_are))]
-fn own_nodes(alloc: Global, classes: &Classes, class: ClassId) -> Result<Vec<NodeId>, Memory>
+fn own_nodes(alloc: Global, classes: &ClassTable, class: ClassId) -> Result<Vec<NodeId>, Memory>
     ensures { IfOk result (λ nodes. nodes.items ≡ own_nodes (declarations_of classes.now) class) }
 {
     let nodes = instance_nodes(alloc, classes.program(), classes.members(class))?;
@@ -58,7 +58,7 @@ fn own_nodes(alloc: Global, classes: &Classes, class: ClassId) -> Result<Vec<Nod
 
 /// The instance fields that each class itself declares.
 #[tactic(auto, unfolding(scj_tree::specs::Recursion::listed, crate::specs::ObjectTables::all_own_nodes), using(std::proofs::lemmas::List::map_push))]
-fn all_own_nodes(alloc: Global, classes: &Classes) -> Result<Vec<Vec<NodeId>>, Memory>
+fn all_own_nodes(alloc: Global, classes: &ClassTable) -> Result<Vec<Vec<NodeId>>, Memory>
     ensures { IfOk result (λ all. map (λ v. v.items) all.items ≡ all_own_nodes (declarations_of classes.now)) }
 {
     let mut all = Vec::new(alloc);
@@ -70,7 +70,7 @@ fn all_own_nodes(alloc: Global, classes: &Classes) -> Result<Vec<Vec<NodeId>>, M
 }
 
 /// The chain of a class, its last one first.
-fn chain_down(alloc: Global, classes: &Classes, class: ClassId) -> Result<Vec<ClassId>, Memory>
+fn chain_down(alloc: Global, classes: &ClassTable, class: ClassId) -> Result<Vec<ClassId>, Memory>
     ensures { IfOk result (λ all. all.items ≡ reverse (superclasses (declarations_of classes.now).classes class)) }
 {
     let mut walk = classes.superclasses(class);
@@ -131,7 +131,7 @@ fn with_literal(alloc: Global, program: &Program, ids: &[NodeId]) -> Result<Vec<
 /// What the objects of a class have, from the own fields of each class.
 fn object_row(
     alloc: Global,
-    classes: &Classes,
+    classes: &ClassTable,
     own: &[Vec<NodeId>],
     class: ClassId,
 ) -> Result<ObjectRow, Memory>
@@ -158,7 +158,7 @@ fn object_row(
 }
 
 /// What the objects of each class have.
-pub fn object_rows(alloc: Global, classes: &Classes) -> Result<Vec<ObjectRow>, Memory>
+pub fn object_rows(alloc: Global, classes: &ClassTable) -> Result<Vec<ObjectRow>, Memory>
     ensures { IfOk result
         (λ rows. AreObjectRows (declarations_of classes.now) (length (declarations_of classes.now).classes)
         rows.items) }

@@ -5,7 +5,7 @@ ghost use Rattle.scj_rules.specs.Definitions.{read};
 ghost use Rattle.scj_rules.specs.Contexts.{declarations_of};
 ghost use Rattle.scj_rules.specs.Bodies.{number_literal, number_returned, size_constant, declared_size, size_method, size_of};
 
-use class_rows::Classes;
+use class_rows::ClassTable;
 use scj_base::ids::MISSION;
 use scj_base::{ClassId, Name, NodeId};
 use scj_tree::{Node, Program};
@@ -60,7 +60,7 @@ fn size_constant(program: &Program, id: NodeId) -> Option<u32>
 
 /// The bytes that a class declares by the method of this name.
 #[tactic(auto, using(crate::proofs::BodyLemmas::nodes_are), unfolding(scj_rules::specs::Bodies::declared_size))]
-fn declared_size(classes: &Classes, class: ClassId, name: &Name) -> Option<u32>
+fn declared_size(classes: &ClassTable, class: ClassId, name: &Name) -> Option<u32>
     ensures { result ≡ declared_size (declarations_of classes.now) class name.now }
 {
     let body = match classes.method_named(class, name) {
@@ -71,7 +71,7 @@ fn declared_size(classes: &Classes, class: ClassId, name: &Name) -> Option<u32>
 }
 
 /// The name of the method by which a class declares the bytes of its area.
-fn size_method(classes: &Classes, class: ClassId) -> Name
+fn size_method(classes: &ClassTable, class: ClassId) -> Name
     ensures { result ≡ size_method (declarations_of classes.now) class }
 {
     if classes.is_under(class, MISSION) {
@@ -82,7 +82,7 @@ fn size_method(classes: &Classes, class: ClassId) -> Name
 
 /// The bytes of the area that a class declares.
 #[tactic(auto, unfolding(scj_rules::specs::Bodies::size_of))]
-pub fn size_of(classes: &Classes, class: ClassId) -> Option<u32>
+pub fn size_of(classes: &ClassTable, class: ClassId) -> Option<u32>
     ensures { result ≡ size_of (declarations_of classes.now) class }
 {
     declared_size(classes, class, &size_method(classes, class))

@@ -9,7 +9,7 @@ use crate::body_tables::{BodyTable, body_table};
 use crate::field_tables::{FieldTable, field_table};
 use crate::object_tables::{ObjectTable, object_table};
 use crate::safelets::safelet_class;
-use class_rows::Classes;
+use class_rows::ClassTable;
 use node_contexts::Contexts;
 use program_facts::{Facts, ScopeNames, ScopeTree};
 use scj_base::{ClassId, Memory};
@@ -38,7 +38,7 @@ pub struct Tables {
 /// The scopes by their names, and their tree.
 fn scopes_of(
     alloc: Global,
-    classes: &Classes,
+    classes: &ClassTable,
     contexts: &Contexts,
 ) -> Result<(ScopeNames, ScopeTree), Memory>
     requires { contexts.now ≡ contexts_in classes.now }
@@ -46,12 +46,12 @@ fn scopes_of(
     ensures tree { IfOk result (λ made. IsTreeOf classes.now made.1) }
 {
     let names = names_of(alloc, classes)?;
-    let (tree, _found) = build(alloc, &Facts::new(classes.again(), contexts, &names))?;
+    let (tree, _found) = build(alloc, &Facts::new(classes, contexts, &names))?;
     Ok((names, tree))
 }
 
 /// The tables of a program.
-pub fn tables_of(alloc: Global, classes: &Classes) -> Result<Tables, Memory>
+pub fn tables_of(alloc: Global, classes: &ClassTable) -> Result<Tables, Memory>
     ensures { IfOk result (λ tables. AreTablesOf classes.now tables) }
 {
     let contexts = Contexts::of(alloc, classes.program())?;

@@ -2,12 +2,11 @@
 
 ghost use Rattle.std.specs.Prelude.{◌≡◌, length, true, Bool, IfOk, IfErr};
 ghost use Rattle.scj_io.specs.Puts.{sink_run};
-ghost use Rattle.class_rows.specs.Tables.{IsTableOf};
 ghost use Rattle.plain_machine.specs.Runs.{RunsTo, BreaksOff};
 
 use crate::machines::Machine;
 use crate::steps::Progress;
-use class_rows::{ClassTable, Classes};
+use class_rows::ClassTable;
 use job_frames::Code;
 use object_layout::Layout;
 use run_plan::Plan;
@@ -82,24 +81,23 @@ fn run_to_end<K: Sink>(
 fn run_by_table<K: Sink>(
     alloc: Global,
     checked: &Checked,
-    table: &ClassTable,
+    table: &ClassTable<'_>,
     files: &Files,
     plan: &Plan,
     out: &mut K,
 ) -> Result<RunEnd, RunStop>
-    requires table { IsTableOf checked.now.program table.now }
+    requires table { table.now ≡ checked.now.program }
     requires named { length checked.now.program.files ≡ length files.now }
     ensures ok { IfOk result (λ end. RunsTo checked.now.program plan.now files.now
         (sink_run (K.taken out.old) (K.taken out.new) (K.faults out.old) (K.faults out.new)) end) }
     ensures stop { IfErr result (λ stop. BreaksOff checked.now.program plan.now files.now
         (sink_run (K.taken out.old) (K.taken out.new) (K.faults out.old) (K.faults out.new)) stop) }
 {
-    let layout = Layout::of(alloc, checked, table)?;
+    let layout = Layout::of(alloc, table)?;
     let code = Code::new(checked, &layout);
-    let classes = Classes::new(checked.program(), table);
     let setting = Setting {
         code: &code,
-        classes: &classes,
+        classes: table,
         plan,
     };
     let mut machine = Machine::make(alloc, setting, files)?;

@@ -12,7 +12,7 @@ ghost use Rattle.program_facts.specs.Tables.{IsNaming, IsTreeOf, AreRuns, AreVar
 
 use crate::meanings::NodeMeaning;
 use crate::tables::{Runs, ScopeNames, ScopeRow, ScopeTree, Variables};
-use class_rows::Classes;
+use class_rows::ClassTable;
 use node_contexts::Contexts;
 use scj_base::{ClassId, Name, NodeId, ScopeId};
 use scj_rules::{Context, Scope};
@@ -23,7 +23,7 @@ use std::marker::Model;
 /// later, as far as they are there. A contract sees the program.
 #[derive(Drop)]
 pub struct Facts<'a> {
-    classes: Classes<'a>,
+    classes: &'a ClassTable<'a>,
     contexts: &'a Contexts,
     names: &'a ScopeNames,
     meanings: &'a [NodeMeaning],
@@ -40,19 +40,23 @@ impl<'a> Model for Facts<'a> {
     ghost use Rattle.std.specs.Prelude.{option_copied};
     ghost use Rattle.program_facts.specs.Tables.{AreFacts};
 
-    ghost view = { λ a. a.classes };
+    ghost view = { λ a. a.classes.now };
 
-    ghost invariant = { λ a. AreFacts a.classes a.contexts.now a.names.now a.meanings.now (option_copied a.tree)
+    ghost invariant = { λ a. AreFacts a.classes.now a.contexts.now a.names.now a.meanings.now (option_copied a.tree)
         (option_copied a.runs) (option_copied a.variables) };
 }
 
 impl<'a> Facts<'a> {
     /// What is told of a program first.
     #[tactic(auto, using(crate::proofs::MeaningLemmas::no_meanings))]
-    pub fn new(classes: Classes<'a>, contexts: &'a Contexts, names: &'a ScopeNames) -> Facts<'a>
-        requires contexts { contexts.now ≡ contexts_in classes }
-        requires names { IsNaming (declarations_of classes) names.now }
-        ensures { result ≡ classes.entry }
+    pub fn new(
+        classes: &'a ClassTable<'a>,
+        contexts: &'a Contexts,
+        names: &'a ScopeNames,
+    ) -> Facts<'a>
+        requires contexts { contexts.now ≡ contexts_in classes.now }
+        requires names { IsNaming (declarations_of classes.now) names.now }
+        ensures { result ≡ classes.now }
     {
         Facts {
             classes,
@@ -70,7 +74,7 @@ impl<'a> Facts<'a> {
         ensures { result ≡ self.now }
     {
         Facts {
-            classes: self.classes.again(),
+            classes: self.classes,
             contexts: self.contexts,
             names: self.names,
             meanings: self.meanings,
@@ -128,10 +132,10 @@ impl<'a> Facts<'a> {
     }
 
     /// The classes.
-    pub fn classes(&self) -> &Classes<'a>
+    pub fn classes(&self) -> &'a ClassTable<'a>
         ensures { result.now ≡ self.now }
     {
-        &self.classes
+        self.classes
     }
 
     /// How many classes there are, the framework's among them.

@@ -265,9 +265,8 @@ pub fn note_call(
 ) -> Result<Option<Scope>, Memory>
     ensures scope { IfOk result (λ scope. scope ≡ scope_of (declared at.now) (types at.now) (scopes at.now) at.now.id
         (Call place name.now object.now arguments.now)) }
-    ensures found { OnOk result (found.new.items ≡ found.old.items
-        ++ use_breaks (declared at.now) (types at.now) (scopes at.now) at.now.id
-        (Call place name.now object.now arguments.now)) }
+    ensures found { OnOk result (found.new.items ≡ found.old.items ++ use_breaks
+        (declared at.now) (types at.now) (scopes at.now) at.now.id (Call place name.now object.now arguments.now)) }
 {
     let Some(method) = method_called(at, name, object) else {
         return Ok(None);

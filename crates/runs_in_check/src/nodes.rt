@@ -57,11 +57,7 @@ pub fn note_new(
 
 /// Notes E3 at a call of the superclass's constructor.
 #[tactic(auto, unfolding(crate::specs::Phase::e3_of))]
-pub fn note_super_call(
-    found: &mut Vec<Found>,
-    at: &At<'_>,
-    arguments: &[NodeId],
-) -> Result<(), Memory>
+pub fn note_super_call(found: &mut Vec<Found>, at: &At, arguments: &[NodeId]) -> Result<(), Memory>
     ensures { let p = declared at.now in OnOk result (found.new.items ≡ found.old.items
         ++ found_at (superclass_at p at.now.id)
         (e3_of_constructor p (scopes at.now) (this_at p at.now.id) arguments.now)) }

@@ -106,9 +106,8 @@ pub fn scope_of_access(at: &At<'_>, name: &Name, object: NodeId) -> Option<Scope
 /// The scope of what a method gives that is called here.
 #[tactic(auto, unfolding(scj_rules::specs::UseRules::scope_of_call))]
 pub fn scope_of_call(at: &At<'_>, object: &Option<NodeId>, method: &MethodRef) -> Option<Scope>
-    ensures { let p = declared at.now in result ≡ scope_of_call p
-        (receiver_scope p (scopes at.now) at.now.id object.now) (current_at p at.now.id)
-        (found_method at.now.facts.now.nodes method.now) }
+    ensures { let p = declared at.now in result ≡ scope_of_call p (receiver_scope p (scopes at.now)
+        at.now.id object.now) (current_at p at.now.id) (found_method at.now.facts.now.nodes method.now) }
 {
     let facts = at.facts;
     let scope = result_scope(facts, method)?;
@@ -119,8 +118,7 @@ pub fn scope_of_call(at: &At<'_>, object: &Option<NodeId>, method: &MethodRef) -
 /// The scope of an array's element.
 #[tactic(auto, unfolding(scj_rules::specs::UseRules::scope_of_element))]
 pub fn scope_of_element(at: &At<'_>, array: NodeId) -> Option<Scope>
-    ensures { result ≡ option_and_then
-        (scope_of_element (declared at.now) (scopes at.now array)) (types at.now array) }
+    ensures { result ≡ option_and_then (scope_of_element (declared at.now) (scopes at.now array)) (types at.now array) }
 {
     match &at.type_of(array) {
         Some(Ty::ClassArray(class)) => scope_in_class(at.facts, *class, &at.scope_of(array)),

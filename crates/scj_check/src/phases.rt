@@ -8,7 +8,7 @@ ghost use Rattle.scj_rules.specs.Report.{IsReport};
 ghost use Rattle.scj_rules.specs.TypeRules.{types_in};
 ghost use Rattle.scj_check.specs.Verdicts.{IsJudgement};
 
-use class_table::{Classes, build};
+use class_table::build;
 use node_bindings::bindings_of;
 use node_contexts::Contexts;
 use node_contexts::numbers::number_variables;
@@ -42,9 +42,8 @@ pub fn judge(alloc: Global, program: &Program) -> Result<Judgement, Memory>
     if found.len() > 0 {
         return Ok(Judgement::Broken(found));
     }
-    let classes = Classes::new(program, &table);
-    let names = names_of(alloc, &classes)?;
-    Ok(judge_types(alloc, &Facts::new(classes, &contexts, &names), &numbers)?)
+    let names = names_of(alloc, &table)?;
+    Ok(judge_types(alloc, &Facts::new(&table, &contexts, &names), &numbers)?)
 }
 
 /// Judges a program that breaks no rule on classes.

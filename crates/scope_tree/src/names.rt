@@ -8,7 +8,7 @@ ghost use Rattle.scj_rules.specs.Views.{WrittenClass};
 ghost use Rattle.scj_tree.specs.Forest.{IsForest};
 ghost use Rattle.program_facts.specs.Tables.{IsNaming, entered, scope_named};
 
-use class_rows::Classes;
+use class_rows::ClassTable;
 use node_views::{class_modifiers, class_place, scope_written};
 use program_facts::ScopeNames;
 use scj_base::{ClassId, Memory, Name, NodeId, Pos, ScopeId};
@@ -18,7 +18,7 @@ use std::alloc::Global;
 use std::collections::BTreeMap;
 
 /// The program of the classes is a forest.
-fn is_whole(classes: &Classes)
+fn is_whole(classes: &ClassTable)
     ensures { IsForest classes.now }
 {
     let _count = classes.program().len();
@@ -27,9 +27,8 @@ fn is_whole(classes: &Classes)
 /// The two values of the `@DefineScope` before a class, if there is one: the scope's and the parent's.
 #[tactic(auto, unfolding(scj_rules::specs::Definitions::flags_of, scj_rules::specs::Definitions::define_scope_of, scj_rules::specs::Definitions::values_of))]
 fn values(program: &Program, class: NodeId) -> Option<(NodeId, NodeId)>
-    ensures { let nodes = program.now.nodes in
-        result ≡ option_and_then (read nodes values_of)
-        (option_and_then (read nodes define_scope_of) (read nodes flags_of class)) }
+    ensures { let nodes = program.now.nodes in result ≡ option_and_then
+        (read nodes values_of) (option_and_then (read nodes define_scope_of) (read nodes flags_of class)) }
 {
     let Node::Class { flags, .. } = program.get(class)? else {
         return None;
@@ -72,7 +71,7 @@ fn definition(program: &Program, class: Option<NodeId>) -> Option<Definition>
 
 /// The definition that a class writes.
 #[tactic(auto, using(crate::proofs::UserLemmas::definition_of_class))]
-pub fn definition_in(classes: &Classes, class: ClassId) -> Option<Definition>
+pub fn definition_in(classes: &ClassTable, class: ClassId) -> Option<Definition>
     ensures { result ≡ definition_in (declarations_of classes.now) class }
 {
     is_whole(classes);
@@ -82,7 +81,7 @@ pub fn definition_in(classes: &Classes, class: ClassId) -> Option<Definition>
 
 /// The annotations and modifiers of a user class.
 #[tactic(auto, using(crate::proofs::UserLemmas::written_stays))]
-pub fn modifiers_in(classes: &Classes, class: ClassId) -> Option<Modifiers>
+pub fn modifiers_in(classes: &ClassTable, class: ClassId) -> Option<Modifiers>
     ensures { result ≡ option_map (λ (c : WrittenClass). c.modifiers)
         (user_class_in (declarations_of classes.now).classes class) }
 {
@@ -92,7 +91,7 @@ pub fn modifiers_in(classes: &Classes, class: ClassId) -> Option<Modifiers>
 
 /// Where a user class is named.
 #[tactic(auto, using(crate::proofs::UserLemmas::written_stays))]
-pub fn place_in(classes: &Classes, class: ClassId) -> Option<Pos>
+pub fn place_in(classes: &ClassTable, class: ClassId) -> Option<Pos>
     ensures { result ≡ option_map (λ (c : WrittenClass). c.place)
         (user_class_in (declarations_of classes.now).classes class) }
 {
@@ -113,10 +112,9 @@ pub fn is_reserved(name: &Name) -> bool
 }
 
 /// Enters the scope that a class defines, unless its name is reserved, in place of one of that name.
-fn enter(names: &mut ScopeNames, classes: &Classes, class: ClassId) -> Result<(), Memory>
-    ensures { OnOk result ((name : List ℕ) →
-        scope_named names.new name ≡ entered (definition_in (declarations_of classes.now) class) class name
-        (scope_named names.old name)) }
+fn enter(names: &mut ScopeNames, classes: &ClassTable, class: ClassId) -> Result<(), Memory>
+    ensures { OnOk result ((name : List ℕ) → scope_named names.new name
+        ≡ entered (definition_in (declarations_of classes.now) class) class name (scope_named names.old name)) }
 {
     let Some(definition) = definition_in(classes, class) else {
         return Ok(());
@@ -130,7 +128,7 @@ fn enter(names: &mut ScopeNames, classes: &Classes, class: ClassId) -> Result<()
 }
 
 /// The scopes by their names. The last class is entered first, so that the first one of a name stays.
-pub fn names_of(alloc: Global, classes: &Classes) -> Result<ScopeNames, Memory>
+pub fn names_of(alloc: Global, classes: &ClassTable) -> Result<ScopeNames, Memory>
     ensures { IfOk result (λ names. IsNaming (declarations_of classes.now) names) }
 {
     is_whole(classes);

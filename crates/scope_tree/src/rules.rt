@@ -11,7 +11,7 @@ ghost use Rattle.scj_rules.specs.ScopeRules.{definition_breaks, definition_in, h
 
 use crate::names::{definition_in, is_reserved, modifiers_in, place_in};
 use crate::scopes::{is_cyclic, scope_written_in};
-use class_rows::Classes;
+use class_rows::ClassTable;
 use class_rows::chains::Chain;
 use program_facts::Facts;
 use scj_base::ids::{APERIODIC_EVENT_HANDLER, MISSION, PERIODIC_EVENT_HANDLER, RUNNABLE};
@@ -20,7 +20,7 @@ use scj_rules::{Definition, Written, put_in_order, report_if};
 use std::alloc::Global;
 
 /// Whether a class stands under one of the framework's classes of handlers.
-fn is_handler(classes: &Classes, class: ClassId) -> bool
+fn is_handler(classes: &ClassTable, class: ClassId) -> bool
     ensures { result ≡ is_handler (declarations_of classes.now) class }
 {
     classes.is_under(class, PERIODIC_EVENT_HANDLER)
@@ -161,7 +161,7 @@ fn note_written(found: &mut Vec<Found>, facts: &Facts, class: ClassId) -> Result
 }
 
 /// Whether a class that isn't abstract has a scope of its own.
-fn needs_scope(classes: &Classes, class: ClassId) -> bool
+fn needs_scope(classes: &ClassTable, class: ClassId) -> bool
     ensures { result ≡ needs_scope (declarations_of classes.now) class }
 {
     classes.is_under(class, MISSION) || is_handler(classes, class)

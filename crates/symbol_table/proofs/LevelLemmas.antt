@@ -1,20 +1,18 @@
 -- The chain of Object and of a class right under another one, and what a class has of those above.
-use Rattle.std.proofs.Common.{◌≡◌, ℕ, zero, suc, ◌<◌, List, [], ◌∷◌, length, slice_get, Option, None, Some, ap, ◌∙◌, arith, option_and_then, ◌+◌, filter, sym, filter_map}
+use Rattle.std.proofs.Common.{◌≡◌, ℕ, suc, List, [], ◌∷◌, length, slice_get, Option, None, Some, ap, ◌∙◌, arith, option_and_then, ◌+◌, filter, sym, filter_map}
 use Rattle.std.proofs.lemmas.List.{length-map}
 use Rattle.std.proofs.lemmas.Grind.{common_steps}
 use Rattle.scj_builtins.specs.Framework.{framework_classes, object, object_name, class_row}
 use Rattle.scj_builtins.specs.declared.kinds.ClassKind.TheVariants.{Concrete as concrete_class}
 use Rattle.scj_tree.specs.Forest.{Forest}
 use Rattle.scj_rules.specs.Words.{chain, chain_behind}
-use Rattle.scj_rules.specs.Classes.{ClassRow, classes_above, framework_row, framework_rows_from, superclass_in, superclasses, written_rows, first_user_class, instance_fields, own_instance_fields}
+use Rattle.scj_rules.specs.Classes.{ClassRow, classes_above, framework_row, framework_rows_from, superclass_in, superclasses, written_rows, instance_fields, own_instance_fields}
 use Rattle.scj_rules.specs.Contexts.{declarations_of}
-use Rattle.scj_rules.proofs.WithinLemmas.{user_count}
 use Rattle.scj_rules.specs.Views.{field_at}
-use Rattle.class_rows.specs.Tables.{is_good_header, class_written, members_in}
+use Rattle.class_rows.specs.Tables.{is_good_header, members_in}
 use Rattle.class_rows.proofs.RowLemmas.{class_get, counted_is}
-use Rattle.class_rows.proofs.OwnLemmas.{fields_at}
+use Rattle.class_rows.proofs.OwnLemmas.{fields_at, no_members}
 use Rattle.class_rows.proofs.WalkLemmas.{chain_alone, next_chain}
-use Rattle.class_rows.proofs.SoundLemmas.{framework_there, row_sound}
 use Rattle.symbol_table.specs.Scopes.{IsNext, rows_of, IsPath, IsUnder, classes_of, is_instance, nearest_level, object_level}
 use Rattle.symbol_table.specs.declared.levels.Level.{Level}
 
@@ -41,14 +39,6 @@ pub fields_of_class : (forest : Forest) (class : ℕ) → own_instance_fields (r
     (filter_map (field_at forest.nodes) (members_in (declarations_of forest) class))
 unfolding own_instance_fields
 fields_of_class forest class = grind (arith, common_steps, fields_at forest class)
-
--- a framework class declares no members in the source
-pub no_members : (forest : Forest) (class : ℕ) → class < first_user_class →
-    members_in (declarations_of forest) class ≡ []
-unfolding members_in class_written
-no_members forest class h =
-    let there = framework_there forest class h in
-    grind (arith, common_steps, there.1, (row_sound forest class there.0 there.1).framework h)
 
 -- ---- a class with those above it
 

@@ -1,4 +1,3 @@
 pub mod LevelLemmas
 pub mod LookLemmas
-pub mod NameLemmas
 pub mod OpenLemmas

@@ -22,26 +22,20 @@ use Rattle.method_rows.specs.Methods.{found_method, method_from}
 use Rattle.method_rows.proofs.MethodLemmas.{no_number}
 use Rattle.class_rows.specs.declared.fields.FieldRef.{FieldRef as Member}
 use Rattle.class_rows.specs.declared.members.MemberKind.TheVariants.{Method}
-use Rattle.class_rows.specs.Members.{name_at}
+use Rattle.class_rows.specs.Members.{name_at, found_at, is_abstract, is_abstract_at, member, members_of, members_on, nearest_named}
 use Rattle.class_rows.specs.Tables.{members_in}
-use Rattle.class_rows.proofs.OwnLemmas.{list_read}
+use Rattle.class_rows.proofs.MemberLemmas.{find_passes}
+use Rattle.class_rows.proofs.OwnLemmas.{methods_along, no_members, list_read}
 use Rattle.class_rows.proofs.SoundLemmas.{row_sound, other_methods}
 use Rattle.symbol_table.specs.declared.scopes.Scope.{Scope}
-use Rattle.symbol_table.specs.Symbols.{declared_abstract_methods, is_abstract, leaves_declared_open}
-use Rattle.symbol_table.specs.Names.{found_at, is_abstract_at, member, members_of, members_on, nearest_named}
+use Rattle.symbol_table.specs.Symbols.{declared_abstract_methods, leaves_declared_open}
 use Rattle.symbol_table.specs.Scopes.{IsScope, classes_of, is_left, leaves_at, rows_of}
-use Rattle.symbol_table.proofs.LevelLemmas.{no_members}
-use Rattle.symbol_table.proofs.LookLemmas.{by_users, methods_along}
-use Rattle.symbol_table.proofs.NameLemmas.{same_name}
+use Rattle.symbol_table.proofs.LookLemmas.{by_users, same_name}
 
 -- ---- a member that is an abstract method, and its name
 
 abbrev is_tested : (List ℕ → Bool) → DeclaredMethod → Bool
 is_tested test d = is_abstract d && test d.declared.name
-
-found_passes : {A : Type 0} (test : A → Bool) (xs : List A) (x : A) → find test xs ≡ Some x → test x ≡ true
-found_passes test [] x e = cc
-found_passes test (y ∷ ys) x e = grind (arith, common_steps, found_passes test ys x)
 
 any_found : {A : Type 0} (test : A → Bool) (xs : List A) → is_some (find test xs) ≡ list_any test xs
 any_found test [] = refl
@@ -59,11 +53,10 @@ module _ (nodes : List Node) where
       find (is_named name) ms ≡ Some m → is_abstract_at nodes m ≡ true → test name ≡ true → passes test m ≡ true
   unfolding name_at
   first_passes test name ms m e a h =
-      let named = found_passes (is_named name) ms m e in grind (arith, common_steps, named, a, h, same_name name)
+      let named = find_passes (is_named name) ms m e in grind (arith, common_steps, named, a, h, same_name name)
 
-  first_any : (test : List ℕ → Bool) (name : List ℕ) (ms : List Member) (m : Member) →
-      find (is_named name) ms ≡ Some m → is_abstract_at nodes m ≡ true → test name ≡ true →
-      list_any (passes test) ms ≡ true
+  first_any : (test : List ℕ → Bool) (name : List ℕ) (ms : List Member) (m : Member) → find (is_named name) ms
+      ≡ Some m → is_abstract_at nodes m ≡ true → test name ≡ true → list_any (passes test) ms ≡ true
   first_any test name ms m e a h = any_passes_from_place (passes test) ms (position_or_len (is_named name) ms) m
       (sym (find_at (is_named name) ms) ∙ e) (first_passes test name ms m e a h)
 
@@ -218,8 +211,8 @@ module _ (forest : Forest) (scope : Scope) (s : IsScope forest scope) where
       let theirs = first_passes nodes left name above m.0 in
       let value = value_any (passes nodes left) (is_at (slice_cmp nat_cmp name)) scope.above.methods.abstracts.entries
       m.0 in
-      let abstracts = s.above.methods.abstracts name in
-      grind (arith, common_steps, m.1, m.2, h, parts, mine, theirs, value, abstracts)
+      let abstracts = s.above.methods.told.abstracts name in
+      grind (arith, common_steps, m.1, m.2, h, parts, mine, theirs, value, abstracts, s.above.methods.nearest name)
 
   abbrev own_nodes_left : Bool
   own_nodes_left = list_any (leaves_at nodes rows at) (members_in (declarations_of forest) at)

@@ -1,5 +1,6 @@
 -- What a table keeps: a class, those above it, and the members of those.
-use Rattle.std.specs.Prelude.{◌≡◌, ℕ, ◌<◌, Bool, false, not, ◌&&◌, List, [], ◌∷◌, ◌++◌, length, map, filter, Option, None, Some}
+pub use Rattle.class_rows.specs.Members.{rows_of, is_abstract, AreNamed, IsSplit}
+use Rattle.std.specs.Prelude.{◌≡◌, ℕ, ◌<◌, Bool, false, not, ◌&&◌, List, [], ◌∷◌, length, map, filter, Option, None, Some, if◌then◌else◌}
 use Rattle.scj_builtins.specs.Framework.{object}
 use Rattle.scj_tree.specs.declared.nodes.Node.{Node}
 use Rattle.scj_tree.specs.Forest.{Forest}
@@ -7,17 +8,10 @@ use Rattle.scj_rules.specs.declared.views.Declared.{Declared}
 use Rattle.scj_rules.specs.Words.{along, holds}
 use Rattle.scj_rules.specs.Views.{DeclaredMethod, method_at}
 use Rattle.scj_rules.specs.Classes.{ClassRow, FoundMethod, classes_above, instance_fields, is_user_class, own_method, superclass_in, superclasses}
-use Rattle.scj_rules.specs.Contexts.{declarations_of}
 use Rattle.class_rows.specs.declared.members.MemberKind.TheVariants.{Field, Method}
-use Rattle.class_rows.specs.Walks.{is_framework}
 use Rattle.symbol_table.specs.declared.levels.Level.{Level}
 use Rattle.symbol_table.specs.declared.scopes.Entered.{Entered}
 use Rattle.symbol_table.specs.declared.scopes.Scope.{Scope}
-use Rattle.symbol_table.specs.Names.{AreNamed, members_of}
-use Rattle.symbol_table.specs.Symbols.{is_abstract}
-
-abbrev pub rows_of : Forest → List ClassRow
-rows_of forest = (declarations_of forest).classes
 
 abbrev pub is_instance : Declared → Bool
 is_instance f = not f.modifiers.is_static
@@ -42,19 +36,22 @@ nearest_level (level ∷ above) = Some level
 pub record IsUnder (rows : List ClassRow) (level : Level) (above : List ℕ) : Type 0 where
   pub chain : superclasses rows level.class ≡ level.class ∷ above
   pub behind : classes_above rows level.class ≡ above
-  pub split : superclasses rows level.class
-      ≡ filter is_user_class (superclasses rows level.class) ++ filter is_framework (superclasses rows level.class)
+  pub split : IsSplit (superclasses rows level.class)
   pub count : level.field_count ≡ length (instance_fields rows level.class)
 
 abbrev pub IsPath : List ClassRow → List Level → Type 0
 IsPath rows [] = Unit {0}
 IsPath rows (level ∷ above) = IsUnder rows level (classes_of above) × IsPath rows above
 
+-- the classes with one more before them, where it is entered
+abbrev pub with_class : Bool → ℕ → List ℕ → List ℕ
+with_class is_entered class classes = if is_entered then class ∷ classes else classes
+
 -- the members of these classes are entered
 pub record IsEntered (forest : Forest) (entered : Entered) : Type 0 where
   pub path : IsPath (rows_of forest) entered.path
-  pub fields : AreNamed Field forest.nodes entered.fields (members_of forest (classes_of entered.path))
-  pub methods : AreNamed Method forest.nodes entered.methods (members_of forest (classes_of entered.path))
+  pub fields : AreNamed Field forest entered.fields (classes_of entered.path)
+  pub methods : AreNamed Method forest entered.methods (classes_of entered.path)
 
 -- those of the classes above are entered
 pub record IsScope (forest : Forest) (scope : Scope) : Type 0 where

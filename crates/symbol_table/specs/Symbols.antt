@@ -19,9 +19,6 @@ at_class forest class = record { forest = forest; class = class }
 abbrev pub AreClasses : Forest → List ℕ → Type 0
 AreClasses forest classes = All (λ class. class < length (declarations_of forest).classes) classes
 
-abbrev pub is_abstract : DeclaredMethod → Bool
-is_abstract m = m.declared.modifiers.is_abstract
-
 -- the abstract methods that the user classes of a chain declare
 unfoldable pub declared_abstract_methods : List ClassRow → ℕ → List DeclaredMethod
 declared_abstract_methods rows class =

@@ -6,7 +6,7 @@ ghost use Rattle.scj_rules.specs.Views.{field_at};
 ghost use Rattle.scj_rules.specs.Classes.{own_instance_fields};
 ghost use Rattle.symbol_table.specs.Scopes.{classes_of, is_instance, nearest_level, object_level, rows_of, IsNext, IsPath, IsUnder};
 
-use class_rows::Classes;
+use class_rows::ClassTable;
 use node_views::field_at;
 use scj_base::ids::OBJECT;
 use scj_base::{ClassId, Memory, NodeId};
@@ -68,10 +68,7 @@ impl Path {
     pub fn nearest(&self) -> Option<Level>
         ensures { result ≡ nearest_level self.now }
     {
-        match self.levels.last() {
-            Some(level) => Some(*level),
-            None => None,
-        }
+        self.levels.last().copied()
     }
 
     /// How many classes there are.
@@ -95,7 +92,7 @@ fn instance_count(program: &Program, members: &[NodeId]) -> usize
 
 /// How many instance fields an object of a class has under another one.
 #[tactic(auto, using(crate::proofs::LevelLemmas::fields_of_class))]
-fn field_count(classes: &Classes<'_>, above: usize, class: ClassId) -> Result<usize, Memory>
+fn field_count(classes: &ClassTable<'_>, above: usize, class: ClassId) -> Result<usize, Memory>
     ensures { IfOk result (λ count. count ≡ length (own_instance_fields (rows_of classes.now) class) + above) }
 {
     let own = instance_count(classes.program(), classes.members(class));
@@ -107,16 +104,13 @@ fn field_count(classes: &Classes<'_>, above: usize, class: ClassId) -> Result<us
 
 /// Whether a class stands right under another one, which is the last of so many, and is `Object` where the class is the
 /// framework's.
-fn is_next(classes: &Classes<'_>, above: ClassId, count: usize, class: ClassId) -> bool
+fn is_next(classes: &ClassTable<'_>, above: ClassId, count: usize, class: ClassId) -> bool
     ensures { OnTrue result (IsNext (rows_of classes.now) above count class) }
 {
     if count >= classes.count() || (class.number() < FRAMEWORK_CLASS_COUNT && above != OBJECT) {
         return false;
     }
-    match classes.superclass(class) {
-        Some(superclass) => superclass == above,
-        None => false,
-    }
+    classes.superclass(class) == Some(above)
 }
 
 /// `Object`.
@@ -132,7 +126,7 @@ pub fn object_level() -> Level
 /// A class with what it has of those above, where it stands right under the nearest of a path, or is `Object` under
 /// none. A chain is shorter than there are classes, and forbidden headers don't count: so it is there for each class of a
 /// program.
-pub fn level_under(classes: &Classes<'_>, path: &Path, class: ClassId) -> Result<Level, Memory>
+pub fn level_under(classes: &ClassTable<'_>, path: &Path, class: ClassId) -> Result<Level, Memory>
     requires { IsPath (rows_of classes.now) path.now }
     ensures class { IfOk result (λ level. level.class ≡ class) }
     ensures under { IfOk result (λ level. IsUnder (rows_of classes.now) level (classes_of path.now)) }

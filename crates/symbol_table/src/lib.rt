@@ -3,7 +3,6 @@
 
 pub mod levels;
 pub mod looks;
-pub mod names;
 pub mod openings;
 pub mod order;
 pub mod scopes;

@@ -5,23 +5,13 @@ ghost use Rattle.scj_rules.specs.Classes.{field_named, framework_row_named, meth
 ghost use Rattle.scj_rules.specs.Contexts.{declarations_of};
 ghost use Rattle.method_rows.specs.Methods.{found_method};
 ghost use Rattle.class_rows.specs.Fields.{found_field};
-ghost use Rattle.symbol_table.specs.Names.{as_method};
 
 use crate::table::SymbolTable;
 use class_rows::FieldRef;
-use method_rows::{MethodRef, MethodSource};
+use class_rows::nearest::as_method;
+use method_rows::MethodRef;
 use scj_base::Name;
 use scj_builtins::FRAMEWORK_CLASS_COUNT;
-
-/// A method among members as a look-up gives it.
-pub(crate) fn as_method(member: FieldRef) -> MethodRef
-    ensures { result ≡ as_method member }
-{
-    MethodRef {
-        on: member.on,
-        source: MethodSource::Declared(member.node),
-    }
-}
 
 impl<'a> SymbolTable<'a> {
     /// The field of a name that the superclass has, its own or the nearest above.

@@ -9,9 +9,9 @@ ghost use Rattle.class_rows.specs.Tables.{members_in};
 ghost use Rattle.symbol_table.specs.Scopes.{is_left, leaves_at, rows_of};
 ghost use Rattle.symbol_table.specs.Symbols.{leaves_declared_open};
 
-use crate::looks::as_method;
 use crate::table::SymbolTable;
 use class_rows::FieldRef as Member;
+use class_rows::nearest::as_method;
 use method_rows::declared;
 use node_views::{is_abstract_method, method_name};
 use scj_base::{Name, NodeId};
@@ -60,9 +60,8 @@ impl<'a> SymbolTable<'a> {
 
     /// Whether one of these members is left open.
     fn leaves_one(&self, members: &BTreeMap<Name, Member>) -> bool
-        ensures { result
-            ≡ list_any (λ (m : Row). leaves_at self.now.forest.nodes (rows_of self.now.forest) self.now.class m.node)
-            (values members.now) }
+        ensures { result ≡ list_any (λ (m : Row). leaves_at self.now.forest.nodes
+            (rows_of self.now.forest) self.now.class m.node) (values members.now) }
     {
         members.values().any(|member| self.leaves_at(member.node))
     }

@@ -4,17 +4,14 @@
 ghost use Rattle.std.specs.Prelude.{IfOk};
 ghost use Rattle.symbol_table.specs.Symbols.{AreClasses};
 
-use class_rows::Classes;
+use class_rows::ClassTable;
 use scj_base::ids::OBJECT;
 use scj_base::{ClassId, Memory};
 use std::alloc::Global;
 
 /// The number at the place of a class.
 fn number_at(numbers: &[u32], class: ClassId) -> u32 {
-    match numbers.get(class.number() as usize) {
-        Some(number) => *number,
-        None => 0,
-    }
+    numbers.get(class.number() as usize).copied().unwrap_or(0)
 }
 
 /// Writes a number at the place of a class.
@@ -26,7 +23,7 @@ fn put_at(numbers: &mut [u32], class: ClassId, number: u32) {
 
 /// The first class under each class, and the next class under the same superclass, in the order of their numbers; 0
 /// stands for none, since `Object` has no superclass.
-fn group(alloc: Global, classes: &Classes<'_>, count: u32) -> Result<(Vec<u32>, Vec<u32>), Memory> {
+fn group(alloc: Global, classes: &ClassTable, count: u32) -> Result<(Vec<u32>, Vec<u32>), Memory> {
     let mut first = vec![in alloc; 0; count as usize]?;
     let mut next = vec![in alloc; 0; count as usize]?;
     for passed in 0..count {
@@ -49,7 +46,7 @@ fn leave_over(classes: &mut Vec<ClassId>, number: u32) -> Result<(), Memory> {
 
 /// Classes in that order: those that stand under `Object`. The contract says only that they are classes of the program;
 /// the order counts for speed alone, and a caller that needs each class adds those that are missing.
-pub fn tour(alloc: Global, classes: &Classes<'_>) -> Result<Vec<ClassId>, Memory>
+pub fn tour(alloc: Global, classes: &ClassTable) -> Result<Vec<ClassId>, Memory>
     ensures { IfOk result (λ order. AreClasses classes.now order.items) }
 {
     let count = classes.class_count();

@@ -1,15 +1,16 @@
 //! What a table keeps of the classes that are in scope.
 
-ghost use Rattle.std.specs.Prelude.{◌≡◌, [], OnOk};
+ghost use Rattle.std.specs.Prelude.{◌≡◌, not, ℕ, List, IfOk, OnOk};
 ghost use Rattle.scj_builtins.specs.Framework.{object};
 ghost use Rattle.scj_tree.specs.Forest.{Forest};
-ghost use Rattle.symbol_table.specs.Scopes.{classes_of, rows_of, IsEntered, IsScope, IsUnder};
+ghost use Rattle.scj_rules.specs.Classes.{classes_above};
+ghost use Rattle.class_rows.specs.Members.{nearest_in, AreNearest};
+ghost use Rattle.symbol_table.specs.Scopes.{classes_of, rows_of, with_class, AreNamed, IsEntered, IsScope, IsUnder};
 
 use crate::levels::{Level, Path, object_level};
-use crate::names::{Names, enter, leave};
-use class_rows::Classes;
-use class_rows::members::MemberKind;
-use scj_base::Memory;
+use class_rows::members::{MemberKind, name_at};
+use class_rows::{ClassTable, FieldRef, NearestMembers};
+use scj_base::{ClassId, Memory, Name};
 use std::alloc::Global;
 
 /// The classes of a chain, with their members.
@@ -17,47 +18,86 @@ use std::alloc::Global;
 pub struct Entered {
     /// The classes.
     pub path: Path,
-    /// Their fields.
-    pub fields: Names,
-    /// Their methods.
-    pub methods: Names,
+    /// The nearest of their fields.
+    pub fields: NearestMembers,
+    /// The nearest of their methods.
+    pub methods: NearestMembers,
+}
+
+/// What a name stands for above a class, or with its members, where it is entered.
+#[tactic(auto, using(crate::proofs::LookLemmas::standing_is))]
+fn standing(
+    nearest: &NearestMembers,
+    classes: &ClassTable<'_>,
+    kind: MemberKind,
+    class: ClassId,
+    name: &Name,
+    is_entered: bool,
+) -> Result<Option<FieldRef>, Memory>
+    ensures { AreNearest kind classes.now nearest.now → IfOk result (λ member. member ≡ nearest_in kind classes.now
+        name.now (with_class is_entered class (classes_above (rows_of classes.now) class))) }
+{
+    let Some(above) = nearest.nearest_above(class, name) else {
+        return Err(Memory);
+    };
+    if !is_entered {
+        return Ok(above);
+    }
+    match classes.member_like(kind, class, &classes.first_declared(kind, name)) {
+        Some(node) => Ok(Some(FieldRef { on: class, node })),
+        None => Ok(above),
+    }
+}
+
+/// Notes what the names of a class's members stand for once it is entered or left. What stands above it is told before.
+fn renew(
+    nearest: &mut NearestMembers,
+    classes: &ClassTable<'_>,
+    kind: MemberKind,
+    level: &Level,
+    is_entered: bool,
+) -> Result<(), Memory>
+    ensures { OnOk result ((path : List ℕ) → IsUnder (rows_of classes.now) level.now path →
+        AreNamed kind classes.now nearest.old (with_class (not is_entered) level.now.class path) →
+        AreNamed kind classes.now nearest.new (with_class is_entered level.now.class path)) }
+{
+    let program = classes.program();
+    let mut others = classes.members(level.class);
+    while let [id, rest @ ..] = others {
+        others = rest;
+        if let Some(name) = name_at(program, kind, *id) {
+            let member = standing(nearest, classes, kind, level.class, &name, is_entered)?;
+            nearest.note(program, &name, &member)?;
+        }
+    }
+    Ok(())
 }
 
 impl Entered {
-    /// No classes.
-    fn new(alloc: Global) -> Entered
-        ensures path { result.path ≡ [] }
-        ensures entered { (forest : Forest) → IsEntered forest result }
-    {
-        Entered {
-            path: Path::new(alloc),
-            fields: Names::new(alloc),
-            methods: Names::new(alloc),
-        }
-    }
-
-    /// Enters a class under the nearest.
-    pub fn push(&mut self, classes: &Classes<'_>, level: Level) -> Result<(), Memory>
+    /// Enters a class under the nearest, and tells what stands above it.
+    pub fn push(&mut self, classes: &ClassTable<'_>, level: Level) -> Result<(), Memory>
         requires entered { IsEntered classes.now self.old }
         requires level { IsUnder (rows_of classes.now) level (classes_of self.old.path) }
         ensures { OnOk result (IsEntered classes.now self.new) }
     {
-        enter(&mut self.fields, classes, MemberKind::Field, level.class)?;
-        enter(&mut self.methods, classes, MemberKind::Method, level.class)?;
+        self.fields.tell(level.class)?;
+        self.methods.tell(level.class)?;
+        renew(&mut self.fields, classes, MemberKind::Field, &level, true)?;
+        renew(&mut self.methods, classes, MemberKind::Method, &level, true)?;
         self.path.push(level)?;
         Ok(())
     }
 
     /// Leaves the nearest class.
-    pub fn pop(&mut self, classes: &Classes<'_>) -> Result<(), Memory>
+    pub fn pop(&mut self, classes: &ClassTable<'_>) -> Result<(), Memory>
         requires { IsEntered classes.now self.old }
         ensures { OnOk result (IsEntered classes.now self.new) }
     {
-        let Some(level) = self.path.pop() else {
+        let Some(left) = self.path.pop() else {
             return Err(Memory);
         };
-        leave(&mut self.fields, classes, MemberKind::Field, level.class)?;
-        leave(&mut self.methods, classes, MemberKind::Method, level.class)?;
+        renew(&mut self.fields, classes, MemberKind::Field, &left, false)?;
+        renew(&mut self.methods, classes, MemberKind::Method, &left, false)?;
         Ok(())
     }
 }
@@ -79,7 +119,11 @@ impl Scope {
     {
         Scope {
             level: object_level(),
-            above: Entered::new(alloc),
+            above: Entered {
+                path: Path::new(alloc),
+                fields: NearestMembers::new(alloc),
+                methods: NearestMembers::new(alloc),
+            },
         }
     }
 }

@@ -4,11 +4,13 @@ ghost use Rattle.std.specs.Prelude.{◌≡◌, ◌<◌, length, IfOk, OnOk};
 ghost use Rattle.scj_builtins.specs.Framework.{object};
 ghost use Rattle.scj_rules.specs.Classes.{instance_fields};
 ghost use Rattle.scj_rules.specs.Contexts.{declarations_of};
+ghost use Rattle.class_rows.specs.declared.members.MemberKind.TheVariants.{Field, Method};
+ghost use Rattle.class_rows.specs.Members.{AreNearest};
 ghost use Rattle.symbol_table.specs.Symbols.{at_class};
 
-use crate::scopes::Scope;
+use crate::scopes::{Entered, Scope};
 use crate::ways::go;
-use class_rows::Classes;
+use class_rows::{ClassTable, NearestMembers};
 use scj_base::{ClassId, Memory};
 use std::alloc::Global;
 use std::marker::Model;
@@ -17,7 +19,7 @@ use std::marker::Model;
 #[derive(Drop)]
 pub struct SymbolTable<'a> {
     alloc: Global,
-    pub(crate) classes: Classes<'a>,
+    pub(crate) classes: &'a ClassTable<'a>,
     pub(crate) scope: Scope,
 }
 
@@ -27,19 +29,19 @@ impl<'a> Model for SymbolTable<'a> {
 
     ghost Value = { AtClass };
 
-    ghost view = { λ a. at_class a.classes a.scope.level.class };
+    ghost view = { λ a. at_class a.classes.now a.scope.level.class };
 
-    ghost invariant = { λ a. IsScope a.classes a.scope };
+    ghost invariant = { λ a. IsScope a.classes.now a.scope };
 }
 
 impl<'a> SymbolTable<'a> {
     /// The table at `Object`.
-    pub fn new(alloc: Global, classes: &Classes<'a>) -> Result<SymbolTable<'a>, Memory>
+    pub fn new(alloc: Global, classes: &'a ClassTable<'a>) -> Result<SymbolTable<'a>, Memory>
         ensures { IfOk result (λ table. table ≡ at_class classes.now object) }
     {
         Ok(SymbolTable {
             alloc,
-            classes: classes.again(),
+            classes,
             scope: Scope::new(alloc),
         })
     }
@@ -51,7 +53,7 @@ impl<'a> SymbolTable<'a> {
         requires { class < length (declarations_of self.old.forest).classes }
         ensures { OnOk result (self.new ≡ at_class self.old.forest class) }
     {
-        if go(self.alloc, &mut self.scope, &self.classes, class).is_err() {
+        if go(self.alloc, &mut self.scope, self.classes, class).is_err() {
             self.scope = Scope::new(self.alloc);
             return Err(Memory);
         }
@@ -59,10 +61,10 @@ impl<'a> SymbolTable<'a> {
     }
 
     /// The classes of the program.
-    pub fn classes(&self) -> &Classes<'a>
+    pub fn classes(&self) -> &'a ClassTable<'a>
         ensures { result.now ≡ self.now.forest }
     {
-        &self.classes
+        self.classes
     }
 
     /// The class that the table is at.
@@ -70,6 +72,20 @@ impl<'a> SymbolTable<'a> {
         ensures { result ≡ self.now.class }
     {
         self.scope.level.class
+    }
+
+    /// What was told of the fields and of the methods above the classes at which it was.
+    pub fn into_nearest(self) -> (NearestMembers, NearestMembers)
+        ensures { AreNearest Field self.entry.forest result.0 × AreNearest Method self.entry.forest result.1 }
+    {
+        let SymbolTable { scope, .. } = self;
+        let Scope { above, .. } = scope;
+        let Entered {
+            fields,
+            methods,
+            ..
+        } = above;
+        (fields, methods)
     }
 
     /// How many instance fields an object of the class has.

@@ -5,24 +5,17 @@ ghost use Rattle.symbol_table.specs.Scopes.{classes_of, rows_of, IsEntered, IsSc
 
 use crate::levels::{Level, Path, level_under};
 use crate::scopes::{Entered, Scope};
-use class_rows::Classes;
+use class_rows::ClassTable;
 use scj_base::{ClassId, Memory};
 use std::alloc::Global;
 
 /// Whether a class is the nearest of a path, or is none where the path has none.
 fn is_nearest(path: &Path, class: &Option<ClassId>) -> bool {
-    match path.nearest() {
-        Some(level) => *class == Some(level.class),
-        None => class.is_none(),
-    }
+    path.nearest().map(|level| level.class) == *class
 }
 
 /// Leaves classes until this one is the nearest, or none is left.
-fn climb(
-    entered: &mut Entered,
-    classes: &Classes<'_>,
-    class: &Option<ClassId>,
-) -> Result<(), Memory>
+fn climb(entered: &mut Entered, classes: &ClassTable, class: &Option<ClassId>) -> Result<(), Memory>
     requires { IsEntered classes.now entered.old }
     ensures { OnOk result (IsEntered classes.now entered.new) }
 {
@@ -38,7 +31,7 @@ fn climb(
 /// The classes above a class, the nearest first.
 fn chain_above(
     alloc: Global,
-    classes: &Classes<'_>,
+    classes: &ClassTable<'_>,
     class: ClassId,
 ) -> Result<Vec<ClassId>, Memory> {
     let mut above = Vec::new(alloc);
@@ -50,7 +43,7 @@ fn chain_above(
 }
 
 /// Enters these classes, the last first.
-fn descend(entered: &mut Entered, classes: &Classes<'_>, chain: &[ClassId]) -> Result<(), Memory>
+fn descend(entered: &mut Entered, classes: &ClassTable<'_>, chain: &[ClassId]) -> Result<(), Memory>
     requires { IsEntered classes.now entered.old }
     ensures { OnOk result (IsEntered classes.now entered.new) }
 {
@@ -65,7 +58,7 @@ fn descend(entered: &mut Entered, classes: &Classes<'_>, chain: &[ClassId]) -> R
 fn arrive(
     alloc: Global,
     entered: &mut Entered,
-    classes: &Classes<'_>,
+    classes: &ClassTable<'_>,
     from: Level,
     class: ClassId,
 ) -> Result<(), Memory>
@@ -75,8 +68,7 @@ fn arrive(
 {
     let above = classes.superclass(class);
     if above == Some(from.class) {
-        entered.push(classes, from)?;
-        return Ok(());
+        return entered.push(classes, from);
     }
     climb(entered, classes, &above)?;
     if !is_nearest(&entered.path, &above) {
@@ -86,11 +78,12 @@ fn arrive(
     Ok(())
 }
 
-/// Goes to a class. The members of a class are entered once for all that stand right under it, where these follow.
+/// Goes to a class, and tells what stands above it. The members of a class are entered once for all that stand right
+/// under it, where these follow.
 pub fn go(
     alloc: Global,
     scope: &mut Scope,
-    classes: &Classes<'_>,
+    classes: &ClassTable<'_>,
     class: ClassId,
 ) -> Result<(), Memory>
     requires { IsScope classes.now scope.old }
@@ -99,6 +92,9 @@ pub fn go(
 {
     let from = scope.level;
     arrive(alloc, &mut scope.above, classes, from, class)?;
-    scope.level = level_under(classes, &scope.above.path, class)?;
+    let level = level_under(classes, &scope.above.path, class)?;
+    scope.above.fields.tell(level.class)?;
+    scope.above.methods.tell(level.class)?;
+    scope.level = level;
     Ok(())
 }

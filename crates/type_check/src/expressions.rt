@@ -29,9 +29,8 @@ pub fn judge_binary(
     left: NodeId,
     right: NodeId,
 ) -> Result<Option<Ty>, Memory>
-    ensures type_of { IfOk result (λ t. t ≡ option_and_then
-        (λ a. option_and_then (binary_type (declared at.now).classes operator a) (types at.now right))
-        (types at.now left)) }
+    ensures type_of { IfOk result (λ t. t ≡ option_and_then (λ a. option_and_then
+        (binary_type (declared at.now).classes operator a) (types at.now right)) (types at.now left)) }
     ensures found { OnOk result (found.new.items ≡ found.old.items
         ++ broken (misfits_operands (declared at.now) (types at.now) operator left right) T3 place) }
 {

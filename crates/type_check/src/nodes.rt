@@ -243,10 +243,8 @@ fn judge_seldom(found: &mut Vec<Found>, at: &At<'_>, node: &Node) -> Result<Opti
         }
         Node::This { place } => {
             report_if(found, !at.facts.has_object(at.id), Rule::T13, *place)?;
-            match at.facts.context(at.id).class {
-                Some(class) => Ok(Some(Ty::Class(class))),
-                None => Ok(None),
-            }
+            let class = at.facts.context(at.id).class;
+            Ok(class.map(|class| Ty::Class(class)))
         }
         _ => Ok(None),
     }

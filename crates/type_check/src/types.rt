@@ -34,9 +34,8 @@ fn next_type(
     requires rows { AreMeanings facts.now rows.old.items }
     requires returns { returns.now ≡ all_returns facts.now.nodes }
     ensures type_of { IfOk result (λ t. t ≡ type_of_next (declarations_of facts.now) id (lookup None types.now)) }
-    ensures found { OnOk result (found.new.items ≡ found.old.items
-        ++ found_at (slice_get facts.now.nodes id)
-        (type_breaks (declarations_of facts.now) (lookup None types.now) id)) }
+    ensures found { OnOk result (found.new.items ≡ found.old.items ++ found_at
+        (slice_get facts.now.nodes id) (type_breaks (declarations_of facts.now) (lookup None types.now) id)) }
     ensures rows { OnOk result (AreMeanings facts.now rows.new.items) }
 {
     if let Some(t) = type_of_kind(&facts.program().kind(id)) {

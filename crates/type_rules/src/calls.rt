@@ -54,9 +54,8 @@ fn note_called(
     arguments: &[NodeId],
 ) -> Result<bool, Memory>
     ensures typed { IfOk result (λ typed. typed ≡ is_some (all_types (types at.now) arguments.now)) }
-    ensures found { OnOk result (found.new.items ≡ found.old.items
-        ++ breaks_on (declared at.now) (types at.now) at.now.id place receiver.now
-        (option_map (found_method at.now.facts.now.nodes) method.now) arguments.now) }
+    ensures found { OnOk result (found.new.items ≡ found.old.items ++ breaks_on (declared at.now) (types at.now)
+        at.now.id place receiver.now (option_map (found_method at.now.facts.now.nodes) method.now) arguments.now) }
 {
     let typed = are_typed(at, arguments);
     let is_plain = is_no_reference(receiver);
@@ -166,9 +165,8 @@ pub fn is_misplaced_form(at: &At<'_>, name: &Name) -> bool
 
 /// Whether the constructor of a class calls its superclass's without writing so, and that takes arguments.
 fn misfits_super(facts: &Facts<'_>, class: ClassId) -> bool
-    ensures { result ≡ (calls_unwritten (declarations_of facts.now) class
-        && holds (superclass_in (declarations_of facts.now).classes class)
-        (takes_arguments (declarations_of facts.now))) }
+    ensures { result ≡ (calls_unwritten (declarations_of facts.now) class && holds
+        (superclass_in (declarations_of facts.now).classes class) (takes_arguments (declarations_of facts.now))) }
 {
     if super_arguments(facts, class).is_some() {
         return false;

@@ -55,9 +55,8 @@ pub fn is_form_named(facts: &Facts<'_>, name: &Name) -> bool
 /// Whether the elements of an array are parts of a form.
 #[tactic(auto, unfolding(scj_rules::specs::TypeRules::element_class, scj_rules::specs::Contexts::declarations_of))]
 pub fn has_form_elements(facts: &Facts<'_>, element: NodeId) -> bool
-    ensures { result ≡ holds
-        (read (declarations_of facts.now).nodes (element_class (declarations_of facts.now)) element)
-        (kind_is is_form (declarations_of facts.now)) }
+    ensures { result ≡ holds (read (declarations_of facts.now).nodes
+        (element_class (declarations_of facts.now)) element) (kind_is is_form (declarations_of facts.now)) }
 {
     match facts.program().get(element) {
         Some(Node::ClassType { name, .. }) => is_form_named(facts, name.get()),

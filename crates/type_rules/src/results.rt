@@ -70,9 +70,8 @@ pub fn access_type(
 
 /// The type of a call: the result of the method that a receiver has.
 pub fn call_type(facts: &Facts<'_>, method: &Option<MethodRef>) -> Option<Ty>
-    ensures { result ≡ option_and_then
-        (λ (f : FoundMethod). declared_type_of (declarations_of facts.now) f.method.declared)
-        (option_map (found_method facts.now.nodes) method.now) }
+    ensures { result ≡ option_and_then (λ (f : FoundMethod). declared_type_of
+        (declarations_of facts.now) f.method.declared) (option_map (found_method facts.now.nodes) method.now) }
 {
     match method {
         Some(method) => type_written(facts, &result_type(facts.program(), method)),

@@ -13,7 +13,7 @@ ghost use Rattle.run_state.specs.Steps.{IsStep};
 ghost use Rattle.unit_steps.specs.Arriving.{arrived_at};
 
 use crate::dues::is_due;
-use class_rows::Classes;
+use class_rows::ClassTable;
 use mission_steps::{aperiodic_of, release_taken, takes_releases};
 use run_plan::Plan;
 use run_state::RunState;
@@ -74,7 +74,11 @@ fn periodic_arrivals(state: &mut RunState, told: &mut Vec<Event>) -> Result<(), 
 }
 
 /// The handler that a fire releases: the first aperiodic one of exactly its class, if releases are taken in.
-fn fired_handler(classes: &Classes<'_>, state: &RunState, name: &Name) -> Result<Option<u8>, Memory>
+fn fired_handler(
+    classes: &ClassTable<'_>,
+    state: &RunState,
+    name: &Name,
+) -> Result<Option<u8>, Memory>
     ensures { IfOk result
         (λ handler. handler
         ≡ fired_handler (code_of classes.now) (state_of (code_of classes.now) state.now) name.now) }
@@ -91,7 +95,7 @@ fn fired_handler(classes: &Classes<'_>, state: &RunState, name: &Name) -> Result
 
 /// A fire of the plan.
 fn fired(
-    classes: &Classes<'_>,
+    classes: &ClassTable<'_>,
     state: &mut RunState,
     fire: &Fire,
     told: &mut Vec<Event>,
@@ -123,7 +127,7 @@ fn fired(
 
 /// These fires, one after the other.
 fn fires_in_order(
-    classes: &Classes<'_>,
+    classes: &ClassTable<'_>,
     state: &mut RunState,
     fires: &[Fire],
     told: &mut Vec<Event>,
@@ -144,7 +148,7 @@ fn fires_in_order(
 
 /// The releases that are taken in at the beginning of a unit. `past` is how many fires of the plan are past.
 pub(crate) fn arrivals(
-    classes: &Classes<'_>,
+    classes: &ClassTable<'_>,
     plan: &Plan,
     past: &mut usize,
     state: &mut RunState,

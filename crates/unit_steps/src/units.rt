@@ -11,7 +11,7 @@ ghost use Rattle.unit_steps.specs.Led.{IsLedTry};
 
 use crate::arrivals::arrivals;
 use crate::turns::acts;
-use class_rows::Classes;
+use class_rows::ClassTable;
 use job_frames::Code;
 use mission_steps::phase_after;
 use run_plan::Plan;
@@ -24,7 +24,7 @@ use std::alloc::Global;
 #[derive(Clone, Copy)]
 pub struct Setting<'a> {
     pub code: &'a Code<'a>,
-    pub classes: &'a Classes<'a>,
+    pub classes: &'a ClassTable<'a>,
     pub plan: &'a Plan,
 }
 

@@ -1,10 +1,11 @@
 use Rattle.class_headers.proofs.TableLemmas.{headers_are}
 use Rattle.class_headers.proofs.filling.headers_in.Goals as goal
 
-pub returns : goal.returns
-returns c =
+pub invariant_of-result : goal.invariant_of-result
+invariant_of-result c =
     headers_are c.args.program.now
     (record {
+      program = c.args.program;
       names = c.in_ok-names.names;
       rows = c.in_ok-rows.rows;
       interfaces = c.in_ok-interfaces.interfaces;

@@ -3,19 +3,17 @@ use Rattle.std.specs.List.{find}
 use Rattle.std.specs.Option.{option_or}
 use Rattle.std.specs.HashMap.{get}
 use Rattle.class_headers.specs.NamedNumbers.{found_under}
-use Rattle.class_rows.specs.declared.own_members.OwnKey.{OwnKey}
-use Rattle.class_rows.specs.Members.{is_like, is_same_own, in_class, AreOwners}
+use Rattle.class_rows.specs.declared.members.OwnKey.{OwnKey}
+use Rattle.class_rows.specs.Members.{is_like, is_same_own, in_class}
 use Rattle.class_rows.proofs.members.add_names.Given as goal
 
 -- the members from this one on are entered
 abbrev pub invariant-loop-at : goal.invariant-loop-at
 invariant-loop-at l = record {
   within : l.at ≤ length l.members;
-  owners : AreOwners l.initial.own → AreOwners l.own;
-  entered : (key : OwnKey) → get is_same_own l.own.named key ≡ option_or
-      (in_class l.class key
+  entered : (key : OwnKey) → get is_same_own l.map key ≡ option_or (in_class l.class key
       (find (is_like l.kind l.program.nodes (found_under l.firsts) key.first) (drop l.at l.members)))
-      (get is_same_own l.initial.own.named key);
+      (get is_same_own l.initial.map key);
 }
 
 abbrev pub decreases-loop-at : goal.decreases-loop-at

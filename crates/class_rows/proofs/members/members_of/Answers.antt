@@ -16,10 +16,9 @@ returns c =
     record {
       nodes = c.in_ok-nodes.ensures;
       firsts = firsts;
-      named = λ class first name h. c.in_ok-own.ensures.named (own_key class first)
+      named = λ class first name h. c.in_ok-named.ensures (own_key class first)
           ∙ like_named c.args.kind c.args.classes.now name (found_under c.in_ok-firsts.firsts) firsts first h
           (members_in (declarations_of c.args.classes.now) class);
-      owners = c.in_ok-own.ensures.owners;
       numbers = λ id. c.in_ok-numbers.ensures id
           ∙ numbers_are c.args.kind c.args.classes.now id _ _ c.first_number.ensures.value
           (c.deref-2.ensures.value ∙ c.in_ok-nodes.ensures);

@@ -4,3 +4,6 @@ pub returns-clause-told : goal.returns-clause-told
 returns-clause-told c = rw c.in_ok-table.ensures at
     (c.in_ok-note_each.ensures.told (rw c.in_ok-table.ensures
     (c.no_methods_inherited-told.ensures _ _ c.requires.each c.requires.classes)))
+
+pub returns-clause-nearest : goal.returns-clause-nearest
+returns-clause-nearest c = rw (c.in_ok-note_each.ensures.forest, c.in_ok-table.ensures) at c.into_nearest-fields.ensures

@@ -2,7 +2,7 @@ use Rattle.std.proofs.Common.{ℕ, ◌<◌, length, arith}
 use Rattle.std.proofs.lemmas.Grind.{common_steps}
 use Rattle.std.proofs.lemmas.List.Elements.{All-rest}
 use Rattle.scj_rules.specs.Contexts.{declarations_of}
-use Rattle.class_table.proofs.NotedLemmas.{first_left}
+use Rattle.symbol_table.proofs.LookLemmas.{first_left}
 use Rattle.class_table.proofs.classes.note_each.Goals as goal
 
 pub loop-others-preserved : goal.loop-others-preserved

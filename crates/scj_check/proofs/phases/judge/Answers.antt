@@ -4,4 +4,4 @@ use Rattle.scj_check.proofs.phases.judge.Goals as goal
 
 pub judge_types-requires-clause-right : goal.judge_types-requires-clause-right
 judge_types-requires-clause-right c =
-    rw (c.new.ensures, c.new-classes.ensures) (nothing_found _ _ (omega arith) c.in_ok-table.ensures.report)
+    rw (c.new.ensures, c.in_ok-table.ensures.table) (nothing_found _ _ (omega arith) c.in_ok-table.ensures.report)

@@ -1,21 +1,20 @@
-use Rattle.std.proofs.Common.{rules, ◌≡◌, ◌∙◌, sym, length}
-use Rattle.scj_rules.specs.Contexts.{declarations_of}
+use Rattle.std.proofs.Common.{rules, ◌∙◌, sym}
+use Rattle.class_rows.specs.declared.members.MemberKind.TheVariants.{Field, Method}
 use Rattle.class_rows.proofs.BuildingLemmas.{ways_counted}
 use Rattle.class_rows.proofs.RowLemmas.{class_length}
 use Rattle.class_rows.proofs.tables.ClassTable.of.Goals as goal
 
-pub returns : goal.returns
-returns c =
-    let count : c.in_ok-count.count ≡ length (declarations_of c.args.program.now).written = search rules in
-    let ways = ways_counted c.args.program.now c.in_ok-first.first.items c.in_ok-ways.ways.items (search rules)
-    (search rules) in
+pub invariant_of-result : goal.invariant_of-result
+invariant_of-result c =
     record {
-      headers = search rules;
-      count = count ∙ sym (class_length c.args.program.now);
+      count = c.in_ok-count.ensures ∙ sym (class_length c.in_ok-headers.headers);
       under_object = search rules;
-      ways = ways;
+      ways = ways_counted c.in_ok-headers.headers c.in_ok-first.first.items c.in_ok-ways.ways.items (search rules)
+          (search rules);
       ancestries = search rules;
       fields = search rules;
       methods = search rules;
+      fields_above = (c.new-2.ensures Field c.in_ok-headers.headers).told;
+      methods_above = (c.new-3.ensures Method c.in_ok-headers.headers).told;
       inherited = search rules;
     }
