@@ -8,4 +8,5 @@ pub mod NearestLemmas
 pub mod OwnLemmas
 pub mod RowLemmas
 pub mod SoundLemmas
+pub mod UserLemmas
 pub mod WalkLemmas

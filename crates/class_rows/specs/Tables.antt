@@ -10,6 +10,7 @@ use Rattle.scj_rules.specs.Words.{or_else}
 use Rattle.scj_rules.specs.Views.{WrittenClass}
 use Rattle.scj_rules.specs.Classes.{ClassRow, is_well_headed}
 use Rattle.scj_rules.specs.Contexts.{Declarations, declarations_of}
+use Rattle.scj_rules.specs.ScopeRules.{defined_by_chain}
 use Rattle.class_rows.specs.declared.members.MemberKind.TheVariants.{Field, Method}
 use Rattle.class_rows.specs.declared.tables.ClassTable.TheInside.{Inside}
 use Rattle.class_rows.specs.declared.inherited.InheritedMethods.{InheritedMethods}
@@ -38,6 +39,11 @@ is_under_object p class = not (is_good_header p class (class_written p class))
 abbrev pub AreUnderObject : Forest → List Bool → Type 0
 AreUnderObject forest marks =
     marks ≡ listed (is_under_object (declarations_of forest)) (length (declarations_of forest).written)
+
+-- the scopes are those that the chains of the classes define, class after class
+abbrev pub AreChainedScopes : Forest → List (Option ℕ) → Type 0
+AreChainedScopes forest scopes =
+    scopes ≡ listed (defined_by_chain (declarations_of forest)) (length (declarations_of forest).classes)
 
 -- the table is that of the program
 pub record IsTableOf (forest : Forest) (table : Inside) : Type 0 where

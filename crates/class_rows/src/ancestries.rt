@@ -15,7 +15,7 @@ use scj_builtins::FRAMEWORK_CLASS_COUNT;
 use std::alloc::Global;
 
 /// What is told of the classes above one.
-#[derive(Clone, Copy, Debug)]
+#[derive(Clone, Copy)]
 pub struct Ancestry {
     /// The nearest framework class that it is or stands under.
     pub root: ClassId,

@@ -61,12 +61,12 @@ impl<'a> ClassTable<'a> {
         ensures { IfOk result (λ table. table ≡ program.now) }
     {
         let headers = headers_in(alloc, program)?;
+        let count = count_of(&headers)?;
         let marks = marks_under_object(alloc, &headers)?;
         let first = ways_of(alloc, &headers, &marks)?;
         let ways = far_ways(alloc, first)?;
         let fields = members_of(alloc, &headers, MemberKind::Field)?;
         let methods = members_of(alloc, &headers, MemberKind::Method)?;
-        let count = count_of(&headers)?;
         Ok(ClassTable {
             headers,
             count,

@@ -9,7 +9,7 @@ use Rattle.scj_tree.proofs.RecursionLemmas.{lookup-behind, length-top_down}
 use Rattle.scj_rules.specs.Classes.{class_nodes, user_classes}
 use Rattle.scj_rules.specs.Contexts.{Declarations, declarations_of, outermost, contexts_in, context_of, context, number_of_class}
 use Rattle.scj_rules.specs.Bodies.{class_at_node, class_of_body}
-use Rattle.scope_tree.proofs.UserLemmas.{nodes_of_users}
+use Rattle.class_rows.proofs.UserLemmas.{nodes_of_users}
 use Rattle.object_layout.specs.BodyTables.{class_known}
 
 module _ (forest : Forest) (whole : IsForest forest) where

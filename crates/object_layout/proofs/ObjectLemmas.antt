@@ -2,23 +2,25 @@
 use Rattle.std.proofs.Common.{◌≡◌, ℕ, zero, suc, ◌+◌, ◌≤◌, ◌==◌, List, [], ◌∷◌, ◌++◌, length, map, filter, flat_map, reverse, refl, sym, ap, ◌∙◌, subst, arith, Option, Some, None, Bool, true, false, cond, not, is_some, slice_get, ⊎_elim, ◌⊎◌, inl, inr}
 use Rattle.std.specs.List.{filter_map, cons_option}
 use Rattle.std.proofs.lemmas.Bool.{ne_eqb}
+use Rattle.std.proofs.lemmas.Bool.Decides.{nat_tests}
 use Rattle.std.proofs.lemmas.List.{map-append, length-map, length_push}
 use Rattle.std.proofs.lemmas.Option.{slice_get_past}
 use Rattle.scj_builtins.specs.Framework.{periodic_handler, aperiodic_handler}
 use Rattle.scj_tree.specs.declared.nodes.Node.{Node}
 use Rattle.scj_tree.specs.Forest.{Forest}
 use Rattle.scj_tree.specs.Recursion.{lookup, listed}
+use Rattle.scj_tree.proofs.RecursionLemmas.{listed-at}
 use Rattle.scj_rules.specs.Definitions.{read}
-use Rattle.scj_rules.specs.Words.{holds}
+use Rattle.scj_rules.specs.Words.{along, holds}
 use Rattle.scj_rules.specs.Views.{field_at}
 use Rattle.scj_rules.specs.Classes.{ClassRow, first_user_class, superclass_in, superclasses, own_instance_fields, instance_fields, hidden_fields}
 use Rattle.scj_rules.specs.Contexts.{Declarations, declarations_of}
+use Rattle.scj_rules.specs.ScopeRules.{defined_by, defined_by_chain, definition_in}
 use Rattle.scj_rules.specs.Layout.{slots, fields_with_literal, field_literal, literal_written}
 use Rattle.scj_rules.specs.declared.views.Declared.{Declared}
-use Rattle.class_rows.specs.Tables.{members_in}
-use Rattle.class_rows.proofs.WalkLemmas.{chain_here}
-use Rattle.scope_tree.proofs.TreeLemmas.{table_tells}
-use Rattle.scope_tree.proofs.UserLemmas.{framework_first}
+use Rattle.class_rows.specs.Tables.{AreChainedScopes, members_in}
+use Rattle.class_rows.proofs.WalkLemmas.{along_end, along_front, chain_here}
+use Rattle.class_rows.proofs.UserLemmas.{framework_first}
 use Rattle.object_layout.specs.Fields.{kind_of_field, kind_at, is_instance_at}
 use Rattle.object_layout.specs.ObjectTables.{nodes_of_fields, own_nodes, instance_nodes, instance_kinds, literal_nodes, all_own_nodes, IsObjectRowOf, AreObjectRows}
 use Rattle.object_layout.specs.declared.objects.ObjectRow.{ObjectRow}
@@ -157,8 +159,32 @@ module _ (forest : Forest) (class : ℕ) (past : length (declarations_of forest)
   unfolding literal_nodes fields_with_literal
   literals_past = ap (λ fs. nodes_of_fields (filter (λ f. is_some (field_literal p f)) fs)) own_past
 
--- ---- the fields of objects
+  undefined_past : defined_by p class ≡ None
+  unfolding defined_by definition_in
+  undefined_past = (rw (slice_get_past p.classes class past) refl)
 
+  pub scope_past : defined_by_chain p class ≡ None
+  unfolding defined_by_chain
+  scope_past = ap (along (defined_by p)) chain_alone ∙ along_front (defined_by p) class []
+      ∙ (rw undefined_past (along_end (defined_by p)))
+
+-- ---- what tables of all classes tell
+
+-- a table of all classes tells what is said of each number, where nothing is said of those behind them
+table_tells : {A : Type 0} (default : A) (f : ℕ → A) (n : ℕ) → ((a : ℕ) → n ≤ a → f a ≡ default) → (xs : List A) →
+    xs ≡ listed f n → (a : ℕ) → lookup default xs a ≡ f a
+table_tells default f n past xs e a =
+    ap (λ t. lookup default t a) e ∙ listed-at default f n a ∙ grind (arith, nat_tests, past a)
+
+-- the scope that the chain of a class defines
+pub scope_told : (forest : Forest) (scopes : List (Option ℕ)) (class : ℕ)
+    → AreChainedScopes forest scopes
+    → lookup None scopes class ≡ defined_by_chain (declarations_of forest) class
+scope_told forest scopes class e =
+    let p : Declarations = declarations_of forest in
+    table_tells None (defined_by_chain p) (length p.classes) (λ a h. scope_past forest a h) scopes e class
+
+-- the fields of objects
 own_listed : (forest : Forest) (class : ℕ) → lookup [] (all_own_nodes (declarations_of forest)) class ≡ own_nodes
     (declarations_of forest) class
 unfolding all_own_nodes

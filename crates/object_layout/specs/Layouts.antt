@@ -1,9 +1,9 @@
 -- What the tables of a layout hold.
 use Rattle.std.specs.Prelude.{◌≡◌}
 use Rattle.scj_tree.specs.Forest.{Forest}
-use Rattle.scj_rules.specs.Contexts.{declarations_of, contexts_in}
+use Rattle.scj_rules.specs.Contexts.{declarations_of}
 use Rattle.scj_rules.specs.Bodies.{safelet_class}
-use Rattle.program_facts.specs.Tables.{IsNaming, IsTreeOf}
+use Rattle.class_rows.specs.Tables.{AreChainedScopes}
 use Rattle.object_layout.specs.BodyTables.{IsBodyTableOf}
 use Rattle.object_layout.specs.FieldTables.{IsFieldTableOf}
 use Rattle.object_layout.specs.Objects.{IsObjectTableOf}
@@ -11,9 +11,7 @@ use Rattle.object_layout.specs.declared.tables.Tables.{Tables}
 
 -- the tables are those of the program
 pub record AreTablesOf (forest : Forest) (tables : Tables) : Type 0 where
-  pub contexts : tables.contexts ≡ contexts_in forest
-  pub names : IsNaming (declarations_of forest) tables.names
-  pub scopes : IsTreeOf forest tables.scopes
+  pub scopes : AreChainedScopes forest tables.scopes.items
   pub bodies : IsBodyTableOf forest tables.bodies
   pub fields : IsFieldTableOf forest tables.fields
   pub objects : IsObjectTableOf forest tables.objects

@@ -21,7 +21,7 @@ pub fn node_count(classes: &ClassTable) -> usize
 }
 
 /// The node of a user class.
-#[tactic(auto, using(scope_tree::proofs::UserLemmas::written_stays))]
+#[tactic(auto, using(class_rows::proofs::UserLemmas::written_stays))]
 pub fn class_node(classes: &ClassTable, class: ClassId) -> Option<NodeId>
     ensures node { result ≡ class_node (declarations_of classes.now) class }
     ensures class { option_and_then (class_at classes.now.nodes) result ≡ user_class_in

@@ -7,6 +7,7 @@ ghost use Rattle.scj_rules.specs.Bodies.{class_node, class_place, constructor_bo
 ghost use Rattle.scj_rules.specs.ScopeRules.{defined_by_chain};
 ghost use Rattle.scj_rules.specs.Definitions.{read};
 ghost use Rattle.scj_rules.specs.Layout.{class_of_elements, element_kind, field_kind, fields_with_literal, literal_written, slot_of, slots, static_fields, static_place};
+ghost use Rattle.class_rows.specs.Tables.{AreChainedScopes};
 ghost use Rattle.object_layout.specs.Fields.{kind_of_field, static_row};
 ghost use Rattle.object_layout.specs.FieldTables.{IsFieldTableOf};
 ghost use Rattle.object_layout.specs.ObjectTables.{nodes_of_fields, slot_of_node};
@@ -16,14 +17,12 @@ use crate::field_tables::{FieldTable, kind_numbered, place_numbered};
 use crate::fields::StaticField;
 use crate::object_tables::ObjectTable;
 use crate::slots::{place_of, slot_at};
-use crate::tables::{Tables, tables_of};
+use crate::tables::{Tables, scope_numbered, tables_of};
 use crate::{arrays, bodies, classes, parts, sizes};
 use class_rows::ClassTable;
-use program_facts::Facts;
 use scj_base::{ClassId, FieldId, Memory, MethodId, Name, NodeId, Pos, ScopeId};
 use scj_rules::{Body, SlotKind};
 use scj_tree::{Program, told};
-use scope_tree::scopes::defined_by_chain;
 use std::alloc::Global;
 use std::marker::Model;
 
@@ -47,11 +46,17 @@ impl<'a> Model for Layout<'a> {
 }
 
 impl<'a> Layout<'a> {
-    /// The layout of a program, from the table of its classes. No other call takes memory.
-    pub fn of(alloc: Global, classes: &'a ClassTable<'a>) -> Result<Layout<'a>, Memory>
+    /// The layout of a program, from the table of its classes and the scope that the chain of each class defines. No
+    /// other call takes memory.
+    pub fn of(
+        alloc: Global,
+        classes: &'a ClassTable<'a>,
+        scopes: Vec<Option<ScopeId>>,
+    ) -> Result<Layout<'a>, Memory>
+        requires { AreChainedScopes classes.now scopes.items }
         ensures { IfOk result (λ layout. layout ≡ classes.now) }
     {
-        let tables = tables_of(alloc, classes)?;
+        let tables = tables_of(alloc, classes, scopes)?;
         Ok(Layout { classes, tables })
     }
 
@@ -141,12 +146,11 @@ impl<'a> Layout<'a> {
     }
 
     /// The scope that the chain of a class defines (JSR 302: DefineScope).
+    #[tactic(auto, using(crate::proofs::ObjectLemmas::scope_told))]
     pub fn private_scope(&self, class: ClassId) -> Option<ScopeId>
         ensures { result ≡ defined_by_chain (declarations_of self.now) class }
     {
-        let tables = &self.tables;
-        let facts = Facts::new(self.classes, &tables.contexts, &tables.names);
-        defined_by_chain(&facts.with_tree(&tables.scopes), class)
+        scope_numbered(self.tables.scopes.as_slice(), class)
     }
 
     /// The bytes of the memory that a mission's or the safelet's class declares (JSR 302: Mission, Safelet).

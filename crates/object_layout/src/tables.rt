@@ -1,8 +1,8 @@
 //! The tables of a layout.
 
-ghost use Rattle.std.specs.Prelude.{◌≡◌, IfOk};
-ghost use Rattle.scj_rules.specs.Contexts.{contexts_in, declarations_of};
-ghost use Rattle.program_facts.specs.Tables.{IsNaming, IsTreeOf};
+ghost use Rattle.std.specs.Prelude.{◌≡◌, None, IfOk};
+ghost use Rattle.scj_tree.specs.Recursion.{lookup};
+ghost use Rattle.class_rows.specs.Tables.{AreChainedScopes};
 ghost use Rattle.object_layout.specs.Layouts.{AreTablesOf};
 
 use crate::body_tables::{BodyTable, body_table};
@@ -11,20 +11,14 @@ use crate::object_tables::{ObjectTable, object_table};
 use crate::safelets::safelet_class;
 use class_rows::ClassTable;
 use node_contexts::Contexts;
-use program_facts::{Facts, ScopeNames, ScopeTree};
-use scj_base::{ClassId, Memory};
-use scope_tree::{build, names_of};
+use scj_base::{ClassId, Memory, ScopeId};
 use std::alloc::Global;
 
 /// What is told of a program before it runs.
 #[derive(Drop)]
 pub struct Tables {
-    /// The contexts of the nodes.
-    pub(crate) contexts: Contexts,
-    /// The scopes by their names.
-    pub(crate) names: ScopeNames,
-    /// The tree of the scopes.
-    pub(crate) scopes: ScopeTree,
+    /// The scope that the chain of each class defines.
+    pub(crate) scopes: Vec<Option<ScopeId>>,
     /// What is asked of bodies.
     pub(crate) bodies: BodyTable,
     /// What is asked of fields.
@@ -35,34 +29,31 @@ pub struct Tables {
     pub(crate) safelet: Option<ClassId>,
 }
 
-/// The scopes by their names, and their tree.
-fn scopes_of(
-    alloc: Global,
-    classes: &ClassTable,
-    contexts: &Contexts,
-) -> Result<(ScopeNames, ScopeTree), Memory>
-    requires { contexts.now ≡ contexts_in classes.now }
-    ensures names { IfOk result (λ made. IsNaming (declarations_of classes.now) made.0) }
-    ensures tree { IfOk result (λ made. IsTreeOf classes.now made.1) }
+/// The scope at the number of a class.
+pub fn scope_numbered(scopes: &[Option<ScopeId>], class: ClassId) -> Option<ScopeId>
+    ensures { result ≡ lookup None scopes.now class }
 {
-    let names = names_of(alloc, classes)?;
-    let (tree, _found) = build(alloc, &Facts::new(classes, contexts, &names))?;
-    Ok((names, tree))
+    match scopes.get(class.number() as usize) {
+        Some(scope) => *scope,
+        None => None,
+    }
 }
 
-/// The tables of a program.
-pub fn tables_of(alloc: Global, classes: &ClassTable) -> Result<Tables, Memory>
+/// The tables of a program, with the scopes that the chains of its classes define.
+pub fn tables_of(
+    alloc: Global,
+    classes: &ClassTable,
+    scopes: Vec<Option<ScopeId>>,
+) -> Result<Tables, Memory>
+    requires { AreChainedScopes classes.now scopes.items }
     ensures { IfOk result (λ tables. AreTablesOf classes.now tables) }
 {
     let contexts = Contexts::of(alloc, classes.program())?;
-    let (names, scopes) = scopes_of(alloc, classes, &contexts)?;
     let bodies = body_table(alloc, classes, &contexts)?;
     let fields = field_table(alloc, classes)?;
     let objects = object_table(alloc, classes)?;
     let safelet = safelet_class(classes);
     Ok(Tables {
-        contexts,
-        names,
         scopes,
         bodies,
         fields,

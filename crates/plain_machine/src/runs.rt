@@ -9,6 +9,7 @@ use crate::steps::Progress;
 use class_rows::ClassTable;
 use job_frames::Code;
 use object_layout::Layout;
+use private_scopes::private_scopes;
 use run_plan::Plan;
 use scj_base::{Failed, Files, Memory};
 use scj_io::Sink;
@@ -93,7 +94,8 @@ fn run_by_table<K: Sink>(
     ensures stop { IfErr result (λ stop. BreaksOff checked.now.program plan.now files.now
         (sink_run (K.taken out.old) (K.taken out.new) (K.faults out.old) (K.faults out.new)) stop) }
 {
-    let layout = Layout::of(alloc, table)?;
+    let scopes = private_scopes(alloc, table)?;
+    let layout = Layout::of(alloc, table, scopes)?;
     let code = Code::new(checked, &layout);
     let setting = Setting {
         code: &code,

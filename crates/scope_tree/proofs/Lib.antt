@@ -1,4 +1,4 @@
+pub mod DefinitionLemmas
 pub mod NameLemmas
 pub mod PhaseLemmas
 pub mod TreeLemmas
-pub mod UserLemmas

@@ -17,7 +17,7 @@ use Rattle.scj_rules.specs.Classes.{class_nodes, first_user_class}
 use Rattle.scj_rules.specs.Contexts.{Declarations, declarations_of}
 use Rattle.scj_rules.specs.ScopeRules.{definition_in, scope_of_definition}
 use Rattle.program_facts.specs.Tables.{entered}
-use Rattle.scope_tree.proofs.UserLemmas.{class_count, definition_at_place, no_definition_below, scope_at_place}
+use Rattle.scope_tree.proofs.DefinitionLemmas.{class_count, definition_at_place, no_definition_below, scope_at_place}
 
 pub ordered_same : (xs ys : List ℕ) → is_eq (slice_cmp nat_cmp xs ys) ≡ is_same ys xs
 ordered_same xs ys = is_eq-slice_cmp xs ys ∙ nat_list_eq_equiv.symm xs ys

@@ -1,5 +1,5 @@
--- Chains of scopes, and what tables tell.
-use Rattle.std.proofs.Common.{◌≡◌, ◌-◌, ℕ, ◌<◌, ◌≤◌, false, List, [], length, slice_get, Option, Some, ap, ◌∙◌, arith, ◌==◌}
+-- Chains of scopes, and rows of tables.
+use Rattle.std.proofs.Common.{◌≡◌, ◌-◌, ℕ, ◌<◌, false, List, [], length, slice_get, Option, Some, ap, arith, ◌==◌}
 use Rattle.std.proofs.lemmas.Bool.Decides.{nat_tests}
 use Rattle.std.proofs.lemmas.Option.{get_or_from_slice_get, slice_get_within}
 use Rattle.scj_tree.specs.Recursion.{lookup, listed}
@@ -13,12 +13,6 @@ use Rattle.program_facts.specs.Tables.{AreRowsOf}
 pub passed_here : (next : ℕ → Option ℕ) (a scope left : ℕ) → 0 < left → false ≡ (a == scope)
     → is_among a (chain_from next (left - 1) (next scope)) ≡ is_among a (chain_from next left (Some scope))
 passed_here next a scope left l h = grind (arith, nat_tests, chain_here next left scope l, h)
-
--- a table of all classes tells what is said of each number, where nothing is said of those behind them
-pub table_tells : {A : Type 0} (default : A) (f : ℕ → A) (n : ℕ) → ((a : ℕ) → n ≤ a → f a ≡ default) → (xs : List A) →
-    xs ≡ listed f n → (a : ℕ) → lookup default xs a ≡ f a
-table_tells default f n past xs e a =
-    ap (λ t. lookup default t a) e ∙ listed-at default f n a ∙ grind (arith, nat_tests, past a)
 
 -- rows that are made number after number, and no rows at all
 pub rows_listed : {A : Type 0} (f : ℕ → A) (rows : List A) (n : ℕ) → rows ≡ listed f n → AreRowsOf f rows

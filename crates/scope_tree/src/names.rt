@@ -70,7 +70,7 @@ fn definition(program: &Program, class: Option<NodeId>) -> Option<Definition>
 }
 
 /// The definition that a class writes.
-#[tactic(auto, using(crate::proofs::UserLemmas::definition_of_class))]
+#[tactic(auto, using(crate::proofs::DefinitionLemmas::definition_of_class))]
 pub fn definition_in(classes: &ClassTable, class: ClassId) -> Option<Definition>
     ensures { result ≡ definition_in (declarations_of classes.now) class }
 {
@@ -80,7 +80,7 @@ pub fn definition_in(classes: &ClassTable, class: ClassId) -> Option<Definition>
 }
 
 /// The annotations and modifiers of a user class.
-#[tactic(auto, using(crate::proofs::UserLemmas::written_stays))]
+#[tactic(auto, using(class_rows::proofs::UserLemmas::written_stays))]
 pub fn modifiers_in(classes: &ClassTable, class: ClassId) -> Option<Modifiers>
     ensures { result ≡ option_map (λ (c : WrittenClass). c.modifiers)
         (user_class_in (declarations_of classes.now).classes class) }
@@ -90,7 +90,7 @@ pub fn modifiers_in(classes: &ClassTable, class: ClassId) -> Option<Modifiers>
 }
 
 /// Where a user class is named.
-#[tactic(auto, using(crate::proofs::UserLemmas::written_stays))]
+#[tactic(auto, using(class_rows::proofs::UserLemmas::written_stays))]
 pub fn place_in(classes: &ClassTable, class: ClassId) -> Option<Pos>
     ensures { result ≡ option_map (λ (c : WrittenClass). c.place)
         (user_class_in (declarations_of classes.now).classes class) }

@@ -1,5 +1,5 @@
--- The user classes of a program at their numbers, and the definitions that they write.
-use Rattle.std.proofs.Common.{◌≡◌, ℕ, zero, suc, ◌+◌, ◌-◌, ◌<◌, ◌≤◌, Bool, List, [], ◌∷◌, ◌++◌, length, map, find, filter_map, slice_get, position, Option, Some, None, option_map, option_and_then, refl, sym, ap, ◌∙◌, arith, ⊎_elim, ◌==◌, ◌||◌, if◌then◌else◌}
+-- The definitions that the user classes of a program write, at the numbers of the classes.
+use Rattle.std.proofs.Common.{◌≡◌, ℕ, zero, suc, ◌+◌, ◌-◌, ◌<◌, ◌≤◌, Bool, List, [], ◌∷◌, ◌++◌, length, map, find, slice_get, position, Option, Some, None, option_map, option_and_then, refl, sym, ap, ◌∙◌, arith, ⊎_elim, ◌==◌, ◌||◌, if◌then◌else◌}
 use Rattle.std.specs.List.{position_or_len}
 use Rattle.std.proofs.lemmas.Bool.{cases_lt, eq-eqb}
 use Rattle.std.proofs.lemmas.List.{length-map}
@@ -10,47 +10,21 @@ use Rattle.scj_builtins.specs.declared.classes.FrameworkClass.{FrameworkClass}
 use Rattle.scj_builtins.specs.Framework.{framework_classes}
 use Rattle.scj_tree.specs.declared.nodes.Node.{Node}
 use Rattle.scj_tree.specs.Counts.{times}
-use Rattle.scj_tree.specs.Forest.{Forest, IsForest, IsClass, is_class, AllClasses, joined, all_children}
+use Rattle.scj_tree.specs.Forest.{Forest, IsForest, joined, all_children}
 use Rattle.scj_tree.proofs.ForestLemmas.{times-append}
 use Rattle.scj_rules.specs.declared.scopes.Definition.{Definition}
 use Rattle.scj_rules.specs.Definitions.{read, definition, in_front, definition_with, definition_of, definitions_in, definitions, written_of, values_of, define_scope_of, flags_of}
 use Rattle.scj_rules.specs.Words.{is_among}
-use Rattle.scj_rules.specs.Views.{WrittenClass, class_at, class_of}
+use Rattle.scj_rules.specs.Views.{WrittenClass}
 use Rattle.scj_rules.specs.Classes.{ClassRow, class_nodes, user_classes, class_names, user_row, framework_rows_from, written_rows, first_user_class}
 use Rattle.scj_rules.specs.Contexts.{Declarations, declarations_of, number_of_class}
 use Rattle.scj_rules.specs.ScopeRules.{definition_in, scope_of_definition}
 use Rattle.scj_rules.proofs.WithinLemmas.{user_count}
 use Rattle.class_rows.specs.Tables.{class_written}
-use Rattle.class_rows.proofs.RowLemmas.{as_written}
 use Rattle.class_rows.proofs.SoundLemmas.{row_sound}
-
--- ---- the nodes of the user classes are the classes of the files
-
-class_read : (nodes : List Node) (x : ℕ) (node : Node) → IsClass node → (c : WrittenClass) ×
-    (class_of nodes x node ≡ Some c) × (c.node ≡ x)
-unfolding class_of
-class_read nodes x node is_class = (_, refl, refl)
-
-pub nodes_of_users : (nodes : List Node) (ids : List ℕ) → AllClasses nodes ids →
-    map (λ (c : WrittenClass). c.node) (filter_map (class_at nodes) ids) ≡ ids
-unfolding AllClasses
-nodes_of_users nodes [] h = refl
-nodes_of_users nodes (x ∷ ids) h =
-    let there = class_read nodes x h.0.0 h.0.2 in
-    let here : class_at nodes x ≡ Some there.0 = (rw h.0.1 there.1) in
-    rw here (let rest = nodes_of_users nodes ids h.1 in let same = there.2 in cc)
+use Rattle.class_rows.proofs.UserLemmas.{nodes_of_users, written_in, written_stays}
 
 -- ---- a class at its number
-
-abbrev written_in : List ClassRow → ℕ → Option WrittenClass
-written_in rows k = option_and_then (λ (row : ClassRow). row.written) (slice_get rows k)
-
--- how a class is written stays, however it counts
-pub written_stays : (forest : Forest) (class : ℕ) → class_written (declarations_of forest) class ≡ written_in
-    (declarations_of forest).classes class
-unfolding class_written
-written_stays forest class =
-    sym (as_written (option_and_then (λ (row : ClassRow). row.written)) (λ row. refl) forest class)
 
 no_user_below : (forest : Forest) (class : ℕ) → class < first_user_class →
     written_in (declarations_of forest).classes class ≡ None
@@ -86,10 +60,6 @@ user_at forest k =
     sym (written_stays forest (first_user_class + k))
     ∙ behind_framework 0 framework_classes (map (user_row forest.nodes (class_names users)) users) k
     ∙ user_rows_at forest.nodes (class_names users) users k
-
--- the framework's classes are there
-pub framework_first : (forest : Forest) → first_user_class ≤ length (declarations_of forest).classes
-framework_first forest = omega (arith, user_count forest)
 
 -- ---- the definition of a class
 
