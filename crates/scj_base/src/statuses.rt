@@ -24,8 +24,6 @@ pub enum Status {
     NoMemory,
     /// A file has more bytes than are read.
     TooLong,
-    /// The sources are in the language, and in no form that is checked to the end yet.
-    NotBuilt,
 }
 
 impl Status {
@@ -43,7 +41,6 @@ impl Status {
             Status::WriteFault => 6,
             Status::NoMemory => 7,
             Status::TooLong => 8,
-            Status::NotBuilt => 9,
         }
     }
 }

@@ -1,7 +1,7 @@
 -- How a call may end: which status it tells, and what stands on the two sinks.
 use Rattle.std.specs.Prelude.{◌≡◌, ◌⊎◌, ℕ, ◌<◌, ◌≤◌, List, [], ◌∷◌, ◌++◌, length, codes, Option, Some}
 use Rattle.scj_base.specs.declared.statuses.Status.{Status}
-use Rattle.scj_base.specs.declared.statuses.Status.TheVariants.{Done, Refused, Usage, Halted, PlanRefused, ReadFault, WriteFault, NoMemory, TooLong, NotBuilt}
+use Rattle.scj_base.specs.declared.statuses.Status.TheVariants.{Done, Refused, Usage, Halted, PlanRefused, ReadFault, WriteFault, NoMemory, TooLong}
 use Rattle.scj_io.specs.Counters.{Rose}
 use Rattle.scj_io.specs.Loads.{Held, ShelfRun, MayHold, MayExceed}
 use Rattle.scj_io.specs.Loads.Held.{Told, Absent}
@@ -144,7 +144,6 @@ IsUnanswered ReadFault = Unit {0}
 IsUnanswered WriteFault = Unit {0}
 IsUnanswered NoMemory = Unit {0}
 IsUnanswered TooLong = Unit {0}
-IsUnanswered NotBuilt = ⊥
 
 -- where a file is told as absent, the status is none that rests on its contents
 abbrev pub IsNeverAbsent : Call → Status → Type 0
