@@ -4,7 +4,7 @@
     python3 rule_index.py --check  compares it with what would be written
 
 Definitions are found by the rule's code in them, or in the comment above them as `-- C1, what it asks`; functions by
-the code in them. The wrong bodies stand below, by hand. What isn't found, and an edit that isn't there, fails.
+the code in them, or in their documentation as `Notes C1 at`. The wrong bodies stand below, by hand. What isn't found, and an edit that isn't there, fails.
 """
 
 import glob
@@ -55,11 +55,11 @@ EDITS = {
     "T5": "type_rules/size_method_called class_rows/framework_root_not_asked",
     "T6": "type_rules/more_arguments_than_parameters node_views/first_parameter_twice",
     "T7": "type_rules/value_and_target_swapped",
-    "T8": "",
+    "T8": "type_rules/condition_of_int",
     "T9": "type_words/void_is_long",
     "T10": "type_words/loops_never_return type_words/one_branch_returns type_words/while_true_may_end",
     "T11": "type_rules/static_class_made",
-    "T12": "",
+    "T12": "type_rules/cast_of_any_reference",
     "T13": "program_facts/object_in_static_members",
     "T14": "type_rules/form_twice_for_storage type_words/largest_size_refused",
     "S1": "scope_tree/entered_under_the_parent",
@@ -67,7 +67,7 @@ EDITS = {
     "S3": "scope_tree/every_scope_is_on_a_cycle",
     "S4": "scope_tree/wrong_parent_as_wrong_class",
     "S5": "scope_tree/mission_below_a_mission scope_tree/wrong_parent_as_wrong_class",
-    "S6": "",
+    "S6": "scope_tree/scope_written_is_missing",
     "A1": "annotation_rules/annotated_variables_passed_over "
     "annotation_rules/contradiction_as_unknown",
     "A2": "annotation_rules/other_scope_in_a_subclass scope_tree/implied_scope_is_unknown",
@@ -78,7 +78,7 @@ EDITS = {
     "A7": "annotation_rules/unknown_runs_in_as_other static_scopes/static_method_may_name_this",
     "A8": "static_scopes/nothing_defined_fixes_nothing class_rows/another_name_is_told",
     "A9": "annotation_rules/contradiction_as_unknown static_scopes/unknown_name_as_known_elsewhere",
-    "E1": "",
+    "E1": "runs_in_check/new_in_immortal_alone",
     "E2": "runs_in_check/caller_refused static_scopes/method_runs_with_its_object",
     "E3": "runs_in_check/caller_value_into_an_own_field runs_in_check/this_not_replaced static_scopes/null_fits_nothing",
     "E4": "runs_in_check/caller_value_into_an_own_field",
@@ -150,11 +150,29 @@ def headed_rules(pattern, rules):
     return found
 
 
+def documented_rules(pattern, rules):
+    """For each rule the functions whose documentation says that they note it, as (file, function)."""
+    code = "|".join(sorted(rules, key=len, reverse=True))
+    found = {}
+    for path in sorted(glob.glob(pattern, recursive=True)):
+        comment = ""
+        for line in map(str.strip, read(path).split("\n")):
+            if line.startswith("///"):
+                comment += line
+            elif not line.startswith("#["):
+                noted = function_begun(line) and re.match(r"/// Notes (.*?) at ", comment)
+                for first, last in re.findall(rf"\b({code})\b(?: to ({code})\b)?", noted[1] if noted else ""):
+                    for rule in rules[rules.index(first) : rules.index(last or first) + 1]:
+                        found.setdefault(rule, []).append((path, function_begun(line)))
+                comment = ""
+    return found
+
+
 def named_rules(pattern, begins, comment, mention):
     """For each rule the items of the files that name it, as (file, item)."""
     named = {}
     for path in sorted(glob.glob(pattern, recursive=True)):
-        if re.search(r"/tests?([./])", path):
+        if re.search(r"/(library_)?tests?[./]", path):
             continue
         for item, line in parts_of(path, begins, comment):
             if item is None or re.match(r"\s*(ghost )?(pub )?(unfoldable )?use ", line):
@@ -181,16 +199,24 @@ def told(places):
         _, crate, folder, *rest = path.split("/")
         name = "/".join(rest)
         place = f"{crate}/{os.path.splitext(name)[0]}" if folder == "specs" else f"{crate}/{name}"
-        parts.append(f"{', '.join(f'`{item}`' for item in items)} in {place}")
+        parts.append(f"{', '.join(f'`{item}`' for item in items)} in {link(place, path)}")
     return "; ".join(parts)
 
 
+def link(text, path):
+    """A link from the page to a file."""
+    return f"[{text}](../{path})"
+
+
 def edits_told(words, fail):
+    links = []
     for word in words.split():
         crate, _, name = word.partition("/")
-        if not os.path.isfile(f"crates/{crate}/must-fail/{name}.edit"):
+        path = f"crates/{crate}/must-fail/{name}.edit"
+        if not os.path.isfile(path):
             fail(f"there is no edit {word}")
-    return ", ".join(words.split()) or "none of its own"
+        links.append(link(word, path))
+    return ", ".join(links)
 
 
 def page(fail):
@@ -205,7 +231,11 @@ def page(fail):
             for rule, places in found.items():
                 row = definitions.setdefault(rule, [])
                 row += [place for place in places if place not in row]
-    functions = named_rules("crates/*/src/**/*.rt", function_begun, "//", rf"Rule::({known})(?!\w)")
+    files = "crates/*/src/**/*.rt"
+    functions = named_rules(files, function_begun, "//", rf"Rule::({known})(?!\w)")
+    for rule, places in documented_rules(files, [rule for rule, _ in heads]).items():
+        row = functions.setdefault(rule, [])
+        row += [place for place in places if place not in row]
     lines = [HEAD, "| Rule | Defined by | Noted by | Wrong bodies |", "|---|---|---|---|"]
     for rule, text in heads:
         for what, found in ("definition", definitions), ("function", functions), ("row of edits", EDITS):
@@ -215,7 +245,7 @@ def page(fail):
             f"[{rule}](RULES.md#{anchor(rule, text)}) {text}",
             told(definitions.get(rule, [])),
             told(functions.get(rule, [])),
-            edits_told(EDITS.get(rule, ""), fail),
+            edits_told(EDITS[rule], fail),
         ]
         lines.append(f"| {' | '.join(cells)} |")
     lines += ["", "Of all rules:", ""]

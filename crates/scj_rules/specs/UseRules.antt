@@ -183,6 +183,7 @@ unfoldable pub target_rule : Declarations → ℕ → Node → Option Rule
 target_rule p id (SimpleName place name) = Some (target_of_meaning (meaning p id name))
 target_rule p id _ = Some E5
 
+-- E4 to E5: the value's scope doesn't fit the target's
 unfoldable pub e4_and_e5 : Declarations → Types → Scopes → ℕ → Node → List Found
 e4_and_e5 p types scopes id (Assign place target value) =
     found_at (read p.nodes (target_rule p target) target)

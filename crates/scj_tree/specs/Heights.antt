@@ -62,7 +62,7 @@ body_height nodes (Constructor place name flags parameters super_call body) =
     max (height nodes body) (super_height nodes super_call)
 body_height nodes _ = 0
 
--- the name of the first method or constructor among some of the nodes whose body is higher than 64
+-- P2, too deep: the name of the first method or constructor among some of the nodes whose body is higher than 64
 unfoldable pub first_too_deep : List Node → List Node → Option Pos
 first_too_deep nodes [] = None
 first_too_deep nodes (node ∷ more) =
