@@ -41,9 +41,13 @@ unfoldable pub name_at : MemberKind → List Node → ℕ → Option (List ℕ)
 name_at Field nodes id = option_map (λ (f : Declared). f.name) (field_at nodes id)
 name_at Method nodes id = option_map (λ (m : DeclaredMethod). m.declared.name) (method_at nodes id)
 
+-- a member of the kind at the node has the name
+abbrev pub is_named : MemberKind → List Node → List ℕ → ℕ → Bool
+is_named kind nodes name id = holds (name_at kind nodes id) (is_same name)
+
 -- the first of these nodes with a member of the kind and the name
 abbrev pub first_named : MemberKind → List Node → List ℕ → List ℕ → Option ℕ
-first_named kind nodes name members = find (λ id. holds (name_at kind nodes id) (is_same name)) members
+first_named kind nodes name members = find (is_named kind nodes name) members
 
 -- the nodes of all members of the kind, and their numbers
 unfoldable pub member_nodes : MemberKind → Forest → List ℕ
@@ -120,8 +124,7 @@ members_of forest classes = flat_map (members_on forest) classes
 
 -- the first of these members that has the name
 abbrev pub nearest_named : MemberKind → List Node → List ℕ → List FieldRef → Option FieldRef
-nearest_named kind nodes name members =
-    find (λ (m : FieldRef). holds (name_at kind nodes m.node) (is_same name)) members
+nearest_named kind nodes name members = find (λ (m : FieldRef). is_named kind nodes name m.node) members
 
 -- the nearest member of the name that these classes declare, the nearest class first
 abbrev pub nearest_in : MemberKind → Forest → List ℕ → List ℕ → Option FieldRef
@@ -174,6 +177,10 @@ nearest_now ns name = latest (changes_under ns.changes name)
 pub record AreInOrder (count : ℕ) (changes : List Change) : Type 0 where
   pub rising : IsNonDecreasingBy (λ (c : Change). c.before) changes
   pub past : All (λ (c : Change). c.before < count) changes
+
+-- it is told what stands above the class
+abbrev pub is_told : NearestMembers → ℕ → Bool
+is_told ns class = is_some (get ◌==◌ ns.told class)
 
 -- what is told of the classes is right, and so is which of the nearest members now are abstract methods
 pub record AreNearest (kind : MemberKind) (forest : Forest) (ns : NearestMembers) : Type 0 where

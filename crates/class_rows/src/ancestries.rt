@@ -2,7 +2,7 @@
 //! and a long step up its chain. Where the two long steps from its superclass on are of one length, its own is as long
 //! as both and one more, or else it leads to the superclass alone: so few steps lead along a chain.
 
-ghost use Rattle.std.specs.Prelude.{◌≡◌, ◌∷◌, List, IfOk, IfSome, OnOk};
+ghost use Rattle.std.specs.Prelude.{◌≡◌, ◌∷◌, List, IfOk, IfSome};
 ghost use Rattle.scj_rules.specs.Words.{is_among};
 ghost use Rattle.scj_rules.specs.Classes.{ClassRow, superclasses};
 ghost use Rattle.scj_rules.specs.Contexts.{declarations_of};
@@ -129,7 +129,7 @@ impl<'a> ClassTable<'a> {
     /// Tells of the classes above each of these, a superclass before those under it. Where a superclass comes later,
     /// nothing is told.
     pub fn tell_ancestries(&mut self, alloc: Global, classes: &[ClassId]) -> Result<(), Memory>
-        ensures { OnOk result (self.new ≡ self.old) }
+        ensures { self.new ≡ self.old }
     {
         self.ancestries = no_ancestries(alloc, self.count)?;
         for class in classes {

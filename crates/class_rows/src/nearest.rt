@@ -1,12 +1,12 @@
 //! The nearest members of names above classes, as a tour of the classes finds them: each change of what a name stands
 //! for is kept, and of each class how many there were. So a binary search tells later what a name stood for there.
 
-ghost use Rattle.std.specs.Prelude.{◌≡◌, [], ◌∷◌, ℕ, List, IfSome, OnOk, if◌then◌else◌};
+ghost use Rattle.std.specs.Prelude.{◌≡◌, ◌==◌, ◌||◌, [], ◌∷◌, ℕ, List, is_some, IfSome, OnOk, if◌then◌else◌};
 ghost use Rattle.scj_base.specs.Bytes.{is_same};
 ghost use Rattle.scj_tree.specs.Forest.{Forest};
 ghost use Rattle.scj_rules.specs.Classes.{classes_above, superclasses};
 ghost use Rattle.class_rows.specs.declared.members.MemberKind.{MemberKind};
-ghost use Rattle.class_rows.specs.Members.{as_method, change, changes_under, if_abstract, kept_under, latest, nearest_before, nearest_now, rows_of, with_change, AreInOrder, AreNamed, AreNearest, IsNearestAbove, IsSplit};
+ghost use Rattle.class_rows.specs.Members.{as_method, change, changes_under, if_abstract, is_told, kept_under, latest, nearest_before, nearest_now, rows_of, with_change, AreInOrder, AreNamed, AreNearest, IsNearestAbove, IsSplit};
 
 use crate::fields::FieldRef;
 use method_rows::{MethodRef, MethodSource};
@@ -37,7 +37,7 @@ pub struct NearestMembers {
     /// How many there were when it was told what stands above a class.
     told: HashMap<u32, u32>,
     /// The nearest members now that are abstract methods.
-    pub abstracts: BTreeMap<Name, FieldRef>,
+    abstracts: BTreeMap<Name, FieldRef>,
 }
 
 /// A method among members as a look-up gives it.
@@ -148,7 +148,15 @@ impl NearestMembers {
         latest(self.changes_of(name))
     }
 
-    /// Notes the nearest member of a name from now on.
+    /// The nearest members now that are abstract methods, each under its name.
+    pub fn abstracts(&self) -> &BTreeMap<Name, FieldRef>
+        ensures { result.now ≡ self.now.abstracts }
+    {
+        &self.abstracts
+    }
+
+    /// Notes the nearest member of a name from now on. The classes of which it is told what stands above them stay the
+    /// same, after an `Err` too.
     pub fn note(
         &mut self,
         program: &Program,
@@ -159,6 +167,7 @@ impl NearestMembers {
             ≡ (if is_same name.now other then nearest.now else nearest_now self.old other)) }
         ensures told { OnOk result ((kind : MemberKind) → AreNearest kind program.now self.old →
             AreNearest kind program.now self.new) }
+        ensures kept { (class : ℕ) → is_told self.new class ≡ is_told self.old class }
     {
         if self.count == u32::MAX {
             return Err(Memory);
@@ -171,7 +180,9 @@ impl NearestMembers {
 
     /// Tells what stands above a class: the nearest members now.
     pub fn tell(&mut self, class: ClassId) -> Result<(), Memory>
-        ensures { OnOk result ((kind : MemberKind) (forest : Forest) (path : List ℕ) →
+        ensures told { OnOk result ((other : ℕ) → is_told self.new other
+            ≡ ((class == other) || is_told self.old other)) }
+        ensures nearest { OnOk result ((kind : MemberKind) (forest : Forest) (path : List ℕ) →
             superclasses (rows_of forest) class ≡ class ∷ path → classes_above (rows_of forest) class ≡ path →
             IsSplit (superclasses (rows_of forest) class) → AreNamed kind forest self.old path →
             AreNamed kind forest self.new path) }
@@ -182,7 +193,8 @@ impl NearestMembers {
 
     /// The nearest member of a name above a class, where it is told.
     pub fn nearest_above(&self, class: ClassId, name: &Name) -> Option<Option<FieldRef>>
-        ensures { (kind : MemberKind) (forest : Forest) → AreNearest kind forest self.now →
+        ensures told { is_some result ≡ is_told self.now class }
+        ensures nearest { (kind : MemberKind) (forest : Forest) → AreNearest kind forest self.now →
             IfSome result (λ nearest. IsNearestAbove kind forest class name.now nearest) }
     {
         let count = self.told.get(&class.number()).copied()?;

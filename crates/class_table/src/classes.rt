@@ -110,7 +110,7 @@ pub fn note_classes(
     ensures nearest { IfOk result (λ told. AreNearest Field classes.now told.1 × AreNearest Method classes.now told.2) }
 {
     let mut told = no_methods_inherited(alloc);
-    let mut table = SymbolTable::new(alloc, classes)?;
+    let mut table = SymbolTable::new(alloc, classes);
     note_each(alloc, found, &mut told, &mut table, order)?;
     let (fields, methods) = table.into_nearest();
     Ok((told, fields, methods))

@@ -5,7 +5,7 @@ use Rattle.std.proofs.lemmas.Grind.{common_steps}
 use Rattle.scj_builtins.specs.Framework.{framework_classes, object, object_name, class_row}
 use Rattle.scj_builtins.specs.declared.kinds.ClassKind.TheVariants.{Concrete as concrete_class}
 use Rattle.scj_tree.specs.Forest.{Forest}
-use Rattle.scj_rules.specs.Words.{chain, chain_behind}
+use Rattle.scj_rules.specs.Words.{chain_behind}
 use Rattle.scj_rules.specs.Classes.{ClassRow, classes_above, framework_row, framework_rows_from, superclass_in, superclasses, written_rows, instance_fields, own_instance_fields}
 use Rattle.scj_rules.specs.Contexts.{declarations_of}
 use Rattle.scj_rules.specs.Views.{field_at}

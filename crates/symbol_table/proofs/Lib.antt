@@ -1,3 +1,4 @@
 pub mod LevelLemmas
 pub mod LookLemmas
 pub mod OpenLemmas
+pub mod ToldLemmas

@@ -1,6 +1,6 @@
 -- What a table keeps: a class, those above it, and the members of those.
-pub use Rattle.class_rows.specs.Members.{rows_of, is_abstract, AreNamed, IsSplit}
-use Rattle.std.specs.Prelude.{◌≡◌, ℕ, ◌<◌, Bool, false, not, ◌&&◌, List, [], ◌∷◌, length, map, filter, Option, None, Some, if◌then◌else◌}
+pub use Rattle.class_rows.specs.Members.{rows_of, is_abstract, is_told, AreNamed, IsSplit}
+use Rattle.std.specs.Prelude.{◌≡◌, ℕ, ◌<◌, Bool, true, false, not, ◌&&◌, List, [], ◌∷◌, length, map, filter, All, Option, None, Some, if◌then◌else◌}
 use Rattle.scj_builtins.specs.Framework.{object}
 use Rattle.scj_tree.specs.declared.nodes.Node.{Node}
 use Rattle.scj_tree.specs.Forest.{Forest}
@@ -9,6 +9,7 @@ use Rattle.scj_rules.specs.Words.{along, holds}
 use Rattle.scj_rules.specs.Views.{DeclaredMethod, method_at}
 use Rattle.scj_rules.specs.Classes.{ClassRow, FoundMethod, classes_above, instance_fields, is_user_class, own_method, superclass_in, superclasses}
 use Rattle.class_rows.specs.declared.members.MemberKind.TheVariants.{Field, Method}
+use Rattle.class_rows.specs.declared.nearest.NearestMembers.{NearestMembers}
 use Rattle.symbol_table.specs.declared.levels.Level.{Level}
 use Rattle.symbol_table.specs.declared.scopes.Entered.{Entered}
 use Rattle.symbol_table.specs.declared.scopes.Scope.{Scope}
@@ -47,11 +48,17 @@ IsPath rows (level ∷ above) = IsUnder rows level (classes_of above) × IsPath 
 abbrev pub with_class : Bool → ℕ → List ℕ → List ℕ
 with_class is_entered class classes = if is_entered then class ∷ classes else classes
 
--- the members of these classes are entered
+-- of each of these classes it is told what stands above it
+abbrev pub AreTold : NearestMembers → List ℕ → Type 0
+AreTold ns classes = All (λ class. is_told ns class ≡ true) classes
+
+-- the members of these classes are entered, and it is told which fields and which methods stand above each
 pub record IsEntered (forest : Forest) (entered : Entered) : Type 0 where
   pub path : IsPath (rows_of forest) entered.path
   pub fields : AreNamed Field forest entered.fields (classes_of entered.path)
   pub methods : AreNamed Method forest entered.methods (classes_of entered.path)
+  pub fields_told : AreTold entered.fields (classes_of entered.path)
+  pub methods_told : AreTold entered.methods (classes_of entered.path)
 
 -- those of the classes above are entered
 pub record IsScope (forest : Forest) (scope : Scope) : Type 0 where

@@ -73,6 +73,6 @@ impl<'a> SymbolTable<'a> {
     pub fn leaves_declared_open(&self) -> bool
         ensures { result ≡ leaves_declared_open (declarations_of self.now.forest) self.now.class }
     {
-        self.leaves_own() || self.leaves_one(&self.scope.above.methods.abstracts)
+        self.leaves_own() || self.leaves_one(self.scope.above.methods.abstracts())
     }
 }

@@ -1,10 +1,10 @@
 //! What a table keeps of the classes that are in scope.
 
-ghost use Rattle.std.specs.Prelude.{◌≡◌, not, ℕ, List, IfOk, OnOk};
+ghost use Rattle.std.specs.Prelude.{◌≡◌, ◌<◌, ◌∷◌, true, not, ℕ, List, drop, length, OnOk};
 ghost use Rattle.scj_builtins.specs.Framework.{object};
 ghost use Rattle.scj_tree.specs.Forest.{Forest};
 ghost use Rattle.scj_rules.specs.Classes.{classes_above};
-ghost use Rattle.class_rows.specs.Members.{nearest_in, AreNearest};
+ghost use Rattle.class_rows.specs.Members.{is_told, nearest_in, AreNearest};
 ghost use Rattle.symbol_table.specs.Scopes.{classes_of, rows_of, with_class, AreNamed, IsEntered, IsScope, IsUnder};
 
 use crate::levels::{Level, Path, object_level};
@@ -24,7 +24,7 @@ pub struct Entered {
     pub methods: NearestMembers,
 }
 
-/// What a name stands for above a class, or with its members, where it is entered.
+/// What a name stands for above a class of which that is told, or with its members, where it is entered.
 #[tactic(auto, using(crate::proofs::LookLemmas::standing_is))]
 fn standing(
     nearest: &NearestMembers,
@@ -33,23 +33,25 @@ fn standing(
     class: ClassId,
     name: &Name,
     is_entered: bool,
-) -> Result<Option<FieldRef>, Memory>
-    ensures { AreNearest kind classes.now nearest.now → IfOk result (λ member. member ≡ nearest_in kind classes.now
-        name.now (with_class is_entered class (classes_above (rows_of classes.now) class))) }
+) -> Option<FieldRef>
+    requires { is_told nearest.now class ≡ true }
+    ensures { AreNearest kind classes.now nearest.now → result ≡ nearest_in kind classes.now name.now
+        (with_class is_entered class (classes_above (rows_of classes.now) class)) }
 {
     let Some(above) = nearest.nearest_above(class, name) else {
-        return Err(Memory);
+        unreachable!()
     };
     if !is_entered {
-        return Ok(above);
+        return above;
     }
     match classes.member_like(kind, class, &classes.first_declared(kind, name)) {
-        Some(node) => Ok(Some(FieldRef { on: class, node })),
-        None => Ok(above),
+        Some(node) => Some(FieldRef { on: class, node }),
+        None => above,
     }
 }
 
-/// Notes what the names of a class's members stand for once it is entered or left. What stands above it is told before.
+/// Notes what the names of a class's members stand for once it is entered or left. What stands above it is told before,
+/// and nothing that is told is forgotten, after an `Err` either.
 fn renew(
     nearest: &mut NearestMembers,
     classes: &ClassTable<'_>,
@@ -57,16 +59,18 @@ fn renew(
     level: &Level,
     is_entered: bool,
 ) -> Result<(), Memory>
-    ensures { OnOk result ((path : List ℕ) → IsUnder (rows_of classes.now) level.now path →
+    requires { is_told nearest.old level.now.class ≡ true }
+    ensures named { OnOk result ((path : List ℕ) → IsUnder (rows_of classes.now) level.now path →
         AreNamed kind classes.now nearest.old (with_class (not is_entered) level.now.class path) →
         AreNamed kind classes.now nearest.new (with_class is_entered level.now.class path)) }
+    ensures kept { (class : ℕ) → is_told nearest.new class ≡ is_told nearest.old class }
 {
     let program = classes.program();
     let mut others = classes.members(level.class);
     while let [id, rest @ ..] = others {
         others = rest;
         if let Some(name) = name_at(program, kind, *id) {
-            let member = standing(nearest, classes, kind, level.class, &name, is_entered)?;
+            let member = standing(nearest, classes, kind, level.class, &name, is_entered);
             nearest.note(program, &name, &member)?;
         }
     }
@@ -78,7 +82,8 @@ impl Entered {
     pub fn push(&mut self, classes: &ClassTable<'_>, level: Level) -> Result<(), Memory>
         requires entered { IsEntered classes.now self.old }
         requires level { IsUnder (rows_of classes.now) level (classes_of self.old.path) }
-        ensures { OnOk result (IsEntered classes.now self.new) }
+        ensures entered { OnOk result (IsEntered classes.now self.new) }
+        ensures path { OnOk result (self.new.path ≡ level ∷ self.old.path) }
     {
         self.fields.tell(level.class)?;
         self.methods.tell(level.class)?;
@@ -90,11 +95,13 @@ impl Entered {
 
     /// Leaves the nearest class.
     pub fn pop(&mut self, classes: &ClassTable<'_>) -> Result<(), Memory>
-        requires { IsEntered classes.now self.old }
-        ensures { OnOk result (IsEntered classes.now self.new) }
+        requires entered { IsEntered classes.now self.old }
+        requires nearest { 0 < length self.old.path }
+        ensures entered { OnOk result (IsEntered classes.now self.new) }
+        ensures path { OnOk result (self.new.path ≡ drop 1 self.old.path) }
     {
         let Some(left) = self.path.pop() else {
-            return Err(Memory);
+            unreachable!()
         };
         renew(&mut self.fields, classes, MemberKind::Field, &left, false)?;
         renew(&mut self.methods, classes, MemberKind::Method, &left, false)?;

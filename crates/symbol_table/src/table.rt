@@ -1,6 +1,6 @@
 //! The members in scope at one class after another.
 
-ghost use Rattle.std.specs.Prelude.{◌≡◌, ◌<◌, length, IfOk, OnOk};
+ghost use Rattle.std.specs.Prelude.{◌≡◌, ◌<◌, length, OnErr, OnOk};
 ghost use Rattle.scj_builtins.specs.Framework.{object};
 ghost use Rattle.scj_rules.specs.Classes.{instance_fields};
 ghost use Rattle.scj_rules.specs.Contexts.{declarations_of};
@@ -36,14 +36,14 @@ impl<'a> Model for SymbolTable<'a> {
 
 impl<'a> SymbolTable<'a> {
     /// The table at `Object`.
-    pub fn new(alloc: Global, classes: &'a ClassTable<'a>) -> Result<SymbolTable<'a>, Memory>
-        ensures { IfOk result (λ table. table ≡ at_class classes.now object) }
+    pub fn new(alloc: Global, classes: &'a ClassTable<'a>) -> SymbolTable<'a>
+        ensures { result ≡ at_class classes.now object }
     {
-        Ok(SymbolTable {
+        SymbolTable {
             alloc,
             classes,
             scope: Scope::new(alloc),
-        })
+        }
     }
 
     /// Goes to a class: it costs the members of the classes above that are left and entered, which is little where the
@@ -51,7 +51,8 @@ impl<'a> SymbolTable<'a> {
     /// there are classes and of a framework class under another one than `Object`, of which no program has any.
     pub fn go_to(&mut self, class: ClassId) -> Result<(), Memory>
         requires { class < length (declarations_of self.old.forest).classes }
-        ensures { OnOk result (self.new ≡ at_class self.old.forest class) }
+        ensures at { OnOk result (self.new ≡ at_class self.old.forest class) }
+        ensures left { OnErr result (self.new ≡ at_class self.old.forest object) }
     {
         if go(self.alloc, &mut self.scope, self.classes, class).is_err() {
             self.scope = Scope::new(self.alloc);

@@ -15,12 +15,13 @@ fn is_nearest(path: &Path, class: &Option<ClassId>) -> bool {
 }
 
 /// Leaves classes until this one is the nearest, or none is left.
+#[tactic(auto, using(crate::proofs::ToldLemmas::some_nearest))]
 fn climb(entered: &mut Entered, classes: &ClassTable, class: &Option<ClassId>) -> Result<(), Memory>
     requires { IsEntered classes.now entered.old }
     ensures { OnOk result (IsEntered classes.now entered.new) }
 {
-    for _step in 0..entered.path.len() {
-        if is_nearest(&entered.path, class) {
+    while let Some(nearest) = entered.path.nearest() {
+        if *class == Some(nearest.class) {
             return Ok(());
         }
         entered.pop(classes)?;

@@ -8,7 +8,7 @@ use Rattle.class_table.proofs.classes.note_each.Goals as goal
 pub loop-others-preserved : goal.loop-others-preserved
 loop-others-preserved c =
     let l = c.loop-others.invariant in
-    let here = c.in_ok-go_to.ensures in
+    let here = c.in_ok-go_to.ensures.at in
     let whole = first_left c.class-item.result c.loop-others.others.now c.in-len1-up.len_at_least c.class-item.is in
     let P : ℕ → Type 0 = λ class. class < length (declarations_of c.args.table.now.forest).classes in
     record {

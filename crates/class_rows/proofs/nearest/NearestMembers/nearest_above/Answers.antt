@@ -3,8 +3,8 @@ use Rattle.std.specs.HashMap.{get}
 use Rattle.class_rows.specs.Members.{changes_under, nearest_before}
 use Rattle.class_rows.proofs.nearest.NearestMembers.nearest_above.Goals as goal
 
-pub returns : goal.returns
-returns c = λ kind forest a.
+pub returns-clause-nearest : goal.returns-clause-nearest
+returns-clause-nearest c = λ kind forest a.
     let count = c.in_ok-count.count in
     let told : get ◌==◌ c.args.self.now.told c.args.class ≡ Some count =
     sym (rw c.number.ensures at (c.copied.ensures ∙ c.get.ensures.value)) ∙ c.in_ok-count.was in

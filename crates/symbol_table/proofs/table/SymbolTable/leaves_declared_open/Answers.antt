@@ -4,6 +4,6 @@ use Rattle.symbol_table.proofs.table.SymbolTable.leaves_declared_open.Goals as g
 
 pub returns-else-leaves_own : goal.returns-else-leaves_own
 returns-else-leaves_own c =
-    rw (← c.self.view_is) ((rw (← c.self.view_is) at c.leaves_one.ensures)
+    rw (← c.self.view_is) ((rw (← c.self.view_is, c.abstracts.ensures) at c.leaves_one.ensures)
     ∙ leaves_by_others c.self.inside.classes.now c.self.inside.scope c.self.invariant
     (sym c.if-leaves_own.false ∙ (rw (← c.self.view_is) at c.leaves_own.ensures)))
