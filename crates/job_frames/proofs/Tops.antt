@@ -1,6 +1,6 @@
 -- The highest frame, lent.
 use borrow.Follows.Closed.{read_of}
-use Rattle.std.proofs.Common.{◌≡◌, ℕ, ◌-◌, ◌<◌, ◌↔◌, List, [], ◌∷◌, Option, Some, None, IsSome, IfSome, IfNone, MutBor, length, reverse, drop, set, get_or, refl, ap, sym, ◌∙◌, take, arith}
+use Rattle.std.proofs.Common.{◌≡◌, ℕ, ◌-◌, ◌<◌, ◌↔◌, List, [], ◌∷◌, Option, Some, None, IsSome, IfSome, IfNone, MutBor, length, reverse, set, get_or, refl, ap, sym, ◌∙◌, take, arith}
 use Rattle.std.specs.Option.{ghost_name_of}
 use Rattle.job_frames.specs.Frames.{StoredFrame, below}
 use Rattle.job_frames.proofs.Reversed.{last_apart, last_written, others_below}

@@ -1,6 +1,6 @@
 -- Frames and activities as the code keeps them. In place of the operations that are left a frame has the works of its
 -- cursor, of which the last is the next one.
-use Rattle.std.specs.Prelude.{ℕ, List, [], ◌∷◌, map, drop, Option, Some, None}
+use Rattle.std.specs.Prelude.{List, [], ◌∷◌, map, drop}
 use Rattle.scj_base.specs.declared.values.Value.{Value}
 use Rattle.scj_tree.specs.declared.nodes.Node.{Node}
 use Rattle.scj_model.specs.Code.{Code}

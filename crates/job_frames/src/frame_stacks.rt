@@ -1,6 +1,6 @@
 //! The frames of a job.
 
-ghost use Rattle.std.specs.Prelude.{◌≡◌, [], ◌∷◌, List, length, reverse, option_copied, slice_get, IfSome, IfNone, IfOk};
+ghost use Rattle.std.specs.Prelude.{◌≡◌, [], ◌∷◌, List, length, reverse, option_copied, slice_get, IfSome, IfNone, IfOk, OnErr};
 ghost use Rattle.std.specs.Borrow.{sem};
 
 use crate::frames::Frame;
@@ -53,7 +53,8 @@ impl FrameStack {
 
     /// Puts a frame on top.
     pub fn push(&mut self, frame: Frame) -> Result<(), Memory>
-        ensures { IfOk result (λ _. self.new ≡ frame ∷ self.old) }
+        ensures pushed { IfOk result (λ _. self.new ≡ frame ∷ self.old) }
+        ensures err { OnErr result (self.new ≡ self.old) }
     {
         self.items.push(frame)?;
         Ok(())
@@ -86,6 +87,7 @@ impl FrameStack {
     /// Gives the highest frame an operand, if there is a frame.
     pub fn push_on_top(&mut self, value: Value) -> Result<(), Memory>
         ensures pushed { IfOk result (λ _. self.new ≡ with_operand value self.old) }
+        ensures err { OnErr result (self.new ≡ self.old) }
         ensures begun { (nodes : List SyntaxNode) → AreBegun nodes self.old → AreBegun nodes self.new }
     {
         if let Some(frame) = self.top_mut() {

@@ -1,6 +1,6 @@
 //! Frames: the calls that are under way.
 
-ghost use Rattle.std.specs.Prelude.{◌≡◌, [], ◌∷◌, ◌++◌, List, slice_get, slice_set, IfSome, IfNone, IfOk};
+ghost use Rattle.std.specs.Prelude.{◌≡◌, [], ◌∷◌, ◌++◌, List, slice_get, slice_set, IfSome, IfNone, IfOk, OnErr};
 ghost use Rattle.scj_base.specs.declared.values.Value.{Value as ValueOfRun};
 ghost use Rattle.scj_model.specs.declared.operations.Op.{Op as OpOfRun};
 ghost use Rattle.scj_model.specs.Code.{Code as CodeOfRun, code_of};
@@ -90,6 +90,7 @@ impl Frame {
     #[inline]
     pub fn push(&mut self, value: Value) -> Result<(), Memory>
         ensures pushed { IfOk result (λ _. self.new ≡ record self.old { operands = value ∷ self.old.operands }) }
+        ensures err { OnErr result (self.new ≡ self.old) }
         ensures same { self.new ≡ record self.old { operands = self.new.operands } }
         ensures works { self.new.works ≡ self.old.works }
         ensures opened { self.new.opened ≡ self.old.opened }
@@ -115,6 +116,8 @@ impl Frame {
         ensures taken { (code : CodeOfRun) (next : List ValueOfRun → FrameOfRun → EffectOfRun) → IfOk result (λ taken.
             pop_all count (frame_of code self.old) next
             ≡ elim taken [ None ↦ Stuck | Some values ↦ next values.items (frame_of code self.new) ]) }
+        ensures kept { IfOk result (λ taken. IfNone taken (self.new ≡ self.old)) }
+        ensures err { OnErr result (self.new ≡ self.old) }
         ensures same { self.new ≡ record self.old { operands = self.new.operands } }
         ensures works { self.new.works ≡ self.old.works }
         ensures opened { self.new.opened ≡ self.old.opened }
@@ -144,6 +147,7 @@ impl Frame {
         ensures some { IfSome result (λ op. rest (code_of code.now) self.old.works
             ≡ op ∷ rest (code_of code.now) self.new.works) }
         ensures none { IfNone result (rest (code_of code.now) self.old.works ≡ []) }
+        ensures ended { IfNone result (self.new.works ≡ []) }
         ensures begun { IsBegun code.now.nodes self.new.works }
         ensures room { IfSome result (λ op. HasRoomFor code.now.nodes self.new.works op) }
         ensures same { self.new ≡ record self.old { works = self.new.works } }
@@ -158,6 +162,7 @@ impl Frame {
         requires room { HasRoomFor code.now.nodes self.old.works op }
         ensures front { (front : List OpOfRun) → put_in_front (code_of code.now) op condition ≡ Some front
             → rest (code_of code.now) self.new.works ≡ front ++ rest (code_of code.now) self.old.works }
+        ensures none { put_in_front (code_of code.now) op condition ≡ None → self.new.works ≡ self.old.works }
         ensures begun { IsBegun code.now.nodes self.new.works }
         ensures same { self.new ≡ record self.old { works = self.new.works } }
         ensures opened { self.new.opened ≡ self.old.opened }

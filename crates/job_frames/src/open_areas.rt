@@ -1,6 +1,6 @@
 //! The areas that a job has open.
 
-ghost use Rattle.std.specs.Prelude.{◌≡◌, [], ◌∷◌, reverse, IfOk};
+ghost use Rattle.std.specs.Prelude.{◌≡◌, [], ◌∷◌, reverse, IfOk, OnErr};
 ghost use Rattle.scj_model.specs.Apply.{without};
 ghost use Rattle.scj_model.specs.Sequencer.{innermost, without_innermost};
 
@@ -34,7 +34,8 @@ impl OpenAreas {
 
     /// Notes an area that is opened.
     pub fn push(&mut self, area: AreaId) -> Result<(), Memory>
-        ensures { IfOk result (λ _. self.new ≡ area ∷ self.old) }
+        ensures pushed { IfOk result (λ _. self.new ≡ area ∷ self.old) }
+        ensures err { OnErr result (self.new ≡ self.old) }
     {
         self.items.push(area)?;
         Ok(())

@@ -1,6 +1,6 @@
 //! The operands of a frame.
 
-ghost use Rattle.std.specs.Prelude.{◌≡◌, ◌<◌, [], ◌∷◌, ◌++◌, length, reverse, IfSome, IfNone, IfOk};
+ghost use Rattle.std.specs.Prelude.{◌≡◌, ◌<◌, [], ◌∷◌, ◌++◌, length, reverse, IfSome, IfNone, IfOk, OnErr};
 
 use scj_base::{Memory, Value};
 use std::alloc::Global;
@@ -34,7 +34,8 @@ impl Operands {
     /// Puts an operand last.
     #[inline]
     pub fn push(&mut self, value: Value) -> Result<(), Memory>
-        ensures { IfOk result (λ _. self.new ≡ value ∷ self.old) }
+        ensures pushed { IfOk result (λ _. self.new ≡ value ∷ self.old) }
+        ensures err { OnErr result (self.new ≡ self.old) }
     {
         self.items.push(value)?;
         Ok(())
@@ -55,6 +56,8 @@ impl Operands {
         ensures some { IfOk result (λ taken. IfSome taken (λ values. self.old ≡ reverse values.items ++ self.new)) }
         ensures count { IfOk result (λ taken. IfSome taken (λ values. length values.items ≡ count)) }
         ensures none { IfOk result (λ taken. IfNone taken (length self.old < count)) }
+        ensures kept { IfOk result (λ taken. IfNone taken (self.new ≡ self.old)) }
+        ensures err { OnErr result (self.new ≡ self.old) }
     {
         if self.items.len() < count {
             return Ok(None);

@@ -1,4 +1,4 @@
-use Rattle.std.proofs.Common.{◌≡◌, length, sym, ◌∙◌}
+use Rattle.std.proofs.Common.{◌≡◌, length}
 use Rattle.std.specs.Vec.{vec_len}
 use Rattle.job_frames.proofs.Tops.{top_lent, top_is, no_top}
 use Rattle.job_frames.proofs.frame_stacks.FrameStack.top_mut.Goals as goal

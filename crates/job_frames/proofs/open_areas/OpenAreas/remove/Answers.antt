@@ -1,6 +1,5 @@
-use Rattle.std.proofs.Common.{Bool, not, ◌==◌, ◌∙◌, ap, sym, rules, reverse, ℕ, List}
+use Rattle.std.proofs.Common.{not, ◌==◌, ◌∙◌, ap, sym, rules, reverse}
 use Rattle.std.proofs.lemmas.Fn.{filter_same}
-use Rattle.scj_model.specs.Apply.{without}
 use Rattle.job_frames.proofs.Reversed.{filter_reversed}
 use Rattle.job_frames.proofs.open_areas.OpenAreas.remove.Goals as goal
 
