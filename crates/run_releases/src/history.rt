@@ -1,6 +1,6 @@
 //! All releases of a run.
 
-ghost use Rattle.std.specs.Prelude.{◌≡◌, ◌++◌, [], IfOk, OnOk, option_copied, option_map, slice_get};
+ghost use Rattle.std.specs.Prelude.{◌≡◌, ◌++◌, [], IfOk, OnOk, OnErr, option_copied, option_map, slice_get};
 ghost use Rattle.scj_model.specs.Code.{Code};
 ghost use Rattle.scj_model.specs.State.{Ended as EndedSeen, ReleaseAt, State, activity_of, with_activity, with_status as state_with_status};
 ghost use Rattle.scj_model.specs.Steps.{telling};
@@ -75,6 +75,7 @@ impl Releases {
             IfOk result
             (λ number. release_taken (with_releases code s self.old) handler ≡ telling (with_releases code s self.new)
             (tell_taken s.unit handler number)) }
+        ensures err { OnErr result (self.new ≡ self.old) }
     {
         let place = handler as usize;
         let waiting = number_at(&self.waiting, place);
@@ -106,6 +107,7 @@ impl Releases {
         ensures told { (code : Code) (s : State) →
             OnOk result
             (told.new.items ≡ told.old.items ++ tell_dropped (at_unit (with_releases code s self.old) unit)) }
+        ensures err { OnErr result (self.new ≡ self.old) }
     {
         tell_all(&self.rows, &self.live, unit, told)?;
         drop_all(&mut self.rows, &self.live);
@@ -147,6 +149,7 @@ impl Releases {
             OnOk result
             (with_activity (with_releases code s self.old) (ReleaseAt place) (activity_seen code activity)
             ≡ with_releases code s self.new) }
+        ensures err { OnErr result (self.new ≡ self.old) }
     {
         if !is_live_there(&self.rows, place) {
             return Err(Memory);
