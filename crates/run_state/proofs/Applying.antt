@@ -1,12 +1,10 @@
 -- What an effect leads to depends on the highest frame of the activity by the area alone that this frame opened: so the
 -- frame may stand there as it was before the operation, or as the operation left it.
-use Rattle.std.specs.Prelude.{Option, Some, None, is_some, if◌then◌else◌, nat_lt, option_map}
-use Rattle.std.proofs.Common.{◌≡◌, ◌∙◌, ℕ, List, [], ◌∷◌, refl, ap, sym}
+use Rattle.std.specs.Prelude.{Option, Some, None, if◌then◌else◌, nat_lt, option_map}
+use Rattle.std.proofs.Common.{◌≡◌, ℕ, List, [], ◌∷◌, refl, ap}
 use Rattle.scj_base.specs.declared.places.Pos.{Pos}
 use Rattle.scj_base.specs.declared.faults.RunFault.{RunFault}
 use Rattle.scj_base.specs.declared.faults.RunFault.TheVariants.{MemoryFull, StoreFull, NotInitializing, TooManyHandlers, DepthFull, CeilingViolation, ScopedCycle}
-use Rattle.scj_base.specs.declared.values.Value.{Value}
-use Rattle.scj_model.specs.declared.events.Event.{Event}
 use Rattle.scj_model.specs.declared.events.Event.TheVariants.{Fault, End}
 use Rattle.scj_model.specs.Code.{Code}
 use Rattle.scj_model.specs.State.{Frame, Activity, Object, Ended, Release, Job, TheSequencer, ReleaseAt, State, object_at, with_activity, with_status}

@@ -8,7 +8,7 @@ use Rattle.scj_base.specs.declared.values.Value.{Value}
 use Rattle.scj_model.specs.declared.events.Event.{Event}
 use Rattle.scj_model.specs.declared.events.Event.TheVariants.{Fault, End}
 use Rattle.scj_model.specs.Code.{Code}
-use Rattle.scj_model.specs.State.{Activity, Frame, Release as ReleaseOfRun, ReleaseAt, State, Ended as EndedSeen, with_status as state_with_status}
+use Rattle.scj_model.specs.State.{Activity, Release as ReleaseOfRun, ReleaseAt, State, Ended as EndedSeen, with_status as state_with_status}
 use Rattle.scj_model.specs.Memory.{closed}
 use Rattle.scj_model.specs.Steps.{Step, closed_all, fault_in, job_ended, of_release}
 use Rattle.job_frames.specs.declared.activities.Activity.{Activity as StoredActivity}

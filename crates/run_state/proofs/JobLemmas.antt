@@ -1,10 +1,10 @@
 -- The activity of a release is taken out, put back, or dropped at its end.
 use Rattle.std.specs.Prelude.{Option, Some, None, option_map, slice_get, slice_set}
-use Rattle.std.proofs.Common.{◌≡◌, ◌∙◌, ℕ, List, [], ◌∷◌, refl, ap, sym, subst}
+use Rattle.std.proofs.Common.{◌≡◌, ◌∙◌, ℕ, List, refl, ap, sym, subst}
 use Rattle.scj_rules.specs.Words.{◌>>=◌}
 use Rattle.scj_tree.specs.declared.nodes.Node.{Node}
 use Rattle.scj_model.specs.Code.{Code}
-use Rattle.scj_model.specs.State.{Activity, Release as ReleaseOfRun, ReleaseAt, Started as StartedSeen, changed, activity_in as activity_in_status, activity_of, with_activity}
+use Rattle.scj_model.specs.State.{Release as ReleaseOfRun, ReleaseAt, Started as StartedSeen, changed, activity_in as activity_in_status, activity_of, with_activity}
 use Rattle.scj_model.specs.Run.{no_activity}
 use Rattle.job_frames.specs.declared.activities.Activity.{Activity as StoredActivity}
 use Rattle.job_frames.specs.Frames.{AreBegun, activity_seen, empty_activity}
@@ -15,9 +15,9 @@ use Rattle.run_releases.specs.declared.rows.ReleaseStatus.TheVariants.{Waits, St
 use Rattle.run_releases.specs.Rows.{StoredReleases, activity_within, emptied_row, emptied_status, release_seen, status_seen, with_status}
 use Rattle.run_releases.specs.Releases.{activity_in, emptied_at, status_set}
 use Rattle.run_state.specs.declared.states.RunState.{RunState}
-use Rattle.run_state.specs.Seen.{AreAllBegun, AreReleasesBegun, IsBegunStatus, state_of}
+use Rattle.run_state.specs.Seen.{AreAllBegun, IsBegunStatus, state_of}
 use Rattle.run_state.proofs.Begun.{begun_at, begun_changed}
-use Rattle.run_state.proofs.Rows.{changed_map, get_map}
+use Rattle.run_state.proofs.Rows.{changed_kept, changed_map, get_map}
 
 -- ---- taken out
 
@@ -52,6 +52,23 @@ emptied code st place a e =
     (changed_map (release_seen code) (with_status (Started empty_activity))
     (λ r. record r { status = StartedSeen no_activity })
     place st.releases.rows (λ r. refl))
+
+-- where no activity is found, the releases stay as they are
+pub not_emptied : (rs : StoredReleases) (place : ℕ) → activity_in rs.rows place ≡ None → emptied_at place rs ≡ rs
+not_emptied rs place e =
+    ap (λ (rows : List Release). record rs { rows = rows }) (changed_kept emptied_row place rs.rows kept)
+  where
+    same_status : (status : ReleaseStatus) → activity_within status ≡ None → emptied_status status ≡ status
+    same_status Waits h = refl
+    same_status (Started a) h = absurd (cc)
+    same_status Ended h = refl
+    same_status Dropped h = refl
+
+    kept : (r : Release) → slice_get rs.rows place ≡ Some r → emptied_row r ≡ r
+    kept r found =
+        ap (λ (s : ReleaseStatus). record r { status = s })
+        (same_status r.status
+        (sym (ap (λ (o : Option Release). o >>= (λ (q : Release). activity_within q.status)) found) ∙ e))
 
 pub emptied_begun : (nodes : List Node) (st : RunState) (place : ℕ) → AreAllBegun nodes st →
     AreAllBegun nodes (record st { releases = emptied_at place st.releases })

@@ -1,12 +1,12 @@
 -- What was made is the last operand of the highest frame, or its area is full.
-use Rattle.std.specs.Prelude.{Bool, true, Option, Some, None, slice_get, unwrap_or}
-use Rattle.std.proofs.Common.{◌≡◌, ◌∙◌, ℕ, List, [], ◌∷◌, refl, ap, sym}
+use Rattle.std.specs.Prelude.{true, Option, Some, slice_get, unwrap_or}
+use Rattle.std.proofs.Common.{◌≡◌, ◌∙◌, ℕ, List, ◌∷◌, refl, ap, sym}
 use Rattle.scj_base.specs.declared.faults.RunFault.TheVariants.{MemoryFull}
 use Rattle.scj_base.specs.declared.values.Value.{Value}
 use Rattle.scj_base.specs.declared.values.Value.TheVariants.{At}
 use Rattle.scj_model.specs.declared.events.Event.{Event}
 use Rattle.scj_model.specs.Code.{Code}
-use Rattle.scj_model.specs.State.{Frame, State}
+use Rattle.scj_model.specs.State.{State}
 use Rattle.scj_model.specs.Steps.{Step, allocating, fault_in, silently}
 use Rattle.scj_model.specs.Effects.{Makes}
 use Rattle.scj_model.specs.Apply.{applied, with_frame}

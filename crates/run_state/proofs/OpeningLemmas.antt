@@ -1,6 +1,6 @@
 -- A call in a new area, by whether the store has room for it.
 use Rattle.std.specs.Prelude.{Option, Some, None}
-use Rattle.std.proofs.Common.{◌≡◌, ◌∙◌, ℕ, List, ◌∷◌, refl, ap, sym}
+use Rattle.std.proofs.Common.{◌∙◌, ℕ, List, ◌∷◌, refl, ap, sym}
 use Rattle.scj_base.specs.declared.faults.RunFault.TheVariants.{StoreFull}
 use Rattle.scj_base.specs.declared.places.Pos.{Pos}
 use Rattle.scj_model.specs.declared.events.Event.{Event}

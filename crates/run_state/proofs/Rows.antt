@@ -27,3 +27,18 @@ module _ {A B : Type 0} where
           ap (map g) (changed_there f n xs x e) ∙ (set_map g xs n (f x)
           ∙ (ap (slice_set (map g xs) n) (same x)
           ∙ sym (changed_there h n (map g xs) (g x) (get_map g xs n ∙ ap (option_map g) e))))
+
+module _ {A : Type 0} where
+  set_kept : (xs : List A) (n : ℕ) (x : A) → slice_get xs n ≡ Some x → slice_set xs n x ≡ xs
+  set_kept [] n x e = refl
+  set_kept (y ∷ ys) zero x e = let same : x ≡ y = cc in ap (λ (z : A). z ∷ ys) same
+  set_kept (y ∷ ys) (suc n) x e = ap (λ (zs : List A). y ∷ zs) (set_kept ys n x e)
+
+  -- a change that keeps the element changes nothing
+  pub changed_kept : (f : A → A) (n : ℕ) (xs : List A) → ((x : A) → slice_get xs n ≡ Some x → f x ≡ x) →
+      changed f n xs ≡ xs
+  changed_kept f n xs kept = go (slice_get xs n) refl
+    where
+      go : (o : Option A) → slice_get xs n ≡ o → changed f n xs ≡ xs
+      go None e = changed_nowhere f n xs e
+      go (Some x) e = changed_there f n xs x e ∙ ap (slice_set xs n) (kept x e) ∙ set_kept xs n x e

@@ -1,6 +1,6 @@
 -- Calls and openings as effects of the frame that calls, which was the highest before the new one was put on top.
 use Rattle.std.specs.Prelude.{true, Some}
-use Rattle.std.proofs.Common.{◌≡◌, ℕ, List, ◌∷◌, ap, sym}
+use Rattle.std.proofs.Common.{ℕ, List, ap, sym}
 use Rattle.scj_model.specs.declared.events.Event.{Event}
 use Rattle.scj_model.specs.Code.{Code}
 use Rattle.scj_model.specs.State.{Frame}

@@ -1,9 +1,8 @@
 -- The state of a run as the code keeps it, and the state of the definitions that is seen in it.
-use Rattle.std.specs.Prelude.{ℕ, List, [], ◌∷◌, map, option_map}
+use Rattle.std.specs.Prelude.{List, [], ◌∷◌, map, option_map}
 use Rattle.scj_tree.specs.declared.nodes.Node.{Node}
 use Rattle.scj_model.specs.Code.{Code}
 use Rattle.scj_model.specs.State.{Job as JobOfRun, TheSequencer, ReleaseAt, Turn as TurnOfRun, IdleTurn, TurnOf, State}
-use Rattle.job_frames.specs.declared.activities.Activity.{Activity as StoredActivity}
 use Rattle.job_frames.specs.Frames.{activity_seen, AreBegun}
 use Rattle.run_releases.specs.declared.rows.Release.{Release}
 use Rattle.run_releases.specs.declared.rows.ReleaseStatus.{ReleaseStatus}

@@ -1,5 +1,5 @@
 -- What becomes of the highest frame of an activity, if there is one.
-use Rattle.std.specs.Prelude.{ℕ, List, [], ◌∷◌, Option, Some}
+use Rattle.std.specs.Prelude.{ℕ, List, [], ◌∷◌, Some}
 use Rattle.job_frames.specs.declared.frames.Frame.{Frame as StoredFrame}
 
 -- it saves a priority

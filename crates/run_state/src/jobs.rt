@@ -1,6 +1,6 @@
 //! The activity of a job is taken out of the state while the job acts, and is put back at the end.
 
-ghost use Rattle.std.specs.Prelude.{◌≡◌, List, IfSome, OnOk, OnSome, option_map};
+ghost use Rattle.std.specs.Prelude.{◌≡◌, List, IfSome, IfNone, OnOk, OnSome, option_map};
 ghost use Rattle.scj_tree.specs.declared.nodes.Node.{Node as SyntaxNode};
 ghost use Rattle.scj_model.specs.Code.{Code};
 ghost use Rattle.scj_model.specs.State.{activity_of, with_activity};
@@ -20,6 +20,7 @@ pub fn take_out(alloc: Global, state: &mut RunState, job: Job) -> Option<Activit
         (job_seen job) }
     ensures left { (code : Code) →
         OnSome result (state_of code state.new ≡ with_activity (state_of code state.old) (job_seen job) no_activity) }
+    ensures missing { IfNone result (state.new ≡ state.old) }
     ensures begun { (nodes : List SyntaxNode) → AreAllBegun nodes state.old → AreAllBegun nodes state.new }
     ensures frames { (nodes : List SyntaxNode) → AreAllBegun nodes state.old →
         IfSome result (λ activity. AreBegun nodes activity.frames) }

@@ -1,11 +1,10 @@
-use Rattle.std.specs.Prelude.{Some, None, true, false, nat_lt}
+use Rattle.std.specs.Prelude.{true, false}
 use Rattle.std.proofs.Common.{◌≡◌, ◌∙◌, ap, rules, sym}
 use Rattle.std.proofs.lemmas.Bool.{le-ltb, lt-ltb}
 use Rattle.std.proofs.lemmas.List.{append-nil}
 use Rattle.scj_rules.specs.Contexts.{declarations_of}
 use Rattle.scj_model.specs.Code.{code_of}
 use Rattle.scj_model.specs.State.{Activity, with_activity}
-use Rattle.scj_model.specs.Apply.{ceiling_entered, is_full}
 use Rattle.job_frames.specs.declared.activities.Activity.{Activity as StoredActivity}
 use Rattle.job_frames.specs.Frames.{activity_seen, frames_of}
 use Rattle.run_state.specs.Seen.{job_seen, state_of}

@@ -1,4 +1,4 @@
-use Rattle.std.specs.Prelude.{Some, None}
+use Rattle.std.specs.Prelude.{Some}
 use Rattle.std.proofs.Common.{◌∙◌, ap}
 use Rattle.scj_model.specs.Code.{code_of}
 use Rattle.scj_model.specs.Effects.{monitor_of}

@@ -1,4 +1,4 @@
-use Rattle.std.proofs.Common.{◌∙◌, ap, sym}
+use Rattle.std.proofs.Common.{◌∙◌, ap}
 use Rattle.scj_model.specs.State.{Activity, with_activity}
 use Rattle.run_state.specs.Seen.{job_seen, state_of}
 use Rattle.run_state.specs.Calls.{call_entered}

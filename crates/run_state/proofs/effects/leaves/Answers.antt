@@ -1,6 +1,4 @@
-use Rattle.std.specs.Prelude.{Some}
 use Rattle.std.proofs.Common.{refl}
-use Rattle.job_frames.specs.Frames.{frame_of, frames_of}
 use Rattle.run_state.proofs.StepLemmas.{try_of}
 use Rattle.scj_model.specs.Apply.{applied}
 use Rattle.run_state.proofs.effects.leaves.Goals as goal

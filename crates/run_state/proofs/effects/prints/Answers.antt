@@ -1,12 +1,7 @@
-use Rattle.std.proofs.Common.{◌≡◌, ◌∙◌, [], ap, refl, sym}
-use Rattle.std.proofs.lemmas.List.{append-nil}
-use Rattle.scj_model.specs.State.{with_activity}
-use Rattle.scj_model.specs.Apply.{applied, with_ceiling, with_first}
-use Rattle.scj_model.specs.Memory.{with_slot}
-use Rattle.run_memory.specs.Contents.{Contents, hidden_slots}
-use Rattle.run_state.specs.declared.states.RunState.{RunState}
-use Rattle.run_state.specs.Seen.{job_seen, state_of}
-use Rattle.run_state.proofs.StepLemmas.{applied_as, applied_on_memory, applied_telling, memory_begun}
+use Rattle.std.proofs.Common.{◌∙◌, [], ap, refl}
+use Rattle.scj_model.specs.Apply.{applied}
+use Rattle.run_state.specs.Seen.{state_of}
+use Rattle.run_state.proofs.StepLemmas.{applied_telling}
 use Rattle.std.proofs.Common.{◌∷◌, ◌++◌, ℤ, rules}
 use Rattle.scj_model.specs.declared.events.Event.TheVariants.{Print}
 use Rattle.scj_model.specs.Effects.{Prints}

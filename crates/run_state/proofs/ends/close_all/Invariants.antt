@@ -1,4 +1,4 @@
-use Rattle.std.proofs.Common.{◌≡◌, ◌≤◌, ℕ, length, reverse, take}
+use Rattle.std.proofs.Common.{◌≡◌, ◌≤◌, length, reverse, take}
 use Rattle.scj_model.specs.Code.{Code}
 use Rattle.scj_model.specs.State.{State}
 use Rattle.scj_model.specs.Steps.{closed_all}

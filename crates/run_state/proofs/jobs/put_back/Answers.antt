@@ -1,5 +1,4 @@
 use Rattle.std.proofs.Common.{sym, subst}
-use Rattle.scj_model.specs.State.{with_activity}
 use Rattle.run_releases.specs.declared.rows.ReleaseStatus.TheVariants.{Started}
 use Rattle.run_releases.specs.Rows.{StoredReleases}
 use Rattle.run_state.specs.declared.states.RunState.{RunState}

@@ -1,17 +1,15 @@
-use Rattle.std.specs.Prelude.{Option, Some, None, OnSome, IfSome, option_map, slice_get}
+use Rattle.std.specs.Prelude.{Option, Some, None, OnSome, IfSome, IfNone, option_map}
 use Rattle.std.proofs.Common.{◌≡◌, ◌∙◌, List, ap, refl, sym, subst}
 use Rattle.scj_tree.specs.declared.nodes.Node.{Node}
 use Rattle.scj_model.specs.Code.{Code}
-use Rattle.scj_model.specs.State.{Activity, ReleaseAt, activity_of, with_activity}
+use Rattle.scj_model.specs.State.{ReleaseAt, activity_of, with_activity}
 use Rattle.scj_model.specs.Run.{no_activity}
 use Rattle.job_frames.specs.declared.activities.Activity.{Activity as StoredActivity}
 use Rattle.job_frames.specs.Frames.{AreBegun, activity_seen}
 use Rattle.run_releases.specs.Rows.{StoredReleases}
-use Rattle.run_releases.specs.Releases.{activity_in, emptied_at}
-use Rattle.run_state.specs.declared.states.Job.{Job}
 use Rattle.run_state.specs.declared.states.RunState.{RunState}
-use Rattle.run_state.specs.Seen.{AreAllBegun, job_seen, state_of}
-use Rattle.run_state.proofs.JobLemmas.{emptied, emptied_begun, found_activity, taken_begun}
+use Rattle.run_state.specs.Seen.{AreAllBegun, state_of}
+use Rattle.run_state.proofs.JobLemmas.{emptied, emptied_begun, found_activity, not_emptied, taken_begun}
 use Rattle.run_state.proofs.jobs.take_out.Goals as goal
 
 pub returns-in-Sequencer-clause-taken : goal.returns-in-Sequencer-clause-taken
@@ -42,6 +40,18 @@ returns-in-Release-clause-left c = λ code. rw c.in-Release.is (left code c.take
         st))
         c.take_activity.ensures.left
         ∙ emptied code c.args.state.now c.in-Release.place a (sym c.take_activity.ensures.taken ∙ e)
+
+pub returns-in-Release-clause-missing : goal.returns-in-Release-clause-missing
+returns-in-Release-clause-missing c = missing c.take_activity.result refl
+  where
+    missing : (o : Option StoredActivity) → c.take_activity.result ≡ o →
+        IfNone o (let st : RunState = record c.args.state.now { releases = c.take_activity.new.self } in
+        st ≡ c.args.state.now)
+    missing None e =
+        ap (λ (rs : StoredReleases). let st : RunState = record c.args.state.now { releases = rs } in st)
+        (c.take_activity.ensures.left
+        ∙ not_emptied c.args.state.now.releases c.in-Release.place (sym c.take_activity.ensures.taken ∙ e))
+    missing (Some a) e = tt
 
 pub returns-in-Release-clause-begun : goal.returns-in-Release-clause-begun
 returns-in-Release-clause-begun c = λ nodes h.

@@ -1,6 +1,5 @@
 use Rattle.std.proofs.Common.{◌∙◌, List, ap, sym}
 use Rattle.scj_model.specs.State.{Activity, Frame}
-use Rattle.job_frames.specs.declared.frames.Frame.{Frame as StoredFrame}
 use Rattle.job_frames.specs.Frames.{activity_seen, frames_of}
 use Rattle.run_state.proofs.LeavingLemmas.{returned_none, returned_seen}
 use Rattle.run_state.proofs.leaving.give_back.Goals as goal

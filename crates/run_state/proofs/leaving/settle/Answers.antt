@@ -1,10 +1,9 @@
 use Rattle.std.proofs.Common.{◌≡◌, ◌∙◌, rules, sym}
 use Rattle.std.proofs.lemmas.List.{append-nil}
 use Rattle.scj_model.specs.State.{with_activity}
-use Rattle.scj_model.specs.Steps.{job_ended, silently}
+use Rattle.scj_model.specs.Steps.{silently}
 use Rattle.job_frames.specs.Frames.{activity_seen}
 use Rattle.run_state.specs.Seen.{job_seen, state_of}
-use Rattle.run_state.specs.Calls.{settled}
 use Rattle.run_state.proofs.LeavingLemmas.{settled_end, settled_on}
 use Rattle.run_state.proofs.StepLemmas.{same_step}
 use Rattle.run_state.proofs.leaving.settle.Goals as goal

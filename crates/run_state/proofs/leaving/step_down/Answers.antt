@@ -1,4 +1,4 @@
-use Rattle.std.proofs.Common.{List, sym, subst}
+use Rattle.std.proofs.Common.{sym, subst}
 use Rattle.job_frames.specs.Frames.{AreBegun, activity_seen}
 use Rattle.job_frames.proofs.Begun.{below_begun}
 use Rattle.run_state.proofs.LeavingLemmas.{stepped}

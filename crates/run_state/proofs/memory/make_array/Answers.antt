@@ -3,7 +3,6 @@ use Rattle.std.proofs.Common.{◌≡◌, ◌∙◌, ◌++◌, ℕ, List, ap, rul
 use Rattle.std.proofs.lemmas.List.{length-replicate}
 use Rattle.scj_base.specs.declared.values.Value.{Value}
 use Rattle.scj_model.specs.Memory.{default_value, has_room, new_elements, with_object}
-use Rattle.scj_model.specs.State.{State}
 use Rattle.run_memory.specs.Contents.{Contents, hidden_slots}
 use Rattle.run_state.specs.declared.states.RunState.{RunState}
 use Rattle.run_state.specs.Seen.{state_of}

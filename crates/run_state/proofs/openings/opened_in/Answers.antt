@@ -1,4 +1,4 @@
-use Rattle.std.specs.Prelude.{Some, true, false, is_some}
+use Rattle.std.specs.Prelude.{true, false, is_some}
 use Rattle.std.proofs.Common.{◌≡◌, ◌∙◌, ℕ, Option, ap, rules, sym}
 use Rattle.scj_model.specs.Memory.{area_with_scope}
 use Rattle.job_frames.specs.declared.activities.Activity.{Activity as StoredActivity}
