@@ -12,4 +12,4 @@ pub use events::Event;
 pub use handlers::HandlerRow;
 pub use operations::{Op, SeqOp};
 pub use phases::Phase;
-pub use plans::{Fire, ReadingRow, Readings};
+pub use plans::{Fire, ReadingRow};
