@@ -1,6 +1,8 @@
 //! The hidden fields and the other slots of a new object.
 
 ghost use Rattle.std.specs.Prelude.{◌≡◌, ◌++◌, IfOk, map};
+ghost use Rattle.scj_rules.specs.Classes.{hidden_fields};
+ghost use Rattle.scj_rules.specs.Contexts.{declarations_of};
 ghost use Rattle.scj_model.specs.Code.{code_of};
 ghost use Rattle.scj_model.specs.Memory.{default_value, new_slots};
 ghost use Rattle.run_memory.specs.Contents.{hidden_slots};
@@ -24,8 +26,11 @@ pub struct NewSlots {
 /// The slots with which a new object of a class begins.
 #[tactic(auto, using(crate::proofs::SlotLemmas::made_is))]
 pub fn new_slots(alloc: Global, layout: &Layout<'_>, class: ClassId) -> Result<NewSlots, Memory>
-    ensures { IfOk result (λ slots. new_slots (code_of layout.now).program class ≡ hidden_slots slots.hidden.items
+    ensures slots { IfOk result
+        (λ slots. new_slots (code_of layout.now).program class ≡ hidden_slots slots.hidden.items
         ++ slots.values.items) }
+    ensures hidden { IfOk result
+        (λ slots. slots.hidden.items ≡ hidden_start (hidden_fields (declarations_of layout.now).classes class)) }
 {
     let hidden = hidden_start(alloc, layout.hidden(class))?;
     let values = values_of(alloc, layout.kinds(class))?;
