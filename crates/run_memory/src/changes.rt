@@ -1,6 +1,6 @@
 //! Changes of one area or object of a list. A place that isn't there stays away.
 
-ghost use Rattle.std.specs.Prelude.{◌≡◌, ◌≤◌, ◌++◌, ◌∷◌, [], OnOk, OnErr, length, slice_get, slice_set, Some};
+ghost use Rattle.std.specs.Prelude.{◌≡◌, ◌<◌, ◌≤◌, ◌++◌, ◌∷◌, [], IsSome, IsSomeAnd, OnOk, OnErr, length, slice_get, slice_set, Some};
 ghost use Rattle.scj_model.specs.Apply.{with_ceiling, with_first};
 ghost use Rattle.scj_model.specs.State.{changed, Object as ObjectOfState};
 ghost use Rattle.run_memory.specs.Contents.{closed_area, hidden_slots};
@@ -38,7 +38,8 @@ pub(crate) fn close_at(areas: &mut Vec<MemoryArea>, place: usize)
     }
 }
 
-/// Sets a slot of the object at a place, counted with the hidden ones. A hidden one isn't set.
+/// Sets a slot of the object at a place, counted with the hidden ones. `Err` is for those, and only at a slot that
+/// there is.
 pub(crate) fn set_slot_at(
     objects: &mut Vec<Object>,
     place: usize,
@@ -48,6 +49,8 @@ pub(crate) fn set_slot_at(
     ensures ok { OnOk result
         (objects.new.items ≡ changed (λ o. record o { slots = slice_set o.slots slot value }) place objects.old.items) }
     ensures err { OnErr result (objects.new.items ≡ objects.old.items) }
+    ensures within { OnErr result
+        (IsSomeAnd (slice_get objects.old.items place) (λ o. slot < length o.slots)) }
 {
     if let Some(object) = objects.get_mut(place) {
         object.set_slot(slot, value)?;
@@ -55,7 +58,7 @@ pub(crate) fn set_slot_at(
     Ok(())
 }
 
-/// Sets the hidden fields of the object at a place, if it has as many.
+/// Sets the hidden fields of the object at a place. `Err` is for one that has another number of them.
 pub(crate) fn set_hidden_at(
     objects: &mut Vec<Object>,
     place: usize,
@@ -66,6 +69,7 @@ pub(crate) fn set_hidden_at(
     ensures size { OnOk result ((o : ObjectOfState) → slice_get objects.old.items place ≡ Some o →
         length hidden.items ≤ length o.slots) }
     ensures err { OnErr result (objects.new.items ≡ objects.old.items) }
+    ensures there { OnErr result (IsSome (slice_get objects.old.items place)) }
 {
     if let Some(object) = objects.get_mut(place) {
         object.set_hidden(hidden)?;

@@ -1,6 +1,6 @@
 //! The memory of a run.
 
-ghost use Rattle.std.specs.Prelude.{◌≡◌, ◌<◌, ◌++◌, [], length, slice_get, slice_set, Some, None, OnOk, OnErr, IfOk, option_copied, true, ◌==◌, reverse, if◌then◌else◌};
+ghost use Rattle.std.specs.Prelude.{◌≡◌, ◌<◌, ◌++◌, [], length, slice_get, slice_set, Some, None, IsSome, IsSomeAnd, OnOk, OnErr, IfOk, option_copied, true, ◌==◌, reverse, if◌then◌else◌};
 ghost use Rattle.scj_rules.specs.Words.{holds};
 ghost use Rattle.scj_model.specs.Apply.{with_ceiling, with_first};
 ghost use Rattle.scj_model.specs.State.{State};
@@ -177,21 +177,25 @@ impl RunMemory {
         Ok(Ref::at(number))
     }
 
-    /// Sets a slot of an object, counted with the hidden ones. What isn't there stays away. `Err` exactly where the
-    /// slot is a hidden one of an object.
+    /// Sets a slot of an object, counted with the hidden ones. What isn't there stays away. `Err` is for the hidden
+    /// ones. A contract doesn't see which those are, and says that there is such a slot.
     pub fn set_slot(&mut self, r: Ref, slot: usize, value: Value) -> Result<(), Memory>
         ensures ok { OnOk result
             (self.new ≡ changing_object self.old r (λ o. record o { slots = slice_set o.slots slot value })) }
         ensures err { OnErr result (self.new ≡ self.old) }
+        ensures within { OnErr result
+            (IsSomeAnd (slice_get self.old.objects r) (λ o. slot < length o.slots)) }
     {
         set_slot_at(&mut self.objects, r.number() as usize, slot, value)?;
         Ok(())
     }
 
-    /// Sets the hidden fields of an object, if there is one. `Err` exactly where it has another number of them.
+    /// Sets the hidden fields of an object, if there is one. `Err` is for one that has another number of them. A
+    /// contract doesn't see how many it has, and says that there is such an object.
     pub fn set_hidden(&mut self, r: Ref, hidden: Vec<u64>) -> Result<(), Memory>
         ensures ok { OnOk result (self.new ≡ changing_object self.old r (with_first (hidden_slots hidden.items))) }
         ensures err { OnErr result (self.new ≡ self.old) }
+        ensures there { OnErr result (IsSome (slice_get self.old.objects r)) }
     {
         set_hidden_at(&mut self.objects, r.number() as usize, hidden)?;
         Ok(())

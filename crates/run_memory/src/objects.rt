@@ -1,6 +1,6 @@
 //! Objects and arrays.
 
-ghost use Rattle.std.specs.Prelude.{◌≡◌, ◌≤◌, ◌++◌, IfOk, OnErr, OnOk, None, Some, length, slice_get, slice_set};
+ghost use Rattle.std.specs.Prelude.{◌≡◌, ◌<◌, ◌≤◌, ◌++◌, IfOk, OnErr, OnOk, None, Some, length, slice_get, slice_set};
 ghost use Rattle.scj_model.specs.Apply.{with_ceiling, with_first};
 ghost use Rattle.scj_model.specs.Memory.{new_object};
 ghost use Rattle.scj_model.specs.Registry.{number_in};
@@ -79,10 +79,11 @@ impl Object {
         self.hidden.len() + self.values.len()
     }
 
-    /// The value of a slot, counted with the hidden ones, if there is one. `Err` exactly where the slot is a hidden
-    /// one: its number refers to nothing, and may be no int. No accepted program reads one.
+    /// The value of a slot, counted with the hidden ones, if there is one. `Err` is for the hidden ones, whose numbers
+    /// refer to nothing and may be no ints. A contract doesn't see which those are, and says that there is such a slot.
     pub fn slot(&self, slot: usize) -> Result<Option<Value>, Memory>
-        ensures { IfOk result (λ value. value ≡ slice_get self.now.slots slot) }
+        ensures value { IfOk result (λ value. value ≡ slice_get self.now.slots slot) }
+        ensures within { OnErr result (slot < length self.now.slots) }
     {
         let count = self.hidden.len();
         if slot < count {
@@ -103,10 +104,12 @@ impl Object {
         }
     }
 
-    /// Sets a slot, counted with the hidden ones. A slot that isn't there stays away, and a hidden one isn't set.
+    /// Sets a slot, counted with the hidden ones. A slot that isn't there stays away. `Err` is for the hidden ones. A
+    /// contract doesn't see which those are, and says that there is such a slot.
     pub(crate) fn set_slot(&mut self, slot: usize, value: Value) -> Result<(), Memory>
         ensures ok { OnOk result (self.new ≡ record self.old { slots = slice_set self.old.slots slot value }) }
         ensures err { OnErr result (self.new ≡ self.old) }
+        ensures within { OnErr result (slot < length self.old.slots) }
     {
         let count = self.hidden.len();
         if slot < count {
