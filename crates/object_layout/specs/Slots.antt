@@ -1,7 +1,12 @@
 -- The places of fields among those of an object, by one table for all classes.
-use Rattle.std.specs.Prelude.{◌≡◌, ℕ, List, slice_get, Some}
+use Rattle.std.specs.Prelude.{◌≡◌, ℕ, ◌+◌, ◌%◌, ◌^◌, List, [], ◌∷◌, slice_get, slice_set, Some}
 use Rattle.scj_tree.specs.Recursion.{lookup}
 
 -- the table has the place of each of these fields
 abbrev pub HasPlaces : List ℕ → List ℕ → Type 0
 HasPlaces places fields = (k id : ℕ) → slice_get fields k ≡ Some id → lookup 0 places id ≡ k
+
+-- the table in which the places of these fields are noted, from one on. Behind the largest place comes the first again.
+unfoldable pub noted : List ℕ → ℕ → List ℕ → List ℕ
+noted places place [] = places
+noted places place (id ∷ ids) = noted (slice_set places id place) ((place + 1) % 2 ^ 32) ids

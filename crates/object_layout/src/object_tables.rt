@@ -1,7 +1,7 @@
 //! The table of the objects of a program.
 
-ghost use Rattle.std.specs.Prelude.{◌≡◌, option_copied, slice_get, IfOk};
-ghost use Rattle.object_layout.specs.Objects.{IsObjectTableOf};
+ghost use Rattle.std.specs.Prelude.{◌≡◌, option_copied, replicate, slice_get, IfOk};
+ghost use Rattle.object_layout.specs.Objects.{all_noted, IsObjectTableOf};
 
 use crate::objects::{ObjectRow, object_rows};
 use crate::slots::{has_all_places, note_places};
@@ -21,11 +21,15 @@ pub struct ObjectTable {
 }
 
 /// The places of the fields of all objects, at so many nodes.
-fn all_places(alloc: Global, count: usize, rows: &[ObjectRow]) -> Result<Vec<u32>, Memory> {
+#[tactic(auto, unfolding(crate::specs::Objects::all_noted))]
+fn all_places(alloc: Global, count: usize, rows: &[ObjectRow]) -> Result<Vec<u32>, Memory>
+    ensures { IfOk result (λ places. places.items ≡ all_noted (replicate count 0) rows.now) }
+{
     let mut places = vec![in alloc; 0; count]?;
-    for at in 0..rows.len() {
-        let row = &rows[at];
+    let mut others = rows;
+    while let [row, rest @ ..] = others {
         note_places(&mut places, &row.fields);
+        others = rest;
     }
     Ok(places)
 }

@@ -1,18 +1,19 @@
 //! The places of fields among those of an object. In a program that breaks no rule a field has one place in the objects
 //! of all classes, and one table tells it; whether it does is tested when the table is made.
 
-ghost use Rattle.std.specs.Prelude.{◌≡◌, ◌<◌, ◌==◌, ◌+◌, ℕ, true, length, option_map, position, slice_get, Some, IfSome};
-ghost use Rattle.std.specs.Bool.{OnTrue};
+ghost use Rattle.std.specs.Prelude.{◌≡◌, ◌↔◌, ◌<◌, ◌==◌, ◌+◌, ℕ, true, length, option_map, position, slice_get, slice_set, Some, IfSome, IsTrue};
 ghost use Rattle.scj_tree.specs.Recursion.{lookup};
 ghost use Rattle.object_layout.specs.declared.objects.ObjectRow.{ObjectRow as Row};
-ghost use Rattle.object_layout.specs.Slots.{HasPlaces};
+ghost use Rattle.object_layout.specs.Slots.{HasPlaces, noted};
 
 use crate::objects::ObjectRow;
 use scj_base::NodeId;
 use scj_tree::told;
 
 /// Notes the place of a field.
-fn note_place(places: &mut Vec<u32>, field: NodeId, place: u32) {
+fn note_place(places: &mut Vec<u32>, field: NodeId, place: u32)
+    ensures { places.new.items ≡ slice_set places.old.items field place }
+{
     let at = field.place();
     if at < places.len() {
         places[at] = place;
@@ -20,7 +21,10 @@ fn note_place(places: &mut Vec<u32>, field: NodeId, place: u32) {
 }
 
 /// Notes the places of the fields of an object.
-pub fn note_places(places: &mut Vec<u32>, fields: &[NodeId]) {
+#[tactic(auto, unfolding(crate::specs::Slots::noted))]
+pub fn note_places(places: &mut Vec<u32>, fields: &[NodeId])
+    ensures { places.new.items ≡ noted places.old.items 0 fields.now }
+{
     let mut place = 0u32;
     let mut others = fields;
     while let [field, rest @ ..] = others {
@@ -32,7 +36,7 @@ pub fn note_places(places: &mut Vec<u32>, fields: &[NodeId]) {
 
 /// Whether the table has the places of all these fields.
 fn has_places(places: &[u32], fields: &[NodeId]) -> bool
-    ensures { OnTrue result (HasPlaces places.now fields.now) }
+    ensures { IsTrue result ↔ (HasPlaces places.now fields.now) }
 {
     for k in 0..fields.len() {
         if told(places, 0, fields[k]) as usize != k {
@@ -44,7 +48,7 @@ fn has_places(places: &[u32], fields: &[NodeId]) -> bool
 
 /// Whether the table has the places of the fields of all objects.
 pub fn has_all_places(places: &[u32], rows: &[ObjectRow]) -> bool
-    ensures { OnTrue result
+    ensures { IsTrue result ↔
         ((class : ℕ) (row : Row) → slice_get rows.now class ≡ Some row → HasPlaces places.now row.fields.items) }
 {
     for at in 0..rows.len() {

@@ -1,9 +1,10 @@
-use Rattle.std.proofs.Common.{length}
+use Rattle.std.proofs.Common.{◌≡◌, length}
+use Rattle.object_layout.specs.Slots.{noted}
 use Rattle.object_layout.proofs.slots.note_places.Given as goal
 
--- nothing is said of the places
+-- those that are left are still to be noted
 abbrev pub invariant-loop-others : goal.invariant-loop-others
-invariant-loop-others l = Unit {0}
+invariant-loop-others l = noted l.places.items l.place l.others ≡ noted l.initial.places.items 0 l.fields
 
 abbrev pub decreases-loop-others : goal.decreases-loop-others
 decreases-loop-others l = length l.others
