@@ -3,11 +3,8 @@
 ghost use Rattle.std.specs.Prelude.{◌≡◌, ◌+◌, List, IfOk};
 ghost use Rattle.scj_tree.specs.declared.nodes.Node.{Node as SyntaxNode};
 ghost use Rattle.scj_model.specs.Code.{Code as CodeOfRun, code_of};
-ghost use Rattle.scj_model.specs.State.{State};
-ghost use Rattle.scj_model.specs.Memory.{closed};
 ghost use Rattle.scj_model.specs.Apply.{class_name_at};
 ghost use Rattle.scj_model.specs.Sequencer.{BeginsExecution, BeginsMission, ClosesMission, LacksSequencer, TakesMission, place_of_object, seq_applied, transition_done};
-ghost use Rattle.run_memory.specs.Contents.{with_memory};
 ghost use Rattle.run_state.specs.Seen.{AreAllBegun, state_of};
 ghost use Rattle.run_state.specs.Steps.{IsStep};
 ghost use Rattle.mission_steps.specs.Transitions.{effect_seen, transition_seen};
@@ -15,11 +12,10 @@ ghost use Rattle.mission_steps.specs.Transitions.{effect_seen, transition_seen};
 use crate::looks::{class_name, class_of, class_place};
 use crate::transitions::{SeqEffect, Transition};
 use job_frames::Code;
-use run_memory::RunMemory;
 use run_state::RunState;
-use run_state::ends::halted;
+use run_state::ends::{close_opened, halted};
 use run_state::told::{tell, tell_two};
-use scj_base::{AreaId, Memory, Name, Pos, Ref, RunFault};
+use scj_base::{Memory, Name, Pos, Ref, RunFault};
 use scj_model::Event;
 
 /// Where the class of an object is named; nowhere, if there is no such object.
@@ -88,17 +84,6 @@ fn begin_mission(
     Ok(())
 }
 
-/// Closes an area, if there is one.
-#[tactic(auto, unfolding(scj_model::specs::Memory::closed))]
-fn close(memory: &mut RunMemory, area: Option<AreaId>)
-    ensures { (s : State) → closed (with_memory s memory.old) area ≡ with_memory s memory.new }
-{
-    match area {
-        Some(area) => memory.close(area),
-        None => {}
-    }
-}
-
 /// The mission leaves neither memory nor handlers.
 fn close_mission(state: &mut RunState)
     ensures closed { (code : CodeOfRun) →
@@ -106,7 +91,7 @@ fn close_mission(state: &mut RunState)
     ensures begun { (nodes : List SyntaxNode) → AreAllBegun nodes state.old → AreAllBegun nodes state.new }
 {
     let area = state.activity.areas.innermost();
-    close(&mut state.memory, area);
+    close_opened(&mut state.memory, area);
     state.activity.areas.drop_innermost();
     state.registry.clear();
     state.mission = None;

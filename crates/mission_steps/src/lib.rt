@@ -14,6 +14,7 @@ pub mod requests;
 pub mod starts;
 pub mod transitions;
 
+pub use life::is_exec;
 pub use operations::sequencer_op;
 pub use phases::phase_after;
 pub use registry::aperiodic_of;

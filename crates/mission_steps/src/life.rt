@@ -18,7 +18,7 @@ pub(crate) fn is_init(phase: Phase) -> bool
 
 /// Whether the handlers of a mission are released.
 #[tactic(auto, unfolding(scj_model::specs::State::is_exec))]
-pub(crate) fn is_exec(phase: Phase) -> bool
+pub fn is_exec(phase: Phase) -> bool
     ensures { result ≡ is_exec phase }
 {
     match phase {

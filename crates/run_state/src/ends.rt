@@ -18,9 +18,9 @@ use run_memory::RunMemory;
 use scj_base::{AreaId, Memory, Pos, RunFault, Value};
 use scj_model::{Event, Phase, SeqOp};
 
-/// Closes the area that a frame opened, if it opened one.
+/// Closes an area that was opened, if there is one.
 #[tactic(auto, unfolding(scj_model::specs::Memory::closed))]
-pub(crate) fn close_opened(memory: &mut RunMemory, opened: Option<AreaId>)
+pub fn close_opened(memory: &mut RunMemory, opened: Option<AreaId>)
     ensures { (s : State) → closed (with_memory s memory.old) opened ≡ with_memory s memory.new }
 {
     match opened {

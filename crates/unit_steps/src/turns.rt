@@ -6,7 +6,7 @@ ghost use Rattle.scj_model.specs.declared.events.Event.TheVariants.{Run as RunEv
 ghost use Rattle.scj_model.specs.Code.{Code as CodeOfRun, code_of};
 ghost use Rattle.scj_model.specs.Choice.{by_priority};
 ghost use Rattle.scj_model.specs.Run.{acts, is_same_turn, ref_op, sequencer_turn, tell_turn, turn_acts, turn_taken};
-ghost use Rattle.scj_model.specs.State.{ReleaseAt, is_exec};
+ghost use Rattle.scj_model.specs.State.{ReleaseAt};
 ghost use Rattle.scj_model.specs.Steps.{of_release};
 ghost use Rattle.run_state.specs.Seen.{AreAllBegun, state_of, turn_seen};
 ghost use Rattle.run_state.specs.Steps.{IsStep};
@@ -15,13 +15,13 @@ ghost use Rattle.unit_steps.specs.Moves.{move_at, move_by};
 
 use crate::frame_ops::frame_op;
 use job_frames::Code;
-use mission_steps::{sequencer_op, start_op};
+use mission_steps::{is_exec, sequencer_op, start_op};
 use run_plan::Plan;
 use run_releases::{Release, ReleaseStatus};
 use run_state::told::tell;
 use run_state::{Job, RunState, Turn};
 use scj_base::Memory;
-use scj_model::{Event, Phase};
+use scj_model::Event;
 use std::alloc::Global;
 
 /// The sequencer's own operation, or the next one of the body that it called.
@@ -234,17 +234,6 @@ fn turn_of(state: &RunState) -> Turn
     match state.releases.chosen(state.registry.as_slice()) {
         Some(place) => Turn::Of(place),
         None => Turn::Idle,
-    }
-}
-
-/// Whether the mission's handlers are released.
-#[tactic(auto, unfolding(scj_model::specs::State::is_exec))]
-fn is_exec(phase: Phase) -> bool
-    ensures { result ≡ is_exec phase }
-{
-    match phase {
-        Phase::Exec => true,
-        Phase::Boot | Phase::Next | Phase::Init | Phase::Cleanup | Phase::Over => false,
     }
 }
 

@@ -12,10 +12,10 @@ pub returns-clause-closed : goal.returns-clause-closed
 unfolding state_of
 returns-clause-closed c = λ code.
     ap (λ (rows : List HandlerRow). (let s : State = record (state_of code
-    (let st : RunState = record c.args.state.now { memory = c.close.new.memory; mission = None } in st)) {
+    (let st : RunState = record c.args.state.now { memory = c.close_opened.new.memory; mission = None } in st)) {
       activity = record (state_of code c.args.state.now).activity { areas = c.drop_innermost.new.self };
       registry = rows;
     } in s)) c.clear.ensures.items
-    ∙ mission_left code c.args.state.now c.close.new.memory c.drop_innermost.new.self
+    ∙ mission_left code c.args.state.now c.close_opened.new.memory c.drop_innermost.new.self
     (λ s. ap (λ (area : Option ℕ). closed (with_memory s c.args.state.now.memory) area) (sym c.innermost-area.ensures)
-    ∙ c.close.ensures s) c.drop_innermost.ensures
+    ∙ c.close_opened.ensures s) c.drop_innermost.ensures

@@ -9,5 +9,5 @@ pub returns-clause-begun : goal.returns-clause-begun
 returns-clause-begun c =
     let frame : StoredFrame = record c.in_ok-frame.frame { opened = c.args.call.opened } in
     subst (AreBegun (code_of c.args.code.now).program.nodes)
-    (sym (c.in_ok-push.ensures ∙ ap (λ (fs : List StoredFrame). frame ∷ fs) c.new-frames.ensures))
+    (sym (c.in_ok-push.ensures.pushed ∙ ap (λ (fs : List StoredFrame). frame ∷ fs) c.new-frames.ensures))
     (frames_begun_in c.args.code.now (frame ∷ []) (c.in_ok-frame.ensures.begun, tt))

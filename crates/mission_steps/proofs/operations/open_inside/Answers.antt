@@ -12,7 +12,7 @@ returns-in_ok-push-in-Some c = λ code begun.
     c.in_ok-area.field-0 (Some c.in-Some.area) (state_of code c.open_area.new.state) c.innermost-parent.ensures
     c.in-Some.is
     (c.in_ok-area.ensures.opened code TheSequencer (state_of code c.args.state.now).activity c.args.place))
-    c.in_ok-push-in-Some.ensures (c.open_area.ensures.begun code.program.nodes begun)
+    c.in_ok-push-in-Some.ensures.pushed (c.open_area.ensures.begun code.program.nodes begun)
 
 pub returns-in_ok-halted-in-None : goal.returns-in_ok-halted-in-None
 returns-in_ok-halted-in-None c = λ code begun.
