@@ -19,3 +19,4 @@ mod tables;
 
 pub use fields::StaticField;
 pub use layout::Layout;
+pub use parts::kind_of_type;

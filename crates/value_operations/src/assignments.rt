@@ -11,10 +11,11 @@ ghost use Rattle.job_frames.specs.Frames.{frame_of};
 ghost use Rattle.job_frames.specs.EffectsSeen.{Does, world};
 
 use crate::readings::{
-    assigned_field, assigned_local, assigned_static, field_at, kind_of_type, local_at, slot_of,
-    static_place, value_of_field, variable,
+    assigned_field, assigned_local, assigned_static, field_at, local_at, slot_of, static_place,
+    value_of_field, variable,
 };
 use job_frames::{Code, Effect, Frame};
+use object_layout::kind_of_type;
 use run_memory::RunMemory;
 use scj_base::{FieldId, NodeId, Ref, RunFault, Value};
 use value_operators::default_of;

@@ -2,7 +2,7 @@
 
 ghost use Rattle.std.specs.Prelude.{◌≡◌};
 ghost use Rattle.scj_rules.specs.Classes.{is_sub};
-ghost use Rattle.scj_rules.specs.Layout.{kind_of_type, slot_of, static_place};
+ghost use Rattle.scj_rules.specs.Layout.{slot_of, static_place};
 ghost use Rattle.scj_rules.specs.Views.{variable_at};
 ghost use Rattle.scj_model.specs.Code.{binding, code_of, part};
 ghost use Rattle.scj_model.specs.Memory.{literal_value};
@@ -13,7 +13,7 @@ use crate::parts;
 use job_frames::Code;
 use node_views::variable_at;
 use scj_base::{ClassId, FieldId, MethodId, NodeId, Value};
-use scj_rules::{Binding, Declared, SlotKind, WrittenType};
+use scj_rules::{Binding, Declared};
 
 // ---- what a node stands for
 
@@ -128,18 +128,6 @@ pub fn value_of_field(code: &Code<'_>, id: NodeId) -> Option<Value>
 }
 
 // ---- variables
-
-/// What a variable of a type holds.
-#[tactic(auto, unfolding(scj_rules::specs::Layout::kind_of_type))]
-pub fn kind_of_type(written: &WrittenType) -> SlotKind
-    ensures { result ≡ kind_of_type written.now }
-{
-    match written {
-        WrittenType::Int => SlotKind::Number,
-        WrittenType::Boolean => SlotKind::Truth,
-        _ => SlotKind::Reference,
-    }
-}
 
 /// The parameter or local that a node declares.
 #[tactic(auto, using(work_cursor::proofs::CodeLemmas::nodes_are))]
