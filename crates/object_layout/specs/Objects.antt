@@ -12,7 +12,8 @@ unfoldable pub all_noted : List ℕ → List ObjectRow → List ℕ
 all_noted places [] = places
 all_noted places (row ∷ rows) = all_noted (noted places 0 row.fields.items) rows
 
--- the rows are those of the program, the places are noted from them, and the mark says whether each row has its own
+-- the rows are those of the program, the places are noted from them, and the mark says whether the fields of each row
+-- have their places in it
 pub record IsObjectTableOf (forest : Forest) (table : ObjectTable) : Type 0 where
   pub rows : AreObjectRows (declarations_of forest) (length (declarations_of forest).classes) table.rows.items
   pub places : table.places.items ≡ all_noted (replicate (length forest.nodes) 0) table.rows.items

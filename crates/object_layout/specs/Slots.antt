@@ -6,7 +6,7 @@ use Rattle.scj_tree.specs.Recursion.{lookup}
 abbrev pub HasPlaces : List ℕ → List ℕ → Type 0
 HasPlaces places fields = (k id : ℕ) → slice_get fields k ≡ Some id → lookup 0 places id ≡ k
 
--- the table in which the places of these fields are noted, from one on. Behind the largest place comes the first again.
+-- the table in which the places of these fields are noted, from a place on. Behind 2 ^ 32 - 1 comes 0.
 unfoldable pub noted : List ℕ → ℕ → List ℕ → List ℕ
 noted places place [] = places
 noted places place (id ∷ ids) = noted (slice_set places id place) ((place + 1) % 2 ^ 32) ids

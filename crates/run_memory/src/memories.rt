@@ -178,7 +178,7 @@ impl RunMemory {
     }
 
     /// Sets a slot of an object, counted with the hidden ones. What isn't there stays away. `Err` is for the hidden
-    /// ones. A contract doesn't see which those are, and says that there is such a slot.
+    /// ones. A contract doesn't see which those are, and says only that the slot is there.
     pub fn set_slot(&mut self, r: Ref, slot: usize, value: Value) -> Result<(), Memory>
         ensures ok { OnOk result
             (self.new ≡ changing_object self.old r (λ o. record o { slots = slice_set o.slots slot value })) }
@@ -191,7 +191,7 @@ impl RunMemory {
     }
 
     /// Sets the hidden fields of an object, if there is one. `Err` is for one that has another number of them. A
-    /// contract doesn't see how many it has, and says that there is such an object.
+    /// contract doesn't see how many it has, and says only that the object is there.
     pub fn set_hidden(&mut self, r: Ref, hidden: Vec<u64>) -> Result<(), Memory>
         ensures ok { OnOk result (self.new ≡ changing_object self.old r (with_first (hidden_slots hidden.items))) }
         ensures err { OnErr result (self.new ≡ self.old) }

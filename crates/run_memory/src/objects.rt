@@ -80,7 +80,8 @@ impl Object {
     }
 
     /// The value of a slot, counted with the hidden ones, if there is one. `Err` is for the hidden ones, whose numbers
-    /// refer to nothing and may be no ints. A contract doesn't see which those are, and says that there is such a slot.
+    /// refer to nothing and may be no ints. A contract doesn't see which those are, and says only that the slot is
+    /// there.
     pub fn slot(&self, slot: usize) -> Result<Option<Value>, Memory>
         ensures value { IfOk result (λ value. value ≡ slice_get self.now.slots slot) }
         ensures within { OnErr result (slot < length self.now.slots) }
@@ -105,7 +106,7 @@ impl Object {
     }
 
     /// Sets a slot, counted with the hidden ones. A slot that isn't there stays away. `Err` is for the hidden ones. A
-    /// contract doesn't see which those are, and says that there is such a slot.
+    /// contract doesn't see which those are, and says only that the slot is there.
     pub(crate) fn set_slot(&mut self, slot: usize, value: Value) -> Result<(), Memory>
         ensures ok { OnOk result (self.new ≡ record self.old { slots = slice_set self.old.slots slot value }) }
         ensures err { OnErr result (self.new ≡ self.old) }

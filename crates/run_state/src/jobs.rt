@@ -1,6 +1,6 @@
 //! The activity of a job is taken out of the state while the job acts, and is put back at the end.
 
-ghost use Rattle.std.specs.Prelude.{◌≡◌, List, IfSome, IfNone, OnOk, OnSome, option_map};
+ghost use Rattle.std.specs.Prelude.{◌≡◌, List, IfSome, IfNone, OnOk, OnErr, OnSome, option_map};
 ghost use Rattle.scj_tree.specs.declared.nodes.Node.{Node as SyntaxNode};
 ghost use Rattle.scj_model.specs.Code.{Code};
 ghost use Rattle.scj_model.specs.State.{activity_of, with_activity};
@@ -40,6 +40,7 @@ pub fn put_back(state: &mut RunState, job: Job, activity: Activity) -> Result<()
         (activity_seen code activity)) }
     ensures begun { (nodes : List SyntaxNode) → AreAllBegun nodes state.old → AreBegun nodes activity.frames →
         OnOk result (AreAllBegun nodes state.new) }
+    ensures err { OnErr result (state.new ≡ state.old) }
 {
     match job {
         Job::Sequencer => {

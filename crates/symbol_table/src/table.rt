@@ -47,8 +47,9 @@ impl<'a> SymbolTable<'a> {
     }
 
     /// Goes to a class: it costs the members of the classes above that are left and entered, which is little where the
-    /// superclass is in scope. After an `Err` it is at `Object`. That also tells of a chain longer than
-    /// there are classes and of a framework class under another one than `Object`, of which no program has any.
+    /// superclass is in scope. After an `Err` it is at `Object`. `Err` also comes where the class above isn't the one
+    /// in scope, where a chain is longer than there are classes, and where a framework class stands under another one
+    /// than `Object`; no program has any of these.
     pub fn go_to(&mut self, class: ClassId) -> Result<(), Memory>
         requires { class < length (declarations_of self.old.forest).classes }
         ensures at { OnOk result (self.new ≡ at_class self.old.forest class) }
