@@ -4,7 +4,8 @@
     python3 rule_index.py --check  compares it with what would be written
 
 Definitions are found by the rule's code in them, or in the comment above them as `-- C1, what it asks`; functions by
-the code in them, or in their documentation as `Notes C1 at`. The wrong bodies stand below, by hand. What isn't found, and an edit that isn't there, fails.
+the code in them, or in their documentation as `Notes C1 at`. The wrong bodies stand below, by hand. What isn't found,
+and an edit that isn't there, fails.
 """
 
 import glob
@@ -99,7 +100,7 @@ COMMON = {
 
 HEAD = """# Where each rule stands
 
-`docs/RULES.md` says what each rule asks. This page leads from its code to its definition, to the functions that note its breaks, and to wrong bodies that the proofs must refuse. `python3 .ci/rule_index.py` makes the page.
+`docs/RULES.md` says what each rule asks. This page leads from its code to its definition, to the functions that note its breaks or choose the rule, and to wrong bodies that the proofs must refuse. `python3 .ci/rule_index.py` makes the page.
 
 Definitions stand in a crate's `specs/`, functions in its `src/`, and wrong bodies, as edits, in its `must-fail/`. A definition is named as it stands in its file, without `.antt`.
 """
@@ -239,13 +240,13 @@ def page(fail):
     lines = [HEAD, "| Rule | Defined by | Noted by | Wrong bodies |", "|---|---|---|---|"]
     for rule, text in heads:
         for what, found in ("definition", definitions), ("function", functions), ("row of edits", EDITS):
-            if rule not in found:
+            if not found.get(rule):
                 fail(f"no {what} is found that names {rule}")
         cells = [
             f"[{rule}](RULES.md#{anchor(rule, text)}) {text}",
             told(definitions.get(rule, [])),
             told(functions.get(rule, [])),
-            edits_told(EDITS[rule], fail),
+            edits_told(EDITS.get(rule, ""), fail),
         ]
         lines.append(f"| {' | '.join(cells)} |")
     lines += ["", "Of all rules:", ""]
