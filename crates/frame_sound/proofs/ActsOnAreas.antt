@@ -11,19 +11,20 @@ use Rattle.scj_rules.specs.declared.views.Body.TheVariants.{Written}
 use Rattle.scj_rules.specs.ScopeRules.{defined_by_chain}
 use Rattle.accepted_laws.specs.Kinds.{Kind, number, truth, yes, reference, fresh, Fits, AllFit, GoesTo, seen_as, seen_kind, seen_option}
 use Rattle.scj_model.specs.declared.operations.Op.TheVariants.{CallStatic as CALLSTATIC, Enter as ENTER, ExecuteIn as EXECUTEIN}
-use Rattle.scj_model.specs.Ops.{body_ops}
+use Rattle.scj_model.specs.Ops.{body_ops, node_of}
 use Rattle.scj_model.specs.Effects.{Opens, Faults, given, new_frame}
 use Rattle.scj_model.specs.Operations.{effect_of, with_run}
 use Rattle.scope_flow.specs.Slots.{IsOfType}
 use Rattle.scope_flow.specs.Signatures.{Signature, IsBody, Runs, parameters_of, runs_for_object, IsWithoutThis, AreWithoutThis, Gives}
 use Rattle.scope_flow.specs.Needs.{pushed}
-use Rattle.scope_flow.proofs.Entries.{entry_flows}
+use Rattle.scope_flow.proofs.Courses.{entry_courses}
 use Rattle.frame_sound.specs.Places.{area_named, denote, held, IsObject, Has, AllHave}
+use Rattle.frame_sound.specs.Calls.{IsCalledBy}
 use Rattle.frame_sound.specs.Fine.{Ready, held_option, GivenFits}
 use Rattle.frame_sound.proofs.Places.{IsNamed, named_is}
 use Rattle.frame_sound.proofs.Begins.{locals_begin, begins}
 use Rattle.frame_sound.proofs.Scenes.{Scene, memory, den, Holds, HoldAll, FlowsOn, Ok, take, next_taken, pop_fine, given_fine, int_fine, object_fine, arguments_fine, ready, on_with, on_list}
-use Rattle.frame_sound.proofs.ActsOnValues.{Does}
+use Rattle.frame_sound.proofs.ActsOnValues.{DoesThere}
 use Rattle.frame_sound.proofs.ActsOnCalls.{concrete}
 
 nowhere : (m : Scene) (s : Scope) → s ≡ Any → (a : ℕ) → den m s ≡ Some a → ⊥
@@ -136,13 +137,13 @@ module _ (m : Scene) where
         kinds = [];
         operands = tt;
         locals = locals_begin m.code.program (memory m) static_den b on sig body args h;
-        flow = entry_flows m.code m.facts b on sig body;
+        flow = entry_courses m.code m.facts b on sig body;
       }
 
-  pub call_static_fine : (id : ℕ) → Does m (CALLSTATIC id)
-  unfolding effect_of new_frame
+  pub call_static_fine : (id : ℕ) → DoesThere m (CALLSTATIC id)
+  unfolding effect_of new_frame IsCalledBy node_of
   call_static_fine id r =
-      let n = r.needed in
+      let n = r.1.needed in
       given_fine m _ _ n.method n.is
       (given_fine m _ _ (length n.arguments) n.count
       (given_fine m _ _ (Written n.body) n.is_body
@@ -154,34 +155,44 @@ module _ (m : Scene) where
           goes =
               ready m rest m.frame.locals m.frame.rest (seen_option Any m.sig.runs_in n.static.gives) m.known n.others
               rh
-              m.locals (subst (FlowsOn m m.frame.rest m.known) n.leaves r.goes);
+              m.locals (subst (FlowsOn m m.frame.rest m.known) n.leaves r.1.goes);
           class = n.on;
           own = n.static;
           begins = static_begins id n.body n.on n.static n.has_signature n.for_no_object n.runs args
               (static_fits n.arguments n.static.takes n.takes_no_this n.fit args ah);
           unopened = refl;
           fits = static_gives n.static.gives n.gives_no_this n.gives_itself;
+          on = record {
+            op = CALLSTATIC id;
+            at = refl;
+            pushers = r.0.pushers;
+            came = r.0.came;
+            class = m.class;
+            sig = m.sig;
+            in_class = m.runs;
+            by = record { method = n.method; is = n.is; runs = n.is_body; without = refl; same_area = refl };
+          };
         };
       }))))
 
   -- ---- `run` in a new area
 
-  pub enter_fine : (id : ℕ) → Does m (ENTER id)
-  unfolding effect_of held IsOfType
+  pub enter_fine : (id : ℕ) → DoesThere m (ENTER id)
+  unfolding effect_of held IsOfType new_frame IsCalledBy node_of
   enter_fine id r =
-      let n = r.needed in
-      let x = take m (reference (ClassTy n.class) n.scope) (number ∷ r.out) n.takes in
-      let y = next_taken m number r.out x.rest x.have in
+      let n = r.1.needed in
+      let x = take m (reference (ClassTy n.class) n.scope) (number ∷ r.1.out) n.takes in
+      let y = next_taken m number r.1.out x.rest x.have in
       pop_fine m m.frame.operands _ x.v x.rest x.is
       (pop_fine m x.rest _ y.v y.rest y.is
       (object_fine m (ClassTy n.class) (den m n.scope) x.v _ x.has (λ o.
       int_fine m y.v _ y.has (λ z. go z (is_negative z) y.rest y.have x.v o))))
     where
-      around : IsNamed m.areas r.needed.parent m.frame.area
-      around = named_is m.areas r.needed.parent m.frame.area m.list (named_now m r.needed.parent r.needed.now)
+      around : IsNamed m.areas r.1.needed.parent m.frame.area
+      around = named_is m.areas r.1.needed.parent m.frame.area m.list (named_now m r.1.needed.parent r.1.needed.now)
 
-      go : (z : ℤ) (t : Bool) (rest : List Value) → HoldAll m r.out rest → (v : Value)
-          (o : IsObject m.code.program (memory m) (ClassTy r.needed.class) (den m r.needed.scope) v) →
+      go : (z : ℤ) (t : Bool) (rest : List Value) → HoldAll m r.1.out rest → (v : Value)
+          (o : IsObject m.code.program (memory m) (ClassTy r.1.needed.class) (den m r.1.needed.scope) v) →
           Ok m (if t then Faults NegativeSize
           else with_run m.code m.world o.r (λ p body. given (defined_by_chain m.code.program p.class) (λ scope.
           Opens (record m.frame { operands = rest }) (new_frame m.code body (Some id) (Some o.r) m.frame.area []) scope
@@ -189,16 +200,16 @@ module _ (m : Scene) where
       go z true rest have v o = record { is = tt }
       go z false rest have v o =
           let e =
-          r.needed.each o.object.class o.of_type.1
+          r.1.needed.each o.object.class o.of_type.1
           (concrete m o.r o.object o.found (m.facts.classes o.object.class o.of_type.0)) in
           given_fine m _ _ o.object o.found
           (given_fine m _ _ (Written e.run.body) e.run.is
-          (given_fine m _ _ r.needed.entered e.defines
+          (given_fine m _ _ r.1.needed.entered e.defines
           (record {
             is = record {
-              goes = on_with m rest r.out have r.goes;
-              parent = r.needed.parent;
-              is_parent = r.needed.is_parent;
+              goes = on_with m rest r.1.out have r.1.goes;
+              parent = r.1.needed.parent;
+              is_parent = r.1.needed.is_parent;
               around = around.area;
               is_area = around.is_there;
               named = around.is_named;
@@ -206,23 +217,36 @@ module _ (m : Scene) where
               on_list = record {
                 object = o.object;
                 found = o.found;
-                on_list = on_list m r.needed.scope o.object.area o.lies;
+                on_list = on_list m r.1.needed.scope o.object.area o.lies;
               };
               is_class = o.of_type.0;
               entered = e;
               called_at = Some id;
               is = refl;
+              on = λ area. record {
+                op = ENTER id;
+                at = refl;
+                pushers = r.0.pushers;
+                came = r.0.came;
+                class = m.class;
+                sig = m.sig;
+                in_class = m.runs;
+                by = record {
+                  on = record { r = o.r; is = refl; object = o.object; found = o.found };
+                  runs = e.run.is;
+                };
+              };
             };
           })))
 
   -- ---- `run` in the area of an object
 
-  pub execute_in_fine : (id : ℕ) → Does m (EXECUTEIN id)
-  unfolding effect_of held IsOfType new_frame
+  pub execute_in_fine : (id : ℕ) → DoesThere m (EXECUTEIN id)
+  unfolding effect_of held IsOfType new_frame IsCalledBy node_of
   execute_in_fine id r =
-      let n = r.needed in
-      let x = take m (reference (ClassTy n.class) n.scope) (reference n.type (In n.area) ∷ r.out) n.takes in
-      let y = next_taken m (reference n.type (In n.area)) r.out x.rest x.have in
+      let n = r.1.needed in
+      let x = take m (reference (ClassTy n.class) n.scope) (reference n.type (In n.area) ∷ r.1.out) n.takes in
+      let y = next_taken m (reference n.type (In n.area)) r.1.out x.rest x.have in
       pop_fine m m.frame.operands _ x.v x.rest x.is
       (pop_fine m x.rest _ y.v y.rest y.is
       (object_fine m n.type (den m (In n.area)) y.v _ y.has (λ there.
@@ -236,7 +260,7 @@ module _ (m : Scene) where
       (record {
         is = record {
           kind = None;
-          goes = on_with m y.rest r.out y.have r.goes;
+          goes = on_with m y.rest r.1.out y.have r.1.goes;
           class = e.run.own.on;
           own = e.run.own.sig;
           begins = begins m.code m.facts (memory m) m.list m.fine m.heap there.object.area
@@ -250,5 +274,18 @@ module _ (m : Scene) where
               []) (sym e.run.takes) tt);
           unopened = refl;
           fits = gives_none m o.r there.object.area e.run.own.sig e.run.gives;
+          on = record {
+            op = EXECUTEIN id;
+            at = refl;
+            pushers = r.0.pushers;
+            came = r.0.came;
+            class = m.class;
+            sig = m.sig;
+            in_class = m.runs;
+            by = record {
+              on = record { r = o.r; is = refl; object = o.object; found = o.found };
+              runs = e.run.is;
+            };
+          };
         };
       })))))))

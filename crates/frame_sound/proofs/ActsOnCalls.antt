@@ -1,39 +1,35 @@
 -- Calls: the new frame begins as the rules say, and the caller waits for what it gives.
-use Rattle.std.specs.Prelude.{Option, Some, None, replicate, ◌-◌, ◌++◌}
-use Rattle.std.proofs.Common.{◌≡◌, ℕ, List, [], ◌∷◌, length, true, false, refl, sym, ◌∙◌, ap, subst, true≢false, ◌⊎◌, inl, inr}
+use Rattle.std.specs.Prelude.{Option, Some, None}
+use Rattle.std.proofs.Common.{◌≡◌, ℕ, List, [], ◌∷◌, length, true, refl, sym, ◌∙◌, ap, subst, ◌⊎◌, inl, inr}
 use Rattle.scj_base.specs.declared.values.Value.{Value}
-use Rattle.scj_base.specs.declared.values.Value.TheVariants.{Null}
-use Rattle.scj_rules.specs.declared.typing.Ty.{Ty}
 use Rattle.scj_rules.specs.declared.typing.Ty.TheVariants.{Class as ClassTy}
 use Rattle.scj_rules.specs.declared.typing.Scope.{Scope}
 use Rattle.scj_rules.specs.declared.typing.Scope.TheVariants.{Any, This, Caller, In}
-use Rattle.scj_rules.specs.declared.views.Body.{Body}
-use Rattle.scj_rules.specs.declared.views.Body.TheVariants.{Written, Empty}
-use Rattle.scj_rules.specs.Words.{is_among, ◌>>=◌}
+use Rattle.scj_rules.specs.declared.views.Body.TheVariants.{Written}
+use Rattle.scj_rules.specs.Words.{is_among}
 use Rattle.scj_rules.specs.Types.{assigns}
 use Rattle.scj_rules.specs.Bodies.{body_of}
 use Rattle.accepted_laws.specs.Kinds.{Kind, number, truth, yes, reference, fresh, Fits, AllFit, GoesTo, RunsHere, seen_as, seen_kind, seen_kinds, seen_option}
-use Rattle.accepted_laws.proofs.Tools.{some_inj}
-use Rattle.scj_model.specs.declared.operations.Op.TheVariants.{Construct as CONSTRUCT, Super as SUPER, Call as CALL}
-use Rattle.scj_model.specs.State.{Object, Frame}
-use Rattle.scj_model.specs.Ops.{body_ops}
-use Rattle.scj_model.specs.Effects.{Calls, given, pop, as_reference, as_object, new_frame}
-use Rattle.scj_model.specs.Operations.{effect_of, constructs}
+use Rattle.scj_model.specs.declared.operations.Op.TheVariants.{Call as CALL}
+use Rattle.scj_model.specs.State.{Object}
+use Rattle.scj_model.specs.Ops.{node_of}
+use Rattle.scj_model.specs.Effects.{Calls, given, pop, as_object, new_frame}
+use Rattle.scj_model.specs.Operations.{effect_of}
 use Rattle.scope_flow.specs.Slots.{array_type, IsOfType}
-use Rattle.scope_flow.specs.Signatures.{Signature, Runs, empty_signature, IsConcrete, IsDispatched, Gives}
-use Rattle.scope_flow.specs.Needs.{pushed, stacked, CallsConstructor}
+use Rattle.scope_flow.specs.Signatures.{Signature, IsConcrete, IsDispatched, Gives}
 use Rattle.frame_sound.specs.Places.{denote, held, IsObject, Has, AllHave}
-use Rattle.frame_sound.specs.Fine.{LocalsFine, Ready, held_option, GivenFits}
+use Rattle.frame_sound.specs.Fine.{held_option, GivenFits}
+use Rattle.frame_sound.specs.Calls.{IsCalledBy, IsCalledIn}
 use Rattle.frame_sound.specs.EffectsFine.{GoesOn}
 use Rattle.frame_sound.proofs.Places.{has_fits}
-use Rattle.frame_sound.proofs.Begins.{begins, home_denotes, on_this}
-use Rattle.frame_sound.proofs.Scenes.{Scene, memory, den, HoldAll, FlowsOn, Ok, Taken, next_taken, pop_fine, given_fine, object_fine, reference_fine, arguments_fine, ready, on_with, on_list, no_any, never_any}
-use Rattle.frame_sound.proofs.ActsOnValues.{Does}
+use Rattle.frame_sound.proofs.Begins.{begins, home_denotes}
+use Rattle.frame_sound.proofs.Scenes.{Scene, memory, den, HoldAll, FlowsOn, Ok, Taken, next_taken, pop_fine, given_fine, object_fine, arguments_fine, ready, on_list, no_any, never_any}
+use Rattle.frame_sound.proofs.ActsOnValues.{DoesThere}
 
 module _ (m : Scene) where
   -- ---- arguments, in the scopes of the callee
 
-  all_fit : (den2 : Scope → Option ℕ) (home now : Scope) → (home ≡ Any → ⊥) →
+  pub all_fit : (den2 : Scope → Option ℕ) (home now : Scope) → (home ≡ Any → ⊥) →
       ((s : Scope) (n : ℕ) → den m (seen_as home now s) ≡ Some n → den2 s ≡ Some n) → (js ks : List Kind) →
       AllFit m.code.program home now js ks → (vs : List Value) → HoldAll m js vs →
       AllHave m.code.program (memory m) den2 ks vs
@@ -95,163 +91,9 @@ module _ (m : Scene) where
       go (inr (inr e)) = absurd (real e.1)
   gives_fit den2 h home now real none agree (Some _) (Some _) x = absurd x
 
-  denote_caller : (this : Option ℕ) → denote (memory m) m.list this m.frame.area Caller ≡ Some m.frame.area
+  pub denote_caller : (this : Option ℕ) → denote (memory m) m.list this m.frame.area Caller ≡ Some m.frame.area
   unfolding denote
   denote_caller this = refl
-
-  -- ---- constructors
-
-  module _ (id : ℕ) (class : ℕ) (us : List Kind) (k : CallsConstructor m.code.program class m.sig.runs_in us) (t : Ty)
-      (v : Value) (o : IsObject m.code.program (memory m) t (den m m.sig.runs_in) v)
-      (of_type : IsOfType m.code.program o.object.class (ClassTy class)) (args : List Value)
-      (have : HoldAll m us args) where
-    abbrev there : Scope → Option ℕ
-    there = denote (memory m) m.list (Some o.r) m.frame.area
-
-    here : o.object.area ≡ m.frame.area
-    here = some_inj o.object.area m.frame.area (sym o.lies ∙ m.home.is_now)
-
-    on : is_among o.object.area m.list ≡ true
-    on = on_list m m.sig.runs_in o.object.area o.lies
-
-    agree : (s : Scope) (n : ℕ) → den m (seen_as m.sig.runs_in m.sig.runs_in s) ≡ Some n → there s ≡ Some n
-    unfolding denote seen_as
-    agree This n e = ap (λ (x : Option Object). x >>= (λ o. Some o.area)) o.found ∙ (sym o.lies ∙ e)
-    agree Caller n e = sym m.home.is_now ∙ e
-    agree (In a) n e = e
-    agree Any n e = e
-
-    takes : AllHave m.code.program (memory m) there k.sig.takes args
-    takes =
-        all_fit there m.sig.runs_in m.sig.runs_in (never_any m m.sig.runs_in m.frame.area m.home.is_now) agree us
-        k.sig.takes k.fit args have
-
-    runs_there : there k.sig.runs_in ≡ Some m.frame.area
-    runs_there =
-        elim k.runs_in_home as (λ z. there k.sig.runs_in ≡ Some m.frame.area) [
-          | inl e ↦ ap there e ∙ caller
-          | inr e ↦ home_denotes m.code m.facts (memory m) m.list m.fine m.heap m.frame.area m.home.now_on_list o.r
-              o.object o.found on class of_type k.sig.runs_in e ∙ ap (λ a. Some a) here
-        ]
-      where
-        caller : denote (memory m) m.list (Some o.r) m.frame.area Caller ≡ Some m.frame.area
-        caller = denote_caller (Some o.r)
-
-    empty_args : (sig : Signature) → sig ≡ empty_signature → AllHave m.code.program (memory m) there sig.takes args →
-        args ≡ []
-    empty_args sig e h = go args (subst (λ (s : Signature). AllHave m.code.program (memory m) there s.takes args) e h)
-      where
-        go : (vs : List Value) → AllHave m.code.program (memory m) there [] vs → vs ≡ []
-        go [] h = refl
-        go (v ∷ vs) h = absurd h
-
-    starts : (body : Body) (sig : Signature) → Runs m.code.program body class sig →
-        there sig.runs_in ≡ Some m.frame.area →
-        AllHave m.code.program (memory m) there sig.takes args →
-        Ready m.code (memory m) m.list class sig (new_frame m.code body (Some id) (Some o.r) m.frame.area args) None
-    unfolding Runs new_frame body_ops pushed
-    starts (Written b) sig runs e h =
-        begins m.code m.facts (memory m) m.list m.fine m.heap m.frame.area m.home.now_on_list o.r o.object o.found on
-        class
-        of_type b sig runs (Some id) e args h
-    starts Empty sig runs e h =
-        record {
-          runs = runs;
-          home = record {
-            own = λ f. absurd (true≢false (sym f));
-            on_list = on_this m.code m.facts (memory m) m.list m.fine m.heap m.frame.area m.home.now_on_list o.r
-                o.object o.found on class of_type;
-            now_on_list = m.home.now_on_list;
-            is_now = e;
-          };
-          known = [];
-          kinds = [];
-          operands = tt;
-          locals =
-              subst
-              (λ (vs : List Value). LocalsFine m.code.program (memory m) there Empty []
-              (vs ++ replicate (0 - length vs) Null))
-              (sym (empty_args sig runs.1 h))
-              (record { long = refl; each = λ i v k there_ is known. absurd (cc (there_)) });
-          flow = ap (λ (s : Signature). s.gives) runs.1;
-        }
-
-    pub constructed : (h : Frame) → GoesOn m.code (memory m) m.list m.class m.sig m.frame h None →
-        Ok m (Calls h (new_frame m.code k.body (Some id) (Some o.r) m.frame.area args))
-    unfolding held_option new_frame
-    constructed h goes =
-        record {
-          is = record {
-            kind = None;
-            goes = goes;
-            class = class;
-            own = k.sig;
-            begins = starts k.body k.sig k.runs runs_there takes;
-            unopened = refl;
-            fits = subst (λ x. GivenFits m.code.program (held_option there x) None) (sym k.gives_nothing) tt;
-          };
-        }
-
-  -- the arguments and the object below them are popped
-  module _ (id : ℕ) (class : ℕ) (us : List Kind) (k : CallsConstructor m.code.program class m.sig.runs_in us) (new : ℕ)
-      (others : List Kind) (e : m.kinds ≡ stacked us (fresh new m.sig.runs_in ∷ others))
-      (below : (c : ℕ) → IsOfType m.code.program c (ClassTy new) → IsOfType m.code.program c (ClassTy class)) where
-    taken_all : HoldAll m (stacked us (fresh new m.sig.runs_in ∷ others)) m.frame.operands
-    taken_all = subst (λ x. HoldAll m x m.frame.operands) e m.operands
-
-    keeps_fine : FlowsOn m m.frame.rest m.known (reference (ClassTy new) m.sig.runs_in ∷ others) →
-        Ok m (constructs m.code m.frame id class (length us) true)
-    unfolding held
-    keeps_fine w =
-        given_fine m _ _ k.body k.is
-        (arguments_fine m us (fresh new m.sig.runs_in ∷ others) m.frame _ taken_all (λ args rest ah rh.
-        last args rest ah (next_taken m (fresh new m.sig.runs_in) others rest rh)))
-      where
-        last : (args rest : List Value) → HoldAll m us args → Taken m (fresh new m.sig.runs_in) others rest →
-            Ok m (pop (record m.frame { operands = rest }) (λ object g. as_reference object (λ r.
-            Calls (record m.frame { operands = rest }) (new_frame m.code k.body (Some id) (Some r) m.frame.area args))))
-        last args rest ah x =
-            pop_fine m rest _ x.v x.rest x.is
-            (reference_fine m (ClassTy new) (den m m.sig.runs_in) x.v _ x.has
-            (constructed id class us k (ClassTy new) x.v x.has (below x.has.object.class x.has.of_type) args ah
-            (record m.frame { operands = rest })
-            (on_with m rest (reference (ClassTy new) m.sig.runs_in ∷ others)
-            (subst (λ vs. HoldAll m (reference (ClassTy new) m.sig.runs_in ∷ others) vs) (sym x.is) (inr x.has, x.have))
-            w)))
-
-    drops_fine : FlowsOn m m.frame.rest m.known others → Ok m (constructs m.code m.frame id class (length us) false)
-    unfolding held
-    drops_fine w =
-        given_fine m _ _ k.body k.is
-        (arguments_fine m us (fresh new m.sig.runs_in ∷ others) m.frame _ taken_all (λ args rest ah rh.
-        last args rest ah (next_taken m (fresh new m.sig.runs_in) others rest rh)))
-      where
-        last : (args rest : List Value) → HoldAll m us args → Taken m (fresh new m.sig.runs_in) others rest →
-            Ok m (pop (record m.frame { operands = rest }) (λ object g. as_reference object (λ r.
-            Calls g (new_frame m.code k.body (Some id) (Some r) m.frame.area args))))
-        last args rest ah x =
-            pop_fine m rest _ x.v x.rest x.is
-            (reference_fine m (ClassTy new) (den m m.sig.runs_in) x.v _ x.has
-            (constructed id class us k (ClassTy new) x.v x.has (below x.has.object.class x.has.of_type) args ah
-            (record m.frame { operands = x.rest }) (on_with m x.rest others x.have w)))
-
-  pub construct_fine : (id : ℕ) → Does m (CONSTRUCT id)
-  unfolding effect_of
-  construct_fine id r =
-      let n = r.needed in
-      given_fine m _ _ n.class n.is
-      (given_fine m _ _ (length n.arguments) n.count
-      (keeps_fine id n.class n.arguments n.constructor n.class n.others n.takes (λ c h. h)
-      (subst (FlowsOn m m.frame.rest m.known) n.leaves r.goes)))
-
-  pub super_fine : (id : ℕ) → Does m (SUPER id)
-  unfolding effect_of assigns
-  super_fine id r =
-      let n = r.needed in
-      given_fine m _ _ n.superclass n.is
-      (subst (λ count. Ok m (constructs m.code m.frame id n.superclass count false)) (sym n.count)
-      (drops_fine id n.superclass n.arguments n.constructor m.class r.out n.takes
-      (λ c h. m.facts.assigned c (ClassTy m.class) (ClassTy n.superclass) h n.above) r.goes))
 
   -- ---- methods
 
@@ -262,10 +104,11 @@ module _ (m : Scene) where
       HoldAll m us args → (vs : List Value) →
       GoesOn m.code (memory m) m.list m.class m.sig m.frame (record m.frame { operands = vs })
       (seen_option scope m.sig.runs_in static.gives) →
-      Ok m (Calls (record m.frame { operands = vs })
+      IsCalledIn m.code (memory m) m.list (record m.frame { operands = vs }) (Written d.body) (Some id) (Some o.r)
+      m.frame.area → Ok m (Calls (record m.frame { operands = vs })
       (new_frame m.code (Written d.body) (Some id) (Some o.r) m.frame.area args))
   unfolding denote seen_as assigns new_frame IsOfType
-  called id class scope method static v o d runs us fit args ah vs goes =
+  called id class scope method static v o d runs us fit args ah vs goes on_ =
       record {
         is = record {
           kind = seen_option scope m.sig.runs_in static.gives;
@@ -282,6 +125,7 @@ module _ (m : Scene) where
           fits =
               gives_fit den3 d.own.is_body.home scope m.sig.runs_in real refl agree d.own.sig.gives static.gives
               d.gives;
+          on = on_;
         };
       }
     where
@@ -332,23 +176,51 @@ module _ (m : Scene) where
         | inr h ↦ absurd (let x = sym e ∙ h.1 in cc (x))
       ]
 
-  pub call_fine : (id : ℕ) → Does m (CALL id)
-  unfolding effect_of held IsOfType
+  pub call_fine : (id : ℕ) → DoesThere m (CALL id)
+  unfolding effect_of held IsOfType IsCalledBy node_of
   call_fine id r =
-      let n = r.needed in
+      let n = r.1.needed in
       given_fine m _ _ n.method n.is
       (given_fine m _ _ (length n.arguments) n.count
       (arguments_fine m n.arguments (reference (ClassTy n.class) n.scope ∷ n.others) m.frame _
       (subst (λ x. HoldAll m x m.frame.operands) n.takes m.operands) (λ args rest ah rh.
       last args rest ah (next_taken m (reference (ClassTy n.class) n.scope) n.others rest rh))))
     where
-      last : (args rest : List Value) → HoldAll m r.needed.arguments args →
-          Taken m (reference (ClassTy r.needed.class) r.needed.scope) r.needed.others rest →
+      calls : {v : Value}
+          (o : IsObject m.code.program (memory m) (ClassTy r.1.needed.class) (den m r.1.needed.scope) v)
+          (d : IsDispatched m.code.program o.object.class r.1.needed.method r.1.needed.static) (vs : List Value) →
+          IsCalledIn m.code (memory m) m.list (record m.frame { operands = vs }) (Written d.body) (Some id) (Some o.r)
+          m.frame.area
+      calls o d vs =
+          record {
+            op = CALL id;
+            at = refl;
+            pushers = r.0.pushers;
+            came = r.0.came;
+            class = m.class;
+            sig = m.sig;
+            in_class = m.runs;
+            by = record {
+              method = r.1.needed.method;
+              is = r.1.needed.is;
+              on = record { r = o.r; is = refl; object = o.object; found = o.found };
+              runs = d.is;
+              receiver = r.1.needed.receiver;
+              is_receiver = r.1.needed.is_receiver;
+              scope = r.1.needed.scope;
+              of_receiver = r.1.needed.of_receiver;
+              lies = o.lies;
+              same_area = refl;
+            };
+          }
+
+      last : (args rest : List Value) → HoldAll m r.1.needed.arguments args →
+          Taken m (reference (ClassTy r.1.needed.class) r.1.needed.scope) r.1.needed.others rest →
           Ok m (pop (record m.frame { operands = rest }) (λ object f. as_object object (λ q.
-          given (m.world.object_at q) (λ o. given (body_of m.code.program o.class r.needed.method) (λ body.
+          given (m.world.object_at q) (λ o. given (body_of m.code.program o.class r.1.needed.method) (λ body.
           Calls f (new_frame m.code body (Some id) (Some q) m.frame.area args))))))
       last args rest ah x =
-          let n = r.needed in
+          let n = r.1.needed in
           pop_fine m rest _ x.v x.rest x.is
           (object_fine m (ClassTy n.class) (den m n.scope) x.v _ x.has (λ o.
           let d =
@@ -359,4 +231,5 @@ module _ (m : Scene) where
           (called id n.class n.scope n.method n.static x.v o d n.runs n.arguments n.fit args ah x.rest
           (ready m x.rest m.frame.locals m.frame.rest (seen_option n.scope m.sig.runs_in n.static.gives) m.known
           n.others
-          x.have m.locals (subst (FlowsOn m m.frame.rest m.known) n.leaves r.goes))))))
+          x.have m.locals (subst (FlowsOn m m.frame.rest m.known) n.leaves r.1.goes))
+          (calls o d x.rest)))))

@@ -26,14 +26,16 @@ use Rattle.scj_model.specs.Effects.{Goes, given, pushes}
 use Rattle.scj_model.specs.Operations.{effect_of}
 use Rattle.scope_flow.specs.Signatures.{IsBody, Runs}
 use Rattle.scope_flow.specs.Needs.{pushed, ShortNeeds, IsStatementPart, IsOptionPart}
+use Rattle.scope_flow.specs.Ways.{Stood, goes_into}
 use Rattle.scope_flow.specs.Flow.{Flow, InNode, both_return, IfNeeds, LoopNeeds, AreLoopParts}
 use Rattle.scope_flow.proofs.Widens.{flow_widens}
+use Rattle.scope_flow.proofs.Courses.{courses, flow_of_course, into_stood}
 use Rattle.scope_flow.proofs.Turns.{value_part_flows, statement_part_flows, turn_flow}
 use Rattle.frame_sound.specs.Places.{held}
 use Rattle.frame_sound.specs.EffectsFine.{ReturnFine}
 use Rattle.frame_sound.proofs.Defaults.{default_has}
 use Rattle.frame_sound.proofs.Scenes.{Scene, memory, den, HoldAll, FlowsOn, Ok, Taken, take, pop_fine, given_fine, same, ready, goes_fine, fits_here, locals_set}
-use Rattle.frame_sound.proofs.ActsOnValues.{Does}
+use Rattle.frame_sound.proofs.ActsOnValues.{Does, DoesThere}
 
 -- what has parts runs a written body
 pub record InBody (m : Scene) (P : ℕ → Type 0) : Type 0 where
@@ -54,12 +56,22 @@ module _ (m : Scene) where
 
   -- from a written body to the frame's
   at_body : (b : ℕ) → m.frame.body ≡ Written b → (ops : List Op) (ks : List ℕ) (s : List Kind) →
-      Flow m.code (Written b) m.class m.sig ops ks s → FlowsOn m ops ks s
-  at_body b e ops ks s f = subst (λ x. Flow m.code x m.class m.sig ops ks s) (sym e) f
+      Stood m.code m.frame.body m.class ops s → Flow m.code (Written b) m.class m.sig ops ks s → FlowsOn m ops ks s
+  at_body b e ops ks s st f =
+      courses m.code m.frame.body m.class m.sig ops ks s st
+      (subst (λ x. Flow m.code x m.class m.sig ops ks s) (sym e) f)
 
   of_body : (b : ℕ) → m.frame.body ≡ Written b → (ops : List Op) (ks : List ℕ) (s : List Kind) →
       FlowsOn m ops ks s → Flow m.code (Written b) m.class m.sig ops ks s
-  of_body b e ops ks s f = subst (λ x. Flow m.code x m.class m.sig ops ks s) e f
+  of_body b e ops ks s f =
+      subst (λ x. Flow m.code x m.class m.sig ops ks s) e (flow_of_course m.code m.frame.body m.class m.sig ops ks s f)
+
+  -- the parts that are put in front are reached on the way to the operation
+  front_stood : (op : Op) (t : Bool) (front : List Op) (k : Kind) (others : List Kind) → m.kinds ≡ k ∷ others →
+      Stood m.code m.frame.body m.class (op ∷ m.frame.rest) m.kinds → goes_into op t ≡ true →
+      put_in_front m.code op t ≡ Some front → Stood m.code m.frame.body m.class (front ++ m.frame.rest) others
+  front_stood op t front k others e st goes is =
+      into_stood m.code m.frame.body m.class op t front m.frame.rest k m.kinds others e st goes is
 
   widened : (b : ℕ) → m.frame.body ≡ Written b → (s : List Kind) → FlowsOn m m.frame.rest m.known s →
       (ms : List ℕ) → Among m.known ms → Flow m.code (Written b) m.class m.sig m.frame.rest ms s
@@ -114,10 +126,11 @@ module _ (m : Scene) where
     behind = subst (FlowsOn m m.frame.rest m.known) q.needed.leaves goes
 
     -- the right operand decides
-    right_fine : Ok m (Goes (record m.frame { operands = rest; rest = ops_of m.code q.needed.right ++ m.frame.rest }))
-    right_fine =
+    right_fine : Stood m.code m.frame.body m.class (ops_of m.code q.needed.right ++ m.frame.rest) q.needed.others →
+        Ok m (Goes (record m.frame { operands = rest; rest = ops_of m.code q.needed.right ++ m.frame.rest }))
+    right_fine st =
         front_fine (ops_of m.code q.needed.right) rest q.needed.others have
-        (at_body q.b q.is _ m.known q.needed.others
+        (at_body q.b q.is _ m.known q.needed.others st
         (value_part_flows m.code m.facts q.b m.class m.sig q.body m.known q.needed.right truth q.needed.right_part
         m.frame.rest q.needed.others (widened q.b q.is (truth ∷ q.needed.others) behind)))
 
@@ -126,39 +139,41 @@ module _ (m : Scene) where
     unfolding held
     left_fine t = goes_fine m (Truth t ∷ rest) (truth ∷ q.needed.others) ((t, refl), have) behind
 
-    and_goes : (t : Bool) →
+    and_goes : Stood m.code m.frame.body m.class (AND id ∷ m.frame.rest) m.kinds → (t : Bool) →
         Ok m (given (put_in_front m.code (AND id) t) (λ ops.
         if t then Goes (record m.frame { operands = rest; rest = ops ++ m.frame.rest })
         else pushes (record m.frame { operands = rest; rest = ops ++ m.frame.rest }) (Truth false)))
-    unfolding put_in_front
-    and_goes true =
+    unfolding put_in_front goes_into
+    and_goes st true =
         given_fine m _ _ (ops_of m.code q.needed.right) (ap (option_map (λ (x : ℕ). ops_of m.code x)) q.needed.is)
-        right_fine
-    and_goes false = given_fine m _ _ [] (ap (option_map (λ (x : ℕ). [])) q.needed.is) (left_fine false)
+        (right_fine (front_stood (AND id) true (ops_of m.code q.needed.right) q.needed.left.kind q.needed.others
+        q.needed.left.takes st refl (ap (option_map (λ (x : ℕ). ops_of m.code x)) q.needed.is)))
+    and_goes st false = given_fine m _ _ [] (ap (option_map (λ (x : ℕ). [])) q.needed.is) (left_fine false)
 
-    or_goes : (t : Bool) →
+    or_goes : Stood m.code m.frame.body m.class (OR id ∷ m.frame.rest) m.kinds → (t : Bool) →
         Ok m (given (put_in_front m.code (OR id) t) (λ ops.
         if t then pushes (record m.frame { operands = rest; rest = ops ++ m.frame.rest }) (Truth true)
         else Goes (record m.frame { operands = rest; rest = ops ++ m.frame.rest })))
-    unfolding put_in_front
-    or_goes true = given_fine m _ _ [] (ap (option_map (λ (x : ℕ). [])) q.needed.is) (left_fine true)
-    or_goes false =
+    unfolding put_in_front goes_into
+    or_goes st true = given_fine m _ _ [] (ap (option_map (λ (x : ℕ). [])) q.needed.is) (left_fine true)
+    or_goes st false =
         given_fine m _ _ (ops_of m.code q.needed.right) (ap (option_map (λ (x : ℕ). ops_of m.code x)) q.needed.is)
-        right_fine
+        (right_fine (front_stood (OR id) false (ops_of m.code q.needed.right) q.needed.left.kind q.needed.others
+        q.needed.left.takes st refl (ap (option_map (λ (x : ℕ). ops_of m.code x)) q.needed.is)))
 
-  pub and_fine : (id : ℕ) → Does m (AND id)
+  pub and_fine : (id : ℕ) → DoesThere m (AND id)
   unfolding effect_of
   and_fine id r =
-      let q = in_body (λ b. ShortNeeds m.code b m.class id m.known m.kinds r.out) r.needed in
+      let q = in_body (λ b. ShortNeeds m.code b m.class id m.known m.kinds r.1.out) r.1.needed in
       let x = condition_of q.needed.left.kind q.needed.others q.needed.left.takes q.needed.left.fits in
-      pop_fine m m.frame.operands _ (Truth x.t) x.rest x.is (and_goes id r.out q r.goes x.rest x.have x.t)
+      pop_fine m m.frame.operands _ (Truth x.t) x.rest x.is (and_goes id r.1.out q r.1.goes x.rest x.have r.0 x.t)
 
-  pub or_fine : (id : ℕ) → Does m (OR id)
+  pub or_fine : (id : ℕ) → DoesThere m (OR id)
   unfolding effect_of
   or_fine id r =
-      let q = in_body (λ b. ShortNeeds m.code b m.class id m.known m.kinds r.out) r.needed in
+      let q = in_body (λ b. ShortNeeds m.code b m.class id m.known m.kinds r.1.out) r.1.needed in
       let x = condition_of q.needed.left.kind q.needed.others q.needed.left.takes q.needed.left.fits in
-      pop_fine m m.frame.operands _ (Truth x.t) x.rest x.is (or_goes id r.out q r.goes x.rest x.have x.t)
+      pop_fine m m.frame.operands _ (Truth x.t) x.rest x.is (or_goes id r.1.out q r.1.goes x.rest x.have r.0 x.t)
 
   -- ---- `if`
 
@@ -177,16 +192,17 @@ module _ (m : Scene) where
 
   module _ (id : ℕ)
       (q : InBody m
-      (λ b. IfNeeds m.code b m.class id m.known m.kinds (Flow m.code m.frame.body m.class m.sig m.frame.rest)))
+      (λ b. IfNeeds m.code b m.class id m.known m.kinds (FlowsOn m m.frame.rest)))
       (rest : List Value) (have : HoldAll m q.needed.others rest) where
-    abbrev n : IfNeeds m.code q.b m.class id m.known m.kinds (Flow m.code m.frame.body m.class m.sig m.frame.rest)
+    abbrev n : IfNeeds m.code q.b m.class id m.known m.kinds (FlowsOn m m.frame.rest)
     n = q.needed
 
     part_fine : (x : ℕ) → IsStatementPart m.code.program q.b m.class m.known x →
+        Stood m.code m.frame.body m.class (ops_of m.code x ++ m.frame.rest) n.others →
         (always_returns m.code.program x ≡ true) ⊎ FlowsOn m m.frame.rest m.known n.others →
         FlowsOn m (ops_of m.code x ++ m.frame.rest) m.known n.others
-    part_fine x part k =
-        at_body q.b q.is _ m.known n.others
+    part_fine x part st k =
+        at_body q.b q.is _ m.known n.others st
         (statement_part_flows m.code m.facts q.b m.class m.sig q.body m.known x part m.frame.rest n.others (go k))
       where
         go : (always_returns m.code.program x ≡ true) ⊎ FlowsOn m m.frame.rest m.known n.others →
@@ -196,40 +212,45 @@ module _ (m : Scene) where
         go (inr h) = inr (widened q.b q.is n.others h)
 
     option_flows : (x : ℕ) (o : Option ℕ) → IsOptionPart m.code.program q.b m.class m.known o →
+        Stood m.code m.frame.body m.class (optional_ops m.code o ++ m.frame.rest) n.others →
         (both_return m.code.program (x, o) ≡ true) ⊎ FlowsOn m m.frame.rest m.known n.others →
         FlowsOn m (optional_ops m.code o ++ m.frame.rest) m.known n.others
     unfolding optional_ops
-    option_flows x None part (inl h) = absurd (true≢false (sym h))
-    option_flows x None part (inr w) = w
-    option_flows x (Some y) part (inl h) = part_fine y part (inl (both_second _ _ h))
-    option_flows x (Some y) part (inr w) = part_fine y part (inr w)
+    option_flows x None part st (inl h) = absurd (true≢false (sym h))
+    option_flows x None part st (inr w) = w
+    option_flows x (Some y) part st (inl h) = part_fine y part st (inl (both_second _ _ h))
+    option_flows x (Some y) part st (inr w) = part_fine y part st (inr w)
 
     first_ends : (both_return m.code.program n.parts ≡ true) ⊎ FlowsOn m m.frame.rest m.known n.others →
         (always_returns m.code.program n.parts.0 ≡ true) ⊎ FlowsOn m m.frame.rest m.known n.others
     first_ends (inl h) = inl (first_returns n.parts.0 n.parts.1 h)
     first_ends (inr w) = inr w
 
-    if_goes : (t : Bool) →
+    if_goes : Stood m.code m.frame.body m.class (IF id ∷ m.frame.rest) m.kinds → (t : Bool) →
         Ok m (given (put_in_front m.code (IF id) t) (λ ops.
         Goes (record m.frame { operands = rest; rest = ops ++ m.frame.rest })))
-    unfolding put_in_front
-    if_goes true =
+    unfolding put_in_front goes_into
+    if_goes st true =
         given_fine m _ _ (ops_of m.code n.parts.0) (ap (option_map (λ (x : ℕ × Option ℕ). ops_of m.code x.0)) n.is)
-        (front_fine (ops_of m.code n.parts.0) rest n.others have (part_fine n.parts.0 n.first (first_ends n.goes)))
-    if_goes false =
+        (front_fine (ops_of m.code n.parts.0) rest n.others have (part_fine n.parts.0 n.first
+        (front_stood (IF id) true (ops_of m.code n.parts.0) n.condition.kind n.others n.condition.takes st refl
+        (ap (option_map (λ (x : ℕ × Option ℕ). ops_of m.code x.0)) n.is)) (first_ends n.goes)))
+    if_goes st false =
         given_fine m _ _ (optional_ops m.code n.parts.1)
         (ap (option_map (λ (x : ℕ × Option ℕ). optional_ops m.code x.1)) n.is)
         (front_fine (optional_ops m.code n.parts.1) rest n.others have
-        (option_flows n.parts.0 n.parts.1 n.second n.goes))
+        (option_flows n.parts.0 n.parts.1 n.second
+        (front_stood (IF id) false (optional_ops m.code n.parts.1) n.condition.kind n.others n.condition.takes st refl
+        (ap (option_map (λ (x : ℕ × Option ℕ). optional_ops m.code x.1)) n.is)) n.goes))
 
-  pub if_fine : (id : ℕ) → Does m (IF id)
+  pub if_fine : (id : ℕ) → DoesThere m (IF id)
   unfolding effect_of
   if_fine id r =
       let q =
       in_body
-      (λ b. IfNeeds m.code b m.class id m.known m.kinds (Flow m.code m.frame.body m.class m.sig m.frame.rest)) r in
+      (λ b. IfNeeds m.code b m.class id m.known m.kinds (FlowsOn m m.frame.rest)) r.1 in
       let x = condition_of q.needed.condition.kind q.needed.others q.needed.condition.takes q.needed.condition.fits in
-      pop_fine m m.frame.operands _ (Truth x.t) x.rest x.is (if_goes id q x.rest x.have x.t)
+      pop_fine m m.frame.operands _ (Truth x.t) x.rest x.is (if_goes id q x.rest x.have r.0 x.t)
 
   -- ---- loops
 
@@ -242,9 +263,9 @@ module _ (m : Scene) where
 
   module _ (id : ℕ)
       (q : InBody m
-      (λ b. LoopNeeds m.code b m.class id m.known m.kinds (Flow m.code m.frame.body m.class m.sig m.frame.rest)))
+      (λ b. LoopNeeds m.code b m.class id m.known m.kinds (FlowsOn m m.frame.rest)))
       (rest : List Value) (have : HoldAll m q.needed.others rest) where
-    abbrev l : LoopNeeds m.code q.b m.class id m.known m.kinds (Flow m.code m.frame.body m.class m.sig m.frame.rest)
+    abbrev l : LoopNeeds m.code q.b m.class id m.known m.kinds (FlowsOn m m.frame.rest)
     l = q.needed
 
     abbrev Ends : Type 0
@@ -260,33 +281,35 @@ module _ (m : Scene) where
     ends y (inl h) = absurd (true≢false (sym (y h.0)))
     ends y (inr w) = w
 
-    loop_goes : (t : Bool) → (l.condition.kind ≡ yes → t ≡ true) →
+    loop_goes : Stood m.code m.frame.body m.class (LOOP id ∷ m.frame.rest) m.kinds → (t : Bool) → (l.condition.kind ≡ yes → t ≡ true) →
         Ok m (given (put_in_front m.code (LOOP id) t) (λ ops.
         Goes (record m.frame { operands = rest; rest = ops ++ m.frame.rest })))
-    unfolding put_in_front
-    loop_goes true y =
+    unfolding put_in_front goes_into
+    loop_goes st true y =
         let turn = turn_is q.b id l.node l.parts in
         given_fine m _ _ turn.0
         (ap (option_map (λ (x : List Op). x)) (ap (λ (o : Option Node). o >>= turn_ops m.code id) l.is ∙ turn.1))
         (front_fine turn.0 rest l.others have
         (at_body q.b q.is _ m.known l.others
+        (front_stood (LOOP id) true turn.0 l.condition.kind l.others l.condition.takes st refl
+        (ap (option_map (λ (x : List Op). x)) (ap (λ (o : Option Node). o >>= turn_ops m.code id) l.is ∙ turn.1)))
         (turn_flow m.code m.facts q.b m.class m.sig q.body id l.node l.is m.known l.parts m.frame.rest l.others
         (again l.goes) turn.0 turn.1)))
-    loop_goes false y =
+    loop_goes st false y =
         let turn = turn_is q.b id l.node l.parts in
         given_fine m _ _ []
         (ap (option_map (λ (x : List Op). [])) (ap (λ (o : Option Node). o >>= turn_ops m.code id) l.is ∙ turn.1))
         (front_fine [] rest l.others have (ends y l.goes))
 
-  pub loop_fine : (id : ℕ) → Does m (LOOP id)
+  pub loop_fine : (id : ℕ) → DoesThere m (LOOP id)
   unfolding effect_of
   loop_fine id r =
       let q =
       in_body
-      (λ b. LoopNeeds m.code b m.class id m.known m.kinds (Flow m.code m.frame.body m.class m.sig m.frame.rest)) r
+      (λ b. LoopNeeds m.code b m.class id m.known m.kinds (FlowsOn m m.frame.rest)) r.1
       in
       let x = condition_of q.needed.condition.kind q.needed.others q.needed.condition.takes q.needed.condition.fits in
-      pop_fine m m.frame.operands _ (Truth x.t) x.rest x.is (loop_goes id q x.rest x.have x.t x.if_yes)
+      pop_fine m m.frame.operands _ (Truth x.t) x.rest x.is (loop_goes id q x.rest x.have r.0 x.t x.if_yes)
 
   -- ---- locals
 

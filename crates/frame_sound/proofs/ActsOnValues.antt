@@ -24,7 +24,7 @@ use Rattle.scj_model.specs.Effects.{Faults, given, pushes}
 use Rattle.scj_model.specs.Operations.{effect_of, index_in}
 use Rattle.scope_flow.specs.Slots.{array_type, kind_of_own_slot, kind_of_slot, kind_of_elements, IsSlotKind, IsImmortal, IsOfType, kind_of_literal}
 use Rattle.scope_flow.specs.Needs.{Loosely}
-use Rattle.scope_flow.specs.Flow.{Needs, Flow}
+use Rattle.scope_flow.specs.Flow.{Needs}
 use Rattle.frame_sound.specs.Places.{denote, area_around, within, held, IsObject, Has}
 use Rattle.frame_sound.proofs.Places.{around_named, has_where, slot_seen}
 use Rattle.frame_sound.proofs.Begins.{home_cases}
@@ -33,8 +33,12 @@ use Rattle.frame_sound.proofs.Scenes.{Scene, memory, den, Holds, HoldAll, FlowsO
 -- what an operation needs, and that its effect is fine
 abbrev pub Does : Scene → Op → Type 0
 Does m op =
-    Needs m.code m.frame.body m.class m.sig op m.known m.kinds (Flow m.code m.frame.body m.class m.sig m.frame.rest) →
+    Needs m.code m.frame.body m.class m.sig op m.known m.kinds (FlowsOn m m.frame.rest) →
     Ok m (effect_of m.code m.world m.frame op)
+
+-- the same where it is known on which way through the body the operation stands
+abbrev pub DoesThere : Scene → Op → Type 0
+DoesThere m op = FlowsOn m (op ∷ m.frame.rest) m.known m.kinds → Ok m (effect_of m.code m.world m.frame op)
 
 -- a value that is there, of a kind
 pub record ValueOf (m : Scene) (o : Option Value) (k : Kind) : Type 0 where

@@ -1,6 +1,6 @@
 -- The frame with which a body begins.
 use Rattle.std.specs.Prelude.{Option, Some, None, slice_get, replicate, ◌-◌, ◌+◌}
-use Rattle.std.proofs.Common.{◌≡◌, ℕ, zero, suc, List, [], ◌∷◌, ◌++◌, length, true, refl, sym, ◌∙◌, ap, subst, arith, ◌⊎◌, inl, inr, length-append}
+use Rattle.std.proofs.Common.{◌≡◌, ℕ, zero, suc, ◌<◌, List, [], ◌∷◌, ◌++◌, length, true, refl, sym, ◌∙◌, ap, subst, arith, ◌⊎◌, inl, inr, length-append}
 use Rattle.scj_base.specs.declared.values.Value.{Value}
 use Rattle.scj_base.specs.declared.values.Value.TheVariants.{Null}
 use Rattle.scj_rules.specs.declared.typing.Scope.{Scope}
@@ -16,6 +16,7 @@ use Rattle.scj_rules.specs.LimitRules.{variables_of}
 use Rattle.scj_rules.specs.StaticScopes.{class_scope, this_in}
 use Rattle.accepted_laws.specs.Kinds.{Kind, kind_of_variable}
 use Rattle.accepted_laws.proofs.Tools.{some_inj}
+use Rattle.accepted_laws.proofs.Lists.{get_within}
 use Rattle.scj_model.specs.Code.{Code}
 use Rattle.scj_model.specs.State.{Object}
 use Rattle.scj_model.specs.Ops.{body_ops}
@@ -24,9 +25,9 @@ use Rattle.scope_flow.specs.Slots.{IsOfType}
 use Rattle.scope_flow.specs.Signatures.{Signature, IsBody, Runs, kinds_of_variables, parameters_of}
 use Rattle.scope_flow.specs.Needs.{pushed}
 use Rattle.scope_flow.specs.Facts.{Facts}
-use Rattle.scope_flow.proofs.Entries.{entry_flows}
+use Rattle.scope_flow.proofs.Courses.{entry_courses}
 use Rattle.frame_sound.specs.Places.{World, area_named, denote, held, Has, AllHave}
-use Rattle.frame_sound.specs.Fine.{ListFine, HeapFine, IsOnList, LocalFine, LocalsFine, Ready}
+use Rattle.frame_sound.specs.Fine.{ListFine, HeapFine, IsOnList, HoldsNullOr, LocalFine, LocalsFine, Ready}
 
 -- ---- locals
 
@@ -34,6 +35,29 @@ get_left : (xs ys : List Value) (i : ℕ) (x : Value) → slice_get xs i ≡ Som
 get_left [] ys i x e = absurd (cc (e))
 get_left (y ∷ xs) ys zero x e = e
 get_left (y ∷ xs) ys (suc i) x e = get_left xs ys i x e
+
+-- what stands in two lists, one behind the other, stands in one of them
+get_of_both : (xs ys : List Value) (i : ℕ) (x : Value) → slice_get (xs ++ ys) i ≡ Some x →
+    (slice_get xs i ≡ Some x) ⊎ (slice_get ys (i - length xs) ≡ Some x)
+get_of_both [] ys i x e = let z : i ≡ i - 0 = omega arith in inr (ap (slice_get ys) (sym z) ∙ e)
+get_of_both (y ∷ xs) ys zero x e = inl e
+get_of_both (y ∷ xs) ys (suc i) x e =
+    elim (get_of_both xs ys i x e) as
+    (λ z. (slice_get xs i ≡ Some x) ⊎ (slice_get ys (suc i - length (y ∷ xs)) ≡ Some x)) [
+      | inl h ↦ inl h
+      | inr h ↦ (let z : i - length xs ≡ suc i - suc (length xs) = omega arith in
+          inr (ap (slice_get ys) (sym z) ∙ h))
+    ]
+
+get_left_only : (xs ys : List ℕ) (i : ℕ) → i < length xs → slice_get (xs ++ ys) i ≡ slice_get xs i
+get_left_only [] ys i l = absurd (omega (arith, l))
+get_left_only (x ∷ xs) ys zero l = refl
+get_left_only (x ∷ xs) ys (suc i) l = get_left_only xs ys i (omega (arith, l))
+
+get_replicated : (n i : ℕ) (x : Value) → slice_get (replicate n Null) i ≡ Some x → x ≡ Null
+get_replicated zero i x e = absurd (cc (e))
+get_replicated (suc n) zero x e = sym (some_inj Null x e)
+get_replicated (suc n) (suc i) x e = get_replicated n i x e
 
 pub length_replicate : {A : Type 0} (n : ℕ) (x : A) → length (replicate n x) ≡ n
 length_replicate zero x = refl
@@ -100,6 +124,14 @@ module _ (p : Declarations) (w : World) (den : Scope → Option ℕ) where
           let r = ih q.others args q.rest all.1 i v k there is in
           record { value = r.value; is = r.is; has = r.has }
 
+  kind_there : (params : List ℕ) (ks : List Kind) → kinds_of_variables p params ≡ Some ks → (i v : ℕ) →
+      slice_get params i ≡ Some v → (k : Kind) × (kind_of_variable p v ≡ Some k)
+  kind_there [] ks e i v there = absurd (cc (there))
+  kind_there (x ∷ params) ks e zero v there =
+      let q = kinds_first p x params ks e in (q.kind, ap (kind_of_variable p) (sym (some_inj x v there)) ∙ q.is_kind)
+  kind_there (x ∷ params) ks e (suc i) v there =
+      let q = kinds_first p x params ks e in kind_there params q.others q.rest i v there
+
   pub locals_begin : (b c : ℕ) (sig : Signature) → IsBody p b c sig → (args : List Value) →
       AllHave p w den sig.takes args →
       LocalsFine p w den (Written b) (parameters_of p b)
@@ -111,6 +143,16 @@ module _ (p : Declarations) (w : World) (den : Scope → Option ℕ) where
             (let r = argument_is (parameters_of p b) sig.takes args body.takes h i v k (body.first i v there known) is
             in
             record { value = r.value; is = get_left args _ i r.value r.is; has = r.has });
+        fits = λ i v value there has.
+            elim (get_of_both args (replicate (length (variables_of p b) - length args) Null) i value has) as
+            (λ z. HoldsNullOr p w den v value) [
+              | inl e ↦ (let param = parameter i v there (get_within args i value e) in
+                  let k = kind_there (parameters_of p b) sig.takes body.takes i v param in
+                  let r = argument_is (parameters_of p b) sig.takes args body.takes h i v k.0 param k.1 in
+                  let same : r.value ≡ value = some_inj r.value value (sym r.is ∙ e) in
+                  inr (k.0, k.1, subst (λ x. Has p w (held den k.0) x) same r.has))
+              | inr e ↦ inl (get_replicated (length (variables_of p b) - length args) (i - length args) value e)
+            ];
       }
     where
       many : length args ≡ length (parameters_of p b)
@@ -118,6 +160,13 @@ module _ (p : Declarations) (w : World) (den : Scope → Option ℕ) where
 
       all : length (variables_of p b) ≡ length (parameters_of p b) + length body.more
       all = ap length body.variables ∙ length-append (parameters_of p b) body.more
+
+      -- the variable of an argument is a parameter
+      parameter : (i v : ℕ) → slice_get (variables_of p b) i ≡ Some v → i < length args →
+          slice_get (parameters_of p b) i ≡ Some v
+      parameter i v there l =
+          sym (get_left_only (parameters_of p b) body.more i (let m = many in omega (arith, l, m)))
+          ∙ (ap (λ vs. slice_get vs i) (sym body.variables) ∙ there)
 
       long : length (args ++ replicate (length (variables_of p b) - length args) Null) ≡ length (variables_of p b)
       long =
@@ -199,5 +248,5 @@ module _ (code : Code) (facts : Facts code) (w : World) (list : List ℕ) (fine 
         kinds = [];
         operands = tt;
         locals = locals_begin code.program w there b on sig body args h;
-        flow = entry_flows code facts b on sig body;
+        flow = entry_courses code facts b on sig body;
       }

@@ -9,13 +9,13 @@ use Rattle.scj_rules.specs.declared.typing.Scope.{Scope}
 use Rattle.scj_rules.specs.declared.typing.Scope.TheVariants.{Any, This, Caller, In}
 use Rattle.scj_rules.specs.Words.{is_among, holds, ◌>>=◌}
 use Rattle.scj_rules.specs.Contexts.{Declarations}
-use Rattle.scj_rules.specs.ScopeRules.{immortal_scope, is_outer}
+use Rattle.scj_rules.specs.ScopeRules.{immortal_scope, is_outer, parent_scope}
 use Rattle.accepted_laws.specs.Kinds.{Kind}
 use Rattle.accepted_laws.proofs.Tools.{some_inj}
 use Rattle.scj_model.specs.Code.{Code}
 use Rattle.scj_model.specs.State.{MemoryArea, Object, Frame, changed}
 use Rattle.frame_sound.specs.Places.{World, Held, area_named, area_around, within, held, Has}
-use Rattle.frame_sound.specs.Fine.{ListFine, AreasFine, HeapFine, StaticsFine, Under, list_of}
+use Rattle.frame_sound.specs.Fine.{ListFine, IsInParent, AreasFine, HeapFine, StaticsFine, Under, list_of}
 use Rattle.frame_sound.proofs.Keeps.{ObjectsAreKept, Keeps, has_kept, under_kept}
 use Rattle.frame_sound.proofs.Changes.{changed_at, changed_off, changed_from}
 
@@ -214,9 +214,26 @@ module _ (areas : List MemoryArea) (a : ℕ) where
         base
         fs given off u
 
+    in_parent : (p : Declarations) (b : ℕ) (y : MemoryArea) (x : Was b y) → IsInParent p old_areas x.area →
+        IsInParent p new_areas y
+    in_parent p b y x i =
+        let q = stays i.parent i.around i.is_there in
+        record {
+          parent = i.parent;
+          is = x.parent ∙ i.is;
+          around = q.area;
+          is_there = q.is_there;
+          of_scope = ap (parent_scope p) x.scope ∙ (i.of_scope ∙ ap (λ n. Some n) (sym q.scope));
+        }
+
     pub areas_closed : (p : Declarations) → AreasFine p old_areas → AreasFine p new_areas
     areas_closed p fine =
         record {
+          parents = λ b y there. (let x = was b y there in
+              elim (fine.parents b x.area x.is_there) as (λ z. (b ≡ 0) ⊎ IsInParent p new_areas y) [
+                | inl e ↦ inl e
+                | inr i ↦ inr (in_parent p b y x i)
+              ]);
           reach = λ b n y there h. (let x = was b y there in
               let q =
               fine.reach b n x.area x.is_there

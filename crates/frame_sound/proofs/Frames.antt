@@ -14,7 +14,7 @@ use Rattle.scope_flow.specs.Signatures.{Signature}
 use Rattle.scope_flow.specs.Needs.{pushed}
 use Rattle.scope_flow.specs.Facts.{Facts}
 use Rattle.frame_sound.specs.Places.{World, denote, Held, a_number, a_truth, a_yes, an_object, held, Has}
-use Rattle.frame_sound.specs.Fine.{ListFine, list_of, Ready, HeldFits, held_option, GivenFits, Under, FramesFine}
+use Rattle.frame_sound.specs.Fine.{ListFine, list_of, Ready, HeldFits, held_option, GivenFits, IsOn, Under, FramesFine}
 use Rattle.frame_sound.specs.EffectsFine.{IsSame, ReturnFine}
 
 module _ (code : Code) (w : World) (base : List ℕ) (f h : Frame) (fs : List Frame) (same : IsSame f h) where
@@ -32,11 +32,20 @@ module _ (code : Code) (w : World) (base : List ℕ) (f h : Frame) (fs : List Fr
       ap (λ l. denote w l f.this f.area) same_list
       ∙ (ap (λ t. denote w new t f.area) (sym same.this) ∙ ap (λ a. denote w new h.this a) (sym same.area))
 
+  on_same : IsOn code w base f.body f.called_at f.this f.area fs →
+      IsOn code w base h.body h.called_at h.this h.area fs
+  on_same on =
+      subst (λ a. IsOn code w base h.body h.called_at h.this a fs) (sym same.area)
+      (subst (λ t. IsOn code w base h.body h.called_at t f.area fs) (sym same.this)
+      (subst (λ n. IsOn code w base h.body n f.this f.area fs) (sym same.called_at)
+      (subst (λ b. IsOn code w base b f.called_at f.this f.area fs) (sym same.body) on)))
+
   -- a frame in the place of another of the same job
   pub replaced : (c : ℕ) (sig : Signature) (kind : Option Kind) (given : Option Held) → Ready code w old c sig h kind →
       GivenFits code.program given (held_option (denote w old h.this h.area) kind) → ListFine w.areas old →
-      Under code w base fs (held_option (denote w old f.this f.area) sig.gives) → Under code w base (h ∷ fs) given
-  replaced c sig kind given ready fits fine under = (
+      Under code w base fs (held_option (denote w old f.this f.area) sig.gives) →
+      IsOn code w base f.body f.called_at f.this f.area fs → Under code w base (h ∷ fs) given
+  replaced c sig kind given ready fits fine under on = (
     record {
       class = c;
       sig = sig;
@@ -46,6 +55,7 @@ module _ (code : Code) (w : World) (base : List ℕ) (f h : Frame) (fs : List Fr
     },
     subst (ListFine w.areas) same_list fine,
     subst (λ d. Under code w base fs (held_option d sig.gives)) same_denotes under,
+    on_same on,
   )
 
 -- a value comes that a frame waits for
@@ -118,6 +128,7 @@ module _ (code : Code) (facts : Facts code) (w : World) (base : List ℕ) where
     },
     u.1,
     u.2,
+    u.3,
   )
     where
       has : Has code.program w h x

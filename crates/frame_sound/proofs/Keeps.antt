@@ -1,6 +1,6 @@
 -- The frame rule: where objects keep their classes and areas, and a list names what it named, each frame on that list
 -- is as ready as before. It serves the frames under the one that acts, and all other jobs alike.
-use Rattle.std.specs.Prelude.{Option, Some, None, ◌++◌, option_to_list}
+use Rattle.std.specs.Prelude.{Option, Some, None, ◌++◌, option_to_list, codes}
 use Rattle.std.proofs.Common.{◌≡◌, ℕ, List, [], ◌∷◌, true, refl, sym, ◌∙◌, ap, subst, inl, inr}
 use Rattle.scj_base.specs.declared.values.Value.{Value}
 use Rattle.scj_rules.specs.declared.typing.Scope.{Scope}
@@ -10,13 +10,17 @@ use Rattle.scj_rules.specs.declared.typing.Ty.TheVariants.{Class as ClassTy}
 use Rattle.scj_rules.specs.declared.views.Body.{Body}
 use Rattle.scj_rules.specs.Words.{is_among, ◌>>=◌}
 use Rattle.scj_rules.specs.Contexts.{Declarations}
+use Rattle.scj_rules.specs.Bodies.{body_named, body_of}
 use Rattle.accepted_laws.specs.Kinds.{Kind}
+use Rattle.scj_model.specs.declared.operations.Op.{Op}
+use Rattle.scj_model.specs.declared.operations.Op.TheVariants.{Construct as CONSTRUCT, Call as CALL, CallStatic as CALLSTATIC, Enter as ENTER, ExecuteIn as EXECUTEIN, Super as SUPER}
 use Rattle.scj_model.specs.Code.{Code}
 use Rattle.scj_model.specs.State.{Object, Frame}
 use Rattle.scope_flow.specs.Slots.{IsOfType}
 use Rattle.scope_flow.specs.Signatures.{Signature}
+use Rattle.frame_sound.specs.Calls.{HasThis, ByRun, IsCalledBy, IsCalledIn}
 use Rattle.frame_sound.specs.Places.{World, area_named, denote, Held, a_number, a_truth, a_yes, an_object, a_fresh, held, IsObject, Has, AllHave}
-use Rattle.frame_sound.specs.Fine.{ListFine, list_of, Home, LocalsFine, Ready, held_option, GivenFits, Under, FramesFine}
+use Rattle.frame_sound.specs.Fine.{ListFine, list_of, Home, HoldsNullOr, LocalsFine, Ready, held_option, GivenFits, IsOn, Under, FramesFine}
 
 -- an object that has its class and its area as before
 pub record IsKept (w : World) (r : ℕ) (o : Object) : Type 0 where
@@ -68,6 +72,10 @@ module _ (p : Declarations) (w w2 : World) (kept : ObjectsAreKept w w2) where
         each = λ i v k there is set.
             (let x = l.each i v k there is set in
             record { value = x.value; is = x.is; has = has_kept (held den k) x.value x.has });
+        fits = λ i v value there is. elim (l.fits i v value there is) as (λ z. HoldsNullOr p w2 den v value) [
+          | inl e ↦ inl e
+          | inr h ↦ inr (h.0, h.1, has_kept (held den h.0) value h.2)
+        ];
       }
 
   -- a static scope names what it named
@@ -115,6 +123,79 @@ module _ (p : Declarations) (w w2 : World) (kept : ObjectsAreKept w w2) where
         }
 
 module _ (code : Code) (w w2 : World) (kept : ObjectsAreKept w w2) where
+  -- the upper of two frames is called as it was
+  abbrev this_kept : (this : Option ℕ) → HasThis w this → HasThis w2 this
+  this_kept this h =
+      let k = kept h.r h.object h.found in record { r = h.r; is = h.is; object = k.object; found = k.found }
+
+  run_kept : (body : Body) (this : Option ℕ) → ByRun code w body this → ByRun code w2 body this
+  run_kept body this b =
+      record {
+        on = this_kept this b.on;
+        runs =
+            ap (λ d. body_named code.program d (codes "run")) (kept b.on.r b.on.object b.on.found).class ∙ b.runs;
+      }
+
+  by_kept : (den : Scope → Option ℕ) (c now : ℕ) (op : Op) (body : Body) (this : Option ℕ) (area : ℕ) →
+      IsCalledBy code w den c now op body this area → IsCalledBy code w2 den c now op body this area
+  unfolding IsCalledBy
+  by_kept den c now (CALL id) body this area b =
+      let k = kept b.on.r b.on.object b.on.found in
+      record {
+        method = b.method;
+        is = b.is;
+        on = this_kept this b.on;
+        runs = ap (λ d. body_of code.program d b.method) k.class ∙ b.runs;
+        receiver = b.receiver;
+        is_receiver = b.is_receiver;
+        scope = b.scope;
+        of_receiver = b.of_receiver;
+        lies = b.lies ∙ ap (λ a. Some a) (sym k.area);
+        same_area = b.same_area;
+      }
+  by_kept den c now (CALLSTATIC id) body this area b = b
+  by_kept den c now (CONSTRUCT id) body this area b =
+      record {
+        class = b.class;
+        is = b.is;
+        runs = b.runs;
+        on = this_kept this b.on;
+        scope = b.scope;
+        of_new = b.of_new;
+        lies = b.lies ∙ ap (λ a. Some a) (sym (kept b.on.r b.on.object b.on.found).area);
+        same_area = b.same_area;
+      }
+  by_kept den c now (SUPER id) body this area b =
+      record {
+        superclass = b.superclass;
+        is = b.is;
+        runs = b.runs;
+        on = this_kept this b.on;
+        scope = b.scope;
+        of_this = b.of_this;
+        lies = b.lies ∙ ap (λ a. Some a) (sym (kept b.on.r b.on.object b.on.found).area);
+        same_area = b.same_area;
+      }
+  by_kept den c now (ENTER id) body this area b = run_kept body this b
+  by_kept den c now (EXECUTEIN id) body this area b = run_kept body this b
+  by_kept den c now _ body this area b = absurd b
+
+  pub called_kept : (list : List ℕ) (f : Frame) (body : Body) (called_at this : Option ℕ) (area : ℕ) →
+      denote w2 list f.this f.area ≡ denote w list f.this f.area → IsCalledIn code w list f body called_at this area →
+      IsCalledIn code w2 list f body called_at this area
+  called_kept list f body called_at this area e x =
+      record {
+        op = x.op;
+        at = x.at;
+        pushers = x.pushers;
+        came = x.came;
+        class = x.class;
+        sig = x.sig;
+        in_class = x.in_class;
+        by = subst (λ d. IsCalledBy code w2 d x.class f.area x.op body this area) (sym e)
+            (by_kept (denote w list f.this f.area) x.class f.area x.op body this area x.by);
+      }
+
   pub ready_kept : (list : List ℕ) → Keeps w w2 list → (c : ℕ) (sig : Signature) (f : Frame) (t : Option Kind) →
       Ready code w list c sig f t → Ready code w2 list c sig f t
   ready_kept list keeps c sig f t r =
@@ -134,6 +215,16 @@ module _ (code : Code) (w w2 : World) (kept : ObjectsAreKept w w2) where
   -- of the lists of which a property holds, as of all behind them
   module _ (P : List ℕ → Type 0) (behind : (xs ys : List ℕ) → P (xs ++ ys) → P ys) (keeps : (list : List ℕ) → P list →
       ListFine w.areas list → Keeps w w2 list) where
+    -- a frame on others
+    pub on_kept : (base : List ℕ) (body : Body) (called_at this : Option ℕ) (area : ℕ) (fs : List Frame)
+        (given : Option Held) → P (list_of base fs) → Under code w base fs given →
+        IsOn code w base body called_at this area fs → IsOn code w2 base body called_at this area fs
+    on_kept base body called_at this area [] given h u on = tt
+    on_kept base body called_at this area (f ∷ fs) given h u on =
+        called_kept (list_of base (f ∷ fs)) f body called_at this area
+        (denote_kept code.program w w2 kept (list_of base (f ∷ fs)) (keeps (list_of base (f ∷ fs)) h u.1) u.0.class
+        u.0.sig f.body f.this f.area u.0.ready.home) on
+
     pub under_kept : (base : List ℕ) (fs : List Frame) (given : Option Held) → P (list_of base fs) →
         Under code w base fs given → Under code w2 base fs given
     under_kept base [] given h u = tt
@@ -154,6 +245,8 @@ module _ (code : Code) (w w2 : World) (kept : ObjectsAreKept w w2) where
           k.fine,
           subst (λ d. Under code w2 base fs (held_option d u.0.sig.gives)) e
               (under_kept base fs _ (behind (option_to_list f.opened) (list_of base fs) h) u.2),
+          on_kept base f.body f.called_at f.this f.area fs _ (behind (option_to_list f.opened) (list_of base fs) h) u.2
+              u.3,
         )
 
     pub frames_kept : (base : List ℕ) (fs : List Frame) → P (list_of base fs) → FramesFine code w base fs →

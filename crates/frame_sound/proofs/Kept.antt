@@ -23,9 +23,10 @@ use Rattle.scope_flow.specs.Signatures.{Signature}
 use Rattle.scope_flow.specs.Facts.{Facts}
 use Rattle.scope_flow.proofs.Known.{bool_cases}
 use Rattle.frame_sound.specs.Places.{World, denote, within, held, IsObject, Has}
-use Rattle.frame_sound.specs.Fine.{ListFine, AreasFine, IsInstance, ObjectFine, HeapFine, StaticsFine, Home, Ready, held_option, Under, list_of, Stands}
+use Rattle.frame_sound.specs.Fine.{ListFine, AreasFine, IsInstance, ObjectFine, HeapFine, StaticsFine, Home, Ready, held_option, Under, IsOn, list_of, Stands}
+use Rattle.frame_sound.specs.Calls.{IsCalledIn}
 use Rattle.frame_sound.specs.EffectsFine.{IsSame, GoesOn, MakeFine, StoreFine, HiddenFine, CallFine}
-use Rattle.frame_sound.proofs.Keeps.{ObjectsAreKept, Keeps, denote_kept, ready_kept, under_kept}
+use Rattle.frame_sound.proofs.Keeps.{ObjectsAreKept, Keeps, denote_kept, ready_kept, under_kept, on_kept}
 use Rattle.frame_sound.proofs.Frames.{same_list, replaced, answered}
 use Rattle.frame_sound.proofs.Changes.{look, same_areas, statics_still, new_is_kept, heap_new, new_fine, change_is_kept, with_value, heap_stored}
 use Rattle.frame_sound.proofs.HiddenSlots.{heap_hidden, heap_ceiling}
@@ -65,6 +66,7 @@ pub record ActsHere (code : Code) (areas : List MemoryArea) (objects : List Obje
       f.area
   pub under : Under code (look (λ a. slice_get areas a) objects) base fs
       (held_option (denote (look (λ a. slice_get areas a) objects) (list_of base (f ∷ fs)) f.this f.area) sig.gives)
+  pub on : IsOn code (look (λ a. slice_get areas a) objects) base f.body f.called_at f.this f.area fs
 
 module _ (code : Code) (facts : Facts code) (areas : List MemoryArea) (objects : List Object) (statics : List Value)
     (base : List ℕ) (f : Frame) (fs : List Frame) (c : ℕ) (sig : Signature)
@@ -87,7 +89,7 @@ module _ (code : Code) (facts : Facts code) (areas : List MemoryArea) (objects :
         areas_fine = m.areas_fine;
         heap = m.heap;
         statics_fine = m.statics_fine;
-        frames_fine = replaced code w base f h fs g.same c sig None None g.ready tt m.fine m.under;
+        frames_fine = replaced code w base f h fs g.same c sig None None g.ready tt m.fine m.under m.on;
       }
 
   -- ---- the objects change
@@ -108,6 +110,11 @@ module _ (code : Code) (facts : Facts code) (areas : List MemoryArea) (objects :
         (sym (denote_kept code.program w w2 kept list (keeps_list list tt m.fine) c sig f.body f.this f.area m.home))
         (under_kept code w w2 kept (λ l. Unit {0}) (λ xs ys h. tt) keeps_list base fs _ tt m.under)
 
+    on_still : IsOn code w2 base f.body f.called_at f.this f.area fs
+    on_still =
+        on_kept code w w2 kept (λ l. Unit {0}) (λ xs ys h. tt) keeps_list base f.body f.called_at f.this f.area fs _ tt
+        m.under m.on
+
     pub objects_keep : HeapFine code.program w2 → (h : Frame) → GoesOn code w list c sig f h None →
         Stands code areas objects2 statics base (h ∷ fs)
     unfolding held_option
@@ -117,7 +124,7 @@ module _ (code : Code) (facts : Facts code) (areas : List MemoryArea) (objects :
           heap = heap2;
           statics_fine = statics_still code.program looked objects objects2 kept statics m.statics_fine;
           frames_fine =
-              replaced code w2 base f h fs g.same c sig None None (ready_still h None g.ready) tt m.fine under_still;
+              replaced code w2 base f h fs g.same c sig None None (ready_still h None g.ready) tt m.fine under_still on_still;
         }
 
   pub stores_keep : (h : Frame) (r slot : ℕ) (v : Value) → GoesOn code w list c sig f h None →
@@ -169,7 +176,7 @@ module _ (code : Code) (facts : Facts code) (areas : List MemoryArea) (objects :
                 has = s.has;
               }
             ]);
-        frames_fine = replaced code w base f h fs g.same c sig None None g.ready tt m.fine m.under;
+        frames_fine = replaced code w base f h fs g.same c sig None None g.ready tt m.fine m.under m.on;
       }
 
   -- ---- a new object
@@ -185,8 +192,9 @@ module _ (code : Code) (facts : Facts code) (areas : List MemoryArea) (objects :
         statics_fine = statics_still code.program looked objects more kept statics m.statics_fine;
         frames_fine =
             replaced code w2_ base f (record h { operands = At (length objects) ∷ h.operands }) fs
-            (record { body = s.body; this = s.this; area = s.area; saved = s.saved; opened = s.opened }) c sig None None
-            (answered code w2_ list c sig h x.kind (At (length objects)) has ready2) tt m.fine (under_still more kept);
+            (record { body = s.body; called_at = s.called_at; this = s.this; area = s.area; saved = s.saved; opened = s.opened }) c sig None None
+            (answered code w2_ list c sig h x.kind (At (length objects)) has ready2) tt m.fine (under_still more kept)
+            (on_still more kept);
       }
     where
       s : IsSame f h
@@ -261,6 +269,8 @@ module _ (code : Code) (facts : Facts code) (areas : List MemoryArea) (objects :
           },
           subst (ListFine looked) same_ m.fine,
           subst (λ l. Under code w base (h ∷ fs) (held_option (denote w l g.this g.area) x.own.gives)) same_ under,
+          subst (λ l. IsCalledIn code w l h g.body g.called_at g.this g.area) (same_list code w base f h fs x.goes.same)
+              x.on,
         );
       }
     where
@@ -278,7 +288,7 @@ module _ (code : Code) (facts : Facts code) (areas : List MemoryArea) (objects :
           }
 
       under : Under code w base (h ∷ fs) (held_option (denote w list g.this g.area) x.own.gives)
-      under = replaced code w base f h fs x.goes.same c sig x.kind _ x.goes.ready x.fits m.fine m.under
+      under = replaced code w base f h fs x.goes.same c sig x.kind _ x.goes.ready x.fits m.fine m.under m.on
 
       same_ : list ≡ list_of base (record g { saved = saved } ∷ h ∷ fs)
       same_ =

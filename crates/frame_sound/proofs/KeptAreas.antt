@@ -15,14 +15,15 @@ use Rattle.scope_flow.specs.Slots.{IsOfType}
 use Rattle.scope_flow.specs.Signatures.{Signature, Runs}
 use Rattle.scope_flow.specs.Facts.{Facts}
 use Rattle.frame_sound.specs.Places.{World, area_named, denote}
-use Rattle.frame_sound.specs.Fine.{ListFine, AreDistinct, HeapFine, Ready, held_option, Under, list_of, Stands}
+use Rattle.frame_sound.specs.Fine.{ListFine, AreDistinct, HeapFine, Ready, held_option, IsOn, Under, list_of, Stands}
+use Rattle.frame_sound.specs.Calls.{IsCalledIn}
 use Rattle.frame_sound.specs.EffectsFine.{OpenFine, ReturnFine}
 use Rattle.frame_sound.proofs.GivenValues.{returns_kept}
 use Rattle.frame_sound.proofs.NewAreas.{body_begins_in, list_fine, new_on, runs_in_new, still_on}
 use Rattle.frame_sound.proofs.Frames.{same_list, replaced, returned_fine}
 use Rattle.frame_sound.proofs.Changes.{look}
 use Rattle.frame_sound.proofs.Closes.{with_closed, objects_stay, under_closed, areas_closed, heap_closed, statics_closed}
-use Rattle.frame_sound.proofs.Opens.{heap_more, statics_more, under_more}
+use Rattle.frame_sound.proofs.Opens.{heap_more, statics_more, under_more, on_more}
 use Rattle.frame_sound.proofs.OpenAreas.{areas_open}
 use Rattle.frame_sound.proofs.Kept.{ActsHere}
 
@@ -115,6 +116,7 @@ module _ (code : Code) (facts : Facts code) (areas : List MemoryArea) (objects :
           list2,
           subst (λ (o : Option Kind). Under code more base (h ∷ fs) (held_option (denote more (a ∷ low) g.this a) o))
               (sym x.entered.run.gives) (under_more areas new (λ r. slice_get objects r) code base (h ∷ fs) None old),
+          on_lower,
         );
       }
     where
@@ -134,7 +136,13 @@ module _ (code : Code) (facts : Facts code) (areas : List MemoryArea) (objects :
       heap2 = heap_more areas new (λ r. slice_get objects r) code.program m.heap
 
       old : Under code w base (h ∷ fs) None
-      old = replaced code w base f h fs x.goes.same c sig None None x.goes.ready tt m.fine m.under
+      old = replaced code w base f h fs x.goes.same c sig None None x.goes.ready tt m.fine m.under m.on
+
+      on_lower : IsOn code more base g.body g.called_at g.this a (h ∷ fs)
+      on_lower =
+          on_more areas new (λ r. slice_get objects r) code base g.body g.called_at g.this a (h ∷ fs) None old
+          (subst (λ l. IsCalledIn code w l h g.body g.called_at g.this a) (same_list code w base f h fs x.goes.same)
+          (x.on a))
 
       list2 : ListFine more.areas (a ∷ low)
       list2 = list_fine areas objects low scope h.area bytes old.1 old.0.ready.home.now_on_list unnamed

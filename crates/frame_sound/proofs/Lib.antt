@@ -1,6 +1,7 @@
 pub mod Acts
 pub mod ActsOnAreas
 pub mod ActsOnCalls
+pub mod ActsOnConstructors
 pub mod ActsOnFramework
 pub mod ActsOnNew
 pub mod ActsOnOperators

@@ -18,6 +18,7 @@ use Rattle.scope_flow.specs.Facts.{Facts}
 use Rattle.scope_flow.specs.Needs.{pushed}
 use Rattle.scope_flow.specs.Signatures.{Runs, Signature}
 use Rattle.scope_flow.specs.Slots.{IsOfType}
+use Rattle.scope_flow.proofs.Courses.{entry_stood}
 use Rattle.frame_sound.specs.Places.{AllHave, World, area_named, denote}
 use Rattle.frame_sound.specs.Fine.{HeapFine, ListFine, Ready}
 use Rattle.frame_sound.proofs.Begins.{begins, on_this}
@@ -49,8 +50,8 @@ module _ (code : Code) (facts : Facts code) (w : World) (list : List ℕ) (fine 
         known = [];
         kinds = [];
         operands = tt;
-        locals = record { long = refl; each = λ i v k there is known. absurd (cc (there)) };
-        flow = ap (λ (s : Signature). s.gives) body.1;
+        locals = record { long = refl; each = λ i v k there is known. absurd (cc (there)); fits = λ i v value there has. absurd (cc (there)) };
+        flow = (entry_stood code Empty on, ap (λ (s : Signature). s.gives) body.1);
       }
 
   -- in an area that was opened for the frame

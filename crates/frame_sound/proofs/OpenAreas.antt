@@ -5,11 +5,11 @@ use Rattle.std.proofs.lemmas.Bool.Decides.{nat_tests}
 use Rattle.scj_rules.specs.Words.{is_among, chain, ◌>>=◌}
 use Rattle.scj_rules.specs.Contexts.{Declarations}
 use Rattle.scj_rules.specs.ScopeRules.{immortal_scope, is_outer, parent_scope}
-use Rattle.accepted_laws.proofs.Lists.{get_last, get_within}
+use Rattle.accepted_laws.proofs.Lists.{get_last, get_left, get_within}
 use Rattle.accepted_laws.proofs.Tools.{some_inj}
 use Rattle.scj_model.specs.State.{MemoryArea}
 use Rattle.frame_sound.specs.Places.{area_around}
-use Rattle.frame_sound.specs.Fine.{AreasFine}
+use Rattle.frame_sound.specs.Fine.{IsInParent, AreasFine}
 use Rattle.frame_sound.proofs.Opens.{around_more}
 
 -- ---- chains of parents
@@ -121,9 +121,43 @@ module _ (p : Declarations) (areas : List MemoryArea) (fine : AreasFine p (λ b.
             ∙ around_longer (λ b. slice_get areas b) n d (suc now) now q.0 q.1),
       )
 
+  still_in_parent : (x : MemoryArea) → IsInParent p (λ b. slice_get areas b) x →
+      IsInParent p (λ b. slice_get (areas ++ new ∷ []) b) x
+  still_in_parent x i =
+      record {
+        parent = i.parent;
+        is = i.is;
+        around = i.around;
+        is_there = get_left areas (new ∷ []) i.parent i.around i.is_there;
+        of_scope = i.of_scope;
+      }
+
+  new_in_parent : IsInParent p (λ b. slice_get (areas ++ new ∷ []) b) new
+  new_in_parent =
+      record {
+        parent = now;
+        is = refl;
+        around = around;
+        is_there = get_left areas (new ∷ []) now around is_area;
+        of_scope = up ∙ ap (λ n. Some n) (sym named);
+      }
+
+  of_parent : (b : ℕ) (x : MemoryArea) → (slice_get areas b ≡ Some x) ⊎ ((b ≡ length areas) × (new ≡ x)) →
+      (b ≡ 0) ⊎ IsInParent p (λ b. slice_get (areas ++ new ∷ []) b) x
+  of_parent b x (inl e) =
+      elim (fine.parents b x e) as (λ z. (b ≡ 0) ⊎ IsInParent p (λ b. slice_get (areas ++ new ∷ []) b) x) [
+        | inl z ↦ inl z
+        | inr i ↦ inr (still_in_parent x i)
+      ]
+  of_parent b x (inr e) = inr (subst (IsInParent p (λ b. slice_get (areas ++ new ∷ []) b)) e.1 new_in_parent)
+
   pub areas_open : AreasFine p (λ b. slice_get (areas ++ new ∷ []) b)
   unfolding area_around
-  areas_open = record { reach = λ b n x there h. go b n x h (last areas b x there) }
+  areas_open =
+      record {
+        parents = λ b x there. of_parent b x (last areas b x there);
+        reach = λ b n x there h. go b n x h (last areas b x there);
+      }
     where
       go : (b n : ℕ) (x : MemoryArea) → (n ≡ immortal_scope) ⊎ (is_outer p n x.scope ≡ true) →
           (slice_get areas b ≡ Some x) ⊎ ((b ≡ length areas) × (new ≡ x)) →

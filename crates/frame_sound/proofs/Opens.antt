@@ -5,6 +5,7 @@ use Rattle.std.proofs.lemmas.Bool.Decides.{nat_tests}
 use Rattle.scj_base.specs.declared.values.Value.{Value}
 use Rattle.scj_rules.specs.declared.typing.Scope.{Scope}
 use Rattle.scj_rules.specs.declared.typing.Scope.TheVariants.{Any, This, Caller, In}
+use Rattle.scj_rules.specs.declared.views.Body.{Body}
 use Rattle.scj_rules.specs.Words.{is_among, holds, ◌>>=◌}
 use Rattle.scj_rules.specs.Contexts.{Declarations}
 use Rattle.accepted_laws.specs.Kinds.{Kind, number, truth, yes, reference, fresh}
@@ -13,10 +14,10 @@ use Rattle.accepted_laws.proofs.Tools.{some_inj}
 use Rattle.scj_model.specs.Code.{Code}
 use Rattle.scj_model.specs.State.{MemoryArea, Object, Frame}
 use Rattle.frame_sound.specs.Places.{World, Held, area_named, area_around, within, held, Has}
-use Rattle.frame_sound.specs.Fine.{ListFine, HeapFine, StaticsFine, Under}
+use Rattle.frame_sound.specs.Fine.{ListFine, HeapFine, StaticsFine, IsOn, Under}
 use Rattle.frame_sound.proofs.ListsStay.{Stay, are_there, list_stays, named_stays}
 use Rattle.frame_sound.proofs.Places.{has_where}
-use Rattle.frame_sound.proofs.Keeps.{ObjectsAreKept, Keeps, has_kept, under_kept}
+use Rattle.frame_sound.proofs.Keeps.{ObjectsAreKept, Keeps, has_kept, under_kept, on_kept}
 
 module _ (areas : List MemoryArea) (new : MemoryArea) where
   abbrev pub old_areas : ℕ → Option MemoryArea
@@ -94,6 +95,13 @@ module _ (areas : List MemoryArea) (new : MemoryArea) where
     under_more code base fs given u =
         under_kept code low_world more_world objects_are (λ list. Unit {0}) (λ xs ys h. tt) more_keeps base fs given tt
         u
+
+    pub on_more : (code : Code) (base : List ℕ) (body : Body) (called_at this : Option ℕ) (area : ℕ) (fs : List Frame)
+        (given : Option Held) → Under code low_world base fs given →
+        IsOn code low_world base body called_at this area fs → IsOn code more_world base body called_at this area fs
+    on_more code base body called_at this area fs given u on =
+        on_kept code low_world more_world objects_are (λ list. Unit {0}) (λ xs ys h. tt) more_keeps base body called_at
+        this area fs given tt u on
 
     held_more : (p : Declarations) (a : ℕ) (k : Kind) (v : Value) → Has p low_world (held (within old_areas a) k) v →
         Has p more_world (held (within more_areas a) k) v

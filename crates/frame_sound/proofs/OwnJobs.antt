@@ -57,7 +57,7 @@ memory_stays code s (ReleaseAt place) b base frames h = h
 -- ---- the frame with which a job began
 
 same_itself : (f : Frame) → IsSame f f
-same_itself f = record { body = refl; this = refl; area = refl; saved = refl; opened = refl }
+same_itself f = record { body = refl; called_at = refl; this = refl; area = refl; saved = refl; opened = refl }
 
 pub lowest_same : (f h : Frame) (below : List Frame) → IsSame f h → IsSame (lowest f below) (lowest h below)
 unfolding lowest
@@ -66,7 +66,7 @@ lowest_same f h (g ∷ gs) same = same_itself (lowest g gs)
 
 pub same_with : (f h : Frame) (operands : List Value) → IsSame f h → IsSame f (record h { operands = operands })
 same_with f h operands same =
-    record { body = same.body; this = same.this; area = same.area; saved = same.saved; opened = same.opened }
+    record { body = same.body; called_at = same.called_at; this = same.this; area = same.area; saved = same.saved; opened = same.opened }
 
 pub areas_stay : (s : State) (job : Job) (b : Activity) → (with_activity s job b).areas ≡ s.areas
 unfolding with_activity

@@ -76,12 +76,12 @@ pub record IsReturned (value : Option Value) (g : Frame) (gs : List Frame) : Typ
 is_returned : (value : Option Value) (g : Frame) (gs : List Frame) → IsReturned value g gs
 unfolding returned
 is_returned None g gs =
-    record { top = g; is = refl; same = record { body = refl; this = refl; area = refl; saved = refl; opened = refl } }
+    record { top = g; is = refl; same = record { body = refl; called_at = refl; this = refl; area = refl; saved = refl; opened = refl } }
 is_returned (Some v) g gs =
     record {
       top = record g { operands = v ∷ g.operands };
       is = refl;
-      same = record { body = refl; this = refl; area = refl; saved = refl; opened = refl };
+      same = record { body = refl; called_at = refl; this = refl; area = refl; saved = refl; opened = refl };
     }
 
 module _ (code : Code) (facts : Facts code) (s : State) (job : Job) (activity : Activity)

@@ -15,7 +15,7 @@ use Rattle.scj_model.specs.Effects.{Effect, Goes, Prints, Makes, Stores, StoresS
 use Rattle.scj_model.specs.Apply.{applied}
 use Rattle.scj_model.specs.Run.{effect_at, environment, frame_op, place_of_op}
 use Rattle.scope_flow.specs.Facts.{Facts}
-use Rattle.scope_flow.specs.Flow.{Flow}
+use Rattle.scope_flow.specs.Ways.{Course}
 use Rattle.scope_flow.specs.Needs.{pushed}
 use Rattle.scope_flow.specs.Signatures.{Runs, Signature}
 use Rattle.frame_sound.specs.Places.{World, denote}
@@ -76,6 +76,7 @@ same_over : (f g h : Frame) → IsSame f g → IsSame g h → IsSame f h
 same_over f g h x y =
     record {
       body = y.body ∙ x.body;
+      called_at = y.called_at ∙ x.called_at;
       this = y.this ∙ x.this;
       area = y.area ∙ x.area;
       saved = y.saved ∙ x.saved;
@@ -84,7 +85,7 @@ same_over f g h x y =
 
 -- a frame without the operation that is next stands as it stood
 without_next : (f : Frame) (rest : List Op) → IsSame f (record f { rest = rest })
-without_next f rest = record { body = refl; this = refl; area = refl; saved = refl; opened = refl }
+without_next f rest = record { body = refl; called_at = refl; this = refl; area = refl; saved = refl; opened = refl }
 
 none_waits : (p : Declarations) (den : Scope → Option ℕ) (kind : Option Kind) →
     GivenFits p None (held_option den kind) →
@@ -123,7 +124,7 @@ module _ (code : Code) (facts : Facts code) (rows : List ReadingRow) (s : State)
     has_next = go f.rest refl ready.flow
       where
         go : (ops : List Op) → f.rest ≡ ops →
-            Flow code f.body waits.class waits.sig ops ready.known (pushed None ready.kinds) → HasNext
+            Course code f.body waits.class waits.sig ops ready.known (pushed None ready.kinds) → HasNext
         go [] e flow = absurd flow
         go (op ∷ rest) e flow = record { op = op; rest = rest; is = e }
 
@@ -157,7 +158,7 @@ module _ (code : Code) (facts : Facts code) (rows : List ReadingRow) (s : State)
           operands = ready.operands;
           locals = ready.locals;
           flow =
-              subst (λ ops. Flow code f.body waits.class waits.sig ops ready.known (pushed None ready.kinds)) e
+              subst (λ ops. Course code f.body waits.class waits.sig ops ready.known (pushed None ready.kinds)) e
               ready.flow;
         }) in
         x.is
@@ -189,6 +190,7 @@ module _ (code : Code) (facts : Facts code) (rows : List ReadingRow) (s : State)
               fine = here.frames_fine.1;
               home = ready.home;
               under = here.frames_fine.2;
+              on = here.frames_fine.3;
             }) (place_of_op code n.op) (effect_at code rows s f n.op n.rest) (effect_is_fine n.op n.rest n.is)
 
         either : JobGoesOn code s job base g below k.step.state

@@ -19,11 +19,11 @@ use Rattle.scj_model.specs.Effects.{Effect, Goes, Stuck, given, pop, pop_from, p
 use Rattle.scj_model.specs.Operations.{Environment}
 use Rattle.scope_flow.specs.Signatures.{Signature, Runs, variables_in}
 use Rattle.scope_flow.specs.Needs.{pushed, stacked, IsVariable}
-use Rattle.scope_flow.specs.Flow.{Flow}
+use Rattle.scope_flow.specs.Ways.{Course}
 use Rattle.scope_flow.specs.Facts.{Facts}
 use Rattle.scope_flow.proofs.Known.{bool_cases, or_cases}
 use Rattle.frame_sound.specs.Places.{World, denote, held, a_number, an_object, IsObject, Has, AllHave}
-use Rattle.frame_sound.specs.Fine.{ListFine, HeapFine, StaticsFine, Home, LocalFine, LocalsFine}
+use Rattle.frame_sound.specs.Fine.{ListFine, HeapFine, StaticsFine, Home, HoldsNullOr, LocalFine, LocalsFine}
 use Rattle.frame_sound.specs.EffectsFine.{IsSame, GoesOn, Fine}
 use Rattle.frame_sound.proofs.Places.{denote_on, has_fits}
 
@@ -64,7 +64,7 @@ abbrev pub HoldAll : Scene → List Kind → List Value → Type 0
 HoldAll m ks vs = AllHave m.code.program (memory m) (den m) ks vs
 
 abbrev pub FlowsOn : Scene → List Op → List ℕ → List Kind → Type 0
-FlowsOn m ops ks s = Flow m.code m.frame.body m.class m.sig ops ks s
+FlowsOn m ops ks s = Course m.code m.frame.body m.class m.sig ops ks s
 
 abbrev pub Ok : Scene → Effect → Type 0
 Ok m e = Fine m.code (memory m) m.list m.class m.sig m.frame e
@@ -160,7 +160,7 @@ module _ (m : Scene) where
 
   pub same : (vs locals : List Value) (rest : List Op) →
       IsSame m.frame (record m.frame { operands = vs; locals = locals; rest = rest })
-  same vs locals rest = record { body = refl; this = refl; area = refl; saved = refl; opened = refl }
+  same vs locals rest = record { body = refl; called_at = refl; this = refl; area = refl; saved = refl; opened = refl }
 
   pub ready : (vs locals : List Value) (rest : List Op) (t : Option Kind) (ks : List ℕ) (ts : List Kind) →
       HoldAll m ts vs → LocalsFine m.code.program (memory m) (den m) m.frame.body ks locals →
@@ -222,7 +222,7 @@ module _ (m : Scene) where
   pub locals_set : (i v : ℕ) (slot : IsVariable m.code.program m.frame.body i v) (x : Value) → Holds m slot.kind x →
       LocalsFine m.code.program (memory m) (den m) m.frame.body (v ∷ m.known) (slice_set m.frame.locals i x)
   locals_set i v slot x h =
-      record { long = length_set m.frame.locals i x ∙ m.locals.long; each = each }
+      record { long = length_set m.frame.locals i x ∙ m.locals.long; each = each; fits = fits }
     where
       vars : List ℕ
       vars = variables_in m.code.program m.frame.body
@@ -256,4 +256,23 @@ module _ (m : Scene) where
                   | inr s ↦ m.locals.each j u k there is s
                 ] in
                 record { value = y.value; is = get_set_other m.frame.locals i j x other ∙ y.is; has = y.has })
+          ]
+
+      fits : (j u : ℕ) (value : Value) → slice_get vars j ≡ Some u →
+          slice_get (slice_set m.frame.locals i x) j ≡ Some value →
+          HoldsNullOr m.code.program (memory m) (den m) u value
+      fits j u value there has =
+          elim (bool_cases (i == j)) as (λ z. HoldsNullOr m.code.program (memory m) (den m) u value) [
+            | inl e ↦ (let s : i ≡ j = grind (arith, nat_tests) in
+                let vu : v ≡ u = some_inj v u (sym slot.is_there ∙ ap (slice_get vars) s ∙ there) in
+                let same : x ≡ value =
+                some_inj x value (sym (get_set_same m.frame.locals i x in_range)
+                ∙ (ap (slice_get (slice_set m.frame.locals i x)) s ∙ has)) in
+                inr (
+                  slot.kind,
+                  ap (kind_of_variable m.code.program) (sym vu) ∙ slot.is_kind,
+                  subst (λ y. Holds m slot.kind y) same h,
+                ))
+            | inr e ↦ (let other : i ≡ j → ⊥ = λ s. grind (arith, nat_tests) in
+                m.locals.fits j u value there (sym (get_set_other m.frame.locals i j x other) ∙ has))
           ]

@@ -117,6 +117,7 @@ module _ (code : Code) (facts : Facts code) (s : State) (place : ℕ) (r : Relea
           record { class = h.handled.on; sig = h.handled.sig; kind = None; fits = tt; ready = ready },
           list_fine s.areas s.objects low h.scope inner row.bytes h.may_open.fine inner_on h.may_open.unnamed,
           tt,
+          tt,
         );
       }
 

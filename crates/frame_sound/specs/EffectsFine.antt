@@ -14,12 +14,14 @@ use Rattle.scj_model.specs.State.{MemoryArea, Object, Frame}
 use Rattle.scj_model.specs.Effects.{Effect, Goes, Prints, Makes, Stores, StoresStatic, SetsHidden, SetsCeiling, Calls, Opens, Leaves, AsksRegistration, AsksRelease, AsksTermination, Faults, Stuck, new_frame}
 use Rattle.scope_flow.specs.Slots.{array_type, kind_of_slot, kind_of_static}
 use Rattle.scope_flow.specs.Signatures.{Signature, IsConcrete, IsEntered, LiesHere, SlotsReach}
+use Rattle.frame_sound.specs.Calls.{IsCalledIn}
 use Rattle.frame_sound.specs.Places.{World, denote, within, held, Has}
 use Rattle.frame_sound.specs.Fine.{Ready, held_option, GivenFits, IsOnList}
 
 -- the frame stands where it stood
 pub record IsSame (f h : Frame) : Type 0 where
   pub body : h.body ≡ f.body
+  pub called_at : h.called_at ≡ f.called_at
   pub this : h.this ≡ f.this
   pub area : h.area ≡ f.area
   pub saved : h.saved ≡ f.saved
@@ -76,6 +78,7 @@ pub record CallFine (code : Code) (w : World) (list : List ℕ) (c : ℕ) (sig :
   pub unopened : g.opened ≡ None
   pub fits : GivenFits code.program (held_option (denote w list g.this g.area) own.gives)
       (held_option (denote w list h.this h.area) kind)
+  pub on : IsCalledIn code w list h g.body g.called_at g.this g.area
 
 -- a frame that runs in a new area of this scope
 pub record OpenFine (code : Code) (w : World) (list : List ℕ) (c : ℕ) (sig : Signature) (f h g : Frame)
@@ -92,6 +95,8 @@ pub record OpenFine (code : Code) (w : World) (list : List ℕ) (c : ℕ) (sig :
   pub entered : IsEntered code.program on_list.object.class scope
   pub called_at : Option ℕ
   pub is : g ≡ new_frame code (Written entered.run.body) called_at (Some r) f.area []
+  -- whichever area is opened for it
+  pub on : (area : ℕ) → IsCalledIn code w list h g.body g.called_at g.this area
 
 abbrev pub ReturnFine : Declarations → World → (Scope → Option ℕ) → Option Kind → Option Value → Type 0
 ReturnFine p w den None None = Unit {0}

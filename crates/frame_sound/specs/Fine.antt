@@ -1,6 +1,7 @@
 -- The invariant of a state: areas, objects, static fields, and the frames of each job. Types and places at once.
 use Rattle.std.specs.Prelude.{◌≡◌, ℕ, suc, true, false, ◌⊎◌, List, [], ◌∷◌, ◌++◌, length, slice_get, Option, Some, None, option_to_list}
 use Rattle.scj_base.specs.declared.values.Value.{Value}
+use Rattle.scj_base.specs.declared.values.Value.TheVariants.{Null}
 use Rattle.scj_rules.specs.declared.typing.Ty.{Ty}
 use Rattle.scj_rules.specs.declared.typing.Ty.TheVariants.{Class as ClassTy}
 use Rattle.scj_rules.specs.declared.typing.Scope.{Scope}
@@ -9,7 +10,7 @@ use Rattle.scj_rules.specs.declared.views.Body.{Body}
 use Rattle.scj_rules.specs.Words.{is_among}
 use Rattle.scj_rules.specs.Contexts.{Declarations}
 use Rattle.scj_rules.specs.Layout.{slots}
-use Rattle.scj_rules.specs.ScopeRules.{immortal_scope, is_outer}
+use Rattle.scj_rules.specs.ScopeRules.{immortal_scope, is_outer, parent_scope}
 use Rattle.scj_rules.specs.StaticScopes.{this_in}
 use Rattle.scj_rules.specs.Types.{assigns}
 use Rattle.accepted_laws.specs.Kinds.{Kind, reference, kind_of_variable}
@@ -18,7 +19,8 @@ use Rattle.scj_model.specs.State.{MemoryArea, Object, Frame, Activity, State}
 use Rattle.scope_flow.specs.Slots.{array_type, kind_of_slot, kind_of_static, IsOfType}
 use Rattle.scope_flow.specs.Signatures.{Signature, Runs, variables_in, runs_for_object, IsConcrete}
 use Rattle.scope_flow.specs.Needs.{pushed}
-use Rattle.scope_flow.specs.Flow.{Flow}
+use Rattle.scope_flow.specs.Ways.{Course}
+use Rattle.frame_sound.specs.Calls.{IsCalledIn}
 use Rattle.frame_sound.specs.Places.{World, world_of, area_named, denote, area_around, within, Held, a_number, a_truth, a_yes, an_object, held, Has, AllHave}
 
 -- ---- a job's list of areas
@@ -65,8 +67,18 @@ list_of base (f ∷ fs) = option_to_list f.opened ++ list_of base fs
 
 -- ---- areas
 
+-- an area lies in one whose scope is the parent of its own
+pub record IsInParent (p : Declarations) (areas : ℕ → Option MemoryArea) (x : MemoryArea) : Type 0 where
+  pub parent : ℕ
+  pub is : x.parent ≡ Some parent
+  pub around : MemoryArea
+  pub is_there : areas parent ≡ Some around
+  pub of_scope : parent_scope p x.scope ≡ Some around.scope
+
 -- from each area all scopes around its own are reached
 pub record AreasFine (p : Declarations) (areas : ℕ → Option MemoryArea) : Type 0 where
+  -- each area but immortal memory, also of those that are closed
+  pub parents : (a : ℕ) (x : MemoryArea) → areas a ≡ Some x → (a ≡ 0) ⊎ IsInParent p areas x
   pub reach : (a n : ℕ) (x : MemoryArea) → areas a ≡ Some x → (n ≡ immortal_scope) ⊎ (is_outer p n x.scope ≡ true) →
       (r : ℕ) × (area_around areas n (suc a) a ≡ Some r)
 
@@ -133,11 +145,19 @@ pub record LocalFine (p : Declarations) (w : World) (den : Scope → Option ℕ)
   pub is : slice_get locals i ≡ Some value
   pub has : Has p w (held den k) value
 
+-- null, or a value as the variable says
+abbrev pub HoldsNullOr : Declarations → World → (Scope → Option ℕ) → ℕ → Value → Type 0
+HoldsNullOr p w den v value =
+    (value ≡ Null) ⊎ ((k : Kind) × (kind_of_variable p v ≡ Some k) × Has p w (held den k) value)
+
 pub record LocalsFine (p : Declarations) (w : World) (den : Scope → Option ℕ) (body : Body) (known : List ℕ)
     (locals : List Value) : Type 0 where
   pub long : length locals ≡ length (variables_in p body)
   pub each : (i v : ℕ) (k : Kind) → slice_get (variables_in p body) i ≡ Some v → kind_of_variable p v ≡ Some k →
       is_among v known ≡ true → LocalFine p w den locals i k
+  -- also of blocks that are over. A local that isn't set is null
+  pub fits : (i v : ℕ) (value : Value) → slice_get (variables_in p body) i ≡ Some v →
+      slice_get locals i ≡ Some value → HoldsNullOr p w den v value
 
 -- the frame goes on, once it has a value of this kind if any
 pub record Ready (code : Code) (w : World) (list : List ℕ) (c : ℕ) (sig : Signature) (f : Frame)
@@ -148,7 +168,7 @@ pub record Ready (code : Code) (w : World) (list : List ℕ) (c : ℕ) (sig : Si
   pub kinds : List Kind
   pub operands : AllHave code.program w (denote w list f.this f.area) kinds f.operands
   pub locals : LocalsFine code.program w (denote w list f.this f.area) f.body known f.locals
-  pub flow : Flow code f.body c sig f.rest known (pushed t kinds)
+  pub flow : Course code f.body c sig f.rest known (pushed t kinds)
 
 -- what one gives is what another waits for
 abbrev pub HeldFits : Declarations → Held → Held → Type 0
@@ -175,12 +195,19 @@ pub record WaitsFor (code : Code) (w : World) (list : List ℕ) (f : Frame) (giv
   pub fits : GivenFits code.program given (held_option (denote w list f.this f.area) kind)
   pub ready : Ready code w list class sig f kind
 
+-- a frame on these frames: the one directly under it called it
+abbrev pub IsOn : Code → World → List ℕ → Body → Option ℕ → Option ℕ → ℕ → List Frame → Type 0
+IsOn code w base body called_at this area [] = Unit {0}
+IsOn code w base body called_at this area (f ∷ fs) =
+    IsCalledIn code w (list_of base (f ∷ fs)) f body called_at this area
+
 -- frames under one that gives this: each waits for what the one above it gives
 abbrev pub Under : Code → World → List ℕ → List Frame → Option Held → Type 0
 Under code w base [] given = Unit {0}
 Under code w base (f ∷ fs) given =
     (waits : WaitsFor code w (list_of base (f ∷ fs)) f given) × ListFine w.areas (list_of base (f ∷ fs))
     × Under code w base fs (held_option (denote w (list_of base (f ∷ fs)) f.this f.area) waits.sig.gives)
+    × IsOn code w base f.body f.called_at f.this f.area fs
 
 abbrev pub FramesFine : Code → World → List ℕ → List Frame → Type 0
 FramesFine code w base [] = Unit {0}

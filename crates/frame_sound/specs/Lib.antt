@@ -1,4 +1,5 @@
 pub mod AllJobs
+pub mod Calls
 pub mod EffectsFine
 pub mod Fine
 pub mod Others

@@ -77,6 +77,7 @@ module _ (s : State) (new : Release) (waits : activity_in new.status ≡ None) w
                   on_list = p.opened.on_list;
                 };
                 no_mission = p.no_mission;
+                defined = p.defined;
               })
             ];
         apart = λ a job other h k. m.apart a job other (opened_before a job h) (opened_before a other k);

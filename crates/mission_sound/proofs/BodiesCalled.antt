@@ -18,6 +18,7 @@ use Rattle.scope_flow.specs.Signatures.{Signature, Runs, IsConcrete}
 use Rattle.scope_flow.specs.Slots.{IsOfType}
 use Rattle.scope_flow.specs.Needs.{pushed}
 use Rattle.scope_flow.specs.Facts.{Facts}
+use Rattle.scope_flow.proofs.Courses.{entry_stood}
 use Rattle.frame_sound.specs.Places.{World, denote, world_of, AllHave}
 use Rattle.frame_sound.specs.Fine.{ListFine, HeapFine, Ready, held_option, Under, list_of}
 use Rattle.frame_sound.proofs.Begins.{begins, on_this}
@@ -61,8 +62,8 @@ module _ (code : Code) (facts : Facts code) (w : World) (list : List ℕ) (fine 
         known = [];
         kinds = [];
         operands = tt;
-        locals = record { long = refl; each = λ i v k there is known. absurd (cc (there)) };
-        flow = ap (λ (s : Signature). s.gives) runs.1;
+        locals = record { long = refl; each = λ i v k there is known. absurd (cc (there)); fits = λ i v value there has. absurd (cc (there)) };
+        flow = (entry_stood code Empty on, ap (λ (s : Signature). s.gives) runs.1);
       }
 
 -- ---- the sequencer, with the frame
@@ -111,6 +112,7 @@ module _ (code : Code) (basics : Facts code) (s : State) (f : Free code s) (r : 
       ready = subst (λ list. Ready code (world_of s) list called.on called.sig frame None) (sym frames_list) starts;
     },
     subst (ListFine (world_of s).areas) (sym frames_list) fine,
+    tt,
     tt,
   )
 

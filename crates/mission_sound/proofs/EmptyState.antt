@@ -138,7 +138,7 @@ empty_is_settled code plan facts =
         base = unopened;
         memories = quiet_is_fine code (empty_state code plan) unopened (record {
           memory = record {
-            areas = record { reach = λ a n x there h. absurd (cc (there)) };
+            areas = record { parents = λ a x there. absurd (cc (there)); reach = λ a n x there h. absurd (cc (there)) };
             heap = λ r o there. absurd (cc (there));
             statics = λ place k is. statics place k is;
           };

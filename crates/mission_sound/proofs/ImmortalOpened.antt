@@ -55,7 +55,7 @@ module _ (bytes : ℕ) where
 
   first_fine : (p : Declarations) → parent_scope p immortal_scope ≡ None → AreasFine p first_areas
   unfolding area_around
-  first_fine p root = record { reach = reach }
+  first_fine p root = record { parents = λ a x there. inl (is_first a x there).0; reach = reach }
     where
       root_named : (n : ℕ) → n ≡ immortal_scope → (r : ℕ) × (area_around first_areas n (suc 0) 0 ≡ Some r)
       root_named n e = subst (λ n. (r : ℕ) × (area_around first_areas n (suc 0) 0 ≡ Some r)) (sym e) (0, refl)

@@ -150,6 +150,7 @@ module _ (s t : State) where
                 job = p.job;
                 opened = opened_still a p.job p.opened;
                 no_mission = p.no_mission;
+                defined = p.defined;
               })
             ];
         apart = λ a job other h k. m.apart a job other (opened_before a job h) (opened_before a other k);

@@ -5,12 +5,12 @@ use Rattle.std.specs.Prelude.{◌≡◌, ℕ, Bool, true, false, ◌||◌, ◌�
 use Rattle.std.specs.List.{list_any}
 use Rattle.scj_base.specs.declared.values.Value.{Value}
 use Rattle.scj_base.specs.declared.values.Value.TheVariants.{Null, At}
-use Rattle.scj_builtins.specs.Framework.{safelet as safelet_interface, mission as mission_class, mission_sequencer as sequencer_class}
+use Rattle.scj_builtins.specs.Framework.{runnable, safelet as safelet_interface, mission as mission_class, mission_sequencer as sequencer_class}
 use Rattle.scj_rules.specs.declared.views.Body.{Body}
 use Rattle.scj_rules.specs.Words.{is_among, ◌>>=◌}
 use Rattle.scj_rules.specs.Classes.{is_sub}
 use Rattle.scj_rules.specs.Contexts.{Declarations}
-use Rattle.scj_rules.specs.ScopeRules.{is_handler, is_mission, definer}
+use Rattle.scj_rules.specs.ScopeRules.{is_handler, is_mission, definer, defined_by_chain}
 use Rattle.scj_rules.specs.Bodies.{body_named, constructor_body}
 use Rattle.scj_model.specs.declared.handlers.HandlerRow.{HandlerRow}
 use Rattle.scj_model.specs.declared.operations.SeqOp.{SeqOp}
@@ -37,11 +37,19 @@ pub record IsOpenedBy (s : State) (a : ℕ) (job : Job) : Type 0 where
   pub is : activity_of s job ≡ Some activity
   pub on_list : is_among a (list_of [] activity.frames) ≡ true
 
--- the area is a private memory: a frame of some job opened it, for a scope that no mission's class defines
+-- a handler class or a Runnable class defines the scope
+pub record IsPrivateScope (p : Declarations) (scope : ℕ) : Type 0 where
+  pub class : ℕ
+  pub is : (is_handler p class ≡ true) ⊎ (is_sub p.classes class runnable ≡ true)
+  pub defines : defined_by_chain p class ≡ Some scope
+
+-- the area is a private memory: a frame of some job opened it, for a scope that a handler class or a Runnable class
+-- defines, and no mission's class
 pub record IsPrivate (code : Code) (s : State) (a : ℕ) (x : MemoryArea) : Type 0 where
   pub job : Job
   pub opened : IsOpenedBy s a job
   pub no_mission : is_mission code.program (definer x.scope) ≡ false
+  pub defined : IsPrivateScope code.program x.scope
 
 pub record HasFrame (activity : Activity) : Type 0 where
   pub highest : Frame

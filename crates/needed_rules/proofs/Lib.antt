@@ -1,3 +1,8 @@
+pub mod ProgramA2Class
+pub mod ProgramA3Field
+pub mod ProgramA4Field
+pub mod ProgramA5Static
+pub mod ProgramA6Override
 pub mod ProgramE10Array
 pub mod ProgramE1New
 pub mod ProgramE2Call
@@ -7,5 +12,9 @@ pub mod ProgramE5Store
 pub mod ProgramE6Return
 pub mod ProgramE7Enter
 pub mod ProgramE8Execute
+pub mod Reading
 pub mod Rows
+pub mod RowsOfAnnotations
+pub mod Texts
+pub mod TextsRead
 pub mod Unsafe

@@ -6,6 +6,8 @@ use Rattle.scj_rules.proofs.Computing.{computing}
 use Rattle.scj_model.proofs.Computing.{computing_machine}
 use Rattle.scj_model.specs.Safety.{live, references_of_frame, reference_in, started_activities}
 use Rattle.needed_rules.specs.Needed.{BreaksOnly, IsNeeded}
+use Rattle.needed_rules.proofs.Texts.{e1_new_text, e2_call_text, e3_argument_text, e4_assign_text, e5_store_text, e6_return_text, e7_enter_text, e8_execute_text, e10_array_text}
+use Rattle.needed_rules.proofs.TextsRead.{e1_new_reads, e2_call_reads, e3_argument_reads, e4_assign_reads, e5_store_reads, e6_return_reads, e7_enter_reads, e8_execute_reads, e10_array_reads}
 use Rattle.needed_rules.proofs.Unsafe.{Dangles, IsStuck, dangles, is_stuck}
 use Rattle.needed_rules.proofs.ProgramE1New.{e1_new}
 use Rattle.needed_rules.proofs.ProgramE2Call.{e2_call}
@@ -31,7 +33,9 @@ e1_new_dangles = record { place = 0; r = 3; is_live = refl; is_gone = refl }
 pub e1_new_is_needed : IsNeeded E1
 e1_new_is_needed =
     record {
+      text = e1_new_text;
       program = e1_new;
+      reads = e1_new_reads;
       place = at 12 42;
       breaks = e1_new_breaks;
       is_unsafe = dangles e1_new 28 e1_new_dangles;
@@ -48,7 +52,9 @@ e2_call_dangles = record { place = 0; r = 3; is_live = refl; is_gone = refl }
 pub e2_call_is_needed : IsNeeded E2
 e2_call_is_needed =
     record {
+      text = e2_call_text;
       program = e2_call;
+      reads = e2_call_reads;
       place = at 12 30;
       breaks = e2_call_breaks;
       is_unsafe = dangles e2_call 31 e2_call_dangles;
@@ -65,7 +71,9 @@ e3_argument_dangles = record { place = 0; r = 3; is_live = refl; is_gone = refl 
 pub e3_argument_is_needed : IsNeeded E3
 e3_argument_is_needed =
     record {
+      text = e3_argument_text;
       program = e3_argument;
+      reads = e3_argument_reads;
       place = at 12 40;
       breaks = e3_argument_breaks;
       is_unsafe = dangles e3_argument 31 e3_argument_dangles;
@@ -82,7 +90,9 @@ e4_assign_dangles = record { place = 0; r = 3; is_live = refl; is_gone = refl }
 pub e4_assign_is_needed : IsNeeded E4
 e4_assign_is_needed =
     record {
+      text = e4_assign_text;
       program = e4_assign;
+      reads = e4_assign_reads;
       place = at 12 56;
       breaks = e4_assign_breaks;
       is_unsafe = dangles e4_assign 30 e4_assign_dangles;
@@ -99,7 +109,9 @@ e5_store_dangles = record { place = 0; r = 3; is_live = refl; is_gone = refl }
 pub e5_store_is_needed : IsNeeded E5
 e5_store_is_needed =
     record {
+      text = e5_store_text;
       program = e5_store;
+      reads = e5_store_reads;
       place = at 12 40;
       breaks = e5_store_breaks;
       is_unsafe = dangles e5_store 28 e5_store_dangles;
@@ -116,7 +128,9 @@ e6_return_dangles = record { place = 0; r = 3; is_live = refl; is_gone = refl }
 pub e6_return_is_needed : IsNeeded E6
 e6_return_is_needed =
     record {
+      text = e6_return_text;
       program = e6_return;
+      reads = e6_return_reads;
       place = at 13 49;
       breaks = e6_return_breaks;
       is_unsafe = dangles e6_return 31 e6_return_dangles;
@@ -133,7 +147,9 @@ e7_enter_is_stuck = record { is = refl }
 pub e7_enter_is_needed : IsNeeded E7
 e7_enter_is_needed =
     record {
+      text = e7_enter_text;
       program = e7_enter;
+      reads = e7_enter_reads;
       place = at 12 44;
       breaks = e7_enter_breaks;
       is_unsafe = is_stuck e7_enter 26 e7_enter_is_stuck;
@@ -150,7 +166,9 @@ e8_execute_dangles = record { place = 2; r = 4; is_live = refl; is_gone = refl }
 pub e8_execute_is_needed : IsNeeded E8
 e8_execute_is_needed =
     record {
+      text = e8_execute_text;
       program = e8_execute;
+      reads = e8_execute_reads;
       place = at 12 44;
       breaks = e8_execute_breaks;
       is_unsafe = dangles e8_execute 45 e8_execute_dangles;
@@ -167,7 +185,9 @@ e10_array_dangles = record { place = 5; r = 5; is_live = refl; is_gone = refl }
 pub e10_array_is_needed : IsNeeded E10
 e10_array_is_needed =
     record {
+      text = e10_array_text;
       program = e10_array;
+      reads = e10_array_reads;
       place = at 12 36;
       breaks = e10_array_breaks;
       is_unsafe = dangles e10_array 47 e10_array_dangles;

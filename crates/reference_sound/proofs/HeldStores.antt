@@ -15,11 +15,11 @@ use Rattle.scj_model.specs.declared.operations.Op.TheVariants.{Put as PUT, PutSt
 use Rattle.scj_model.specs.State.{Object}
 use Rattle.scj_model.specs.Effects.{Effect, Stores, StoresStatic, Faults, Stuck, given, pop, as_object}
 use Rattle.scj_model.specs.Operations.{effect_of, index_in}
-use Rattle.scope_flow.specs.Flow.{Needs, Flow}
+use Rattle.scope_flow.specs.Flow.{Needs}
 use Rattle.scope_flow.specs.Slots.{array_type, kind_of_slot, IsSlotKind, IsOfType}
 use Rattle.frame_sound.specs.Places.{Has, IsObject, an_object, held}
 use Rattle.frame_sound.specs.EffectsFine.{Fine}
-use Rattle.frame_sound.proofs.Scenes.{Scene, memory, den, Holds, Ok, Taken, take, next_taken}
+use Rattle.frame_sound.proofs.Scenes.{Scene, memory, den, Holds, FlowsOn, Ok, Taken, take, next_taken}
 use Rattle.frame_sound.proofs.ActsOnValues.{is_array_of, element_kind_is, elements_are_slots, index_cases}
 use Rattle.frame_sound.proofs.ActsOnStores.{stored, put_static_fine}
 use Rattle.reference_sound.specs.References.{IfReference, EachReference, LiesInImmortal}
@@ -31,7 +31,7 @@ module _ (m : Scene) (Q : ℕ → Type 0) (locals : EachReference Q m.frame.loca
   -- what the operation needs, and that its effect holds
   abbrev pub Does : Op → Type 0
   Does op =
-      Needs m.code m.frame.body m.class m.sig op m.known m.kinds (Flow m.code m.frame.body m.class m.sig m.frame.rest) →
+      Needs m.code m.frame.body m.class m.sig op m.known m.kinds (FlowsOn m m.frame.rest) →
       Holding (memory m) Q (effect_of m.code m.world m.frame op)
 
   known_object : (t : Ty) (a : Option ℕ) (v : Value) (next : ℕ → Effect) →

@@ -29,7 +29,7 @@ use Rattle.reference_sound.specs.EffectsHold.{Holding}
 -- the frame without its operation stands where the frame stood
 as_before : (f h : Frame) (rest : List Op) → IsSame (record f { rest = rest }) h → IsSame f h
 as_before f h rest x =
-    record { body = x.body; this = x.this; area = x.area; saved = x.saved; opened = x.opened }
+    record { body = x.body; called_at = x.called_at; this = x.this; area = x.area; saved = x.saved; opened = x.opened }
 
 -- the area of the caller, in which the new one is opened
 around_new : (code : Code) (w : World) (list : List ℕ) (c : ℕ) (sig : Signature) (f h g : Frame) (scope : ℕ)

@@ -72,7 +72,7 @@ module _ (code : Code) (facts : Facts code) (areas : ℕ → Option MemoryArea) 
       Ready code w list class sig (record f { rest = op ∷ rest }) None → EachReference Q f.locals →
       Holding w Q (effect_of code world (record f { rest = rest }) op)
   unfolding pushed
-  next_holds Q seen fine heap statics r locals = effect_holds scene Q locals operands op r.flow
+  next_holds Q seen fine heap statics r locals = effect_holds scene Q locals operands op r.flow.1
     where
       scene : Scene
       scene =

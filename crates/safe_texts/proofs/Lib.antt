@@ -1,1 +1,4 @@
+pub mod GateRead
+pub mod GateRun
+pub mod SafeLaws
 pub mod Sample

@@ -10,7 +10,7 @@ use Rattle.scj_rules.specs.declared.typing.Ty.TheVariants.{Class as ClassTy}
 use Rattle.scj_rules.specs.declared.views.Body.TheVariants.{Written}
 use Rattle.scj_rules.specs.Contexts.{known_variables}
 use Rattle.accepted_laws.specs.Kinds.{Kind, number, reference, seen_option}
-use Rattle.accepted_laws.specs.Judgements.{Among}
+use Rattle.accepted_laws.specs.Judgements.{Among, Judged}
 use Rattle.scj_model.specs.declared.operations.Op.{Op}
 use Rattle.scj_model.specs.declared.operations.Op.TheVariants.{Call as CALL, CallStatic as CALLSTATIC, Enter as ENTER, ExecuteIn as EXECUTEIN, SetCeiling as SETCEILING, Print as PRINT, Read as READ, Register as REGISTER, Release as RELEASE, Terminate as TERMINATE}
 use Rattle.scj_model.specs.Code.{Code, binding}
@@ -18,13 +18,15 @@ use Rattle.scj_model.specs.Ops.{receiver_ops, builtin_ops, call_ops}
 use Rattle.scj_model.specs.Operations.{bound_method, bound_static_method, argument_count, first_argument}
 use Rattle.scope_flow.specs.Signatures.{Signature}
 use Rattle.scope_flow.specs.Flow.{Flow}
+use Rattle.scope_flow.specs.Pushers.{IsGivenBy}
 use Rattle.scope_flow.specs.Needs.{pushed, stacked}
+use Rattle.scope_flow.specs.CallNeeds.{receiver_of}
 use Rattle.scope_flow.specs.ValueFacts.{HaveValues}
 use Rattle.scope_flow.specs.CallFacts.{ReceiverIs, CallFact, StaticCallFact, EnterFact, ExecuteInFact, SetCeilingFact, PrintFact, ReadFact, ReceiverFact, RegisterFact, BuiltinCases, BuiltinFact}
 use Rattle.scope_flow.proofs.Known.{among_self, among_trans}
-use Rattle.scope_flow.proofs.FlowTools.{After, FlowsBelow, value, join2, join3, arguments, as_many, behind_option, own_reference}
+use Rattle.scope_flow.proofs.FlowTools.{After, FlowsBelow, value, join2, join3, arguments, as_many, behind_option, own_reference, scope_of_receiver}
 
-module _ (code : Code) (b c : ℕ) (sig : Signature) (id : ℕ) (sub : ℕ → List Op) (hyp : FlowsBelow code b c sig id sub) (o : Option Kind) (ls : List ℕ) (am : Among (known_variables code.program id) ls) (os : List Op) (s : List Kind) (a : After code b c sig o ls os s) where
+module _ (code : Code) (b c : ℕ) (sig : Signature) (id : ℕ) (sub : ℕ → List Op) (hyp : FlowsBelow code b c sig id sub) (o : Option Kind) (j : Judged code.program id o) (ls : List ℕ) (am : Among (known_variables code.program id) ls) (os : List Op) (s : List Kind) (a : After code b c sig o ls os s) where
   abbrev F : List Op → List ℕ → List Kind → Type 0
   F xs ms t = Flow code (Written b) c sig xs ms t
 
@@ -33,6 +35,10 @@ module _ (code : Code) (b c : ℕ) (sig : Signature) (id : ℕ) (sub : ℕ → L
 
   next : (k : Option Kind) → o ≡ k → (ms : List ℕ) → Among ls ms → F os ms (pushed k s)
   next k e ms m = behind_option code b c sig id sub hyp o k e ls os s a ms m
+
+  -- the scope of what the node gives is the node's
+  given : (k : Option Kind) → o ≡ k → IsGivenBy code.program id k
+  given k e kind is s has = (kind, subst (Judged code.program id) (e ∙ is) j, has)
 
   by_binding : (f : Binding → List Op) (x : Binding) → binding code id ≡ x → F (f x ++ os) ls s →
       F (f (binding code id) ++ os) ls s
@@ -54,7 +60,7 @@ module _ (code : Code) (b c : ℕ) (sig : Signature) (id : ℕ) (sub : ℕ → L
   method_flow : (place : _) (name : List ℕ) (object : Option ℕ) (xs : List ℕ) →
       slice_get code.program.nodes id ≡ Some (Call place name object xs) → CallFact code b c sig id object xs o →
       F (call_ops sub id object xs (binding code id) ++ os) ls s
-  unfolding call_ops bound_method argument_count
+  unfolding call_ops bound_method argument_count receiver_of
   method_flow place name object xs there r =
       by_binding (call_ops sub id object xs) _ r.is
       (join3 code b c sig id sub hyp (receiver_ops sub id object) (flat_map sub xs) (CALL id ∷ []) os ls s
@@ -71,12 +77,16 @@ module _ (code : Code) (b c : ℕ) (sig : Signature) (id : ℕ) (sub : ℕ → L
               ∙ ap (λ n. Some n) (as_many code b c sig id sub hyp xs r.kinds r.arguments_are);
           class = r.class;
           scope = r.scope;
+          receiver = object;
+          is_receiver = ap (at_reading receiver_of) there;
+          of_receiver = scope_of_receiver code b c sig id sub hyp object r.class r.scope r.receiver_is;
           others = s;
           takes = refl;
           static = r.static;
           fit = r.fit;
           runs = r.runs;
           each = r.each;
+          by_expression = given _ r.is_given;
           leaves = refl;
         };
         goes = next _ r.is_given ns (among_trans ls ms ns m n);
@@ -111,6 +121,7 @@ module _ (code : Code) (b c : ℕ) (sig : Signature) (id : ℕ) (sub : ℕ → L
           takes_no_this = r.takes_no_this;
           gives_no_this = r.gives_no_this;
           gives_itself = r.gives_itself;
+          by_expression = given _ r.is_given;
           leaves = refl;
         };
         goes = next _ r.is_given ms m;

@@ -108,6 +108,7 @@ module _ (code : Code) (facts : Facts code) (b c : ℕ) (sig : Signature) (body 
             arguments = r.kinds;
             count = count ∙ as_many code b c sig id (ops_of code) before xs r.kinds r.arguments_are;
             above = r.above;
+            own = own.is_home ∙ ap (λ x. Some x) (sym runs);
             takes = refl;
             constructor = r.constructor;
           };

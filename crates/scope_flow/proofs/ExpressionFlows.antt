@@ -6,13 +6,14 @@ use Rattle.scj_tree.specs.declared.nodes.Node.{Node}
 use Rattle.scj_tree.specs.declared.nodes.Node.TheVariants.{Binary, Unary, New, This as ThisNode}
 use Rattle.scj_rules.specs.declared.typing.Binding.{Binding}
 use Rattle.scj_rules.specs.declared.typing.Scope.TheVariants.{Caller}
+use Rattle.scj_rules.specs.declared.typing.Ty.{Ty}
 use Rattle.scj_rules.specs.declared.typing.Ty.TheVariants.{Class as ClassTy}
 use Rattle.scj_rules.specs.declared.views.Body.TheVariants.{Written}
 use Rattle.scj_rules.specs.Words.{is_among}
 use Rattle.scj_rules.specs.Contexts.{known_variables}
 use Rattle.scj_rules.specs.Types.{conditional_operators}
 use Rattle.accepted_laws.specs.Kinds.{Kind, number, truth, reference, fresh, seen_kind}
-use Rattle.accepted_laws.specs.Judgements.{Among}
+use Rattle.accepted_laws.specs.Judgements.{Among, Judged}
 use Rattle.scj_model.specs.declared.operations.Op.{Op}
 use Rattle.scj_model.specs.declared.operations.Op.TheVariants.{Push as PUSH, Get as GET, GetStatic as GETSTATIC, Length as LENGTH, Elem as ELEM, Unary as UNARY, Bin as BIN, And as AND, Or as OR, Construct as CONSTRUCT, AllocArray as ALLOCARRAY, Cast as CAST}
 use Rattle.scj_model.specs.Code.{Code, binding, part}
@@ -21,12 +22,13 @@ use Rattle.scj_model.specs.Operations.{bound_local, bound_field, bound_static, b
 use Rattle.scope_flow.specs.Slots.{kind_of_literal}
 use Rattle.scope_flow.specs.Signatures.{Signature}
 use Rattle.scope_flow.specs.Flow.{Flow}
+use Rattle.scope_flow.specs.Pushers.{scope_in, IsKindOfExpression, IsScopeOfExpression}
 use Rattle.scope_flow.specs.Needs.{Loosely, kind_of_unary, IsValuePart}
 use Rattle.scope_flow.specs.ValueFacts.{HasValue, ThisFact, LocalFact, OwnFieldFact, StaticFact, FieldFact, LengthFact, ElementFact, UnaryFact, ShortFact, BinaryFact, NewFact, NewArrayFact, CastFact}
 use Rattle.scope_flow.proofs.Known.{among_self, among_trans}
 use Rattle.scope_flow.proofs.FlowTools.{After, FlowsBelow, value, join2, join3, arguments, as_many, behind, own_reference}
 
-module _ (code : Code) (b c : ℕ) (sig : Signature) (id : ℕ) (sub : ℕ → List Op) (hyp : FlowsBelow code b c sig id sub) (o : Option Kind) (ls : List ℕ) (am : Among (known_variables code.program id) ls) (os : List Op) (s : List Kind) (a : After code b c sig o ls os s) where
+module _ (code : Code) (b c : ℕ) (sig : Signature) (id : ℕ) (sub : ℕ → List Op) (hyp : FlowsBelow code b c sig id sub) (o : Option Kind) (j : Judged code.program id o) (ls : List ℕ) (am : Among (known_variables code.program id) ls) (os : List Op) (s : List Kind) (a : After code b c sig o ls os s) where
   abbrev F : List Op → List ℕ → List Kind → Type 0
   F xs ms t = Flow code (Written b) c sig xs ms t
 
@@ -36,6 +38,10 @@ module _ (code : Code) (b c : ℕ) (sig : Signature) (id : ℕ) (sub : ℕ → L
   next : (k : Kind) → o ≡ Some k → (ms : List ℕ) → Among ls ms → F os ms (k ∷ s)
   next k e ms m = behind code b c sig id sub hyp o k e ls os s a ms m
 
+  -- the scope of a kind that the node has is the node's
+  judged : (k : Kind) → o ≡ Some k → IsKindOfExpression code.program id k
+  judged k e s is = (k, subst (Judged code.program id) e j, is)
+
   -- with what a name or a node stands for told
   by_binding : (f : Binding → List Op) (x : Binding) → binding code id ≡ x → F (f x ++ os) ls s →
       F (f (binding code id) ++ os) ls s
@@ -43,10 +49,14 @@ module _ (code : Code) (b c : ℕ) (sig : Signature) (id : ℕ) (sub : ℕ → L
 
   -- ---- literals and names
 
-  pub literal_flow : (k : Kind) → part code kind_of_literal id ≡ Some k → (j : Kind) → Loosely k j →
-      F os ls (j ∷ s) → F (PUSH id ∷ os) ls s
-  literal_flow k e j l f =
-      record { out = j ∷ s; needed = record { exact = k; is = e; kind = j; loose = l; leaves = refl }; goes = f }
+  pub literal_flow : (k : Kind) → part code kind_of_literal id ≡ Some k → (m : Kind) → Loosely k m → IsKindOfExpression code.program id m →
+      F os ls (m ∷ s) → F (PUSH id ∷ os) ls s
+  literal_flow k e m l by f =
+      record {
+        out = m ∷ s;
+        needed = record { exact = k; is = e; kind = m; loose = l; by_expression = by; leaves = refl };
+        goes = f;
+      }
 
   pub this_flow : (place : _) → ThisFact code.program b c o → F (node_ops code sub id (ThisNode place) ++ os) ls s
   unfolding node_ops
@@ -64,6 +74,7 @@ module _ (code : Code) (b c : ℕ) (sig : Signature) (id : ℕ) (sub : ℕ → L
           variable = r.variable;
           is_variable = r.is_variable;
           is_set = am r.variable r.known;
+          by_expression = judged _ r.is_given;
           leaves = refl;
         };
         goes = next _ r.is_given ls (among_self ls);
@@ -84,6 +95,7 @@ module _ (code : Code) (b c : ℕ) (sig : Signature) (id : ℕ) (sub : ℕ → L
           others = s;
           takes = refl;
           has = r.has;
+          by_expression = judged _ r.is_given;
           leaves = refl;
         };
         goes = next _ r.is_given ls (among_self ls);
@@ -94,7 +106,7 @@ module _ (code : Code) (b c : ℕ) (sig : Signature) (id : ℕ) (sub : ℕ → L
   static_flow r =
       record {
         out = r.has.kind ∷ s;
-        needed = record { field = r.field; is = ap bound_static r.is; has = r.has; leaves = refl };
+        needed = record { field = r.field; is = ap bound_static r.is; has = r.has; by_expression = judged _ r.is_given; leaves = refl };
         goes = next _ r.is_given ls (among_self ls);
       }
 
@@ -123,6 +135,7 @@ module _ (code : Code) (b c : ℕ) (sig : Signature) (id : ℕ) (sub : ℕ → L
           others = s;
           takes = refl;
           has = r.has;
+          by_expression = judged _ r.is_given;
           leaves = refl;
         };
         goes = next _ r.is_given ms m;
@@ -163,6 +176,7 @@ module _ (code : Code) (b c : ℕ) (sig : Signature) (id : ℕ) (sub : ℕ → L
           takes = refl;
           kind = r.kind;
           elements = r.elements;
+          by_expression = judged _ r.is_given;
           leaves = refl;
         };
         goes = next _ r.is_given ns (among_trans ls ms ns m n);
@@ -290,6 +304,14 @@ module _ (code : Code) (b c : ℕ) (sig : Signature) (id : ℕ) (sub : ℕ → L
 
   -- ---- new objects, arrays and casts
 
+  array_is : (t : Ty) → o ≡ Some (reference t sig.runs_in) → IsScopeOfExpression code.program id sig.runs_in
+  unfolding scope_in
+  array_is t e = judged (reference t sig.runs_in) e sig.runs_in refl
+
+  new_is : (class : ℕ) → o ≡ Some (reference (ClassTy class) sig.runs_in) →
+      IsScopeOfExpression code.program id sig.runs_in
+  new_is class e = array_is (ClassTy class) e
+
   pub new_flow : (place name_place : _) (name xs : List ℕ) →
       slice_get code.program.nodes id ≡ Some (New place name_place name xs) → NewFact code b c sig id xs o →
       F (new_ops sub id xs (binding code id) ++ os) ls s
@@ -304,6 +326,7 @@ module _ (code : Code) (b c : ℕ) (sig : Signature) (id : ℕ) (sub : ℕ → L
           is_concrete = r.is_concrete;
           lies = r.lies;
           reach = r.reach;
+          by_expression = new_is r.class r.is_given;
           leaves = refl;
         };
         goes =
@@ -321,6 +344,7 @@ module _ (code : Code) (b c : ℕ) (sig : Signature) (id : ℕ) (sub : ℕ → L
                 others = s;
                 takes = refl;
                 constructor = r.constructor;
+                by_expression = new_is r.class r.is_given;
                 leaves = refl;
               };
               goes = next _ r.is_given ms m;
@@ -345,6 +369,7 @@ module _ (code : Code) (b c : ℕ) (sig : Signature) (id : ℕ) (sub : ℕ → L
           reach = r.reach;
           others = s;
           takes = refl;
+          by_expression = array_is r.type r.is_given;
           leaves = refl;
         };
         goes = next _ r.is_given ms m;
@@ -366,6 +391,7 @@ module _ (code : Code) (b c : ℕ) (sig : Signature) (id : ℕ) (sub : ℕ → L
           is_no_array = r.is_no_array;
           seen = r.seen;
           lies = r.lies;
+          by_expression = judged _ r.is_given;
           leaves = refl;
         };
         goes = next _ r.is_given ms m;

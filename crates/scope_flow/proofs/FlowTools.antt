@@ -1,9 +1,10 @@
 -- What it means that the operations of a node flow, and how the operations of its children come one behind the other.
-use Rattle.std.specs.Prelude.{Option, Some, slice_get, flat_map}
+use Rattle.std.specs.Prelude.{Option, Some, None, slice_get, flat_map}
 use Rattle.std.proofs.Common.{◌≡◌, ℕ, suc, ◌<◌, List, [], ◌∷◌, ◌++◌, true, refl, sym, ◌∙◌, ap, subst, append_assoc, length, ◌⊎◌, inl, inr}
 use Rattle.scj_base.specs.declared.places.Pos.{Pos}
 use Rattle.scj_tree.specs.declared.nodes.Node.{Node}
 use Rattle.scj_tree.specs.declared.nodes.Node.TheVariants.{Text}
+use Rattle.scj_rules.specs.declared.typing.Scope.{Scope}
 use Rattle.scj_rules.specs.declared.typing.Ty.TheVariants.{Class as ClassTy}
 use Rattle.scj_rules.specs.declared.views.Body.TheVariants.{Written}
 use Rattle.scj_rules.specs.Contexts.{known_variables}
@@ -15,6 +16,8 @@ use Rattle.scj_model.specs.declared.operations.Op.TheVariants.{Push as PUSH, Thi
 use Rattle.scj_model.specs.Code.{Code}
 use Rattle.scope_flow.specs.Slots.{kind_of_literal}
 use Rattle.scope_flow.specs.Signatures.{Signature}
+use Rattle.scope_flow.specs.CallFacts.{ReceiverIs}
+use Rattle.scope_flow.specs.Pushers.{scope_in, IsScopeOfReceiver}
 use Rattle.scope_flow.specs.Flow.{Flow}
 use Rattle.scope_flow.specs.Needs.{pushed, stacked, IsStatement}
 use Rattle.scope_flow.specs.ValueFacts.{HasValue, HaveValues, HasStatement, HasObject}
@@ -143,3 +146,10 @@ module _ (code : Code) (b c : ℕ) (sig : Signature) (id : ℕ) (sub : ℕ → L
         };
         goes = f;
       }
+
+  -- the scope of a receiver that is one of a class and a scope
+  pub scope_of_receiver : (object : Option ℕ) (class : ℕ) (scope : Scope) →
+      ReceiverIs code.program b c id object class scope → IsScopeOfReceiver code.program c object scope
+  unfolding scope_in
+  scope_of_receiver None class scope r = r.0.is_home ∙ ap (λ x. Some x) (sym r.2)
+  scope_of_receiver (Some object) class scope r = (reference (ClassTy class) scope, r.1, refl)

@@ -11,7 +11,7 @@ use Rattle.scj_rules.specs.declared.typing.Scope.TheVariants.{Any}
 use Rattle.scj_rules.specs.declared.views.Body.TheVariants.{Written}
 use Rattle.scj_rules.specs.Contexts.{known_variables}
 use Rattle.accepted_laws.specs.Kinds.{Kind, number, truth, yes, reference}
-use Rattle.accepted_laws.specs.Judgements.{Among}
+use Rattle.accepted_laws.specs.Judgements.{Among, Judged}
 use Rattle.scj_model.specs.declared.operations.Op.{Op}
 use Rattle.scj_model.specs.declared.operations.Op.TheVariants.{Push as PUSH}
 use Rattle.scj_model.specs.Code.{Code}
@@ -19,6 +19,7 @@ use Rattle.scj_model.specs.Ops.{node_ops, next_ops, ops_of}
 use Rattle.scope_flow.specs.Slots.{kind_of_literal}
 use Rattle.scope_flow.specs.Signatures.{Signature, IsBody}
 use Rattle.scope_flow.specs.Flow.{Flow}
+use Rattle.scope_flow.specs.Pushers.{IsKindOfExpression}
 use Rattle.scope_flow.specs.Facts.{Facts}
 use Rattle.scope_flow.specs.CallFacts.{ExpressionFact}
 use Rattle.scope_flow.proofs.Known.{below_lt, among_self}
@@ -28,48 +29,53 @@ use Rattle.scope_flow.proofs.CallFlows.{call_flow}
 use Rattle.scope_flow.proofs.StatementFlows.{statement_node}
 
 module _ (code : Code) (b c : ℕ) (sig : Signature) (id : ℕ) (sub : ℕ → List Op) (hyp : FlowsBelow code b c sig id sub) where
+  -- the scope of a kind that the node has is the node's
+  of_kind : {o : Option Kind} → Judged code.program id o → (k : Kind) → o ≡ Some k →
+      IsKindOfExpression code.program id k
+  of_kind j k e s is = (k, subst (Judged code.program id) e j, is)
+
   expression_node : (n : Node) → slice_get code.program.nodes id ≡ Some n → (o : Option Kind) →
-      ExpressionFact code b c sig id n o → (ls : List ℕ) → Among (known_variables code.program id) ls →
+      Judged code.program id o → ExpressionFact code b c sig id n o → (ls : List ℕ) → Among (known_variables code.program id) ls →
       (os : List Op) (s : List Kind) → After code b c sig o ls os s →
       Flow code (Written b) c sig (node_ops code sub id n ++ os) ls s
   unfolding node_ops ExpressionFact kind_of_literal
-  expression_node (Number place v n) there o r ls am os s a =
-      literal_flow code b c sig id sub hyp o ls am os s a number
-      (ap (λ (x : Option Node). elim x [ None ↦ None | Some y ↦ kind_of_literal y ]) there) number (inl refl)
+  expression_node (Number place v n) there o j r ls am os s a =
+      literal_flow code b c sig id sub hyp o j ls am os s a number
+      (ap (λ (x : Option Node). elim x [ None ↦ None | Some y ↦ kind_of_literal y ]) there) number (inl refl) (of_kind j _ r)
       (behind code b c sig id sub hyp o _ r ls os s a ls (among_self ls))
-  expression_node (True place) there o r ls am os s a =
-      literal_flow code b c sig id sub hyp o ls am os s a yes
-      (ap (λ (x : Option Node). elim x [ None ↦ None | Some y ↦ kind_of_literal y ]) there) truth (inr (refl, refl))
+  expression_node (True place) there o j r ls am os s a =
+      literal_flow code b c sig id sub hyp o j ls am os s a yes
+      (ap (λ (x : Option Node). elim x [ None ↦ None | Some y ↦ kind_of_literal y ]) there) truth (inr (refl, refl)) (of_kind j _ r)
       (behind code b c sig id sub hyp o _ r ls os s a ls (among_self ls))
-  expression_node (False place) there o r ls am os s a =
-      literal_flow code b c sig id sub hyp o ls am os s a truth
-      (ap (λ (x : Option Node). elim x [ None ↦ None | Some y ↦ kind_of_literal y ]) there) truth (inl refl)
+  expression_node (False place) there o j r ls am os s a =
+      literal_flow code b c sig id sub hyp o j ls am os s a truth
+      (ap (λ (x : Option Node). elim x [ None ↦ None | Some y ↦ kind_of_literal y ]) there) truth (inl refl) (of_kind j _ r)
       (behind code b c sig id sub hyp o _ r ls os s a ls (among_self ls))
-  expression_node (Null place) there o r ls am os s a =
-      literal_flow code b c sig id sub hyp o ls am os s a (reference NullTy Any)
-      (ap (λ (x : Option Node). elim x [ None ↦ None | Some y ↦ kind_of_literal y ]) there) (reference NullTy Any) (inl refl)
+  expression_node (Null place) there o j r ls am os s a =
+      literal_flow code b c sig id sub hyp o j ls am os s a (reference NullTy Any)
+      (ap (λ (x : Option Node). elim x [ None ↦ None | Some y ↦ kind_of_literal y ]) there) (reference NullTy Any) (inl refl) (of_kind j _ r)
       (behind code b c sig id sub hyp o _ r ls os s a ls (among_self ls))
-  expression_node (ThisNode place) there o r ls am os s a = this_flow code b c sig id sub hyp o ls am os s a place r
-  expression_node (SimpleName place name) there o r ls am os s a = name_flow code b c sig id sub hyp o ls am os s a r
-  expression_node (Parenthesized place inner) there o r ls am os s a =
+  expression_node (ThisNode place) there o j r ls am os s a = this_flow code b c sig id sub hyp o j ls am os s a place r
+  expression_node (SimpleName place name) there o j r ls am os s a = name_flow code b c sig id sub hyp o j ls am os s a r
+  expression_node (Parenthesized place inner) there o j r ls am os s a =
       expression code b c sig id sub hyp inner o r ls am os s a
-  expression_node (FieldAccess place name object) there o r ls am os s a =
-      access_flow code b c sig id sub hyp o ls am os s a object r
-  expression_node (Element place array index) there o r ls am os s a =
-      element_flow code b c sig id sub hyp o ls am os s a array index r
-  expression_node (Unary place operator operand) there o r ls am os s a =
-      unary_flow code b c sig id sub hyp o ls am os s a place operator operand there r
-  expression_node (Binary place operator left right) there o r ls am os s a =
-      operator_flow code b c sig id sub hyp o ls am os s a place operator left right there r
-  expression_node (New place name_place name xs) there o r ls am os s a =
-      new_flow code b c sig id sub hyp o ls am os s a place name_place name xs there r
-  expression_node (NewArray place element count) there o r ls am os s a =
-      new_array_flow code b c sig id sub hyp o ls am os s a count r
-  expression_node (Cast place name_place name operand) there o r ls am os s a =
-      cast_flow code b c sig id sub hyp o ls am os s a operand r
-  expression_node (Call place name object xs) there o r ls am os s a =
-      call_flow code b c sig id sub hyp o ls am os s a place name object xs there r
-  expression_node _ there o r ls am os s a = absurd r
+  expression_node (FieldAccess place name object) there o j r ls am os s a =
+      access_flow code b c sig id sub hyp o j ls am os s a object r
+  expression_node (Element place array index) there o j r ls am os s a =
+      element_flow code b c sig id sub hyp o j ls am os s a array index r
+  expression_node (Unary place operator operand) there o j r ls am os s a =
+      unary_flow code b c sig id sub hyp o j ls am os s a place operator operand there r
+  expression_node (Binary place operator left right) there o j r ls am os s a =
+      operator_flow code b c sig id sub hyp o j ls am os s a place operator left right there r
+  expression_node (New place name_place name xs) there o j r ls am os s a =
+      new_flow code b c sig id sub hyp o j ls am os s a place name_place name xs there r
+  expression_node (NewArray place element count) there o j r ls am os s a =
+      new_array_flow code b c sig id sub hyp o j ls am os s a count r
+  expression_node (Cast place name_place name operand) there o j r ls am os s a =
+      cast_flow code b c sig id sub hyp o j ls am os s a operand r
+  expression_node (Call place name object xs) there o j r ls am os s a =
+      call_flow code b c sig id sub hyp o j ls am os s a place name object xs there r
+  expression_node _ there o j r ls am os s a = absurd r
 
 -- ---- all nodes, by induction
 
@@ -124,7 +130,7 @@ module _ (code : Code) (facts : Facts code) (b c : ℕ) (sig : Signature) (body 
       as_value : ValueFlows code b c sig (ops_of code id) id
       as_value o inside judged ls am os s a =
           subst (λ xs. Flow code (Written b) c sig (xs ++ os) ls s) (sym (ops_at code id inside.here.0 inside.here.1))
-          (expression_node code b c sig id sub flows inside.here.0 inside.here.1 o
+          (expression_node code b c sig id sub flows inside.here.0 inside.here.1 o judged
           (facts.expressions b c sig id inside.here.0 o body inside inside.here.1 judged) ls am os s a)
 
       as_statement : StatementFlows code b c sig (ops_of code id) id

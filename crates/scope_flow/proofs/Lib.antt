@@ -1,11 +1,16 @@
 pub mod AssignmentFlows
+pub mod Behind
 pub mod CallFlows
+pub mod Courses
 pub mod Entries
 pub mod ExpressionFlows
 pub mod FlowTools
 pub mod Flows
 pub mod Known
 pub mod LoopFlows
+pub mod PlainValues
 pub mod StatementFlows
+pub mod Stood
+pub mod Taken
 pub mod Turns
 pub mod Widens

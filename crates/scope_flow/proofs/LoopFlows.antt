@@ -18,6 +18,7 @@ use Rattle.accepted_laws.specs.Judgements.{Judged, Inside, Among, known_behind}
 use Rattle.scj_model.specs.declared.operations.Op.{Op}
 use Rattle.scj_model.specs.declared.operations.Op.TheVariants.{Loop as LOOP}
 use Rattle.scj_model.specs.Code.{Code}
+use Rattle.scope_flow.specs.Pushers.{scope_in}
 use Rattle.scope_flow.specs.Slots.{kind_of_literal}
 use Rattle.scope_flow.specs.Signatures.{Signature}
 use Rattle.scope_flow.specs.Flow.{Flow, AreLoopParts}
@@ -77,7 +78,7 @@ module _ (code : Code) (b c : ℕ) (sig : Signature) (id bound : ℕ) (sub : ℕ
         Judged code.program condition (Some truth) → Among (known_variables code.program condition) ls →
         ((n : Node) → slice_get code.program.nodes condition ≡ Some n → returns id ≡ true → is_true_literal n ≡ Some true) →
         (returns id ≡ true) ⊎ ((ms : List ℕ) → Among ls ms → F os ms s) → F (sub condition ++ (LOOP id ∷ os)) ls s
-    unfolding pushed
+    unfolding pushed scope_in
     condition_flow condition l inside judged known literal (inr h) =
         hyp.values condition l (Some truth) inside judged ls known (LOOP id ∷ os) s (λ ms m.
         turn truth tt ms m (inr (h ms m)))
@@ -97,6 +98,7 @@ module _ (code : Code) (b c : ℕ) (sig : Signature) (id bound : ℕ) (sub : ℕ
                 is = ap (λ (o : Option Node). elim o [ None ↦ None | Some x ↦ kind_of_literal x ]) e ∙ t.0;
                 kind = yes;
                 loose = inl refl;
+                by_expression = λ t none. absurd (cc (none));
                 leaves = refl;
               };
               goes = turn yes tt ls (among_self ls) (inl (refl, h));

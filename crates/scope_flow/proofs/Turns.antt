@@ -1,6 +1,6 @@
 -- Parts that AND, OR, IF and LOOP put in front of the rest flow.
-use Rattle.std.specs.Prelude.{Option, Some, None, slice_get}
-use Rattle.std.proofs.Common.{◌≡◌, ℕ, suc, ◌<◌, List, [], ◌∷◌, ◌++◌, true, false, refl, sym, ◌∙◌, ap, subst, arith, append_assoc, true≢false, ◌⊎◌, inl, inr}
+use Rattle.std.specs.Prelude.{Some, slice_get}
+use Rattle.std.proofs.Common.{◌≡◌, ℕ, suc, List, [], ◌∷◌, ◌++◌, true, sym, ◌∙◌, ap, subst, arith, append_assoc, true≢false, ◌⊎◌, inl, inr}
 use Rattle.scj_tree.specs.declared.nodes.Node.{Node}
 use Rattle.scj_tree.specs.declared.nodes.Node.TheVariants.{While, For}
 use Rattle.scj_rules.specs.declared.views.Body.TheVariants.{Written}

@@ -112,6 +112,7 @@ needs_widen code body c sig (LOAD id) next w ks ls s a r =
         variable = r.needed.variable;
         is_variable = r.needed.is_variable;
         is_set = a r.needed.variable r.needed.is_set;
+        by_expression = r.needed.by_expression;
         leaves = r.needed.leaves;
       };
       goes = w ks ls r.out a r.goes;

@@ -1,5 +1,7 @@
 -- What operations need and leave: of calls, of the framework, and of assignments.
-use Rattle.std.specs.Prelude.{◌≡◌, ℕ, true, false, ◌⊎◌, List, [], ◌∷◌, length, Some}
+use Rattle.std.specs.Prelude.{◌≡◌, ℕ, true, false, ◌⊎◌, List, [], ◌∷◌, length, Option, Some, None}
+use Rattle.scj_tree.specs.declared.nodes.Node.{Node}
+use Rattle.scj_tree.specs.declared.nodes.Node.TheVariants.{Call as CallNode}
 use Rattle.scj_rules.specs.declared.typing.Ty.{Ty}
 use Rattle.scj_rules.specs.declared.typing.Ty.TheVariants.{Class as ClassTy}
 use Rattle.scj_rules.specs.declared.typing.Scope.{Scope}
@@ -16,17 +18,26 @@ use Rattle.scj_model.specs.Code.{Code, binding, part}
 use Rattle.scj_model.specs.Operations.{bound_field, bound_static, bound_class, bound_method, bound_static_method, assigned, argument_count, first_argument}
 use Rattle.scope_flow.specs.Slots.{kind_of_elements, HasField, HasStatic}
 use Rattle.scope_flow.specs.Signatures.{Gives, Signature, IsBody, runs_for_object, IsConcrete, IsDispatched, IsEntered, IsExecuted, AreWithoutThis}
+use Rattle.scope_flow.specs.Pushers.{IsKindOfExpression, IsGivenBy, IsScopeOfReceiver}
 use Rattle.scope_flow.specs.Needs.{pushed, stacked}
 
 -- ---- calls
 
-pub record CallNeeds (code : Code) (sig : Signature) (id : ℕ) (s out : List Kind) : Type 0 where
+-- the receiver of a call, if it is written
+unfoldable pub receiver_of : Node → Option (Option ℕ)
+receiver_of (CallNode place name object arguments) = Some object
+receiver_of _ = None
+
+pub record CallNeeds (code : Code) (c : ℕ) (sig : Signature) (id : ℕ) (s out : List Kind) : Type 0 where
   pub method : ℕ
   pub is : bound_method (binding code id) ≡ Some method
   pub arguments : List Kind
   pub count : part code argument_count id ≡ Some (length arguments)
   pub class : ℕ
   pub scope : Scope
+  pub receiver : Option ℕ
+  pub is_receiver : part code receiver_of id ≡ Some receiver
+  pub of_receiver : IsScopeOfReceiver code.program c receiver scope
   pub others : List Kind
   pub takes : s ≡ stacked arguments (reference (ClassTy class) scope ∷ others)
   pub static : Signature
@@ -34,6 +45,7 @@ pub record CallNeeds (code : Code) (sig : Signature) (id : ℕ) (s out : List Ki
   pub runs : RunsHere scope sig.runs_in static.runs_in
   pub each : (c : ℕ) → is_sub code.program.classes c class ≡ true → IsConcrete code.program c →
       IsDispatched code.program c method static
+  pub by_expression : IsGivenBy code.program id (seen_option scope sig.runs_in static.gives)
   pub leaves : out ≡ pushed (seen_option scope sig.runs_in static.gives) others
 
 -- a static method runs in CALLER, and no THIS is in its scopes
@@ -55,6 +67,7 @@ pub record CallStaticNeeds (code : Code) (sig : Signature) (id : ℕ) (s out : L
   pub takes_no_this : AreWithoutThis static.takes
   pub gives_no_this : AreWithoutThis (pushed static.gives [])
   pub gives_itself : Gives code.program Any static.gives static.gives
+  pub by_expression : IsGivenBy code.program id (seen_option Any sig.runs_in static.gives)
   pub leaves : out ≡ pushed (seen_option Any sig.runs_in static.gives) others
 
 -- an object that passes a cast lies where it lay, or where the class's objects lie
@@ -68,6 +81,7 @@ pub record CastNeeds (code : Code) (id : ℕ) (s out : List Kind) : Type 0 where
   pub is_no_array : is_array type ≡ false
   pub seen : Scope
   pub lies : (scope ≡ Any) ⊎ (seen ≡ scope)
+  pub by_expression : IsKindOfExpression code.program id (reference (ClassTy class) seen)
   pub leaves : out ≡ reference (ClassTy class) seen ∷ others
 
 pub record EnterNeeds (code : Code) (sig : Signature) (s out : List Kind) : Type 0 where

@@ -3,7 +3,9 @@ pub mod CallNeeds
 pub mod Facts
 pub mod Flow
 pub mod Needs
+pub mod Pushers
 pub mod Signatures
 pub mod Slots
 pub mod StatementFacts
 pub mod ValueFacts
+pub mod Ways

@@ -24,6 +24,7 @@ use Rattle.scj_model.specs.Ops.{right_operand}
 use Rattle.scj_model.specs.Operations.{bound_local, bound_field, bound_static, bound_class, operator_of, argument_count, super_count}
 use Rattle.scj_model.specs.Arithmetic.{entry, int_operators, comparisons}
 use Rattle.scope_flow.specs.Slots.{array_type, kind_of_elements, kind_of_slot, HasField, HasStatic, kind_of_literal}
+use Rattle.scope_flow.specs.Pushers.{IsScopeOfExpression, IsKindOfExpression}
 use Rattle.scope_flow.specs.Signatures.{Signature, Runs, variables_in, runs_for_object, IsConcrete, LiesHere, SlotsReach}
 
 -- ---- operands: the last one is first
@@ -52,6 +53,7 @@ pub record PushNeeds (code : Code) (id : ℕ) (s out : List Kind) : Type 0 where
   pub is : part code kind_of_literal id ≡ Some exact
   pub kind : Kind
   pub loose : Loosely exact kind
+  pub by_expression : IsKindOfExpression code.program id kind
   pub leaves : out ≡ kind ∷ s
 
 -- the object of a body, which is never null
@@ -76,6 +78,7 @@ pub record LoadNeeds (code : Code) (body : Body) (id : ℕ) (known : List ℕ) (
   pub variable : ℕ
   pub is_variable : IsVariable code.program body local variable
   pub is_set : is_among variable known ≡ true
+  pub by_expression : IsKindOfExpression code.program id is_variable.kind
   pub leaves : out ≡ is_variable.kind ∷ s
 
 pub record GetNeeds (code : Code) (id : ℕ) (s out : List Kind) : Type 0 where
@@ -86,12 +89,14 @@ pub record GetNeeds (code : Code) (id : ℕ) (s out : List Kind) : Type 0 where
   pub others : List Kind
   pub takes : s ≡ reference (ClassTy class) scope ∷ others
   pub has : HasField code.program class field
+  pub by_expression : IsKindOfExpression code.program id (seen_kind scope Caller has.kind)
   pub leaves : out ≡ seen_kind scope Caller has.kind ∷ others
 
 pub record GetStaticNeeds (code : Code) (id : ℕ) (s out : List Kind) : Type 0 where
   pub field : ℕ
   pub is : bound_static (binding code id) ≡ Some field
   pub has : HasStatic code.program field
+  pub by_expression : IsKindOfExpression code.program id has.kind
   pub leaves : out ≡ has.kind ∷ s
 
 pub record LengthNeeds (s out : List Kind) : Type 0 where
@@ -101,13 +106,14 @@ pub record LengthNeeds (s out : List Kind) : Type 0 where
   pub takes : s ≡ reference type scope ∷ others
   pub leaves : out ≡ number ∷ others
 
-pub record ElemNeeds (p : Declarations) (s out : List Kind) : Type 0 where
+pub record ElemNeeds (p : Declarations) (id : ℕ) (s out : List Kind) : Type 0 where
   pub type : Ty
   pub scope : Scope
   pub others : List Kind
   pub takes : s ≡ number ∷ (reference type scope ∷ others)
   pub kind : Kind
   pub elements : kind_of_elements p type ≡ Some kind
+  pub by_expression : IsKindOfExpression p id (seen_kind scope Caller kind)
   pub leaves : out ≡ seen_kind scope Caller kind ∷ others
 
 -- ---- operators
@@ -200,6 +206,7 @@ pub record AllocNeeds (code : Code) (sig : Signature) (id : ℕ) (s out : List K
   pub is_concrete : IsConcrete code.program class
   pub lies : LiesHere code.program class sig.runs_in
   pub reach : SlotsReach code.program class sig.runs_in
+  pub by_expression : IsScopeOfExpression code.program id sig.runs_in
   pub leaves : out ≡ fresh class sig.runs_in ∷ s
 
 -- a constructor that is called on an object of this scope: it runs where its own object lies
@@ -220,6 +227,7 @@ pub record ConstructNeeds (code : Code) (sig : Signature) (id : ℕ) (s out : Li
   pub others : List Kind
   pub takes : s ≡ stacked arguments (fresh class sig.runs_in ∷ others)
   pub constructor : CallsConstructor code.program class sig.runs_in arguments
+  pub by_expression : IsScopeOfExpression code.program id sig.runs_in
   pub leaves : out ≡ reference (ClassTy class) sig.runs_in ∷ others
 
 pub record SuperNeeds (code : Code) (class : ℕ) (sig : Signature) (id : ℕ) (s out : List Kind) : Type 0 where
@@ -228,6 +236,7 @@ pub record SuperNeeds (code : Code) (class : ℕ) (sig : Signature) (id : ℕ) (
   pub arguments : List Kind
   pub count : super_count code id ≡ length arguments
   pub above : is_sub code.program.classes class superclass ≡ true
+  pub own : this_in code.program class ≡ Some sig.runs_in
   pub takes : s ≡ stacked arguments (fresh class sig.runs_in ∷ out)
   pub constructor : CallsConstructor code.program superclass sig.runs_in arguments
 
@@ -242,6 +251,7 @@ pub record AllocArrayNeeds (code : Code) (sig : Signature) (id : ℕ) (s out : L
   pub reach : SlotsReach code.program class sig.runs_in
   pub others : List Kind
   pub takes : s ≡ number ∷ others
+  pub by_expression : IsScopeOfExpression code.program id sig.runs_in
   pub leaves : out ≡ reference type sig.runs_in ∷ others
 
 -- the literal of a field of the object that is constructed

@@ -15,7 +15,7 @@ use Rattle.frame_sound.specs.Others.{AreaStays, KeepsOthers, OthersStand}
 use Rattle.frame_sound.specs.AllJobs.{AllStand, IsOpenedBy as HasOpened}
 use Rattle.frame_sound.proofs.AllJobs.{nested}
 use Rattle.mission_sound.specs.Bases.{Base, areas_of, unopened, in_immortal, in_mission, BaseFine}
-use Rattle.mission_sound.specs.Invariant.{HasFrame, IsOpenedBy, IsPrivate, MemoriesFine}
+use Rattle.mission_sound.specs.Invariant.{HasFrame, IsOpenedBy, IsPrivate, IsPrivateScope, MemoriesFine}
 
 -- ---- all jobs stand
 
@@ -107,7 +107,7 @@ have_frames_after s after job stand have own place activity is = go (same_or_oth
 -- ---- areas after an operation
 
 abbrev pub IsNoMissions : Code → MemoryArea → Type 0
-IsNoMissions code x = is_mission code.program (definer x.scope) ≡ false
+IsNoMissions code x = (is_mission code.program (definer x.scope) ≡ false) × IsPrivateScope code.program x.scope
 
 abbrev pub NewAreNoMissions : Code → State → State → Type 0
 NewAreNoMissions code s after =
@@ -126,7 +126,7 @@ module _ (code : Code) (s : State) (base : Base) (m : MemoriesFine code s base) 
           let same : y ≡ x = some_inj y x (sym h ∙ there) in
           elim (m.owned a y e (ap (λ (z : MemoryArea). z.is_open) same ∙ opens)) as (λ z. NotFromMission a x) [
             | inl on ↦ inl on
-            | inr p ↦ inr (subst (IsNoMissions code) same p.no_mission)
+            | inr p ↦ inr (subst (IsNoMissions code) same (p.no_mission, p.defined))
           ]
       by_change y e (inr h) =
           absurd (let same : closed_if true y ≡ x = some_inj (closed_if true y) x (sym h.1 ∙ there) in
@@ -145,7 +145,7 @@ module _ (code : Code) (s : State) (base : Base) (m : MemoriesFine code s base) 
       go (inl on) h = inl on
       go (inr o) (inl on) = inl on
       go (inr o) (inr h) =
-          inr (record { job = o.0; opened = is_opened after a o.0 o.1; no_mission = h })
+          inr (record { job = o.0; opened = is_opened after a o.0 o.1; no_mission = h.0; defined = h.1 })
 
   pub memories_after : AllStand code after (areas_of base) → HaveFrames after → MemoriesFine code after base
   memories_after all have =

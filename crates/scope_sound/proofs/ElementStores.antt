@@ -21,13 +21,13 @@ use Rattle.scj_model.specs.State.{MemoryArea, Object, Frame}
 use Rattle.scj_model.specs.Effects.{Effect, Stores, Faults, Stuck, given, as_int, as_object}
 use Rattle.scj_model.specs.Operations.{Environment, effect_of, index_in}
 use Rattle.scope_flow.specs.Facts.{Facts}
-use Rattle.scope_flow.specs.Flow.{Needs, Flow}
+use Rattle.scope_flow.specs.Flow.{Needs}
 use Rattle.scope_flow.specs.Needs.{pushed}
 use Rattle.scope_flow.specs.Signatures.{Signature}
 use Rattle.scope_flow.specs.Slots.{array_type, array_type_by}
 use Rattle.frame_sound.specs.Places.{World, Has, IsObject, an_object, held}
 use Rattle.frame_sound.specs.Fine.{ListFine, HeapFine, StaticsFine, Ready}
-use Rattle.frame_sound.proofs.Scenes.{Scene, memory, den, take, next_taken}
+use Rattle.frame_sound.proofs.Scenes.{Scene, memory, den, FlowsOn, take, next_taken}
 use Rattle.frame_sound.proofs.ActsOnValues.{is_array_of}
 
 -- ---- the classes of arrays
@@ -150,7 +150,7 @@ module _ (m : Scene) where
 
   put_elem_into_arrays : (id : ℕ) →
       Needs m.code m.frame.body m.class m.sig (PUTELEM id) m.known m.kinds
-      (Flow m.code m.frame.body m.class m.sig m.frame.rest) →
+      (FlowsOn m m.frame.rest) →
       Ok (effect_of m.code m.world m.frame (PUTELEM id))
   unfolding effect_of held
   put_elem_into_arrays id r =
@@ -180,7 +180,7 @@ module _ (code : Code) (facts : Facts code) (areas : ℕ → Option MemoryArea) 
       effect_of code world (record f { rest = rest }) (PUTELEM id) ≡ Stores h r slot v → (o : Object) →
       world.object_at r ≡ Some o → IsSome (element_kind code.program o.class)
   unfolding pushed
-  elements_of_arrays fine heap statics r = (put_elem_into_arrays scene id r.flow).is
+  elements_of_arrays fine heap statics r = (put_elem_into_arrays scene id r.flow.1).is
     where
       scene : Scene
       scene =

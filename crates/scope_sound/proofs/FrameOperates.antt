@@ -57,8 +57,10 @@ goes_on_frames code s job base f below after g activity is =
 goes_on_areas : (code : Code) → SequencerFacts code → (s : State) (job : Job) (base : List ℕ) (f : Frame)
     (below : List Frame) (after : State) → JobGoesOn code s job base f below after → NewAreNoMissions code s after
 goes_on_areas code promised s job base f below after g a x none there =
-    let n = (g.areas.new a x none there).for_entered in
-    promised.runnables n.class x.scope n.entered.is_runnable n.entered.defines
+    let n = (g.areas.new a x none there).for_entered in (
+      promised.runnables n.class x.scope n.entered.is_runnable n.entered.defines,
+      record { class = n.class; is = inr n.entered.is_runnable; defines = n.entered.defines },
+    )
 
 -- ---- the operation
 

@@ -4,7 +4,10 @@ pub mod CallsByTypes
 pub mod ElementStores
 pub mod Followed
 pub mod FrameOperates
+pub mod Framing
 pub mod Given
+pub mod Halting
+pub mod HaltingPhases
 pub mod Halves
 pub mod InAnyOrder
 pub mod Kept

@@ -21,7 +21,7 @@ module _ (code : Code) (s : State) where
   by_list : ListFine (world_of s).areas (0 ∷ []) → ImmortalIsOpen s
   by_list fine x there = fine.are_open 0 x refl there
 
-  immortal_is_open : (base : Base) → BaseFine code s base → ImmortalIsOpen s
+  pub immortal_is_open : (base : Base) → BaseFine code s base → ImmortalIsOpen s
   immortal_is_open unopened fine x there =
       absurd (let e : None ≡ Some x = ap (λ (areas : List MemoryArea). slice_get areas 0) (sym fine.0) ∙ there in
       cc (e))

@@ -106,7 +106,7 @@ module _ (code : Code) (facts : Facts code) (promised : SequencerFacts code) (s 
     either_keeps (inl x) =
         keeps (λ a y none here.
         (let n = (new_area_owned s [] k.step.state x.frame [] _ x.areas x.opened refl).new a y none here in
-        subst (IsNoMissions code) n.1 may.is_no_missions))
+        subst (IsNoMissions code) n.1 (may.is_no_missions, may.defined)))
         (λ activity is. inl (record {
           highest = x.frame;
           below = [];

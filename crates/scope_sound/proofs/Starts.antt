@@ -1,7 +1,7 @@
 -- In execution a waiting release finds what its first operation asks for: a handler whose object lies in the mission's
 -- memory, and whose own scope may be opened inside that one.
 use Rattle.std.specs.Prelude.{Option, Some, None, slice_get, ◌==◌, ◌||◌, if◌then◌else◌}
-use Rattle.std.proofs.Common.{◌≡◌, ℕ, zero, suc, List, [], ◌∷◌, Bool, true, false, refl, sym, ◌∙◌, ap, subst, arith, true≢false}
+use Rattle.std.proofs.Common.{◌≡◌, ℕ, zero, suc, List, [], ◌∷◌, Bool, true, false, refl, sym, ◌∙◌, ap, subst, arith, true≢false, inl}
 use Rattle.std.proofs.lemmas.Bool.Decides.{nat_tests}
 use Rattle.scj_rules.specs.Words.{holds, is_among}
 use Rattle.scj_rules.specs.ScopeRules.{immortal_scope, is_mission, definer, parent_scope}
@@ -17,7 +17,7 @@ use Rattle.frame_sound.specs.Places.{area_named, world_of}
 use Rattle.frame_sound.specs.Fine.{ListFine, ObjectFine, list_of}
 use Rattle.frame_sound.specs.Starts.{HandlerFine, IsHandled, MayOpen}
 use Rattle.mission_sound.specs.Bases.{Base, areas_of, in_mission, BaseBefore, BaseFine, IsInMission}
-use Rattle.mission_sound.specs.Invariant.{Invariant, RowFine, phase_of}
+use Rattle.mission_sound.specs.Invariant.{Invariant, IsPrivateScope, RowFine, phase_of}
 use Rattle.mission_sound.specs.SequencerFacts.{HandlerFact, SequencerFacts}
 use Rattle.mission_sound.proofs.Jobs.{sequencer_fine}
 
@@ -47,6 +47,7 @@ row_there registry (suc k) row e = (k, e)
 pub record MayStart (code : Code) (s : State) (row : HandlerRow) : Type 0 where
   pub handler : HandlerFine code s row
   pub is_no_missions : is_mission code.program (definer handler.scope) ≡ false
+  pub defined : IsPrivateScope code.program handler.scope
 
 module _ (code : Code) (promised : SequencerFacts code) (s : State) (i : Invariant code s)
     (frameless : s.activity.frames ≡ []) (row : HandlerRow) (x : RowFine code.program (world_of s) i.base row) where
@@ -159,6 +160,7 @@ module _ (code : Code) (promised : SequencerFacts code) (s : State) (i : Invaria
               subst (λ list. MayOpen code.program (world_of s).areas list fact.scope) (sym the_list) opens_inside;
         };
         is_no_missions = fact.is_no_missions;
+        defined = record { class = x.object.class; is = inl x.is_a_handler; defines = fact.defines };
       }
 
 -- a row of the registry
