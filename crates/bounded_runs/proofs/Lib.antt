@@ -1,0 +1,2 @@
+pub mod OneRelease
+pub mod EmptyHandler

@@ -1,0 +1,3 @@
+pub mod OtherReleases
+pub mod SequencerReleases
+pub mod Turns

@@ -1,0 +1,10 @@
+pub mod SumLemmas
+pub mod Spacing
+pub mod BusyPeriods
+pub mod Blocking
+pub mod Interference
+pub mod EndsInTime
+pub mod Monotone
+pub mod Loads
+pub mod LeastBounds
+pub mod FoundBounds

@@ -1,0 +1,8 @@
+pub mod Missions
+pub mod Followed
+pub mod Bounded
+pub mod FromMission
+pub mod Accepted
+pub mod Tables
+pub mod Texts
+pub mod HandlerRows

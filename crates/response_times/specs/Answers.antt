@@ -1,0 +1,38 @@
+-- What the answers to a text of declared rows must be.
+use Rattle.std.specs.Prelude.{◌≡◌, Option, Some, None, Result, Ok, Err}
+use Rattle.toml.specs.Errors.{IsMemory}
+use Rattle.toml.specs.declared.de.error.Error.{Error}
+use Rattle.run_plan.specs.PlanOf.{Refusal, not_toml, bad_key, bad_value}
+use Rattle.response_times.specs.DeclaredOf.{DeclaredMeaning, declared, refused}
+use Rattle.response_times.specs.declared.answers.DeclaredError.{DeclaredError}
+use Rattle.response_times.specs.declared.answers.DeclaredError.TheVariants as answer
+use Rattle.response_times.specs.declared.files.DeclaredFile.{DeclaredFile}
+
+-- the answer tells the refusal; memory may run out at any
+abbrev pub Tells : Refusal → DeclaredError → Type 0
+Tells refusal answer.NotToml = refusal ≡ not_toml
+Tells refusal (answer.BadKey key) = refusal ≡ bad_key key
+Tells refusal (answer.BadValue key) = refusal ≡ bad_value key
+Tells refusal answer.Memory = Unit {0}
+
+-- `Ok` where nothing is refused, and else the refusal
+abbrev pub TellsWhether : Option Refusal → Result (Unit {0}) DeclaredError → Type 0
+TellsWhether refusal (Ok _) = refusal ≡ None
+TellsWhether refusal (Err answer.NotToml) = refusal ≡ Some not_toml
+TellsWhether refusal (Err (answer.BadKey key)) = refusal ≡ Some (bad_key key)
+TellsWhether refusal (Err (answer.BadValue key)) = refusal ≡ Some (bad_value key)
+TellsWhether refusal (Err answer.Memory) = Unit {0}
+
+-- why `toml` refuses a text: it isn't TOML, or memory ran out
+abbrev pub TellsError : Error → DeclaredError → Type 0
+TellsError error answer.Memory = IsMemory error
+TellsError error answer.NotToml = ¬ IsMemory error
+TellsError error _ = ⊥
+
+-- the rows with what is claimed for them, or the refusal
+abbrev pub TellsDeclared : DeclaredMeaning → Result DeclaredFile DeclaredError → Type 0
+TellsDeclared meaning (Ok file) = meaning ≡ declared file.rows file.claimed
+TellsDeclared meaning (Err answer.NotToml) = meaning ≡ refused not_toml
+TellsDeclared meaning (Err (answer.BadKey key)) = meaning ≡ refused (bad_key key)
+TellsDeclared meaning (Err (answer.BadValue key)) = meaning ≡ refused (bad_value key)
+TellsDeclared meaning (Err answer.Memory) = Unit {0}
