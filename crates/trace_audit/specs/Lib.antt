@@ -1,0 +1,10 @@
+pub mod Audits
+pub mod Index
+pub mod Lines
+pub mod Parts
+pub mod Passing
+pub mod PickedNames
+pub mod Printed
+pub mod Replay
+pub mod Seen
+pub mod StandsFor

@@ -1,0 +1,29 @@
+//! The registered handlers of a mission.
+
+ghost use Rattle.std.specs.Prelude.{◌≡◌, ◌<◌, OnOk, length, option_copied, slice_get};
+ghost use Rattle.trace_audit.specs.Index.{HasPlaceAdded};
+
+use std::alloc::AllocError;
+
+/// A handler: its priority, and the places of its releases among all of the mission.
+#[derive(Drop)]
+pub struct Handler {
+    pub priority: u8,
+    pub places: Vec<u32>,
+}
+
+/// The handler at a place, if there is one.
+pub fn handler_row(handlers: &[Handler], place: usize) -> Option<&Handler>
+    ensures { option_copied result ≡ slice_get handlers.now place }
+{
+    handlers.get(place)
+}
+
+/// Adds the place of one more release of a handler.
+pub fn add_place(handlers: &mut Vec<Handler>, handler: usize, place: u32) -> Result<(), AllocError>
+    requires { handler < length handlers.old.items }
+    ensures { OnOk result (HasPlaceAdded handlers.old.items handlers.new.items handler place) }
+{
+    handlers[handler].places.push(place)?;
+    Ok(())
+}
