@@ -1,0 +1,645 @@
+-- The operations of each node go through, and leave what is told of the node.
+use Rattle.std.specs.Prelude.{Option, Some, None, slice_get, flat_map, map, nat_lt, ◌==◌, ◌&&◌}
+use Rattle.std.proofs.Common.{◌≡◌, ℕ, ◌<◌, zero, suc, List, [], ◌∷◌, ◌++◌, length, Bool, true, false, refl, sym, ap, ◌∙◌, subst, arith, if◌then◌else◌}
+use Rattle.std.proofs.lemmas.Bool.Decides.{nat_tests}
+use Rattle.scj_base.specs.Vocabulary.{sign_and_and, sign_or_or}
+use Rattle.scj_builtins.specs.Framework.{mission_request_termination, periodic_handler_register, aperiodic_handler_register, aperiodic_handler_release, managed_memory_enter_private_memory, managed_memory_execute_in_area_of, services_set_ceiling, trace_print, device_read}
+use Rattle.scj_tree.specs.declared.nodes.Node.{Node}
+use Rattle.scj_tree.specs.declared.nodes.Node.TheVariants.{Class, Method as MethodNode, Constructor, SuperCall, Block, Local as LocalNode, LocalWithValue, Assign, ExpressionStatement, If, While, For, Return, Binary, Unary, Cast, Parenthesized, SimpleName, FieldAccess, Call, Element, New, NewArray, Number, True, False, Null, This}
+use Rattle.scj_tree.specs.Recursion.{below}
+use Rattle.scj_tree.proofs.RecursionLemmas.{by_smaller-is}
+use Rattle.scj_rules.specs.declared.typing.Binding.{Binding}
+use Rattle.scj_rules.specs.declared.typing.Binding.TheVariants.{Plain, Local, Field, Static, Length, Class as ClassNamed, Method, StaticMethod, Builtin}
+use Rattle.scj_rules.specs.declared.views.Declared.{Declared}
+use Rattle.scj_rules.specs.declared.views.WrittenType.TheVariants.{Void as void_type}
+use Rattle.scj_rules.specs.Words.{is_among, ◌>>=◌}
+use Rattle.scj_rules.specs.Views.{type_at}
+use Rattle.scj_rules.specs.Classes.{is_user_class}
+use Rattle.scj_rules.specs.ClassRules.{is_same_type}
+use Rattle.scj_rules.specs.Types.{has_form}
+use Rattle.scj_rules.specs.Layout.{fields_with_literal}
+use Rattle.scj_rules.specs.Bodies.{class_node, class_of_body}
+use Rattle.scj_model.specs.declared.operations.Op.{Op}
+use Rattle.scj_model.specs.declared.operations.Op.TheVariants.{Push as PUSH, This as THIS, Load as LOAD, Get as GET, GetStatic as GETSTATIC, Length as LENGTH, Elem as ELEM, Unary as UNARY, Bin as BIN, And as AND, Or as OR, Alloc as ALLOC, Construct as CONSTRUCT, AllocArray as ALLOCARRAY, Call as CALL, CallStatic as CALLSTATIC, Cast as CAST, Enter as ENTER, ExecuteIn as EXECUTEIN, SetCeiling as SETCEILING, Print as PRINT, Read as READ, Register as REGISTER, Release as RELEASE, Terminate as TERMINATE, Zero as ZERO, Store as STORE, Put as PUT, PutStatic as PUTSTATIC, PutElem as PUTELEM, If as IF, Loop as LOOP, LeaveWith as LEAVEWITH, Leave as LEAVE, Drop as DROP, Init as INIT, Super as SUPER, Params as PARAMS}
+use Rattle.scj_model.specs.Code.{Code, binding, part}
+use Rattle.scj_model.specs.Ops.{name_ops, access_ops, binary_ops, new_ops, receiver_ops, builtin_ops, call_ops, leaves_value, assign_ops, return_ops, method_ops, super_ops, unwritten_super_ops, literal_ops, constructor_ops, node_ops, next_ops, ops_of, right_operand}
+use Rattle.scj_model.specs.Operations.{operator_of, argument_count}
+use Rattle.certain_faults.specs.declared.known.Known.{Known}
+use Rattle.certain_faults.specs.declared.known.Known.TheVariants.{Unknown, Object}
+use Rattle.certain_faults.specs.declared.known.Left.{Left}
+use Rattle.certain_faults.specs.declared.known.Left.TheVariants.{Forgets, Zero, One, Two, Four}
+use Rattle.certain_faults.specs.Known.{unary_known, binary_known, is_conditional, operator_known, in_place_of, in_place_of_two, left_by_name, left_by_access, leaves_one, all_leave_one, end_to_end, left_by_part, left_by_new, left_by_read, left_by_call, left_by_node, next_left, left_by}
+use Rattle.certain_faults.proofs.Stacks.{Stack, nothing, put, taken, dropped, with_left, with_all, Less, less_same, less_nothing, less_left, less_all}
+use Rattle.certain_faults.proofs.Passes.{array_length, arguments_of, left_below, part_left, with_parts, asked, unary_by, binary_by, behind_right, behind_arguments, step, Runs, runs_none, runs_op, runs_then, runs_less, Any, any_of, any_none, any_then, any_op, any_if}
+
+-- a class has no arguments of its own
+pub record ClassesAskNothing (code : Code) : Type 0 where
+  pub is : (class node : ℕ) → class_node code.program class ≡ Some node → part code arguments_of node ≡ None
+
+-- ---- what nodes leave is no more than what is known behind their operations
+
+one_less : (l : Left) (f : Known → Known) (k : Stack → Known) (s : Stack) →
+    ((a : Known) → f a ≡ k (put a s)) → Less (with_left (in_place_of l f) s) (put (k (with_left l s)) (taken (with_left l s)))
+unfolding in_place_of with_left
+one_less Forgets f k s e = less_nothing _
+one_less Zero f k s e = less_nothing _
+one_less (One a) f k s e = subst (λ (x : Known). Less (put (f a) s) (put x s)) (e a) (less_same (put (f a) s))
+one_less (Two a b) f k s e = less_nothing _
+one_less (Four a b c d) f k s e = less_nothing _
+
+two_less : (l r : Left) (f : Known → Known → Known) (k : Stack → Known) (s : Stack) →
+    ((a b : Known) → f a b ≡ k (put b (put a s))) →
+    Less (with_left (in_place_of_two l r f) s)
+    (put (k (with_left r (with_left l s))) (taken (taken (with_left r (with_left l s)))))
+unfolding in_place_of_two with_left
+two_less (One a) (One b) f k s e =
+    subst (λ (x : Known). Less (put (f a b) s) (put x s)) (e a b) (less_same (put (f a b) s))
+two_less (One a) Forgets f k s e = less_nothing _
+two_less (One a) Zero f k s e = less_nothing _
+two_less (One a) (Two b c) f k s e = less_nothing _
+two_less (One a) (Four b c d g) f k s e = less_nothing _
+two_less Forgets r f k s e = less_nothing _
+two_less Zero r f k s e = less_nothing _
+two_less (Two a b) r f k s e = less_nothing _
+two_less (Four a b c d) r f k s e = less_nothing _
+
+-- behind the operands of `&&` and `||`
+short_less : (l r : Left) (f : Known → Known → Known) (s : Stack) → ((a b : Known) → f a b ≡ Unknown) →
+    Less (with_left (in_place_of_two l r f) s) (behind_right r (with_left l s))
+unfolding in_place_of_two with_left
+short_less (One a) (One b) f s e =
+    subst (λ (x : Known). Less (put x s) (put Unknown s)) (sym (e a b)) (less_same (put Unknown s))
+short_less (One a) Forgets f s e = less_nothing _
+short_less (One a) Zero f s e = less_nothing _
+short_less (One a) (Two b c) f s e = less_nothing _
+short_less (One a) (Four b c d g) f s e = less_nothing _
+short_less Forgets r f s e = less_nothing _
+short_less Zero r f s e = less_nothing _
+short_less (Two a b) r f s e = less_nothing _
+short_less (Four a b c d) r f s e = less_nothing _
+
+both_true : (a b : Bool) → (a && b) ≡ true → (a ≡ true) × (b ≡ true)
+both_true true true e = (refl, refl)
+both_true true false e = absurd (cc (e))
+both_true false b e = absurd (cc (e))
+
+-- the arguments of a new object are dropped, and what was there before is there again
+all_dropped : (left : ℕ → Left) (xs : List ℕ) (s : Stack) → all_leave_one left xs ≡ true →
+    dropped (length xs) (with_all left xs s) ≡ s
+unfolding leaves_one with_left
+all_dropped left [] s e = refl
+all_dropped left (x ∷ xs) s e =
+    go (left x) (both_true (leaves_one (left x)) (all_leave_one left xs) e).0
+    (λ a. all_dropped left xs (put a s) (both_true (leaves_one (left x)) (all_leave_one left xs) e).1)
+  where
+    go : (l : Left) → leaves_one l ≡ true →
+        ((a : Known) → dropped (length xs) (with_all left xs (put a s)) ≡ put a s) →
+        taken (dropped (length xs) (with_all left xs (with_left l s))) ≡ s
+    go (One a) k h = ap taken (h a)
+    go Forgets k h = absurd (cc (k))
+    go Zero k h = absurd (cc (k))
+    go (Two a b) k h = absurd (cc (k))
+    go (Four a b c d) k h = absurd (cc (k))
+
+part_less : (left : ℕ → Left) (xs : List ℕ) (s : Stack) → Less (with_left (left_by_part left xs) s) (with_all left xs s)
+unfolding left_by_part end_to_end with_left
+part_less left [] s = less_same _
+part_less left (x ∷ []) s = less_same _
+part_less left (x ∷ y ∷ []) s = go (left x) (left y)
+  where
+    go : (l r : Left) → Less (with_left (end_to_end l r) s) (with_left r (with_left l s))
+    go (One a) (One b) = less_same _
+    go (One a) Forgets = less_nothing _
+    go (One a) Zero = less_nothing _
+    go (One a) (Two b c) = less_nothing _
+    go (One a) (Four b c d e) = less_nothing _
+    go (Two a b) (Two c d) = less_same _
+    go (Two a b) Forgets = less_nothing _
+    go (Two a b) Zero = less_nothing _
+    go (Two a b) (One c) = less_nothing _
+    go (Two a b) (Four c d e f) = less_nothing _
+    go Forgets r = less_nothing _
+    go Zero r = less_nothing _
+    go (Four a b c d) r = less_nothing _
+part_less left (x ∷ y ∷ z ∷ xs) s = less_nothing _
+
+-- ---- the nodes
+
+module _ (code : Code) (bare : ClassesAskNothing code) (id : ℕ) where
+  abbrev ops : ℕ → List Op
+  ops = below [] id (ops_of code)
+
+  abbrev left : ℕ → Left
+  left = left_below code id
+
+  -- the operations of the parts go through
+  abbrev pub PartsRun : Type 0
+  PartsRun = (x : ℕ) (s : Stack) → Runs code (ops x) s (with_left (left x) s)
+
+  module _ (parts : PartsRun) where
+    any_part : (x : ℕ) → Any code (ops x)
+    any_part x = any_of code (ops x) (λ s. (with_left (left x) s, parts x s))
+
+    all_run : (xs : List ℕ) (s : Stack) → Runs code (flat_map ops xs) s (with_all left xs s)
+    all_run [] s = runs_none code s
+    all_run (x ∷ xs) s =
+        runs_then code (ops x) (flat_map ops xs) s (with_left (left x) s) (with_all left (x ∷ xs) s) (parts x s)
+        (all_run xs (with_left (left x) s))
+
+    any_all : (xs : List ℕ) → Any code (flat_map ops xs)
+    any_all xs = any_of code (flat_map ops xs) (λ s. (with_all left xs s, all_run xs s))
+
+    -- an operation behind those of a part, of two parts, and of several
+    behind : (xs : List Op) (op : Op) (s t : Stack) → Runs code xs s t → Less (asked code op) t →
+        Runs code (xs ++ op ∷ []) s (step code op t)
+    behind xs op s t a l = runs_then code xs (op ∷ []) s t (step code op t) a (runs_op code op t l)
+
+    any_behind : (xs : List Op) (op : Op) → Any code xs → asked code op ≡ nothing → Any code (xs ++ op ∷ [])
+    any_behind xs op a e = any_then code xs (op ∷ []) a (any_op code op e)
+
+    -- an operation of the framework asks for what is known of its arguments
+    asked_behind : (op : Op) (xs : List ℕ) → asked code op ≡ with_parts code id (Some xs) → (s : Stack) →
+        Runs code (flat_map ops xs ++ op ∷ []) s (step code op (with_all left xs s))
+    asked_behind op xs e s =
+        behind (flat_map ops xs) op s (with_all left xs s) (all_run xs s)
+        (subst (λ t. Less t (with_all left xs s)) (sym e) (less_all left xs nothing s (less_nothing s)))
+
+    any_asked : (op : Op) (xs : List ℕ) → asked code op ≡ with_parts code id (Some xs) →
+        Any code (flat_map ops xs ++ op ∷ [])
+    any_asked op xs e =
+        any_of code (flat_map ops xs ++ op ∷ []) (λ s. (step code op (with_all left xs s), asked_behind op xs e s))
+
+    -- ---- values
+
+    name_runs : (b : Binding) (s : Stack) → Runs code (name_ops id b) s (with_left (left_by_name b) s)
+    unfolding name_ops left_by_name with_left step asked
+    name_runs (Local k) s = runs_op code (LOAD id) s (less_nothing s)
+    name_runs (Field k) s =
+        behind (THIS id ∷ []) (GET id) s (put Object s) (runs_op code (THIS id) s (less_nothing s)) (less_nothing _)
+    name_runs (Static k) s = runs_op code (GETSTATIC id) s (less_nothing s)
+    name_runs Plain s = (any_none code).is s
+    name_runs Length s = (any_none code).is s
+    name_runs (ClassNamed class) s = (any_none code).is s
+    name_runs (Method t) s = (any_none code).is s
+    name_runs (StaticMethod t) s = (any_none code).is s
+    name_runs (Builtin t) s = (any_none code).is s
+
+    access_runs : (object : ℕ) (b : Binding) (s : Stack) →
+        Runs code (access_ops ops id object b) s (with_left (left_by_access b (left object)) s)
+    unfolding access_ops left_by_access step asked with_left
+    access_runs object (Field k) s =
+        runs_less code (ops object ++ GET id ∷ []) s _ _ (one_less (left object) (λ a. Unknown) (λ t. Unknown) s (λ a. refl))
+        (behind (ops object) (GET id) s (with_left (left object) s) (parts object s) (less_nothing _))
+    access_runs object Length s =
+        runs_less code (ops object ++ LENGTH id ∷ []) s _ _
+        (one_less (left object) (λ a. Unknown) (λ t. Unknown) s (λ a. refl))
+        (behind (ops object) (LENGTH id) s (with_left (left object) s) (parts object s) (less_nothing _))
+    access_runs object (Static k) s = runs_op code (GETSTATIC id) s (less_nothing s)
+    access_runs object Plain s = (any_none code).is s
+    access_runs object (Local k) s = (any_none code).is s
+    access_runs object (ClassNamed class) s = (any_none code).is s
+    access_runs object (Method t) s = (any_none code).is s
+    access_runs object (StaticMethod t) s = (any_none code).is s
+    access_runs object (Builtin t) s = (any_none code).is s
+
+    element_runs : (array index : ℕ) (s : Stack) →
+        Runs code (ops array ++ (ops index ++ ELEM id ∷ [])) s
+        (with_left (in_place_of_two (left array) (left index) (λ a b. Unknown)) s)
+    unfolding step asked
+    element_runs array index s =
+        runs_less code (ops array ++ (ops index ++ ELEM id ∷ [])) s _ _
+        (two_less (left array) (left index) (λ a b. Unknown) (λ t. Unknown) s (λ a b. refl))
+        (runs_then code (ops array) (ops index ++ ELEM id ∷ []) s (with_left (left array) s) _ (parts array s)
+        (behind (ops index) (ELEM id) (with_left (left array) s) (with_left (left index) (with_left (left array) s))
+        (parts index (with_left (left array) s)) (less_nothing _)))
+
+    unary_runs : (operator operand : ℕ) → part code operator_of id ≡ Some operator → (s : Stack) →
+        Runs code (ops operand ++ UNARY id ∷ []) s (with_left (in_place_of (left operand) (unary_known operator)) s)
+    unfolding step asked
+    unary_runs operator operand e s =
+        runs_less code (ops operand ++ UNARY id ∷ []) s _ _
+        (one_less (left operand) (unary_known operator) (λ t. unary_by (part code operator_of id) (t 0)) s
+        (λ a. sym (ap (λ (o : Option ℕ). unary_by o a) e)))
+        (behind (ops operand) (UNARY id) s (with_left (left operand) s) (parts operand s) (less_nothing _))
+
+    new_array_runs : (size : ℕ) → part code array_length id ≡ Some size → (s : Stack) →
+        Runs code (ops size ++ ALLOCARRAY id ∷ []) s (with_left (in_place_of (left size) (λ a. Object)) s)
+    unfolding step asked
+    new_array_runs size e s =
+        runs_less code (ops size ++ ALLOCARRAY id ∷ []) s _ _
+        (one_less (left size) (λ a. Object) (λ t. Object) s (λ a. refl))
+        (behind (ops size) (ALLOCARRAY id) s (with_left (left size) s) (parts size s)
+        (subst (λ (o : Option ℕ). Less (with_left (part_left code id o) nothing) (with_left (left size) s)) (sym e)
+        (less_left (left size) nothing s (less_nothing s))))
+
+    cast_runs : (operand : ℕ) (s : Stack) →
+        Runs code (ops operand ++ CAST id ∷ []) s (with_left (in_place_of (left operand) (λ a. Unknown)) s)
+    unfolding step asked
+    cast_runs operand s =
+        runs_less code (ops operand ++ CAST id ∷ []) s _ _
+        (one_less (left operand) (λ a. Unknown) (λ t. Unknown) s (λ a. refl))
+        (behind (ops operand) (CAST id) s (with_left (left operand) s) (parts operand s) (less_nothing _))
+
+    literal_runs : (s : Stack) → Runs code (PUSH id ∷ []) s (step code (PUSH id) s)
+    unfolding asked
+    literal_runs s = runs_op code (PUSH id) s (less_nothing s)
+
+    -- ---- operators on two operands
+
+    module _ (operator l r : ℕ) (is_operator : part code operator_of id ≡ Some operator)
+        (is_right : part code right_operand id ≡ Some r) where
+      abbrev target : Stack → Stack
+      target s = with_left (in_place_of_two (left l) (left r) (operator_known operator)) s
+
+      conditional : is_conditional operator ≡ true → (a b : Known) → operator_known operator a b ≡ Unknown
+      unfolding operator_known
+      conditional e a b = ap (λ (t : Bool). if t then Unknown else binary_known operator a b) e
+
+      and_runs : is_conditional operator ≡ true → (s : Stack) → Runs code (ops l ++ AND id ∷ []) s (target s)
+      unfolding step asked
+      and_runs e s =
+          runs_less code (ops l ++ AND id ∷ []) s _ _
+          (subst (λ (o : Option ℕ). Less (target s) (behind_right (part_left code id o) (with_left (left l) s)))
+          (sym is_right) (short_less (left l) (left r) (operator_known operator) s (conditional e)))
+          (behind (ops l) (AND id) s (with_left (left l) s) (parts l s) (less_nothing _))
+
+      or_runs : is_conditional operator ≡ true → (s : Stack) → Runs code (ops l ++ OR id ∷ []) s (target s)
+      unfolding step asked
+      or_runs e s =
+          runs_less code (ops l ++ OR id ∷ []) s _ _
+          (subst (λ (o : Option ℕ). Less (target s) (behind_right (part_left code id o) (with_left (left l) s)))
+          (sym is_right) (short_less (left l) (left r) (operator_known operator) s (conditional e)))
+          (behind (ops l) (OR id) s (with_left (left l) s) (parts l s) (less_nothing _))
+
+      plain : is_conditional operator ≡ false → (a b : Known) → operator_known operator a b ≡ binary_known operator a b
+      unfolding operator_known
+      plain e a b = ap (λ (t : Bool). if t then Unknown else binary_known operator a b) e
+
+      bin_runs : is_conditional operator ≡ false → (s : Stack) →
+          Runs code (ops l ++ (ops r ++ BIN id ∷ [])) s (target s)
+      unfolding step asked
+      bin_runs e s =
+          runs_less code (ops l ++ (ops r ++ BIN id ∷ [])) s _ _
+          (two_less (left l) (left r) (operator_known operator)
+          (λ t. binary_by (part code operator_of id) (t 1) (t 0)) s
+          (λ a b. plain e a b ∙ sym (ap (λ (o : Option ℕ). binary_by o a b) is_operator)))
+          (runs_then code (ops l) (ops r ++ BIN id ∷ []) s (with_left (left l) s) _ (parts l s)
+          (behind (ops r) (BIN id) (with_left (left l) s) (with_left (left r) (with_left (left l) s))
+          (parts r (with_left (left l) s))
+          (subst (λ (o : Option ℕ). Less (with_left (part_left code id o) nothing)
+          (with_left (left r) (with_left (left l) s))) (sym is_right)
+          (less_left (left r) nothing (with_left (left l) s) (less_nothing _)))))
+
+      binary_runs : (s : Stack) → Runs code (binary_ops ops id operator l r) s (target s)
+      unfolding binary_ops
+      binary_runs s = go (operator == sign_and_and) refl (operator == sign_or_or) refl
+        where
+          go : (a : Bool) → (operator == sign_and_and) ≡ a → (b : Bool) → (operator == sign_or_or) ≡ b →
+              Runs code
+              (if a then ops l ++ AND id ∷ []
+              else (if b then ops l ++ OR id ∷ [] else (ops l ++ (ops r ++ BIN id ∷ [])))) s (target s)
+          go true e b k = and_runs (let same : operator ≡ sign_and_and = grind (arith, nat_tests) in ap is_conditional same) s
+          go false e true k = or_runs (let same : operator ≡ sign_or_or = grind (arith, nat_tests) in ap is_conditional same) s
+          go false e false k = bin_runs (cc (e, k)) s
+
+    -- ---- new objects
+
+    object_runs : (arguments : List ℕ) (class : ℕ) → part code argument_count id ≡ Some (length arguments) →
+        (s : Stack) →
+        Runs code ((ALLOC id ∷ flat_map ops arguments) ++ CONSTRUCT id ∷ []) s
+        (with_left (if all_leave_one left arguments then One Object else Forgets) s)
+    unfolding step asked with_left
+    object_runs arguments class e s = go (all_leave_one left arguments) refl
+      where
+        made : Runs code (ALLOC id ∷ flat_map ops arguments) s (with_all left arguments (put Object s))
+        made =
+            runs_then code (ALLOC id ∷ []) (flat_map ops arguments) s (put Object s)
+            (with_all left arguments (put Object s)) (runs_op code (ALLOC id) s (less_nothing s))
+            (all_run arguments (put Object s))
+
+        all : Runs code ((ALLOC id ∷ flat_map ops arguments) ++ CONSTRUCT id ∷ []) s
+            (dropped (length arguments) (with_all left arguments (put Object s)))
+        all =
+            subst (λ (o : Option ℕ). Runs code ((ALLOC id ∷ flat_map ops arguments) ++ CONSTRUCT id ∷ []) s
+            (behind_arguments o (with_all left arguments (put Object s)))) e
+            (behind (ALLOC id ∷ flat_map ops arguments) (CONSTRUCT id) s (with_all left arguments (put Object s)) made
+            (less_nothing (with_all left arguments (put Object s))))
+
+        go : (b : Bool) → all_leave_one left arguments ≡ b →
+            Runs code ((ALLOC id ∷ flat_map ops arguments) ++ CONSTRUCT id ∷ []) s
+            (with_left (if b then One Object else Forgets) s)
+        go true k =
+            subst (λ (t : Stack). Runs code ((ALLOC id ∷ flat_map ops arguments) ++ CONSTRUCT id ∷ []) s t)
+            (all_dropped left arguments (put Object s) k) all
+        go false k =
+            runs_less code ((ALLOC id ∷ flat_map ops arguments) ++ CONSTRUCT id ∷ []) s nothing
+            (dropped (length arguments) (with_all left arguments (put Object s))) (less_nothing _) all
+
+    part_runs : (arguments : List ℕ) (s : Stack) →
+        Runs code (flat_map ops arguments) s (with_left (left_by_part left arguments) s)
+    part_runs arguments s =
+        runs_less code (flat_map ops arguments) s (with_left (left_by_part left arguments) s) (with_all left arguments s)
+        (part_less left arguments s) (all_run arguments s)
+
+    new_runs : (arguments : List ℕ) (b : Binding) → part code argument_count id ≡ Some (length arguments) →
+        (s : Stack) → Runs code (new_ops ops id arguments b) s (with_left (left_by_new left arguments b) s)
+    unfolding new_ops left_by_new
+    new_runs arguments (ClassNamed class) e s = object_runs arguments class e s
+    new_runs arguments Plain e s = part_runs arguments s
+    new_runs arguments (Local k) e s = part_runs arguments s
+    new_runs arguments (Field k) e s = part_runs arguments s
+    new_runs arguments (Static k) e s = part_runs arguments s
+    new_runs arguments Length e s = part_runs arguments s
+    new_runs arguments (Method t) e s = part_runs arguments s
+    new_runs arguments (StaticMethod t) e s = part_runs arguments s
+    new_runs arguments (Builtin t) e s = part_runs arguments s
+
+    -- ---- calls
+
+    any_receiver : (object : Option ℕ) → Any code (receiver_ops ops id object)
+    unfolding receiver_ops asked
+    any_receiver None = any_op code (THIS id) refl
+    any_receiver (Some x) = any_part x
+
+    module _ (object : Option ℕ) (arguments : List ℕ) (are : part code arguments_of id ≡ Some arguments) where
+      asks : (op : Op) → asked code op ≡ with_parts code id (part code arguments_of id) →
+          asked code op ≡ with_parts code id (Some arguments)
+      asks op e = e ∙ ap (with_parts code id) are
+
+      any_builtin : (method : ℕ) → Any code (builtin_ops ops id object arguments method)
+      unfolding builtin_ops asked
+      any_builtin method =
+          any_if code (method == managed_memory_enter_private_memory) _ _
+          (any_asked (ENTER id) arguments (asks (ENTER id) refl))
+          (any_if code (method == managed_memory_execute_in_area_of) _ _
+          (any_behind (flat_map ops arguments) (EXECUTEIN id) (any_all arguments) refl)
+          (any_if code (method == services_set_ceiling) _ _
+          (any_asked (SETCEILING id) arguments (asks (SETCEILING id) refl))
+          (any_if code (method == trace_print) _ _
+          (any_behind (flat_map ops arguments) (PRINT id) (any_all arguments) refl)
+          (any_if code (method == device_read) _ _
+          (any_asked (READ id) arguments (asks (READ id) refl))
+          (any_if code (method == mission_request_termination) _ _
+          (any_behind (receiver_ops ops id object) (TERMINATE id) (any_receiver object) refl)
+          (any_if code (method == aperiodic_handler_release) _ _
+          (any_behind (receiver_ops ops id object) (RELEASE id) (any_receiver object) refl)
+          (any_if code (is_among method (periodic_handler_register ∷ aperiodic_handler_register ∷ [])) _ _
+          (any_behind (receiver_ops ops id object) (REGISTER id) (any_receiver object) refl) (any_none code))))))))
+
+      read_less : (xs : List ℕ) (s : Stack) → Less (with_left (left_by_read left xs) s) (put Unknown (taken (with_all left xs s)))
+      unfolding left_by_read with_left
+      read_less [] s = less_nothing _
+      read_less (x ∷ []) s = one_less (left x) (λ a. Unknown) (λ t. Unknown) s (λ a. refl)
+      read_less (x ∷ y ∷ xs) s = less_nothing _
+
+      read_runs : (s : Stack) →
+          Runs code (flat_map ops arguments ++ READ id ∷ []) s (with_left (left_by_read left arguments) s)
+      unfolding step asked
+      read_runs s =
+          runs_less code (flat_map ops arguments ++ READ id ∷ []) s (with_left (left_by_read left arguments) s)
+          (put Unknown (taken (with_all left arguments s))) (read_less arguments s)
+          (asked_behind (READ id) arguments (asks (READ id) refl) s)
+
+      builtin_runs : (method : ℕ) (s : Stack) →
+          Runs code (builtin_ops ops id object arguments method) s
+          (with_left (if method == device_read then left_by_read left arguments else Forgets) s)
+      unfolding builtin_ops with_left
+      builtin_runs method s = go (method == device_read) refl
+        where
+          go : (b : Bool) → (method == device_read) ≡ b →
+              Runs code (builtin_ops ops id object arguments method) s
+              (with_left (if b then left_by_read left arguments else Forgets) s)
+          go true e =
+              (let same : method ≡ device_read = grind (arith, nat_tests) in
+              subst (λ (m : ℕ). Runs code (builtin_ops ops id object arguments m) s (with_left (left_by_read left arguments) s))
+              (sym same) (read_runs s))
+          go false e = (any_builtin method).is s
+
+      call_runs : (b : Binding) (s : Stack) →
+          Runs code (call_ops ops id object arguments b) s (with_left (left_by_call left arguments b) s)
+      unfolding call_ops left_by_call asked with_left
+      call_runs (Builtin t) s = builtin_runs t.id s
+      call_runs (Method t) s =
+          (any_then code (receiver_ops ops id object) (flat_map ops arguments ++ CALL id ∷ []) (any_receiver object)
+          (any_behind (flat_map ops arguments) (CALL id) (any_all arguments) refl)).is s
+      call_runs (StaticMethod t) s =
+          (any_behind (flat_map ops arguments) (CALLSTATIC id) (any_all arguments) refl).is s
+      call_runs Plain s = (any_none code).is s
+      call_runs (Local k) s = (any_none code).is s
+      call_runs (Field k) s = (any_none code).is s
+      call_runs (Static k) s = (any_none code).is s
+      call_runs Length s = (any_none code).is s
+      call_runs (ClassNamed class) s = (any_none code).is s
+
+    -- ---- super parts, of the node itself or of a class that has no arguments
+
+    any_super : (node : ℕ) (arguments : List ℕ) → ((s : Stack) → Less (asked code (PARAMS node)) (with_all left arguments s))
+        → (b : Binding) → Any code (super_ops ops node arguments b)
+    unfolding super_ops asked
+    any_super node arguments l (ClassNamed superclass) =
+        any_if code (is_user_class superclass) _ _
+        (any_behind (THIS node ∷ flat_map ops arguments) (SUPER node)
+        (any_then code (THIS node ∷ []) (flat_map ops arguments) (any_op code (THIS node) refl) (any_all arguments)) refl)
+        (any_if code (has_form superclass) _ _
+        (any_of code (flat_map ops arguments ++ PARAMS node ∷ []) (λ s. (
+          step code (PARAMS node) (with_all left arguments s),
+          behind (flat_map ops arguments) (PARAMS node) s (with_all left arguments s) (all_run arguments s) (l s),
+        ))) (any_none code))
+    any_super node arguments l Plain = any_none code
+    any_super node arguments l (Local k) = any_none code
+    any_super node arguments l (Field k) = any_none code
+    any_super node arguments l (Static k) = any_none code
+    any_super node arguments l Length = any_none code
+    any_super node arguments l (Method t) = any_none code
+    any_super node arguments l (StaticMethod t) = any_none code
+    any_super node arguments l (Builtin t) = any_none code
+
+    any_super_call : (arguments : List ℕ) → part code arguments_of id ≡ Some arguments →
+        Any code (super_ops ops id arguments (binding code id))
+    unfolding asked
+    any_super_call arguments are =
+        any_super id arguments (λ s.
+        subst (λ (o : Option (List ℕ)). Less (with_parts code id o) (with_all left arguments s)) (sym are)
+        (less_all left arguments nothing s (less_nothing s))) (binding code id)
+
+    any_unwritten : (class : ℕ) → Any code (unwritten_super_ops code ops class)
+    unfolding unwritten_super_ops asked
+    any_unwritten class = go (class_node code.program class) refl
+      where
+        go : (o : Option ℕ) → class_node code.program class ≡ o →
+            Any code (elim o as (λ z. List Op) [ None ↦ [] | Some node ↦ super_ops ops node [] (binding code node) ])
+        go None e = any_none code
+        go (Some node) e =
+            any_super node [] (λ s.
+            subst (λ (o : Option (List ℕ)). Less (with_parts code node o) s) (sym (bare.is class node e)) (less_nothing s))
+            (binding code node)
+
+    any_literals : (fields : List Declared) → Any code (map (λ (f : Declared). INIT f.node) fields)
+    unfolding asked
+    any_literals [] = any_none code
+    any_literals (f ∷ fs) =
+        any_then code (INIT f.node ∷ []) (map (λ (f : Declared). INIT f.node) fs) (any_op code (INIT f.node) refl)
+        (any_literals fs)
+
+    any_first : (super_call : Option ℕ) (class : ℕ) →
+        Any code (elim super_call as (λ z. List Op) [ None ↦ unwritten_super_ops code ops class | Some call ↦ ops call ])
+    any_first None class = any_unwritten class
+    any_first (Some call) class = any_part call
+
+    any_constructor : (super_call : Option ℕ) (body : List Op) → Any code body →
+        Any code (constructor_ops code ops id super_call body)
+    unfolding constructor_ops literal_ops asked
+    any_constructor super_call body a = go (class_of_body code.program id)
+      where
+        go : (o : Option ℕ) →
+            Any code (elim o as (λ z. List Op) [
+              | None ↦ []
+              | Some class ↦
+                  (elim super_call as (λ z. List Op)
+                  [ None ↦ unwritten_super_ops code ops class | Some call ↦ ops call ])
+                  ++ (literal_ops code class ++ (body ++ LEAVE ∷ []))
+            ])
+        go None = any_none code
+        go (Some class) =
+            any_then code _ _ (any_first super_call class)
+            (any_then code _ _ (any_literals (fields_with_literal code.program class))
+            (any_behind body LEAVE a refl))
+
+    -- ---- statements
+
+    any_assign : (value : ℕ) (b : Binding) (target : Node) → Any code (assign_ops ops id value b target)
+    unfolding assign_ops asked
+    any_assign value (Local k) (SimpleName place name) = any_behind (ops value) (STORE id) (any_part value) refl
+    any_assign value (Field k) (SimpleName place name) =
+        any_behind (THIS id ∷ ops value) (PUT id)
+        (any_then code (THIS id ∷ []) (ops value) (any_op code (THIS id) refl) (any_part value)) refl
+    any_assign value (Field k) (FieldAccess place name object) =
+        any_then code (ops object) (ops value ++ PUT id ∷ []) (any_part object)
+        (any_behind (ops value) (PUT id) (any_part value) refl)
+    any_assign value (Static k) target = any_behind (ops value) (PUTSTATIC id) (any_part value) refl
+    any_assign value b (Element place array index) =
+        any_then code (ops array) (ops index ++ (ops value ++ PUTELEM id ∷ [])) (any_part array)
+        (any_then code (ops index) (ops value ++ PUTELEM id ∷ []) (any_part index)
+        (any_behind (ops value) (PUTELEM id) (any_part value) refl))
+    any_assign value b target = any_none code
+
+    any_assignment : (target value : ℕ) (o : Option Node) →
+        Any code (elim o as (λ z. List Op)
+        [ None ↦ [] | Some node ↦ assign_ops ops id value (binding code target) node ])
+    any_assignment target value None = any_none code
+    any_assignment target value (Some node) = any_assign value (binding code target) node
+
+    any_return : (value : Option ℕ) → Any code (return_ops ops id value)
+    unfolding return_ops asked
+    any_return None = any_op code LEAVE refl
+    any_return (Some value) = any_behind (ops value) (LEAVEWITH id) (any_part value) refl
+
+    any_method : (result_type : ℕ) (body : Option ℕ) → Any code (method_ops code ops result_type body)
+    unfolding method_ops asked
+    any_method result_type None = any_none code
+    any_method result_type (Some body) =
+        any_if code (is_same_type (type_at code.program.nodes result_type) void_type) _ _
+        (any_behind (ops body) LEAVE (any_part body) refl) (any_part body)
+
+    any_statement : (expression : ℕ) →
+        Any code (ops expression ++ (if leaves_value (binding code expression) then DROP id ∷ [] else []))
+    unfolding asked
+    any_statement expression =
+        any_then code (ops expression) _ (any_part expression)
+        (any_if code (leaves_value (binding code expression)) (DROP id ∷ []) [] (any_op code (DROP id) refl) (any_none code))
+
+    -- ---- all of them
+
+    module _ (node : Node) (there : slice_get code.program.nodes id ≡ Some node) where
+      read_part : {A : Type 0} (reading : Node → Option A) → part code reading id ≡ reading node
+      read_part reading = ap (λ (o : Option Node). o >>= reading) there
+
+    node_runs : (node : Node) → slice_get code.program.nodes id ≡ Some node → (s : Stack) →
+        Runs code (node_ops code ops id node) s (with_left (left_by_node code left id node) s)
+    unfolding node_ops left_by_node step asked with_left operator_of right_operand array_length arguments_of argument_count
+    node_runs (Number place value is_negative) there s = literal_runs s
+    node_runs (True place) there s = literal_runs s
+    node_runs (False place) there s = literal_runs s
+    node_runs (Null place) there s = literal_runs s
+    node_runs (This place) there s = runs_op code (THIS id) s (less_nothing s)
+    node_runs (SimpleName place name) there s = name_runs (binding code id) s
+    node_runs (FieldAccess place name object) there s = access_runs object (binding code id) s
+    node_runs (Element place array index) there s = element_runs array index s
+    node_runs (Parenthesized place inner) there s = parts inner s
+    node_runs (Unary place operator operand) there s =
+        unary_runs operator operand (read_part (Unary place operator operand) there operator_of) s
+    node_runs (Binary place operator l r) there s =
+        binary_runs operator l r (read_part (Binary place operator l r) there operator_of)
+        (read_part (Binary place operator l r) there right_operand) s
+    node_runs (New place name_place name arguments) there s =
+        new_runs arguments (binding code id) (read_part (New place name_place name arguments) there argument_count) s
+    node_runs (NewArray place element size) there s =
+        new_array_runs size (read_part (NewArray place element size) there array_length) s
+    node_runs (Call place name object arguments) there s =
+        call_runs object arguments (read_part (Call place name object arguments) there arguments_of) (binding code id) s
+    node_runs (Cast place name_place name operand) there s = cast_runs operand s
+    node_runs (LocalNode place name flags declared_type) there s = (any_op code (ZERO id) refl).is s
+    node_runs (LocalWithValue place name_place name flags declared_type value) there s =
+        (any_behind (ops value) (STORE id) (any_part value) refl).is s
+    node_runs (Assign place target value) there s =
+        (any_assignment target value (slice_get code.program.nodes target)).is s
+    node_runs (ExpressionStatement place expression) there s = (any_statement expression).is s
+    node_runs (Block place statements) there s = (any_all statements).is s
+    node_runs (If place condition then_part else_part) there s =
+        (any_behind (ops condition) (IF id) (any_part condition) refl).is s
+    node_runs (While place condition body) there s =
+        (any_behind (ops condition) (LOOP id) (any_part condition) refl).is s
+    node_runs (For place first condition step body) there s =
+        (any_then code (ops first) (ops condition ++ LOOP id ∷ []) (any_part first)
+        (any_behind (ops condition) (LOOP id) (any_part condition) refl)).is s
+    node_runs (Return place value) there s = (any_return value).is s
+    node_runs (MethodNode place name flags result_type parameters body) there s = (any_method result_type body).is s
+    node_runs (SuperCall place arguments) there s =
+        (any_super_call arguments (read_part (SuperCall place arguments) there arguments_of)).is s
+    node_runs (Constructor place name flags parameters super_call body) there s =
+        (any_constructor super_call (ops body) (any_part body)).is s
+    node_runs (Class place name flags header members) there s = (any_constructor None [] (any_none code)).is s
+    node_runs _ there s = (any_none code).is s
+
+    next_runs : (s : Stack) → Runs code (next_ops code id ops) s (with_left (next_left code id left) s)
+    unfolding next_ops next_left with_left
+    next_runs s = go (slice_get code.program.nodes id) refl
+      where
+        go : (o : Option Node) → slice_get code.program.nodes id ≡ o →
+            Runs code (elim o as (λ z. List Op) [ None ↦ [] | Some node ↦ node_ops code ops id node ]) s
+            (with_left (elim o as (λ z. Left) [ None ↦ Forgets | Some node ↦ left_by_node code left id node ]) s)
+        go None e = (any_none code).is s
+        go (Some node) e = node_runs node e s
+
+-- ---- by recursion over the nodes
+
+module _ (code : Code) (bare : ClassesAskNothing code) where
+  abbrev NodeRuns : ℕ → Type 0
+  NodeRuns id = (s : Stack) → Runs code (ops_of code id) s (with_left (left_by code id) s)
+
+  parts_run : (id : ℕ) → ((x : ℕ) → x < id → NodeRuns x) → PartsRun code bare id
+  unfolding with_left
+  parts_run id h x s = go (nat_lt x id) refl
+    where
+      go : (b : Bool) → nat_lt x id ≡ b →
+          Runs code (if b then ops_of code x else []) s (with_left (if b then left_by code x else Forgets) s)
+      go true e = h x (let l : x < id = grind (arith, nat_tests) in l) s
+      go false e = (any_none code).is s
+
+  one_runs : (id : ℕ) → ((x : ℕ) → x < id → NodeRuns x) → NodeRuns id
+  unfolding ops_of left_by
+  one_runs id h s =
+      subst (λ (xs : List Op). Runs code xs s (with_left (left_by code id) s)) (sym (by_smaller-is [] (next_ops code) id))
+      (subst (λ (l : Left). Runs code (next_ops code id (below [] id (ops_of code))) s (with_left l s))
+      (sym (by_smaller-is Forgets (next_left code) id)) (next_runs code bare id (parts_run id h) s))
+
+  all_below : (n : ℕ) (x : ℕ) → x < n → NodeRuns x
+  all_below zero x l = absurd (omega (arith, l))
+  all_below (suc n) x l = one_runs x (λ y k. all_below n y (omega (arith, l, k)))
+
+  -- the operations of a node go through
+  pub nodes_run : (id : ℕ) (s : Stack) → Runs code (ops_of code id) s (with_left (left_by code id) s)
+  nodes_run id s = all_below (suc id) id (omega arith) s
+
+  pub nodes_run_anywhere : (id : ℕ) → Any code (ops_of code id)
+  nodes_run_anywhere id = any_of code (ops_of code id) (λ s. (with_left (left_by code id) s, nodes_run id s))
