@@ -1,11 +1,11 @@
 -- Command lines, word by word, with the job that each is: a check of the definitions by hand.
-use Rattle.std.proofs.Common.{◌≡◌, ℕ, List, [], ◌∷◌, Some, None, map, refl, replicate, codes, decimal}
+use Rattle.std.proofs.Common.{◌≡◌, ℕ, List, [], ◌∷◌, Some, None, map, refl, codes, decimal}
 use Rattle.std.specs.Fmt.{digits}
 use Rattle.std.specs.List.{range_with_len}
 use Rattle.clap.specs.Words.{Text}
 use Rattle.clap.proofs.OnLiterals.{clap_on_literals}
 use Rattle.command_line.specs.Command.{bare_command, command, mode_rule, plan_rule, size_rule, source_rule}
-use Rattle.command_line.specs.Job.{Job, Check, Run, Show, Gen, are_sources, check_job, gen_job, given_in, is_file_name, job_by_mode, job_in, job_of, plan_in, run_job, show_job, size_alone, sources_alone, sources_in}
+use Rattle.command_line.specs.Job.{Job, Check, Run, Show, Gen, Respond, Confirm, Faults, Audit, are_sources, audit_job, check_job, confirm_job, faults_job, gen_job, given_in, is_file_name, job_by_mode, job_in, job_of, only_name, only_source, plan_alone, plan_in, respond_job, run_job, show_job, size_alone, sources_alone, sources_in}
 use Rattle.command_line.specs.Sizes.{digit_of, first_digit, number_of, size_of, with_digit}
 
 abbrev letters : List Text
@@ -41,6 +41,14 @@ jobs =
     ∷ (codes "gen" ∷ codes "--size" ∷ codes "1" ∷ [], Gen 1)
     ∷ (codes "--size" ∷ codes "40" ∷ codes "gen" ∷ [], Gen 40)
     ∷ (codes "gen" ∷ codes "--size=250" ∷ [], Gen 250)
+    ∷ (codes "respond" ∷ codes "--plan" ∷ codes "p" ∷ [], Respond (codes "p"))
+    ∷ (codes "--plan=p" ∷ codes "respond" ∷ [], Respond (codes "p"))
+    ∷ (codes "confirm" ∷ codes "--plan" ∷ codes "p" ∷ [], Confirm (codes "p"))
+    ∷ (codes "--plan=p" ∷ codes "--" ∷ codes "confirm" ∷ [], Confirm (codes "p"))
+    ∷ (codes "faults" ∷ codes "A" ∷ codes "--" ∷ codes "-B" ∷ [], Faults (codes "A" ∷ codes "-B" ∷ []))
+    ∷ (codes "faults" ∷ letters, Faults letters)
+    ∷ (codes "audit" ∷ codes "--plan" ∷ codes "p" ∷ codes "t" ∷ [], Audit (codes "p") (codes "t"))
+    ∷ (codes "audit" ∷ codes "t" ∷ codes "--plan=t" ∷ [], Audit (codes "t") (codes "t"))
     ∷ []
 
 abbrev refused : List (List Text)
@@ -96,18 +104,39 @@ refused =
     ∷ (codes "run" ∷ codes "--plan" ∷ codes "p" ∷ codes "Q" ∷ letters)
     ∷ (codes "gen" ∷ codes "--size" ∷ (32 ∷ 53 ∷ []) ∷ [])
     ∷ (codes "gen" ∷ codes "--size" ∷ (58 ∷ []) ∷ [])
+    ∷ (codes "respond" ∷ [])
+    ∷ (codes "respond" ∷ codes "--plan=" ∷ [])
+    ∷ (codes "respond" ∷ codes "--plan" ∷ (65 ∷ 31 ∷ []) ∷ [])
+    ∷ (codes "respond" ∷ codes "--plan" ∷ codes "p" ∷ codes "A" ∷ [])
+    ∷ (codes "respond" ∷ codes "--plan" ∷ codes "p" ∷ codes "--size" ∷ codes "5" ∷ [])
+    ∷ (codes "confirm" ∷ [])
+    ∷ (codes "confirm" ∷ codes "--plan" ∷ codes "p" ∷ codes "A" ∷ [])
+    ∷ (codes "confirm" ∷ codes "--plan" ∷ codes "p" ∷ codes "--size=5" ∷ [])
+    ∷ (codes "faults" ∷ [])
+    ∷ (codes "faults" ∷ codes "Q" ∷ letters)
+    ∷ (codes "faults" ∷ codes "--plan" ∷ codes "p" ∷ codes "A" ∷ [])
+    ∷ (codes "faults" ∷ codes "--size" ∷ codes "5" ∷ codes "A" ∷ [])
+    ∷ (codes "faults" ∷ codes "A" ∷ (65 ∷ 127 ∷ []) ∷ [])
+    ∷ (codes "audit" ∷ codes "t" ∷ [])
+    ∷ (codes "audit" ∷ codes "--plan" ∷ codes "p" ∷ [])
+    ∷ (codes "audit" ∷ codes "--plan" ∷ codes "p" ∷ codes "t" ∷ codes "u" ∷ [])
+    ∷ (codes "audit" ∷ codes "--plan" ∷ codes "p" ∷ (65 ∷ 10 ∷ []) ∷ [])
+    ∷ (codes "audit" ∷ codes "--plan=" ∷ codes "t" ∷ [])
+    ∷ (codes "audit" ∷ codes "--plan" ∷ codes "p" ∷ codes "t" ∷ codes "--size" ∷ codes "5" ∷ [])
     ∷ []
 
 job_rows : map (λ line. job_of line.0) jobs ≡ map (λ line. Some line.1) jobs
 unfolding clap_on_literals command bare_command mode_rule plan_rule size_rule source_rule job_of job_in given_in
-    job_by_mode check_job run_job show_job gen_job sources_in plan_in sources_alone size_alone are_sources is_file_name
-    size_of number_of with_digit first_digit digit_of
+    job_by_mode check_job run_job show_job gen_job respond_job confirm_job faults_job audit_job sources_in plan_in
+    sources_alone only_source only_name plan_alone size_alone are_sources is_file_name size_of number_of with_digit
+    first_digit digit_of
 job_rows = refl
 
-refused_rows : map job_of refused ≡ replicate 51 None
+refused_rows : map job_of refused ≡ map (λ line. None) refused
 unfolding clap_on_literals command bare_command mode_rule plan_rule size_rule source_rule job_of job_in given_in
-    job_by_mode check_job run_job show_job gen_job sources_in plan_in sources_alone size_alone are_sources is_file_name
-    size_of number_of with_digit first_digit digit_of
+    job_by_mode check_job run_job show_job gen_job respond_job confirm_job faults_job audit_job sources_in plan_in
+    sources_alone only_source only_name plan_alone size_alone are_sources is_file_name size_of number_of with_digit
+    first_digit digit_of
 refused_rows = refl
 
 -- each size is the number whose decimal digits are given

@@ -1,12 +1,12 @@
 -- How the values of the code are seen, and what an answer must be.
 use Rattle.std.specs.Prelude.{◌≡◌, ◌≤◌, length, Result, MatchResult, Option, Some, None, List, map, option_map, string_bytes}
-use Rattle.command_line.specs.Job.{Given as GivenTexts, Job as JobOfWords, Check, Run, Show, Gen}
+use Rattle.command_line.specs.Job.{Given as GivenTexts, Job as JobOfWords, Check, Run, Show, Gen, Respond, Confirm, Faults, Audit}
 use Rattle.command_line.specs.Sizes.{IsSize}
+use Rattle.command_line.specs.declared.given.Given.{Given}
 use Rattle.command_line.specs.declared.jobs.Job.{Job}
 use Rattle.command_line.specs.declared.jobs.Job.TheVariants as job
 use Rattle.command_line.specs.declared.jobs.WordsAnswer.{WordsAnswer}
 use Rattle.command_line.specs.declared.jobs.WordsAnswer.TheVariants as answer
-use Rattle.command_line.specs.declared.modes.Given.{Given}
 
 -- the job that a value of the code is
 abbrev pub job_seen : Job → JobOfWords
@@ -14,6 +14,10 @@ job_seen (job.Check sources) = Check (map string_bytes sources.items)
 job_seen (job.Run plan sources) = Run (string_bytes plan) (map string_bytes sources.items)
 job_seen (job.Show sources) = Show (map string_bytes sources.items)
 job_seen (job.Gen size) = Gen size
+job_seen (job.Respond plan) = Respond (string_bytes plan)
+job_seen (job.Confirm plan) = Confirm (string_bytes plan)
+job_seen (job.Faults sources) = Faults (map string_bytes sources.items)
+job_seen (job.Audit plan trace) = Audit (string_bytes plan) (string_bytes trace)
 
 -- the job that is wanted is answered, and `Usage` only where none is; memory may run out in both
 abbrev pub AnswersJob : Option JobOfWords → Result Job WordsAnswer → Type 0
@@ -24,12 +28,16 @@ AnswersJob wanted r =
 abbrev pub IsFew : {X : Type 0} → List X → Type 0
 IsFew names = (1 ≤ length names) × (length names ≤ 16)
 
--- the job has 1 to 16 sources, or a size of 1 to 250
+-- sources are 1 to 16, and a size is 1 to 250
 abbrev pub KeepsLimits : Job → Type 0
 KeepsLimits (job.Check sources) = IsFew sources.items
 KeepsLimits (job.Run plan sources) = IsFew sources.items
 KeepsLimits (job.Show sources) = IsFew sources.items
 KeepsLimits (job.Gen size) = IsSize size
+KeepsLimits (job.Respond plan) = Unit {0}
+KeepsLimits (job.Confirm plan) = Unit {0}
+KeepsLimits (job.Faults sources) = IsFew sources.items
+KeepsLimits (job.Audit plan trace) = Unit {0}
 
 -- what the command found, as texts
 abbrev pub texts_of : Given → GivenTexts

@@ -1,5 +1,5 @@
 -- What the words of a call ask for.
-use Rattle.std.specs.Prelude.{ℕ, Bool, not, ◌==◌, ◌&&◌, ◌||◌, List, Option, Some, None, is_some, nat_le, length, codes, if◌then◌else◌, option_map}
+use Rattle.std.specs.Prelude.{ℕ, Bool, not, ◌==◌, ◌&&◌, ◌||◌, List, [], ◌∷◌, Option, Some, None, is_some, nat_le, length, codes, if◌then◌else◌, option_map}
 use Rattle.std.specs.List.{list_all}
 use Rattle.std.specs.Option.{option_and_then}
 use Rattle.std.specs.Str.{bytes_eq}
@@ -8,13 +8,19 @@ use Rattle.clap.specs.Words.{Row, Text, all_of, fault_of, first_of, matches_of}
 use Rattle.command_line.specs.Command.{command}
 use Rattle.command_line.specs.Sizes.{size_of}
 
--- check the files of these names; run their program by the plan in the file of the first name; show them; or generate a
--- program of this size and run it
+-- check the files of these names; run their program by the plan in the file of the first name; show them; generate a
+-- program of this size and run it; bound the responses of the rows in the file of this name; confirm the bounds that
+-- stand beside them; list the faults of the files of these names that are certain; or audit, by the plan in the file of
+-- the first name, the trace in the file of the other
 pub data Job : Type 0 where
   Check : List Text → Job
   Run : Text → List Text → Job
   Show : List Text → Job
   Gen : ℕ → Job
+  Respond : Text → Job
+  Confirm : Text → Job
+  Faults : List Text → Job
+  Audit : Text → Text → Job
 
 -- what the command finds in the words: MODE, FILE of `--plan`, N of `--size` and each SOURCE
 pub record Given : Type 0 where
@@ -50,6 +56,19 @@ plan_in g = option_and_then (λ name. if is_file_name name then Some name else N
 unfoldable pub sources_alone : Given → Option (List Text)
 sources_alone g = if is_some g.plan || is_some g.size then None else sources_in g
 
+-- the one name among names, where there is one alone
+unfoldable pub only_name : List Text → Option Text
+only_name (name ∷ []) = Some name
+only_name _ = None
+
+-- the source, where it is the name of one file
+unfoldable pub only_source : Given → Option Text
+only_source g = option_and_then only_name (sources_in g)
+
+-- the plan, where there is neither a size nor a source
+unfoldable pub plan_alone : Given → Option Text
+plan_alone g = if is_some g.size || is_some g.sources then None else plan_in g
+
 -- the size, where there is neither a plan nor a source
 unfoldable pub size_alone : Given → Option ℕ
 size_alone g = if is_some g.plan || is_some g.sources then None else option_and_then size_of g.size
@@ -67,12 +86,29 @@ show_job g = option_map Show (sources_alone g)
 unfoldable pub gen_job : Given → Option Job
 gen_job g = option_map Gen (size_alone g)
 
+unfoldable pub respond_job : Given → Option Job
+respond_job g = option_map Respond (plan_alone g)
+
+unfoldable pub confirm_job : Given → Option Job
+confirm_job g = option_map Confirm (plan_alone g)
+
+unfoldable pub faults_job : Given → Option Job
+faults_job g = option_map Faults (sources_alone g)
+
+unfoldable pub audit_job : Given → Option Job
+audit_job g = if is_some g.size then None
+    else option_and_then (λ plan. option_map (Audit plan) (only_source g)) (plan_in g)
+
 -- the job of each mode; there are no other modes
 unfoldable pub job_by_mode : Given → Option Job
 job_by_mode g = if bytes_eq g.mode (codes "check") then check_job g
     else (if bytes_eq g.mode (codes "run") then run_job g
     else (if bytes_eq g.mode (codes "show") then show_job g
-    else (if bytes_eq g.mode (codes "gen") then gen_job g else None)))
+    else (if bytes_eq g.mode (codes "gen") then gen_job g
+    else (if bytes_eq g.mode (codes "respond") then respond_job g
+    else (if bytes_eq g.mode (codes "confirm") then confirm_job g
+    else (if bytes_eq g.mode (codes "faults") then faults_job g
+    else (if bytes_eq g.mode (codes "audit") then audit_job g else None)))))))
 
 -- ---- the job of the words
 

@@ -15,6 +15,14 @@ pub enum Job {
     Show { sources: Vec<String> },
     /// Generate a program of this size, 1 to 250, and run it.
     Gen { size: u32 },
+    /// Bound the response of each row in the file of this name.
+    Respond { plan: String },
+    /// Confirm the bounds that the file of this name claims for its rows.
+    Confirm { plan: String },
+    /// List the faults of the files of these names, 1 to 16, that are certain in a run of their program.
+    Faults { sources: Vec<String> },
+    /// Audit the trace in the file of its name by the plan in the file of its name.
+    Audit { plan: String, trace: String },
 }
 
 /// Why words give no job.

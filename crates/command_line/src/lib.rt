@@ -5,6 +5,7 @@
 #![tactic(auto)]
 
 mod arguments;
+mod given;
 pub mod jobs;
 mod modes;
 mod sizes;

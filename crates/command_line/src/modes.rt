@@ -1,61 +1,14 @@
 //! The rules of the modes.
 
-ghost use Rattle.std.specs.Prelude.{◌≡◌, IfOk, IfSome, codes, map, option_map, string_bytes};
-ghost use Rattle.std.specs.Bool.{OnTrue};
-ghost use Rattle.std.specs.List.{list_all};
-ghost use Rattle.clap.specs.Words.{all_of, first_of, found_of, rows_of};
-ghost use Rattle.command_line.specs.Answers.{AnswersJob, KeepsLimits, IsFew, texts_of};
-ghost use Rattle.command_line.specs.Sizes.{IsSize};
-ghost use Rattle.command_line.specs.Job.{are_sources, check_job, gen_job, given_in, is_file_name, is_printable, job_by_mode, plan_in, run_job, show_job, size_alone, sources_alone, sources_in};
+ghost use Rattle.std.specs.Prelude.{◌≡◌, IfOk, map, string_bytes};
+ghost use Rattle.command_line.specs.Answers.{AnswersJob, KeepsLimits, texts_of};
+ghost use Rattle.command_line.specs.Job.{audit_job, check_job, confirm_job, faults_job, gen_job, job_by_mode, respond_job, run_job, show_job};
 
+use crate::given::{
+    Given, only_source, plan_alone, plan_in, size_alone, sources_alone, sources_in,
+};
 use crate::jobs::{Job, WordsAnswer};
-use crate::sizes::size_of;
-use clap::ArgMatches;
 use std::alloc::{AllocError, Global};
-
-/// What the command found in the words.
-#[derive(Clone, Copy)]
-pub(crate) struct Given<'m, 'w> {
-    /// MODE.
-    mode: &'w str,
-    /// FILE of `--plan`.
-    plan: Option<&'w str>,
-    /// N of `--size`.
-    size: Option<&'w str>,
-    /// Each SOURCE.
-    sources: Option<&'m [&'w str]>,
-}
-
-/// What the matches hold; matches without MODE are none.
-#[tactic(auto, unfolding(crate::specs::Job::given_in))]
-pub(crate) fn given_by<'m, 'w>(matches: &'m ArgMatches<'w>) -> Option<Given<'m, 'w>>
-    ensures { option_map texts_of result ≡ given_in (rows_of (found_of matches.now)) }
-{
-    let mode = text_in(matches, "mode")?;
-    Some(Given {
-        mode,
-        plan: text_in(matches, "plan"),
-        size: text_in(matches, "size"),
-        sources: all_sources(matches),
-    })
-}
-
-/// The first value of an argument.
-#[tactic(auto, using(crate::proofs::MatchLemmas::first_text))]
-fn text_in<'w>(matches: &ArgMatches<'w>, id: &str) -> Option<&'w str>
-    ensures { option_map (λ s. s.now) result ≡ first_of id.now (rows_of (found_of matches.now)) }
-{
-    matches.get_str(id)
-}
-
-/// Each SOURCE.
-#[tactic(auto, using(crate::proofs::MatchLemmas::all_texts))]
-fn all_sources<'m, 'w>(matches: &'m ArgMatches<'w>) -> Option<&'m [&'w str]>
-    ensures { option_map (λ names. map (λ s. s.now) names.now) result ≡ all_of (codes "source")
-        (rows_of (found_of matches.now)) }
-{
-    matches.get_strs("source")
-}
 
 /// The job of the mode.
 #[tactic(auto, unfolding(crate::specs::Job::job_by_mode))]
@@ -68,6 +21,10 @@ pub(crate) fn job_by_mode(alloc: Global, given: &Given<'_, '_>) -> Result<Job, W
         "run" => run_job(alloc, given),
         "show" => show_job(alloc, given),
         "gen" => gen_job(given),
+        "respond" => respond_job(alloc, given),
+        "confirm" => confirm_job(alloc, given),
+        "faults" => faults_job(alloc, given),
+        "audit" => audit_job(alloc, given),
         _ => Err(WordsAnswer::Usage),
     }
 }
@@ -130,81 +87,63 @@ fn gen_job(given: &Given<'_, '_>) -> Result<Job, WordsAnswer>
     }
 }
 
-/// The sources, where they are the names of 1 to 16 files and no option stands beside them.
-#[tactic(auto, unfolding(crate::specs::Job::sources_alone))]
-fn sources_alone<'m, 'w>(given: &Given<'m, 'w>) -> Option<&'m [&'w str]>
-    ensures alone { option_map (λ names. map (λ s. s.now) names.now) result ≡ sources_alone (texts_of given.now) }
-    ensures few { IfSome result (λ names. IsFew names.now) }
+/// `respond`: a plan alone.
+#[tactic(auto, unfolding(crate::specs::Job::respond_job))]
+fn respond_job(alloc: Global, given: &Given<'_, '_>) -> Result<Job, WordsAnswer>
+    ensures job { AnswersJob (respond_job (texts_of given.now)) result }
+    ensures limits { IfOk result KeepsLimits }
 {
-    if given.plan.is_some() || given.size.is_some() {
-        return None;
+    let Some(plan) = plan_alone(given) else {
+        return Err(WordsAnswer::Usage);
+    };
+    let plan = String::from_str(alloc, plan)?;
+    Ok(Job::Respond { plan })
+}
+
+/// `confirm`: a plan alone.
+#[tactic(auto, unfolding(crate::specs::Job::confirm_job))]
+fn confirm_job(alloc: Global, given: &Given<'_, '_>) -> Result<Job, WordsAnswer>
+    ensures job { AnswersJob (confirm_job (texts_of given.now)) result }
+    ensures limits { IfOk result KeepsLimits }
+{
+    let Some(plan) = plan_alone(given) else {
+        return Err(WordsAnswer::Usage);
+    };
+    let plan = String::from_str(alloc, plan)?;
+    Ok(Job::Confirm { plan })
+}
+
+/// `faults`: sources alone.
+#[tactic(auto, unfolding(crate::specs::Job::faults_job))]
+fn faults_job(alloc: Global, given: &Given<'_, '_>) -> Result<Job, WordsAnswer>
+    ensures job { AnswersJob (faults_job (texts_of given.now)) result }
+    ensures limits { IfOk result KeepsLimits }
+{
+    let Some(sources) = sources_alone(given) else {
+        return Err(WordsAnswer::Usage);
+    };
+    let sources = to_strings(alloc, sources)?;
+    Ok(Job::Faults { sources })
+}
+
+/// `audit`: a plan and one source.
+#[tactic(auto, unfolding(crate::specs::Job::audit_job))]
+fn audit_job(alloc: Global, given: &Given<'_, '_>) -> Result<Job, WordsAnswer>
+    ensures job { AnswersJob (audit_job (texts_of given.now)) result }
+    ensures limits { IfOk result KeepsLimits }
+{
+    if given.size.is_some() {
+        return Err(WordsAnswer::Usage);
     }
-    sources_in(given)
-}
-
-/// The size, where it is one and neither a plan nor a source stands beside it.
-#[tactic(auto, unfolding(crate::specs::Job::size_alone))]
-fn size_alone(given: &Given<'_, '_>) -> Option<u32>
-    ensures alone { result ≡ size_alone (texts_of given.now) }
-    ensures size { IfSome result IsSize }
-{
-    if given.plan.is_some() || given.sources.is_some() {
-        return None;
-    }
-    let size = given.size?;
-    size_of(size.as_bytes())
-}
-
-/// The plan, where it is the name of a file.
-#[tactic(auto, unfolding(crate::specs::Job::plan_in))]
-fn plan_in<'w>(given: &Given<'_, 'w>) -> Option<&'w str>
-    ensures { option_map (λ name. name.now) result ≡ plan_in (texts_of given.now) }
-{
-    let name = given.plan?;
-    if is_file_name(name) { Some(name) } else { None }
-}
-
-/// The sources, where they are the names of 1 to 16 files.
-#[tactic(auto, unfolding(crate::specs::Job::sources_in))]
-fn sources_in<'m, 'w>(given: &Given<'m, 'w>) -> Option<&'m [&'w str]>
-    ensures value { option_map (λ names. map (λ s. s.now) names.now) result ≡ sources_in (texts_of given.now) }
-    ensures few { IfSome result (λ names. IsFew names.now) }
-{
-    let names = given.sources?;
-    if are_sources(names) {
-        Some(names)
-    } else {
-        None
-    }
-}
-
-/// Whether these are the names of 1 to 16 files.
-#[tactic(auto, unfolding(crate::specs::Job::are_sources))]
-fn are_sources(names: &[&str]) -> bool
-    ensures names { result ≡ are_sources (map (λ s. s.now) names.now) }
-    ensures few { OnTrue result (IsFew names.now) }
-{
-    !names.is_empty() && names.len() <= 16 && are_file_names(names)
-}
-
-fn are_file_names(names: &[&str]) -> bool
-    ensures { result ≡ list_all is_file_name (map (λ s. s.now) names.now) }
-{
-    names.iter().all(|name| is_file_name(name))
-}
-
-/// Whether the text is the name of a file: not empty, and of no control byte.
-#[tactic(auto, unfolding(crate::specs::Job::is_file_name))]
-fn is_file_name(name: &str) -> bool
-    ensures { result ≡ is_file_name name.now }
-{
-    !name.is_empty() && is_printable(name.as_bytes())
-}
-
-fn is_printable(bytes: &[u8]) -> bool
-    ensures { result ≡ list_all is_printable bytes.now }
-{
-    bytes.iter().all(|byte| *byte >= 32 && *byte != 127)
+    let Some(plan) = plan_in(given) else {
+        return Err(WordsAnswer::Usage);
+    };
+    let Some(trace) = only_source(given) else {
+        return Err(WordsAnswer::Usage);
+    };
+    let plan = String::from_str(alloc, plan)?;
+    let trace = String::from_str(alloc, trace)?;
+    Ok(Job::Audit { plan, trace })
 }
 
 /// The texts, each as a text of its own.

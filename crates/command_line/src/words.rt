@@ -6,8 +6,9 @@ ghost use Rattle.command_line.specs.Answers.{AnswersJob, KeepsLimits};
 ghost use Rattle.command_line.specs.Job.{job_in, job_of};
 
 use crate::arguments::matches_in;
+use crate::given::given_by;
 use crate::jobs::{Job, WordsAnswer};
-use crate::modes::{given_by, job_by_mode};
+use crate::modes::job_by_mode;
 use clap::ArgMatches;
 use std::alloc::Global;
 

@@ -4,7 +4,7 @@ use command_line::{Job, WordsAnswer, read_words};
 use std::alloc::{AllocError, Global};
 use std::test::Fail;
 
-static REFUSED: [&str; 20] = [
+static REFUSED: [&str; 31] = [
     "",
     "check",
     "walk A",
@@ -25,6 +25,17 @@ static REFUSED: [&str; 20] = [
     "gen --size 05",
     "gen --size 251",
     "gen --size 5 A",
+    "respond",
+    "respond --plan p A",
+    "confirm --size 5",
+    "confirm --plan p --size 5",
+    "faults",
+    "faults --plan p A",
+    "faults A --size 5",
+    "audit t",
+    "audit --plan p",
+    "audit --plan p t u",
+    "audit --plan p t --size 5",
 ];
 
 /// The words of a line, parted by single spaces.
@@ -65,6 +76,34 @@ fn runs(rt: HostRuntime) -> Result<(), Fail> {
 fn generates(rt: HostRuntime) -> Result<(), Fail> {
     let words = words_of(rt.alloc(), "gen --size 250")?;
     assert!(rt; read_words(rt.alloc(), words.as_slice()) == Ok(Job::Gen { size: 250 }));
+    Ok(())
+}
+
+#[test]
+fn responds_and_confirms(rt: HostRuntime) -> Result<(), Fail> {
+    let words = words_of(rt.alloc(), "respond --plan p")?;
+    let plan = String::from_str(rt.alloc(), "p")?;
+    assert!(rt; read_words(rt.alloc(), words.as_slice()) == Ok(Job::Respond { plan }));
+    let words = words_of(rt.alloc(), "confirm --plan p")?;
+    let plan = String::from_str(rt.alloc(), "p")?;
+    assert!(rt; read_words(rt.alloc(), words.as_slice()) == Ok(Job::Confirm { plan }));
+    Ok(())
+}
+
+#[test]
+fn lists_faults(rt: HostRuntime) -> Result<(), Fail> {
+    let words = words_of(rt.alloc(), "faults A B")?;
+    let sources = words_of(rt.alloc(), "A B")?;
+    assert!(rt; read_words(rt.alloc(), words.as_slice()) == Ok(Job::Faults { sources }));
+    Ok(())
+}
+
+#[test]
+fn audits(rt: HostRuntime) -> Result<(), Fail> {
+    let words = words_of(rt.alloc(), "audit --plan p t")?;
+    let plan = String::from_str(rt.alloc(), "p")?;
+    let trace = String::from_str(rt.alloc(), "t")?;
+    assert!(rt; read_words(rt.alloc(), words.as_slice()) == Ok(Job::Audit { plan, trace }));
     Ok(())
 }
 

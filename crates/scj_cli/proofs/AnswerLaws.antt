@@ -1,5 +1,5 @@
 -- A job has one answer at most on the contents of its files.
-use Rattle.std.proofs.Common.{◌≡◌, ◌<◌, ℕ, List, [], ◌∷◌, length, Option, refl, sym, ◌∙◌, ap, arith}
+use Rattle.std.proofs.Common.{◌≡◌, ◌<◌, ℕ, List, [], ◌∷◌, length, Option, refl, sym, ◌∙◌, ap, subst, arith}
 use Rattle.scj_base.specs.declared.statuses.Status.{Status}
 use Rattle.scj_base.specs.declared.findings.Found.{Found}
 use Rattle.scj_tree.specs.Forest.{Forest, forest_of}
@@ -8,10 +8,15 @@ use Rattle.scj_check.proofs.SyntaxLaws.{one_program, one_break_told, program_or_
 use Rattle.scj_check.proofs.VerdictLaws.{one_report_of_texts}
 use Rattle.scj_model.specs.Plan.{Plan}
 use Rattle.run_plan.specs.PlanOf.{Meaning, Refusal, plan, refused as no_plan}
+use Rattle.scj_model.specs.Code.{code_of}
+use Rattle.certain_faults.specs.declared.found.CertainFault.{CertainFault}
+use Rattle.certain_faults.specs.Report.{IsFaultReport}
+use Rattle.certain_faults.proofs.Reports.{one_fault_report}
 use Rattle.command_line.specs.Job.{Job}
 use Rattle.scj_cli.specs.Answers.{Answer, IsSameAnswer, shown_text}
-use Rattle.scj_cli.specs.Answers.Answer.{no_job, refused, accepted, ran, show_unreadable, shown, generated}
+use Rattle.scj_cli.specs.Answers.Answer.{no_job, refused, accepted, ran, show_unreadable, shown, generated, responded, confirmed, faults_of_none, faults_listed, audited}
 use Rattle.scj_cli.specs.Outcomes.{Outcome, Reported, Unplanned, ComesTo, breaks_rules, has_no_plan, runs, run_status, run_out, run_err, gen_out}
+use Rattle.scj_cli.specs.FaultLists.{fault_list}
 use Rattle.scj_cli.specs.Reports.{report_text}
 
 one_forest : (contents : List (List ℕ)) (forest other : Forest) → Reads contents forest → Reads contents other →
@@ -63,6 +68,14 @@ same_outcome e out = record { same_status = ap run_status e; same_out = ap out e
 same_text : {status : Status} {out again err : List ℕ} → out ≡ again → IsSameAnswer status out err status again err
 same_text e = record { same_status = refl; same_out = e; same_err = refl }
 
+-- the list of the faults of texts that are read
+one_list : (contents : List (List ℕ)) (forest other : Forest) (faults again : List CertainFault) →
+    Reads contents forest → Reads contents other → IsFaultReport (code_of forest) faults →
+    IsFaultReport (code_of other) again → faults ≡ again
+one_list contents forest other faults again reads reads_again report report_again =
+    one_fault_report _ _ _ report (subst (λ (read : Forest). IsFaultReport (code_of read) again)
+    (one_forest contents other forest reads_again reads) report_again)
+
 pub one_answer_of : {job : Option Job} {contents : List (List ℕ)} {status status_again : Status}
     {out err out_again err_again : List ℕ} → Answer job contents status out err →
     Answer job contents status_again out_again err_again → IsSameAnswer status out err status_again out_again err_again
@@ -81,3 +94,14 @@ one_answer_of (shown reads) (show_unreadable breaks) = not_both _ _ _ reads brea
 one_answer_of (shown reads) (shown reads_again) = same_text (ap shown_text (one_forest _ _ _ reads reads_again))
 one_answer_of (generated {size = size} comes) (generated comes_again) =
     same_outcome (one_outcome comes comes_again) (gen_out size)
+one_answer_of responded responded = same_text refl
+one_answer_of confirmed confirmed = same_text refl
+one_answer_of (faults_of_none {names = names} some report) (faults_of_none some_again report_again) =
+    same_text (ap (λ (found : List Found). report_text names found) (one_report_of_texts report report_again))
+one_answer_of (faults_of_none some report) (faults_listed none reads faults) =
+    some_found _ some (one_report_of_texts report none)
+one_answer_of (faults_listed none reads faults) (faults_of_none some report) =
+    some_found _ some (one_report_of_texts report none)
+one_answer_of (faults_listed {names = names} none reads faults) (faults_listed none_again reads_again again) =
+    same_text (ap (fault_list names) (one_list _ _ _ _ _ reads reads_again faults again))
+one_answer_of audited audited = same_text refl

@@ -6,7 +6,7 @@ use Rattle.scj_io.specs.Loads.{ShelfRun}
 use Rattle.scj_io.specs.Puts.{SinkRun, sink_run, PutWhole}
 use Rattle.scj_io.proofs.PutLaws.{PutWhole-nothing}
 use Rattle.command_line.specs.Job.{Job}
-use Rattle.scj_cli.specs.Jobs.{files_of}
+use Rattle.scj_cli.specs.Jobs.{files_of, limits_of}
 use Rattle.scj_cli.specs.Answers.Answer.{no_job}
 use Rattle.scj_cli.specs.Endings.{call_of, MayStand, Comes, Ends}
 use Rattle.scj_cli.specs.Endings.MayStand.{none}
@@ -22,7 +22,7 @@ use Rattle.scj_cli.specs.declared.refusals.Stop.TheVariants.{Told, Broken}
 
 -- what the loads of a job's files were refused for is the cause of a status
 pub Comes-loads : (job : Job) (shelf : ShelfRun) (refusal : Refusal) →
-    RefusesLoads shelf (files_of (Some job)) refusal → Comes (Some job) shelf (status_of refusal) [] (line_of refusal)
+    RefusesLoads shelf (limits_of (Some job)) (files_of (Some job)) refusal → Comes (Some job) shelf (status_of refusal) [] (line_of refusal)
 Comes-loads job shelf Usage refuses = absurd refuses
 Comes-loads job shelf (Unread line) refuses = rw refuses.2.1 (unread refuses.1 refuses.2.0)
 Comes-loads job shelf (Overlong line) refuses = rw refuses.2.2 (overlong refuses.1 refuses.2.0 refuses.2.1)
@@ -31,7 +31,7 @@ Comes-loads job shelf OutOfMemory refuses = out_of_memory
 
 -- what a judgement was refused for is the cause of a status
 pub Comes-form : (job : Job) (shelf : ShelfRun) (contents : List (List ℕ)) (refusal : Refusal) →
-    MayStand shelf (files_of (Some job)) contents → RefusesForm job contents refusal →
+    MayStand shelf (limits_of (Some job)) (files_of (Some job)) contents → RefusesForm job contents refusal →
     Comes (Some job) shelf (status_of refusal) [] (line_of refusal)
 Comes-form job shelf contents Usage stands refuses = absurd refuses
 Comes-form job shelf contents (Unread line) stands refuses = absurd refuses
@@ -62,13 +62,13 @@ Ends-broken (broken comes put) untouched = fault_of_out comes put untouched
 
 -- from the steps of a mode to its end
 pub Stops-loads : (job : Job) (shelf : ShelfRun) (taken : Option (List ℕ)) (faults : ℕ) (refusal : Refusal) →
-    RefusesLoads shelf (files_of (Some job)) refusal → Stops (Some job) shelf (sink_run taken taken faults faults)
+    RefusesLoads shelf (limits_of (Some job)) (files_of (Some job)) refusal → Stops (Some job) shelf (sink_run taken taken faults faults)
     (Told refusal)
 Stops-loads job shelf taken faults refusal refuses =
     told (Comes-loads job shelf refusal refuses) (PutWhole-nothing taken faults)
 
 pub Stops-form : (job : Job) (shelf : ShelfRun) (contents : List (List ℕ)) (taken : Option (List ℕ)) (faults : ℕ)
-    (refusal : Refusal) → MayStand shelf (files_of (Some job)) contents → RefusesForm job contents refusal →
+    (refusal : Refusal) → MayStand shelf (limits_of (Some job)) (files_of (Some job)) contents → RefusesForm job contents refusal →
     Stops (Some job) shelf (sink_run taken taken faults faults) (Told refusal)
 Stops-form job shelf contents taken faults refusal stands refuses =
     told (Comes-form job shelf contents refusal stands refuses) (PutWhole-nothing taken faults)

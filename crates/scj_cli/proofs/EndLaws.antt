@@ -3,7 +3,6 @@ use Rattle.std.proofs.Common.{◌≡◌, inl, inr, ℕ, ◌<◌, ◌≤◌, List
 use Rattle.scj_base.specs.declared.statuses.Status.{Status}
 use Rattle.scj_io.specs.Loads.{Held, ShelfRun, MayHold, MayExceed}
 use Rattle.scj_io.specs.Loads.Held.{Told}
-use Rattle.scj_cli.specs.Jobs.{file_limit}
 use Rattle.scj_cli.specs.Endings.{Call, IsAmong, IsReached, MayStand, Ends, AreTold, IsExact, IsLongExactly, IsNeverAbsent}
 use Rattle.scj_cli.specs.Endings.IsAmong.{here, later}
 use Rattle.scj_cli.specs.Endings.IsReached.{first as reached_first, behind}
@@ -14,43 +13,45 @@ use Rattle.scj_cli.specs.Endings.Ends.{whole, fault_of_out, fault_of_err, cut_sh
 use Rattle.scj_cli.specs.Endings.EndsBy.{by_answer, by_memory, by_memory_in_run}
 
 -- what is reached is one of the names
-among_of : {held : List ℕ → Held} {name : List ℕ} {names : List (List ℕ)} → IsReached held name names →
+among_of : {held : List ℕ → Held} {limits : List ℕ → ℕ} {name : List ℕ} {names : List (List ℕ)} →
+    IsReached held limits name names →
     IsAmong name names
 among_of reached_first = here
 among_of (behind content holds within rest) = later (among_of rest)
 
 -- contents that may stand under names whose contents are told are these
-stand_told : {shelf : ShelfRun} {names contents told : List (List ℕ)} → MayStand shelf names contents →
-    AreTold shelf.held names told → contents ≡ told
+stand_told : {shelf : ShelfRun} {limits : List ℕ → ℕ} {names contents told : List (List ℕ)} →
+    MayStand shelf limits names contents → AreTold shelf.held limits names told → contents ≡ told
 stand_told no_file none_told = refl
 stand_told (next_file {content = content} holds within rest) (next_told {content = known} is known_within others) =
     let same : content ≡ known = subst (λ (held : Held). MayHold held content) is holds in
     rw (same, stand_told rest others) refl
 
 -- what is told of one of the names
-told_of : {held : List ℕ → Held} {name : List ℕ} {names contents : List (List ℕ)} → IsAmong name names →
-    AreTold held names contents → (content : List ℕ) × (held name ≡ Told content) × (length content ≤ file_limit)
+told_of : {held : List ℕ → Held} {limits : List ℕ → ℕ} {name : List ℕ} {names contents : List (List ℕ)} →
+    IsAmong name names → AreTold held limits names contents →
+    (content : List ℕ) × (held name ≡ Told content) × (length content ≤ limits name)
 told_of here (next_told is within others) = (_, is, within)
 told_of (later among) (next_told is within others) = told_of among others
 
 -- what may stand under one of the names
-stands_of : {shelf : ShelfRun} {name : List ℕ} {names contents : List (List ℕ)} → IsAmong name names →
-    MayStand shelf names contents → (content : List ℕ) × MayHold (shelf.held name) content ×
-    (length content ≤ file_limit)
+stands_of : {shelf : ShelfRun} {limits : List ℕ → ℕ} {name : List ℕ} {names contents : List (List ℕ)} →
+    IsAmong name names → MayStand shelf limits names contents →
+    (content : List ℕ) × MayHold (shelf.held name) content × (length content ≤ limits name)
 stands_of here (next_file holds within rest) = (_, holds, within)
 stands_of (later among) (next_file holds within rest) = stands_of among rest
 
 -- bytes within the limit are not beyond it
-not_long : (held : Held) (content : List ℕ) → held ≡ Told content → length content ≤ file_limit →
-    MayExceed held file_limit → ⊥
-not_long held content is within exceeds = let long : file_limit < length content =
-    subst (λ (h : Held). MayExceed h file_limit) is exceeds in omega arith
+not_long : (held : Held) (limit : ℕ) (content : List ℕ) → held ≡ Told content → length content ≤ limit →
+    MayExceed held limit → ⊥
+not_long held limit content is within exceeds = let long : limit < length content =
+    subst (λ (h : Held). MayExceed h limit) is exceeds in omega arith
 
-not_short : (held : Held) (content known : List ℕ) → held ≡ Told known → MayHold held content →
-    length content ≤ file_limit → file_limit < length known → ⊥
-not_short held content known is holds within long =
+not_short : (held : Held) (limit : ℕ) (content known : List ℕ) → held ≡ Told known → MayHold held content →
+    length content ≤ limit → limit < length known → ⊥
+not_short held limit content known is holds within long =
     let same : content ≡ known = subst (λ (h : Held). MayHold h content) is holds in
-    let short : length known ≤ file_limit = subst (λ (c : List ℕ). length c ≤ file_limit) same within in omega arith
+    let short : length known ≤ limit = subst (λ (c : List ℕ). length c ≤ limit) same within in omega arith
 
 pub exact : (call : Call) (status : Status) → Ends call status → IsExact call status
 exact call status (whole (answered stands answer) out err) contents told calm =
@@ -58,7 +59,7 @@ exact call status (whole (answered stands answer) out err) contents told calm =
 exact call status (whole (unread reached fault) out err) contents told calm =
     absurd (calm.files _ (among_of reached) fault)
 exact call status (whole (overlong reached exceeds beyond) out err) contents told calm = let known =
-    told_of (among_of reached) told in absurd (not_long _ known.0 known.1 known.2 exceeds)
+    told_of (among_of reached) told in absurd (not_long _ _ known.0 known.1 known.2 exceeds)
 exact call status (whole out_of_memory out err) contents told calm = by_memory out err
 exact call status (fault_of_out comes out err) contents told calm = absurd (calm.out out.rose)
 exact call status (fault_of_err comes out err) contents told calm = absurd (calm.err err.rose)
@@ -68,7 +69,7 @@ exact call status (cut_short_untold stands cut err) contents told calm = absurd 
 
 pub long_exactly : (call : Call) (status : Status) → Ends call status → IsLongExactly call status
 long_exactly call status (whole (answered stands answer) out err) name content among is long calm = let stood =
-    stands_of among stands in absurd (not_short _ stood.0 content is stood.1 stood.2 long)
+    stands_of among stands in absurd (not_short _ _ stood.0 content is stood.1 stood.2 long)
 long_exactly call status (whole (unread other fault) out err) name content among is long calm =
     absurd (calm.files _ (among_of other) fault)
 long_exactly call status (whole (overlong other exceeds beyond) out err) name content among is long calm = inl refl

@@ -1,5 +1,7 @@
 pub mod AnswerLaws
+pub mod AuditLaws
 pub mod CauseLaws
+pub mod DeclaredLaws
 pub mod EndLaws
 pub mod GenLaws
 pub mod LoadLaws

@@ -16,6 +16,7 @@ use Rattle.run_plan.specs.PlanOf.{meaning_of_text, plan}
 use Rattle.command_line.specs.Job.{Run}
 use Rattle.plain_machine.specs.Runs.{PutPart, trace_text}
 use Rattle.scj_check.specs.Texts.{texts_of}
+use Rattle.scj_cli.specs.Jobs.{one_limit}
 use Rattle.scj_cli.specs.Reports.{report_text}
 use Rattle.scj_cli.specs.Answers.{Answer}
 use Rattle.scj_cli.specs.Answers.Answer.{ran}
@@ -84,14 +85,14 @@ form_of_run _ _ _ _ OutOfMemory count refuses = tt
 
 pub answered_by_run : {shelf : ShelfRun} {out : SinkRun} {plan plan_text : List ℕ} {names texts : List (List ℕ)}
     {forest : Forest} {p : Plan} {status : Status} →
-    MayStand shelf (names ++ plan ∷ []) (texts ++ plan_text ∷ []) → length texts ≡ length names →
+    MayStand shelf one_limit (names ++ plan ∷ []) (texts ++ plan_text ∷ []) → length texts ≡ length names →
     ComesTo texts plan_text (Ran forest p) → HasRun forest p names out status →
     IsAnswered (Some (Run plan names)) shelf out status
 answered_by_run stands count comes has =
     record { text = _; comes = rw has.told (answered stands (ran_of count comes)); put = has.put }
 
 pub stopped_by_run : {shelf : ShelfRun} {out : SinkRun} {plan plan_text : List ℕ} {names texts : List (List ℕ)}
-    {forest : Forest} {p : Plan} (stop : Stop) → MayStand shelf (names ++ plan ∷ []) (texts ++ plan_text ∷ []) →
+    {forest : Forest} {p : Plan} (stop : Stop) → MayStand shelf one_limit (names ++ plan ∷ []) (texts ++ plan_text ∷ []) →
     length texts ≡ length names → ComesTo texts plan_text (Ran forest p) → StopsRun forest p names out stop →
     Stops (Some (Run plan names)) shelf out stop
 stopped_by_run (Told Usage) stands count comes stops = absurd stops
@@ -104,7 +105,7 @@ stopped_by_run Broken stands count comes stops = broken (answered stands (ran_of
 -- ---- the report of a run
 
 pub answered_by_report : {shelf : ShelfRun} {out : SinkRun} {plan plan_text text : List ℕ}
-    {names texts : List (List ℕ)} {found : List Found} → MayStand shelf (names ++ plan ∷ []) (texts ++ plan_text ∷ []) →
+    {names texts : List (List ℕ)} {found : List Found} → MayStand shelf one_limit (names ++ plan ∷ []) (texts ++ plan_text ∷ []) →
     length texts ≡ length names → ComesTo texts plan_text (Reported found) → text ≡ report_text names found →
     PutWhole out text → IsAnswered (Some (Run plan names)) shelf out Refused
 answered_by_report {out = out} stands count comes is put =
@@ -115,7 +116,7 @@ answered_by_report {out = out} stands count comes is put =
     }
 
 pub broken_at_report : {shelf : ShelfRun} {out : SinkRun} {plan plan_text text : List ℕ}
-    {names texts : List (List ℕ)} {found : List Found} → MayStand shelf (names ++ plan ∷ []) (texts ++ plan_text ∷ []) →
+    {names texts : List (List ℕ)} {found : List Found} → MayStand shelf one_limit (names ++ plan ∷ []) (texts ++ plan_text ∷ []) →
     length texts ≡ length names → ComesTo texts plan_text (Reported found) → text ≡ report_text names found →
     PutFront out text → Stops (Some (Run plan names)) shelf out Broken
 broken_at_report {out = out} stands count comes is put =

@@ -8,7 +8,15 @@ use Rattle.scj_rules.specs.Syntax.{Reads, BreaksSyntax}
 use Rattle.scj_rules.specs.Verdicts.{IsReportOf}
 use Rattle.scj_show.specs.Symbols.{text_of_file}
 use Rattle.source_gen.specs.Generated.{source_of, plan_of}
-use Rattle.command_line.specs.Job.{Job, Check, Run, Show, Gen}
+use Rattle.command_line.specs.Job.{Job, Check, Run, Show, Gen, Respond, Confirm, Faults, Audit}
+use Rattle.scj_model.specs.Code.{code_of}
+use Rattle.certain_faults.specs.declared.found.CertainFault.{CertainFault}
+use Rattle.certain_faults.specs.Report.{IsFaultReport}
+use Rattle.response_times.specs.DeclaredOf.{declared_of_text}
+use Rattle.run_plan.specs.PlanOf.{meaning_of_text}
+use Rattle.scj_cli.specs.Audits.{audit_status, audit_out, audit_err}
+use Rattle.scj_cli.specs.DeclaredRows.{declared_status, respond_out, confirm_out, declared_err}
+use Rattle.scj_cli.specs.FaultLists.{fault_list}
 use Rattle.scj_cli.specs.Jobs.{sources_among, plan_among}
 use Rattle.scj_cli.specs.Outcomes.{Outcome, ComesTo, run_status, run_out, run_err, gen_out}
 use Rattle.scj_cli.specs.Reports.{report_text}
@@ -50,6 +58,21 @@ pub data Answer : Option Job → List (List ℕ) → Status → List ℕ → Lis
   generated : {contents : List (List ℕ)} {size : ℕ} {outcome : Outcome} →
       ComesTo (source_of size ∷ []) (plan_of size) outcome →
       Answer (Some (Gen size)) contents (run_status outcome) (gen_out size outcome) (run_err outcome)
+  responded : {plan text : List ℕ} →
+      Answer (Some (Respond plan)) (text ∷ []) (declared_status (declared_of_text text))
+      (respond_out (declared_of_text text)) (declared_err (declared_of_text text))
+  confirmed : {plan text : List ℕ} →
+      Answer (Some (Confirm plan)) (text ∷ []) (declared_status (declared_of_text text))
+      (confirm_out (declared_of_text text)) (declared_err (declared_of_text text))
+  faults_of_none : {names contents : List (List ℕ)} {found : List Found} →
+      0 < length found → IsReportOf contents found →
+      Answer (Some (Faults names)) contents Refused (report_text names found) []
+  faults_listed : {names contents : List (List ℕ)} {forest : Forest} {faults : List CertainFault} →
+      IsReportOf contents [] → Reads contents forest → IsFaultReport (code_of forest) faults →
+      Answer (Some (Faults names)) contents Done (fault_list names faults) []
+  audited : {plan trace plan_text trace_text : List ℕ} →
+      Answer (Some (Audit plan trace)) (trace_text ∷ plan_text ∷ []) (audit_status (meaning_of_text plan_text))
+      (audit_out trace_text (meaning_of_text plan_text)) (audit_err (meaning_of_text plan_text))
 
 -- two answers are the same
 pub record IsSameAnswer (status : Status) (out err : List ℕ) (status_again : Status)

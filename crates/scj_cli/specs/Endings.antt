@@ -10,7 +10,7 @@ use Rattle.scj_tree.specs.Forest.{Forest}
 use Rattle.scj_model.specs.Plan.{Plan}
 use Rattle.plain_machine.specs.Runs.{PutPart, trace_text}
 use Rattle.command_line.specs.Job.{Job, Run}
-use Rattle.scj_cli.specs.Jobs.{files_of, sources_among, plan_among, file_limit}
+use Rattle.scj_cli.specs.Jobs.{files_of, sources_among, plan_among, limits_of}
 use Rattle.scj_cli.specs.Outcomes.{ComesTo, Ran}
 use Rattle.scj_cli.specs.Answers.{Answer}
 
@@ -29,19 +29,19 @@ pub data IsAmong (name : List ℕ) : List (List ℕ) → Type 0 where
   here : {names : List (List ℕ)} → IsAmong name (name ∷ names)
   later : {other : List ℕ} {names : List (List ℕ)} → IsAmong name names → IsAmong name (other ∷ names)
 
--- the contents, each within the limit, may be what stands under the names
-pub data MayStand (shelf : ShelfRun) : List (List ℕ) → List (List ℕ) → Type 0 where
-  none : MayStand shelf [] []
+-- the contents, each within the limit of its name, may be what stands under the names
+pub data MayStand (shelf : ShelfRun) (limits : List ℕ → ℕ) : List (List ℕ) → List (List ℕ) → Type 0 where
+  none : MayStand shelf limits [] []
   next : {name content : List ℕ} {names contents : List (List ℕ)} →
-      MayHold (shelf.held name) content → length content ≤ file_limit →
-      MayStand shelf names contents → MayStand shelf (name ∷ names) (content ∷ contents)
+      MayHold (shelf.held name) content → length content ≤ limits name →
+      MayStand shelf limits names contents → MayStand shelf limits (name ∷ names) (content ∷ contents)
 
--- the loads get as far as the name: contents within the limit may be what is held under each name before it
-pub data IsReached (held : List ℕ → Held) (name : List ℕ) : List (List ℕ) → Type 0 where
-  first : {names : List (List ℕ)} → IsReached held name (name ∷ names)
+-- the loads get as far as the name: contents within its limit may be what is held under each name before it
+pub data IsReached (held : List ℕ → Held) (limits : List ℕ → ℕ) (name : List ℕ) : List (List ℕ) → Type 0 where
+  first : {names : List (List ℕ)} → IsReached held limits name (name ∷ names)
   behind : {other : List ℕ} {names : List (List ℕ)} (content : List ℕ) →
-      MayHold (held other) content → length content ≤ file_limit →
-      IsReached held name names → IsReached held name (other ∷ names)
+      MayHold (held other) content → length content ≤ limits other →
+      IsReached held limits name names → IsReached held limits name (other ∷ names)
 
 -- a load of the name failed
 abbrev pub IsUnread : ShelfRun → List ℕ → Type 0
@@ -60,13 +60,14 @@ memory_line = codes "scj: memory\n"
 -- files may have, or for one of the three other causes; of files that can't be had the first of the job is told
 pub data Comes (job : Option Job) (shelf : ShelfRun) : Status → List ℕ → List ℕ → Type 0 where
   answered : {contents : List (List ℕ)} {status : Status} {out err : List ℕ} →
-      MayStand shelf (files_of job) contents → Answer job contents status out err →
+      MayStand shelf (limits_of job) (files_of job) contents → Answer job contents status out err →
       Comes job shelf status out err
   unread : {name : List ℕ} →
-      IsReached shelf.held name (files_of job) → IsUnread shelf name →
+      IsReached shelf.held (limits_of job) name (files_of job) → IsUnread shelf name →
       Comes job shelf ReadFault [] (read_line name)
   overlong : {name : List ℕ} →
-      IsReached shelf.held name (files_of job) → MayExceed (shelf.held name) file_limit → file_limit < shelf.most name →
+      IsReached shelf.held (limits_of job) name (files_of job) → MayExceed (shelf.held name) (limits_of job name) →
+      limits_of job name < shelf.most name →
       Comes job shelf TooLong [] (too_long_line name)
   out_of_memory :
       Comes job shelf NoMemory [] memory_line
@@ -92,11 +93,11 @@ pub data Ends (call : Call) : Status → Type 0 where
       Comes call.job call.shelf status out err → PutWhole call.out out → PutFront call.err err →
       Ends call WriteFault
   cut_short : {contents : List (List ℕ)} →
-      MayStand call.shelf (files_of call.job) contents → IsCutShort call.out call.job contents →
+      MayStand call.shelf (limits_of call.job) (files_of call.job) contents → IsCutShort call.out call.job contents →
       PutWhole call.err memory_line →
       Ends call NoMemory
   cut_short_untold : {contents : List (List ℕ)} →
-      MayStand call.shelf (files_of call.job) contents → IsCutShort call.out call.job contents →
+      MayStand call.shelf (limits_of call.job) (files_of call.job) contents → IsCutShort call.out call.job contents →
       PutFront call.err memory_line →
       Ends call WriteFault
 
@@ -106,12 +107,12 @@ pub record IsCalm (call : Call) : Type 0 where
   pub out : Rose call.out.faults_before call.out.faults_after → ⊥
   pub err : Rose call.err.faults_before call.err.faults_after → ⊥
 
--- the contents, each within the limit, are what is told of the names
-pub data AreTold (held : List ℕ → Held) : List (List ℕ) → List (List ℕ) → Type 0 where
-  none : AreTold held [] []
+-- the contents, each within the limit of its name, are what is told of the names
+pub data AreTold (held : List ℕ → Held) (limits : List ℕ → ℕ) : List (List ℕ) → List (List ℕ) → Type 0 where
+  none : AreTold held limits [] []
   next : {name content : List ℕ} {names contents : List (List ℕ)} →
-      held name ≡ Told content → length content ≤ file_limit →
-      AreTold held names contents → AreTold held (name ∷ names) (content ∷ contents)
+      held name ≡ Told content → length content ≤ limits name →
+      AreTold held limits names contents → AreTold held limits (name ∷ names) (content ∷ contents)
 
 -- the call ends with the answer on these contents, or for want of memory, in a run also in its midst
 pub data EndsBy (call : Call) (contents : List (List ℕ)) : Status → Type 0 where
@@ -122,15 +123,16 @@ pub data EndsBy (call : Call) (contents : List (List ℕ)) : Status → Type 0 w
   by_memory_in_run : IsCutShort call.out call.job contents → PutWhole call.err memory_line →
       EndsBy call contents NoMemory
 
--- where the files are told and within the limit and nothing fails, the call ends with the answer
+-- where the files are told and within their limits and nothing fails, the call ends with the answer
 abbrev pub IsExact : Call → Status → Type 0
-IsExact call status = (contents : List (List ℕ)) → AreTold call.shelf.held (files_of call.job) contents → IsCalm call →
+IsExact call status = (contents : List (List ℕ)) →
+    AreTold call.shelf.held (limits_of call.job) (files_of call.job) contents → IsCalm call →
     EndsBy call contents status
 
--- where a file is told to be longer than the limit and nothing fails, that is told
+-- where a file is told to be longer than its limit and nothing fails, that is told
 abbrev pub IsLongExactly : Call → Status → Type 0
 IsLongExactly call status = (name content : List ℕ) → IsAmong name (files_of call.job) →
-    call.shelf.held name ≡ Told content → file_limit < length content → IsCalm call →
+    call.shelf.held name ≡ Told content → limits_of call.job name < length content → IsCalm call →
     (status ≡ TooLong) ⊎ (status ≡ NoMemory)
 
 -- the statuses that no contents of an absent file give

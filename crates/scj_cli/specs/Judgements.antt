@@ -7,6 +7,7 @@ use Rattle.scj_tree.specs.Forest.{Forest}
 use Rattle.scj_model.specs.Plan.{Plan}
 use Rattle.run_plan.specs.PlanOf.{Refusal as PlanRefusal, Meaning, refused}
 use Rattle.plain_machine.specs.Runs.{PutPart, trace_text}
+use Rattle.response_times.specs.DeclaredOf.{DeclaredMeaning, refused as no_rows}
 use Rattle.scj_cli.specs.Outcomes.{ComesTo, Reported, Unplanned, Ran, plan_line, run_status}
 use Rattle.scj_cli.specs.Reports.{report_text}
 use Rattle.scj_cli.specs.declared.refusals.Refusal.{Refusal}
@@ -22,6 +23,13 @@ RefusesPlan meaning (refusal.Unplanned line) =
     (why : PlanRefusal) × (meaning ≡ refused why) × (string_bytes line ≡ plan_line why)
 RefusesPlan meaning refusal.OutOfMemory = Unit {0}
 RefusesPlan meaning _ = ⊥
+
+-- the refusal tells why the text has no declared rows
+abbrev pub RefusesDeclared : DeclaredMeaning → Refusal → Type 0
+RefusesDeclared meaning (refusal.Unplanned line) =
+    (why : PlanRefusal) × (meaning ≡ no_rows why) × (string_bytes line ≡ plan_line why)
+RefusesDeclared meaning refusal.OutOfMemory = Unit {0}
+RefusesDeclared meaning _ = ⊥
 
 -- the report, or what runs with the names of its files
 abbrev pub IsJudged : List (List ℕ) → List (List ℕ) → List ℕ → Judged → Type 0

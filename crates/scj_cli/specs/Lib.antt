@@ -1,5 +1,8 @@
 pub mod Answers
+pub mod Audits
+pub mod DeclaredRows
 pub mod Endings
+pub mod FaultLists
 pub mod Jobs
 pub mod Judgements
 pub mod Modes

@@ -6,7 +6,7 @@ use Rattle.scj_io.specs.Loads.{ShelfRun}
 use Rattle.scj_io.specs.Puts.{SinkRun, PutWhole, PutFront}
 use Rattle.command_line.specs.Job.{Job}
 use Rattle.scj_cli.specs.Answers.{Answer}
-use Rattle.scj_cli.specs.Jobs.{files_of}
+use Rattle.scj_cli.specs.Jobs.{files_of, limits_of}
 use Rattle.scj_cli.specs.Endings.{Comes, MayStand, IsCutShort}
 use Rattle.scj_cli.specs.Refusals.{status_of, line_of}
 use Rattle.scj_cli.specs.declared.refusals.Refusal.{Refusal}
@@ -30,7 +30,7 @@ pub data Stops (job : Option Job) (shelf : ShelfRun) (out : SinkRun) : Stop → 
       Comes job shelf status text [] → PutFront out text →
       Stops job shelf out Broken
   cut_short : {contents : List (List ℕ)} →
-      MayStand shelf (files_of job) contents → IsCutShort out job contents →
+      MayStand shelf (limits_of job) (files_of job) contents → IsCutShort out job contents →
       Stops job shelf out (Told OutOfMemory)
 
 -- the refusals of a judgement of the job over these contents

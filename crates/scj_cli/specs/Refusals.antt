@@ -6,7 +6,6 @@ use Rattle.scj_cli.specs.declared.refusals.Refusal.{Refusal}
 use Rattle.scj_cli.specs.declared.refusals.Refusal.TheVariants.{Usage, Unread, Overlong, Unplanned, OutOfMemory}
 use Rattle.scj_cli.specs.Answers.{usage_line}
 use Rattle.scj_io.specs.Loads.{ShelfRun, MayExceed}
-use Rattle.scj_cli.specs.Jobs.{file_limit}
 use Rattle.scj_cli.specs.Endings.{memory_line, read_line, too_long_line, IsReached, IsUnread}
 
 abbrev pub status_of : Refusal → Status
@@ -23,21 +22,21 @@ line_of (Overlong line) = string_bytes line
 line_of (Unplanned line) = string_bytes line
 line_of OutOfMemory = memory_line
 
--- the refusals of a load of the name
-abbrev pub RefusesLoad : ShelfRun → List ℕ → Refusal → Type 0
-RefusesLoad shelf name Usage = ⊥
-RefusesLoad shelf name (Unread line) = IsUnread shelf name × (string_bytes line ≡ read_line name)
-RefusesLoad shelf name (Overlong line) = MayExceed (shelf.held name) file_limit × (file_limit < shelf.most name) ×
+-- the refusals of a load of the name within the limit
+abbrev pub RefusesLoad : ShelfRun → ℕ → List ℕ → Refusal → Type 0
+RefusesLoad shelf limit name Usage = ⊥
+RefusesLoad shelf limit name (Unread line) = IsUnread shelf name × (string_bytes line ≡ read_line name)
+RefusesLoad shelf limit name (Overlong line) = MayExceed (shelf.held name) limit × (limit < shelf.most name) ×
     (string_bytes line ≡ too_long_line name)
-RefusesLoad shelf name (Unplanned line) = ⊥
-RefusesLoad shelf name OutOfMemory = Unit {0}
+RefusesLoad shelf limit name (Unplanned line) = ⊥
+RefusesLoad shelf limit name OutOfMemory = Unit {0}
 
--- the refusals of the loads of the names, one after the other
-abbrev pub RefusesLoads : ShelfRun → List (List ℕ) → Refusal → Type 0
-RefusesLoads shelf names Usage = ⊥
-RefusesLoads shelf names (Unread line) = (name : List ℕ) × IsReached shelf.held name names ×
-    RefusesLoad shelf name (Unread line)
-RefusesLoads shelf names (Overlong line) = (name : List ℕ) × IsReached shelf.held name names ×
-    RefusesLoad shelf name (Overlong line)
-RefusesLoads shelf names (Unplanned line) = ⊥
-RefusesLoads shelf names OutOfMemory = Unit {0}
+-- the refusals of the loads of the names, one after the other, each within its limit
+abbrev pub RefusesLoads : ShelfRun → (List ℕ → ℕ) → List (List ℕ) → Refusal → Type 0
+RefusesLoads shelf limits names Usage = ⊥
+RefusesLoads shelf limits names (Unread line) = (name : List ℕ) × IsReached shelf.held limits name names ×
+    RefusesLoad shelf (limits name) name (Unread line)
+RefusesLoads shelf limits names (Overlong line) = (name : List ℕ) × IsReached shelf.held limits name names ×
+    RefusesLoad shelf (limits name) name (Overlong line)
+RefusesLoads shelf limits names (Unplanned line) = ⊥
+RefusesLoads shelf limits names OutOfMemory = Unit {0}

@@ -7,9 +7,13 @@ ghost use Rattle.command_line.specs.Job.{job_of};
 ghost use Rattle.scj_cli.specs.Modes.{IsAnswered, Stops, Tells};
 ghost use Rattle.scj_cli.specs.Endings.{Ends, call_of, IsExact, IsLongExactly, IsNeverAbsent};
 
+use crate::audits::audit;
 use crate::checks::check;
+use crate::confirmations::confirm;
+use crate::faults::faults;
 use crate::gens::run_generated;
 use crate::refusals::{Refusal, Stop};
+use crate::responses::respond;
 use crate::runs::run;
 use crate::shows::show;
 use command_line::{Job, WordsAnswer, read_words};
@@ -96,6 +100,10 @@ fn answer<H: Shelf, K: Sink>(
             let status = run_generated(alloc, size, out)?;
             Ok(status)
         }
+        Ok(Job::Respond { plan }) => respond(alloc, &plan, shelf, out),
+        Ok(Job::Confirm { plan }) => confirm(alloc, &plan, shelf, out),
+        Ok(Job::Faults { sources }) => faults(alloc, &sources, shelf, out),
+        Ok(Job::Audit { plan, trace }) => audit(alloc, &plan, &trace, shelf, out),
         Err(WordsAnswer::Usage) => Err(Stop::Told(Refusal::Usage)),
         Err(WordsAnswer::Memory) => Err(Stop::Told(Refusal::OutOfMemory)),
     }

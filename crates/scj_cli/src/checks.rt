@@ -5,15 +5,14 @@ ghost use Rattle.scj_io.specs.Loads.{ShelfGoes, shelf_run};
 ghost use Rattle.scj_io.specs.Puts.{sink_run};
 ghost use Rattle.command_line.specs.Job.{Check};
 ghost use Rattle.scj_check.specs.Texts.{texts_of};
-ghost use Rattle.scj_base.specs.declared.statuses.Status.TheVariants.{Done, Refused};
+ghost use Rattle.scj_base.specs.declared.statuses.Status.TheVariants.{Done};
 ghost use Rattle.scj_cli.specs.Answers.{Answer, accepted_line};
-ghost use Rattle.scj_cli.specs.Reports.{report_text};
 ghost use Rattle.scj_cli.specs.Modes.{IsAnswered, Stops, RefusesForm};
 
 use crate::loads::load_all;
 use crate::refusals::{Refusal, Stop};
-use crate::reports::report;
-use scj_base::{Found, Status};
+use crate::told::{Told, refused};
+use scj_base::Status;
 use scj_check::{Sources, Verdict};
 use scj_io::{Shelf, Sink, put_all};
 use std::alloc::{AllocError, Global};
@@ -41,13 +40,6 @@ pub fn check<H: Shelf, K: Sink>(
     Ok(told.status)
 }
 
-// What a check answers.
-#[derive(Drop)]
-struct Told {
-    status: Status,
-    text: String,
-}
-
 // The answer on the contents of the files.
 fn judge(alloc: Global, names: &[String], sources: &Sources) -> Result<Told, Refusal>
     ensures ok { IfOk result
@@ -68,18 +60,6 @@ fn accepted(alloc: Global) -> Result<Told, AllocError>
     let text = String::from_str(alloc, "accepted\n")?;
     Ok(Told {
         status: Status::Done,
-        text,
-    })
-}
-
-fn refused(alloc: Global, names: &[String], found: &[Found]) -> Result<Told, AllocError>
-    ensures { IfOk result
-        (λ told. (told.status ≡ Refused) ×
-        (string_bytes told.text ≡ report_text (map string_bytes names.now) found.now)) }
-{
-    let text = report(alloc, names, found)?;
-    Ok(Told {
-        status: Status::Refused,
         text,
     })
 }

@@ -1,8 +1,12 @@
 //! The top call of the checker: words in, text on two sinks and a status out.
 #![tactic(auto)]
 
+mod audits;
 mod calls;
 mod checks;
+mod confirmations;
+mod fault_lists;
+mod faults;
 mod gens;
 mod kept_traces;
 pub mod laws;
@@ -10,9 +14,11 @@ mod loads;
 mod plan_refusals;
 mod refusals;
 mod reports;
+mod responses;
 mod runnables;
 mod runs;
 mod shows;
 mod summaries;
+mod told;
 
 pub use calls::scj;

@@ -1,11 +1,16 @@
-//! The texts of plans, read, and what is told of one that is no plan.
+//! The texts of plans and of declared rows, read, and what is told of one that is none.
 
-ghost use Rattle.std.specs.Prelude.{◌≡◌, IfOk, IfErr, Err};
-ghost use Rattle.run_plan.specs.PlanOf.{Meaning, meaning_of_text, plan};
+ghost use Rattle.std.specs.Prelude.{◌≡◌, IfOk, IfErr, Err, string_bytes};
+ghost use Rattle.run_plan.specs.PlanOf.{Meaning, meaning_of_text, plan, not_toml, bad_key, bad_value};
 ghost use Rattle.run_plan.specs.Answers.{TellsMeaning};
-ghost use Rattle.scj_cli.specs.Judgements.{RefusesPlan};
+ghost use Rattle.response_bounds.specs.Rows.{AreDeclared};
+ghost use Rattle.response_times.specs.DeclaredOf.{DeclaredMeaning, declared_of_text, declared};
+ghost use Rattle.response_times.specs.Answers.{TellsDeclared};
+ghost use Rattle.scj_cli.specs.Judgements.{RefusesPlan, RefusesDeclared};
+ghost use Rattle.scj_cli.specs.Outcomes.{plan_line};
 
 use crate::refusals::Refusal;
+use response_times::{DeclaredError, DeclaredFile, read_declared};
 use run_plan::{Plan, PlanAnswer, read_plan};
 use std::alloc::{AllocError, Global};
 
@@ -26,20 +31,59 @@ fn refusal_of(alloc: Global, answer: &PlanAnswer) -> Result<Refusal, AllocError>
         (λ refusal. (meaning : Meaning) → TellsMeaning meaning (Err answer.now) → RefusesPlan meaning refusal) }
 {
     match answer {
-        PlanAnswer::NotToml => {
-            let line = String::from_str(alloc, "scj: plan not toml\n")?;
-            Ok(Refusal::Unplanned(line))
-        }
-        PlanAnswer::BadKey(key) => {
-            let key = &key.0;
-            let line = format!(in alloc; "scj: plan bad key {key}\n")?;
-            Ok(Refusal::Unplanned(line))
-        }
-        PlanAnswer::BadValue(key) => {
-            let key = &key.0;
-            let line = format!(in alloc; "scj: plan bad value {key}\n")?;
-            Ok(Refusal::Unplanned(line))
-        }
+        PlanAnswer::NotToml => Ok(Refusal::Unplanned(not_toml(alloc)?)),
+        PlanAnswer::BadKey(key) => Ok(Refusal::Unplanned(bad_key(alloc, &key.0)?)),
+        PlanAnswer::BadValue(key) => Ok(Refusal::Unplanned(bad_value(alloc, &key.0)?)),
         PlanAnswer::Memory => Ok(Refusal::OutOfMemory),
     }
+}
+
+/// The declared rows that a text is, with the bounds that it claims for them.
+pub fn declared_in(alloc: Global, text: &[u8]) -> Result<DeclaredFile, Refusal>
+    ensures ok { IfOk result (λ file. declared_of_text text.now ≡ declared file.rows file.claimed) }
+    ensures rows { IfOk result (λ file. AreDeclared file.rows) }
+    ensures refusal { IfErr result (λ refusal. RefusesDeclared (declared_of_text text.now) refusal) }
+{
+    match read_declared(alloc, text) {
+        Ok(file) => Ok(file),
+        Err(error) => Err(refusal_of_rows(alloc, &error)?),
+    }
+}
+
+/// What is told of a text that has no declared rows.
+fn refusal_of_rows(alloc: Global, error: &DeclaredError) -> Result<Refusal, AllocError>
+    ensures { IfOk result
+        (λ refusal. (meaning : DeclaredMeaning) → TellsDeclared meaning (Err error.now) →
+        RefusesDeclared meaning refusal) }
+{
+    match error {
+        DeclaredError::NotToml => Ok(Refusal::Unplanned(not_toml(alloc)?)),
+        DeclaredError::BadKey(key) => Ok(Refusal::Unplanned(bad_key(alloc, &key.0)?)),
+        DeclaredError::BadValue(key) => Ok(Refusal::Unplanned(bad_value(alloc, &key.0)?)),
+        DeclaredError::Memory => Ok(Refusal::OutOfMemory),
+    }
+}
+
+/// The line of a text that isn't TOML.
+#[tactic(auto, unfolding(crate::specs::Outcomes::plan_line))]
+fn not_toml(alloc: Global) -> Result<String, AllocError>
+    ensures { IfOk result (λ line. string_bytes line ≡ plan_line not_toml) }
+{
+    String::from_str(alloc, "scj: plan not toml\n")
+}
+
+/// The line of a wrong key.
+#[tactic(auto, unfolding(crate::specs::Outcomes::plan_line))]
+fn bad_key(alloc: Global, key: &str) -> Result<String, AllocError>
+    ensures { IfOk result (λ line. string_bytes line ≡ plan_line (bad_key key.now)) }
+{
+    format!(in alloc; "scj: plan bad key {key}\n")
+}
+
+/// The line of a wrong value.
+#[tactic(auto, unfolding(crate::specs::Outcomes::plan_line))]
+fn bad_value(alloc: Global, key: &str) -> Result<String, AllocError>
+    ensures { IfOk result (λ line. string_bytes line ≡ plan_line (bad_value key.now)) }
+{
+    format!(in alloc; "scj: plan bad value {key}\n")
 }

@@ -40,7 +40,8 @@ fn finding_text(alloc: Global, names: &[String], found: Found) -> Result<String,
     format!(in alloc; "{file}:{line}:{col}: {rule} {text}\n")
 }
 
-fn file_name(names: &[String], file: u8) -> &str
+/// The name of the file of this number.
+pub fn file_name(names: &[String], file: u8) -> &str
     ensures { result.now ≡ slice_index_or (map string_bytes names.now) file [] }
 {
     match names.get(file as usize) {

@@ -1,4 +1,5 @@
-//! Programs that are run by their plans, and of each run all that it put and its status.
+//! Programs that are run by their plans, and of each run all that it put and its status. Each trace is audited by its
+//! plan, and what is answered is printed where it isn't `yes`.
 //!
 //! The table begins with short forms: a line `$X TEXT` says for which text `$X` stands below, X being a letter or a
 //! digit. A case begins with a line `== NAME`. Below it, `-- FILE` begins a file of the case, whose lines follow; the
@@ -8,7 +9,7 @@
 mod cases;
 mod short_forms;
 
-use crate::calls::Ending;
+use crate::calls::{Ending, parted};
 use case_tables::Stop;
 use cases::Case;
 use short_forms::ShortForms;
@@ -72,5 +73,17 @@ fn print<W: Write>(alloc: Global, case: &mut Case, to: &mut W) -> Result<(), Sto
     to.write_all(ending.out.taken())?;
     to.write_all(ending.err.taken())?;
     writeln!(to, "status {}", ending.status.code())?;
+    audit(alloc, case, ending.out.taken(), to)
+}
+
+// Audits what the run of a case put, and prints an answer that isn't `yes`.
+fn audit<W: Write>(alloc: Global, case: &mut Case, trace: &[u8], to: &mut W) -> Result<(), Stop> {
+    case.shelf.add("trace", trace)?;
+    let words = parted(alloc, "audit --plan plan.toml trace")?;
+    let ending = Ending::with_room(alloc, &words, &mut case.shelf)?;
+    if ending.out.taken() != b"yes\n".as_slice() {
+        to.write_all(ending.out.taken())?;
+        to.write_all(ending.err.taken())?;
+    }
     Ok(())
 }

@@ -5,6 +5,7 @@ use Rattle.scj_io.specs.Loads.{shelf_run}
 use Rattle.scj_check.specs.Texts.{texts_of}
 use Rattle.scj_cli.specs.Endings.{IsReached, MayStand}
 use Rattle.scj_cli.specs.Endings.MayStand.{none}
+use Rattle.scj_cli.specs.Jobs.{one_limit}
 use Rattle.scj_cli.proofs.LoadLaws.{goes_by, goes_then, reached_at, refused_later, stands_more, one_more_source, held_first}
 use Rattle.scj_cli.proofs.loads.load_all.Goals as goal
 
@@ -20,7 +21,7 @@ returns-in_err-bytes-clause-refusal g c =
     reached_at (shelf_run held faults faults faults) string_bytes c.args.names.now c.loop-name.name-index
     c.name-item.result
     (texts_of c.loop-name.sources) c.loop-name-test.true (c.loop-name.invariant.1 faults faults faults) in
-    let reached : IsReached held c.deref.result.now (map string_bytes c.args.names.now) =
+    let reached : IsReached held one_limit c.deref.result.now (map string_bytes c.args.names.now) =
     rw (c.deref.ensures, c.name-item.is) at in
     rw (p.1, p.2) (refused_later _ _ _ _ _ _ _ _ _ _ _ c.loop-name.invariant.0 reached c.in_err-bytes.ensures.refusal)
 
@@ -44,6 +45,6 @@ returns-clause-ok g c =
     let faults_now = g.H.Shelf.faults c.loop-name.shelf in
     let most = g.H.Shelf.most c.loop-name.shelf in
     subst (λ names. MayStand (shelf_run (g.H.Shelf.held c.args.shelf.now) faults faults_now most)
-    (map string_bytes names) (texts_of c.loop-name.sources))
+    one_limit (map string_bytes names) (texts_of c.loop-name.sources))
     (take_all c.loop-name.name-index c.args.names.now c.loop-name-test.false)
     (c.loop-name.invariant.1 faults faults_now most)

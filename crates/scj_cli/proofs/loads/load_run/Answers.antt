@@ -7,7 +7,7 @@ use Rattle.scj_cli.proofs.loads.load_run.Goals as goal
 pub returns-in_err-sources-clause-refusal : goal.returns-in_err-sources-clause-refusal
 returns-in_err-sources-clause-refusal g c =
     let p = err_from_is_err_and c.from_residual.result c.from_residual.ensures.1 in
-    rw (p.1, p.2) (refused_before _ _ _ _ c.in_err-sources.ensures.refusal)
+    rw (p.1, p.2) (refused_before _ _ _ _ _ c.in_err-sources.ensures.refusal)
 
 pub returns-in_err-plan-clause-goes : goal.returns-in_err-plan-clause-goes
 returns-in_err-plan-clause-goes g c = ShelfGoes-then c.load_all.ensures.goes c.load.ensures.goes

@@ -4,7 +4,7 @@ use Rattle.std.proofs.lemmas.Iterator.{YieldsList-from_slice}
 use Rattle.std.proofs.lemmas.Iterator.Search.{all_from_yields_List}
 use Rattle.std.proofs.lemmas.List.Folds.{list_all-map}
 use Rattle.command_line.specs.Job.{is_file_name}
-use Rattle.command_line.proofs.modes.are_file_names.Goals as goal
+use Rattle.command_line.proofs.given.are_file_names.Goals as goal
 
 pub returns : goal.returns
 returns c =

@@ -1,0 +1,165 @@
+#!/usr/bin/env python3
+"""Compares what a program answers in the modes audit, respond, confirm and faults with the slow versions beside this file.
+
+    compare_modes.py PROGRAM audit      each trace of the table `runs` with its plan, and each with a line removed,
+                                        doubled, swapped with its neighbour, and changed in a number
+    compare_modes.py PROGRAM responses  2,000 files of rows, made from a seed, with bounds that are claimed
+    compare_modes.py PROGRAM faults     the programs of the table `runs`, each with two literals replaced
+
+PROGRAM is called as `./scj` is. It prints how many answers were compared, and each that is another one; the exit
+status is then 1. It is no part of the gate.
+"""
+import pathlib
+import random
+import re
+import subprocess
+import sys
+import tempfile
+
+import phrases
+import slow_audit
+import slow_faults
+import slow_machine
+import slow_responses
+import table_files
+import tomllib
+
+SEED = 20261201
+ROW_FILES = 2000
+LITERALS = ["0", "1", "28", "29", "255", "256", "300", "999000", "999001", "1000000", "(- 1)", "2147483647"]
+
+
+def cases():
+    """The cases of the table `runs`: a name, its files by their names, its plan and the trace that is expected."""
+    wanted = dict(part.split("\n", 1) for part in table_files.read("stdout", "runs").split("== ")[1:])
+    for part in phrases.whole(table_files.read("stdin", "runs")).split("\n== ")[1:]:
+        name, _, rest = part.partition("\n")
+        files = dict(piece.split("\n", 1) for piece in ("\n" + rest).split("\n-- ")[1:])
+        files = {file: text if text.endswith("\n") else text + "\n" for file, text in files.items()}
+        plan = files.pop("plan.toml")
+        trace = wanted[name].rsplit("status", 1)[0]
+        yield name, files, plan, trace
+
+
+class Comparison:
+    """Calls of a program in a folder of its own, counted, and the answers that are others."""
+
+    def __init__(self, program):
+        self.program = str(pathlib.Path(program).resolve())
+        self.folder = pathlib.Path(tempfile.mkdtemp())
+        self.count, self.others = 0, 0
+
+    def put(self, name, content):
+        data = content if isinstance(content, bytes) else content.encode()
+        (self.folder / name).write_bytes(data)
+
+    def call(self, *words):
+        return subprocess.run([self.program, *words], cwd=self.folder, capture_output=True, text=True).stdout
+
+    def compare(self, what, answer, wanted):
+        self.count += 1
+        if answer != wanted:
+            self.others += 1
+            print(f"{what}: {answer!r} and not {wanted!r}")
+
+    def end(self):
+        print(f"{self.count} answers compared, {self.others} are others")
+        return 1 if self.others else 0
+
+
+def changed(chance, lines):
+    """The lines with one removed, doubled, swapped with its neighbour, or changed in a number."""
+    at = chance.randrange(len(lines))
+    yield "removed", lines[:at] + lines[at + 1 :]
+    yield "doubled", lines[: at + 1] + lines[at:]
+    if len(lines) > 1:
+        at = chance.randrange(len(lines) - 1)
+        yield "swapped", lines[:at] + [lines[at + 1], lines[at]] + lines[at + 2 :]
+    at = chance.randrange(len(lines))
+    numbers = list(re.finditer(rb"[0-9]+", lines[at]))
+    if numbers:
+        number = chance.choice(numbers)
+        other = str(max(0, int(number[0]) + chance.choice([-1, 1, 2]))).encode()
+        yield "renumbered", lines[:at] + [lines[at][: number.start()] + other + lines[at][number.end() :]] + lines[at + 1 :]
+
+
+def audits(comparison):
+    chance = random.Random(SEED)
+    for name, _, plan, trace in cases():
+        comparison.put("plan.toml", plan)
+        read = tomllib.loads(plan)
+        lines = trace.encode().splitlines(keepends=True)
+        for what, text in [("whole", lines), *changed(chance, lines)]:
+            text = b"".join(text)
+            comparison.put("trace", text)
+            wanted = "yes" if what == "whole" else slow_audit.audit(read, text)
+            if what == "whole":
+                assert slow_audit.audit(read, text) == "yes", name
+            comparison.compare(f"{name}, {what}", comparison.call("audit", "--plan", "plan.toml", "trace"), wanted + "\n")
+
+
+def rows_of(chance):
+    size = chance.choice([1, 2, 3, 5, 8, 20])
+    longest = chance.choice([10, 100, 1000])
+    for _ in range(size):
+        priority, cost = chance.randint(1, 28), chance.randint(1, longest)
+        gap = cost * chance.randint(1, 4 * size) + chance.randint(0, longest)
+        yield {
+            "priority": priority,
+            "cost": cost,
+            "gap": gap,
+            "section": chance.randint(0, cost),
+            "ceiling": chance.randint(priority, 28),
+        }
+
+
+def responses(comparison):
+    chance = random.Random(SEED)
+    for number in range(ROW_FILES):
+        rows = list(rows_of(chance))
+        for place, row in enumerate(rows):
+            bound = slow_responses.least(rows, place)
+            row["bound"] = chance.choice([bound or 0, bound or 0, (bound or 1) - 1, (bound or 0) + 1, row["gap"], 0])
+        text = "version = 1\n"
+        for row in rows:
+            text += "[[handler]]\n" + "".join(f"{key} = {value}\n" for key, value in row.items())
+        comparison.put("rows.toml", text)
+        wanted = "".join(line + "\n" for line in slow_responses.respond(rows))
+        comparison.compare(f"rows {number}", comparison.call("respond", "--plan", "rows.toml"), wanted)
+        comparison.compare(
+            f"claims {number}", comparison.call("confirm", "--plan", "rows.toml"), slow_responses.confirm(rows) + "\n"
+        )
+
+
+def faults(comparison):
+    chance = random.Random(SEED)
+    for name, files, _, _ in cases():
+        for _ in range(2):
+            file = chance.choice(sorted(files))
+            numbers = list(re.finditer(r"(?<![\w.$])[0-9]+(?![\w.])", files[file]))
+            if numbers:
+                number = chance.choice(numbers)
+                text = files[file]
+                files[file] = text[: number.start()] + chance.choice(LITERALS) + text[number.end() :]
+        names = sorted(files)
+        for file in names:
+            comparison.put(file, files[file])
+        try:
+            found = slow_faults.faults([files[file] for file in names])
+        except (slow_machine.Refused, StopIteration, SyntaxError):
+            continue
+        wanted = "".join(f"{names[f]}:{line}:{column}: {fault}\n" for (f, line, column), fault in found)
+        comparison.compare(name, comparison.call("faults", *names), f"{wanted}faults {len(found)}\n")
+
+
+def main():
+    kinds = {"audit": audits, "responses": responses, "faults": faults}
+    if len(sys.argv) != 3 or sys.argv[2] not in kinds:
+        sys.exit(__doc__)
+    comparison = Comparison(sys.argv[1])
+    kinds[sys.argv[2]](comparison)
+    sys.exit(comparison.end())
+
+
+if __name__ == "__main__":
+    main()
