@@ -4,8 +4,7 @@ top=$(cd "$(dirname "${BASH_SOURCE[0]}")/.." && pwd)
 
 # Builds the program, makes the folder, and compiles the framework's stubs for the compiler.
 begin_bench() {
-    "$top/scj" >/dev/null 2>&1
-    [ $? -eq 2 ] || { echo "bench: the program can't be built" >&2; exit 1; }
+    "$top/scj" gen --size 1 >/dev/null 2>&1 || { echo "bench: the program can't be built" >&2; exit 1; }
     program=$top/crates/scj_main/out/rlib/scj_main
     eval "$(grep '^export GLIBC_TUNABLES=' "$top/scj")" # as the program is started by `scj`
     work=$(mktemp -d) || exit 1

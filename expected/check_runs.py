@@ -6,8 +6,8 @@
 
 Each folder in runs/ is a run: plan.toml, the trace (`trace` or `trace.txt`), and the sources. These are the files
 *.java of the folder in the order of their names, or, where there is a file `sources`, those that it names, from the
-top of the repository on. A folder without a plan is passed over. The traces in runs/ were worked out by hand. A file
-is called by its name alone in a trace.
+top of the repository on. A folder without a plan is passed over. The traces in runs/ were worked out by hand. In their
+traces a file is called by its name alone, and in those of other folders by its path as it is found from there.
 """
 import pathlib
 import sys
@@ -31,7 +31,8 @@ def difference(folder):
     paths = sources(folder)
     plan = tomllib.loads((folder / "plan.toml").read_text())
     try:
-        lines = slow_machine.trace([path.name for path in paths], [path.read_text() for path in paths], plan)
+        names = [path.name if folder.parent == HERE / "runs" else str(path) for path in paths]
+        lines = slow_machine.trace(names, [path.read_text() for path in paths], plan)
     except slow_machine.Refused:
         return "its files aren't accepted"
     wanted = next(folder.glob("trace*")).read_text().splitlines()

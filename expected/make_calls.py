@@ -7,7 +7,8 @@
 The runs are those of runs/, whose traces were worked out by hand, and those of the examples that have a plan, whose
 traces stand beside them. The other cases are written here: plans that are refused, plans at each bound, words, and
 what goes wrong outside. What they have to print comes from docs/PLAN.md, by hand; the runs of the programs here are
-short enough to be counted, but for those of 64 handlers and of readings, which the slow machine tells.
+short enough to be counted, but for those of 64 handlers and of readings, which the slow machine tells. The bounds of
+declared rows and what is wrong in a changed trace were worked out by hand, too.
 """
 import pathlib
 import re
@@ -421,10 +422,288 @@ def limits(tables):
         tables.plan(plan, lines, status_of(lines), sources="B.java C.java")
 
 
+# ---- declared rows
+
+
+HANDLER_KEYS = "priority", "cost", "gap", "section", "ceiling", "bound"
+ORDINARY_USE = [(18, 9, 2000, 3, 20), (12, 28, 2000, 4, 20), (10, 9, 2500, 3, 20)]
+ONE_ROW = "version = 1\n[[handler]]\npriority = 5\ncost = 4\ngap = 9\nsection = 2\nceiling = 7\nbound = 4\n"
+
+
+def declared(rows, bounds=()):
+    """The text of rows, each a priority, a cost, a gap, a section and a ceiling, with bounds where they are given."""
+    text = "version = 1\n"
+    for number, row in enumerate(rows):
+        pairs = list(zip(HANDLER_KEYS, row + tuple(bounds[number:number + 1])))
+        text += "[[handler]]\n" + "".join("%s = %d\n" % pair for pair in pairs)
+    return text
+
+
+def responses(tables):
+    def respond(rows, lines):
+        tables.file("rows.toml", declared(rows))
+        tables.call("respond --plan rows.toml", ["%d %s" % pair for pair in enumerate(lines, 1)], 0)
+
+    def confirm(rows, bounds, line):
+        tables.file("rows.toml", declared(rows, bounds))
+        tables.call("confirm --plan rows.toml", [line], 0)
+
+    def bound(units, block, own, other):
+        return "bound %d block %d own %d other %d" % (units, block, own, other)
+    tables.case("respond to the rows of ordinary use, and confirm bounds")
+    respond(ORDINARY_USE, [bound(13, 4, 9, 0), bound(40, 3, 28, 9), bound(46, 0, 9, 37)])
+    for bounds, line in [((13, 40, 46), "yes"), ((13, 39, 46), "no"), ((13, 41, 47), "yes"), ((12, 40, 46), "no"),
+                         ((0, 40, 0), "yes"), ((), "yes"), ((2000, 2000, 2500), "yes"), ((2001, 40, 46), "no"),
+                         ((13, 40, 2501), "no")]:
+        confirm(ORDINARY_USE, bounds, line)
+    tables.case("respond to rows that meet their gap, and to rows that don't")
+    respond([(1, 1, 1, 0, 1)], [bound(1, 0, 1, 0)])
+    respond([(1, 2, 1, 0, 1)], ["none"])
+    confirm([(1, 2, 1, 0, 1)], (0,), "yes")
+    confirm([(1, 2, 1, 0, 1)], (1,), "no")
+    confirm([(1, 2, 1, 0, 1)], (2,), "no")
+    respond([(5, 3, 10, 0, 5), (5, 4, 10, 0, 5)], [bound(7, 0, 3, 4), bound(7, 0, 4, 3)])
+    respond([(5, 3, 6, 0, 5), (5, 4, 10, 0, 5)], ["none", bound(10, 0, 4, 6)])
+    respond([(9, 3, 5, 0, 9), (8, 4, 40, 0, 8)], [bound(3, 0, 3, 0), bound(10, 0, 4, 6)])
+    respond([(9, 3, 5, 0, 9), (8, 4, 10, 0, 8)], [bound(3, 0, 3, 0), bound(10, 0, 4, 6)])
+    respond([(9, 3, 5, 0, 9), (8, 5, 10, 0, 8)], [bound(3, 0, 3, 0), "none"])
+    respond([(2, 10000000, 10000000, 0, 2)], [bound(10000000, 0, 10000000, 0)])
+    respond([(2, 10000000, 9999999, 0, 2)], ["none"])
+    tables.case("respond to rows that may be blocked")
+    respond([(10, 2, 20, 0, 10), (4, 5, 50, 5, 10), (3, 6, 60, 6, 9)],
+            [bound(7, 5, 2, 0), bound(13, 6, 5, 2), bound(13, 0, 6, 7)])
+    respond([(10, 2, 20, 2, 20), (10, 5, 50, 5, 20)], [bound(7, 0, 2, 5), bound(7, 0, 5, 2)])
+    respond([(28, 1, 9, 0, 28), (1, 9, 99, 9, 28)], ["none", bound(11, 0, 9, 2)])
+    tables.case("respond to as many rows as there may be")
+    respond([(1, 1, 64, 0, 1)] * 64, [bound(64, 0, 1, 63)] * 64)
+    respond([(1, 1, 63, 0, 1)] * 64, ["none"] * 64)
+    tables.file("rows.toml", declared([(1, 1, 64, 0, 1)] * 65))
+    tables.call("respond --plan rows.toml", [], 4, "plan bad value handler")
+
+
+def no_rows(tables):
+    """Texts that declare no rows, and which mistake is told."""
+    tables.case("respond to texts that declare no rows")
+
+    def refused(text, told):
+        tables.file("rows.toml", text)
+        tables.call("respond --plan rows.toml", [], 4, "plan " + told)
+        tables.call("confirm --plan rows.toml", [], 4, "plan " + told)
+    for text in "version = 1\nhandler = \n", "version = 1\nversion = 1\n", "\\xff\n", "[[handler]\n":
+        refused(text, "not toml")
+    for text, key in [("", "version"), ("version = 1\n", "handler"), (ONE_ROW.replace("version = 1\n", ""), "version"),
+                      ("rows = 1\n" + ONE_ROW, "rows"), ("units = 1\nversion = 2\n", "units"), (PLAN, "store"),
+                      (ONE_ROW.replace("handler", "Handler"), "Handler")]:
+        refused(text, "bad key " + key)
+    for value in "0", "2", "1.0", '"1"', "true", "[1]":
+        refused(ONE_ROW.replace("version = 1", "version = " + value), "bad value version")
+    for value in "1", '"a"', "[]", "[1]", "{ }", "[{ }]", "[[]]":
+        refused("version = 1\nhandler = %s\n" % value, "bad value handler")
+    for key, values in [("priority", ("0", "29", "-1", "8")), ("cost", ("0", "10000001", "1")),
+                        ("gap", ("0", "10000001", "-1")), ("section", ("-1", "5")), ("ceiling", ("0", "4", "29")),
+                        ("bound", ("-1", "10000001"))]:
+        row = [line for line in ONE_ROW.splitlines() if line.startswith(key)][0]
+        for value in values + ("1.0", '"1"', "true", "[1]", "{ }", "1979-05-27"):
+            refused(ONE_ROW.replace(row, "%s = %s" % (key, value)), "bad value handler")
+        if key != "bound":
+            refused(ONE_ROW.replace(row + "\n", ""), "bad value handler")
+    refused(ONE_ROW + "more = 1\n", "bad value handler")
+    tables.case("respond to rows at their bounds")
+    for key, value, line in [("priority", "1", "bound 4 block 0 own 4 other 0"),
+                             ("priority", "7", "bound 4 block 0 own 4 other 0"),
+                             ("cost", "2", "bound 2 block 0 own 2 other 0"),
+                             ("gap", "10000000", "bound 4 block 0 own 4 other 0"), ("gap", "1", "none"),
+                             ("section", "0", "bound 4 block 0 own 4 other 0"),
+                             ("section", "4", "bound 4 block 0 own 4 other 0"),
+                             ("ceiling", "5", "bound 4 block 0 own 4 other 0"),
+                             ("ceiling", "28", "bound 4 block 0 own 4 other 0"),
+                             ("bound", "10000000", "bound 4 block 0 own 4 other 0")]:
+        row = [text for text in ONE_ROW.splitlines() if text.startswith(key)][0]
+        tables.file("rows.toml", ONE_ROW.replace(row, "%s = %s" % (key, value)))
+        tables.call("respond --plan rows.toml", ["1 " + line], 0)
+
+
+def rows_outside(tables):
+    """Words, and what goes wrong outside."""
+    tables.case("respond with other words, and where a file can't be had", "-- rows.toml", *ONE_ROW.splitlines())
+    tables.file("units.toml", PLAN)
+    tables.line("-* 1048577 long")
+    tables.line("-* 1048576 blank")
+    for mode, line in ("respond", "1 bound 4 block 0 own 4 other 0"), ("confirm", "yes"):
+        for words in "--plan rows.toml", "--plan=rows.toml":
+            tables.call("%s %s" % (mode, words), [line], 0)
+        for words in ("", " rows.toml", " --plan", " --plan=", " --plan rows.toml rows.toml",
+                      " --plan rows.toml --size 5"):
+            tables.call(mode + words, [], 2, "usage")
+        tables.call(mode + " --plan none", [], 5, "read none")
+        tables.call(mode + " --plan long", [], 8, "too long long")
+        tables.call(mode + " --plan blank", [], 4, "plan bad key version")
+        tables.line("! out 1")
+        tables.call(mode + " --plan rows.toml", [], 6)
+        tables.line("! out 2")
+        tables.call(mode + " --plan rows.toml", [line], 0)
+        tables.line("! room %d" % len(line))
+        tables.call(mode + " --plan rows.toml", [], 6)
+        tables.line("! room %d" % ROOM)
+    tables.line("! err 1")
+    tables.call("respond --plan none", [], 6)
+    tables.call("confirm --plan units.toml", [], 6)
+    tables.case("respond, and the load fails", "-- rows.toml", *ONE_ROW.splitlines(), "! load 1", "! load 2")
+    tables.call("respond --plan rows.toml", [], 5, "read rows.toml")
+    tables.call("confirm --plan rows.toml", [], 5, "read rows.toml")
+    tables.call("confirm --plan rows.toml", ["yes"], 0)
+
+
+# ---- faults that are certain
+
+
+def faults(tables):
+    """The programs of faults/, with the faults that were found in them by hand."""
+    for wanted in sorted((HERE / "faults").glob("*.want")):
+        name = wanted.stem + ".java"
+        tables.case("faults of " + name)
+        tables.file(name, (HERE / "faults" / name).read_text())
+        tables.call("faults " + name, wanted.read_text().splitlines(), 0)
+    for folder in sorted((HERE.parent / "examples").glob("broken_*")):
+        name = "examples/" + folder.name
+        paths = ["%s/%s" % (name, path.name) for path in sorted(folder.glob("*.java"))]
+        tables.case("faults of " + name, *("-< " + path for path in paths))
+        found = re.findall(r"^%s/\w+[.]java:\d+:\d+: .*$" % name, (folder / "README.md").read_text(), re.M)
+        tables.call("faults " + " ".join(paths), found + ["refused %d" % len(found)], 1)
+
+
+DIVIDES = "class D { static int f() { return 1 / 0; } }\n"
+
+
+def faults_outside(tables):
+    """Several files, words, and what goes wrong outside."""
+    tables.case("faults of several files", "-< A.java", "-- D.java", *DIVIDES.splitlines())
+    tables.file("E.java", DIVIDES.replace("D", "E").replace("1 / 0", "f() % 0"))
+    tables.file("Q.java", "class Q { int a; int a; }\n")
+    tables.line("-* 1048577 long")
+    divides, takes = "D.java:1:37: DivideByZero", "E.java:1:39: DivideByZero"
+    for words, lines in [("A.java", []), ("A.java D.java", [divides]), ("D.java A.java E.java", [divides, takes]),
+                         ("-- E.java D.java A.java", [takes, divides])]:
+        tables.call("faults " + words, lines + ["faults %d" % len(lines)], 0)
+    tables.call("faults A.java Q.java D.java", ["Q.java:1:22: C4 field twice", "refused 1"], 1)
+    for words in "", " --plan A.java", " --plan A.java D.java", " --size 5 A.java", " " + "A.java " * 16 + "A.java":
+        tables.call("faults" + words, [], 2, "usage")
+    tables.call("faults none A.java", [], 5, "read none")
+    tables.call("faults A.java long none", [], 8, "too long long")
+    tables.line("! room 8")
+    tables.call("faults A.java", [], 6)
+    tables.line("! room 9")
+    tables.call("faults A.java", ["faults 0"], 0)
+    tables.line("! out 1")
+    tables.call("faults A.java", [], 6)
+    tables.call("faults A.java Q.java", [], 6)
+    tables.line("! err 1")
+    tables.call("faults none", [], 6)
+    tables.case("faults, and a load fails", "-< A.java", "-- D.java", *DIVIDES.splitlines(), "! load 2")
+    tables.call("faults A.java D.java", [], 5, "read D.java")
+    tables.call("faults A.java D.java", [divides, "faults 1"], 0)
+
+
+# ---- audits
+
+
+def audits(tables):
+    """The traces that were worked out by hand, but for the longest, and those of the examples pass by their plans."""
+    for folder in sorted((HERE / "runs").iterdir()):
+        trace = (folder / "trace").read_text()
+        if len(trace) > ROOM:
+            continue
+        tables.case("audit " + folder.name)
+        tables.file("plan.toml", (folder / "plan.toml").read_text())
+        tables.file("trace", trace)
+        tables.call("audit --plan plan.toml trace", ["yes"], 0)
+    for plan in sorted((HERE.parent / "examples").glob("*/plan.toml")):
+        folder = "examples/" + plan.parent.name
+        tables.case("audit " + folder, "-< %s/plan.toml" % folder)
+        tables.file("trace", (plan.parent / "trace.txt").read_text())
+        tables.call("audit --plan %s/plan.toml trace" % folder, ["yes"], 0)
+
+
+def changed_traces(tables):
+    """A trace without a line, with one more, or with another one in its place, and the first line that is wrong."""
+    def changed(name, changes):
+        folder = HERE / "runs" / name
+        tables.case("audit changes of " + name)
+        tables.file("plan.toml", (folder / "plan.toml").read_text())
+        for at, count, lines, wrong in changes:
+            trace = (folder / "trace").read_text().splitlines()
+            trace[at - 1:at - 1 + count] = lines
+            tables.file("trace", "".join(line + "\n" for line in trace))
+            tables.call("audit --plan plan.toml trace", ["no %d" % wrong if wrong else "yes"], 0)
+    changed("ends_itself", [
+        (9, 1, [], 12), (9, 0, ["53 drop 1 2"], 10), (9, 1, ["53 drop 1 1"], 9), (14, 1, [], 14), (13, 2, [], 13),
+        (14, 1, ["66 halted"], 0), (15, 0, ["66 done"], 15), (10, 1, ["54 miss K"], 10), (12, 1, [], 12),
+        (12, 1, ["56 end 1 2"], 12), (5, 1, ["50 arrive 1 2"], 5), (2, 1, ["42 register 2 H 7"], 2),
+        (14, 1, ["66 stopped"], 14), (4, 1, [], 4), (11, 1, ["55 print x"], 11), (11, 1, ["55 print x 2"], 0),
+        (1, 14, [], 1)])
+    changed("ceiling", [
+        (9, 0, ["88 run 2 1"], 9), (17, 1, [], 17), (17, 1, ["149 stopped"], 17), (17, 1, ["151 stopped"], 17),
+        (18, 0, ["150 stopped"], 18), (17, 1, ["150 idle"], 17), (5, 1, ["80 arrive 3 1"], 5),
+        (6, 1, ["80 run 2 1"], 6), (6, 1, ["80 idle"], 6), (9, 1, ["87 print n 5"], 9),
+        (13, 1, ["112 end 1 1"], 13), (16, 1, ["114 run 1 1"], 16),
+        (1, 1, ["30 mission Main\\x0d"], 1), (1, 1, ["30  mission Main"], 1), (1, 1, ["030 mission Main"], 1),
+        (1, 1, ["30 mission 1"], 1), (1, 1, [""], 1), (10, 1, [], 10)])
+    tables.case("audit a trace whose last line has no end")
+    for text, line in ("0 stopped\n", "yes"), ("0 stopped", "no 1"), ("", "no 1"), ("\n", "no 1"):
+        tables.file("plan.toml", PLAN.replace("units = 100", "units = 0"))
+        tables.file("trace", text)
+        tables.call("audit --plan plan.toml trace", [line], 0)
+
+
+def audits_outside(tables):
+    """Words, texts that are no plan, limits, and what goes wrong outside."""
+    def begin(what):
+        tables.case("audit " + what)
+        tables.file("plan.toml", PLAN.replace("units = 100", "units = 0"))
+        tables.file("trace", "0 stopped\n")
+    begin("with other words")
+    for words in "--plan plan.toml trace", "trace --plan plan.toml", "--plan=plan.toml -- trace":
+        tables.call("audit " + words, ["yes"], 0)
+    for words in "", " trace", " --plan plan.toml", " --plan plan.toml trace trace", " --plan plan.toml --size 5 trace":
+        tables.call("audit" + words, [], 2, "usage")
+    begin("by no plan")
+    for text, told in ("units = ", "plan not toml"), ("", "plan bad key version"), (ONE_ROW, "plan bad key handler"), (
+            PLAN.replace("100", "-1"), "plan bad value units"):
+        tables.file("bad.toml", text)
+        tables.call("audit --plan bad.toml trace", [], 4, told)
+    tables.call("audit --plan trace trace", [], 4, "plan not toml")
+    begin("what can't be had")
+    for number in 1048576, 1048577, 67108864, 67108865:
+        tables.line("-* %d blanks%d" % (number, number))
+    for words, lines, status, told in [
+            ("plan.toml none", [], 5, "read none"), ("none trace", [], 5, "read none"),
+            ("no_plan none", [], 5, "read none"),
+            ("plan.toml blanks1048577", ["no 1"], 0, None), ("plan.toml blanks67108864", ["no 1"], 0, None),
+            ("plan.toml blanks67108865", [], 8, "too long blanks67108865"),
+            ("none blanks67108865", [], 8, "too long blanks67108865"),
+            ("none blanks67108864", [], 5, "read none"), ("blanks1048577 trace", [], 8, "too long blanks1048577"),
+            ("blanks1048577 none", [], 5, "read none"), ("blanks1048576 trace", [], 4, "plan bad key version"),
+            ("blanks1048576 blanks1048576", [], 4, "plan bad key version"),
+            ("blanks1048577 blanks1048577", [], 8, "too long blanks1048577")]:
+        tables.call("audit --plan " + words, lines, status, told)
+    begin("and a load, a put or the telling fails")
+    tables.line("! load 1")
+    tables.line("! load 3")
+    tables.call("audit --plan plan.toml trace", [], 5, "read trace")
+    tables.call("audit --plan plan.toml trace", [], 5, "read plan.toml")
+    tables.call("audit --plan plan.toml trace", ["yes"], 0)
+    for line in "! room 3", "! out 1":
+        tables.line(line)
+        tables.call("audit --plan plan.toml trace", [], 6)
+    tables.line("! err 1")
+    tables.call("audit --plan plan.toml none", [], 6)
+
+
 def made():
     tables = Tables()
     for part in (hand_made, examples, broken_examples, generated, words, numbers, fires, readings, texts, large,
-                 outside, order, limits):
+                 outside, order, limits, responses, no_rows, rows_outside, faults,
+                 faults_outside, audits, changed_traces, audits_outside):
         part(tables)
     return tables
 
