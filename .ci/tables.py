@@ -130,6 +130,7 @@ def library_plans():
     quiet = "version = 1\nunits = 5\nstore = 8\n"
     fronts = {"WHOLE": "", "VERSIONS": "units = 5\nstore = 8\nversion = ", "UNITS": "version = 1\nstore = 8\nunits = "}
     fronts |= {"STORES": "version = 1\nunits = 5\nstore = ", "FIRES": quiet + "fire = ", "READINGS": quiet + "reading = "}
+    fronts |= {"SECOND_FIRES": quiet.replace("1", "2", 1) + "fire = "}
     for name, front in fronts.items():
         rows = re.search(rf'static {name}: &str = "\\\n(.*?[^\\])";', text, re.S)[1]
         rows = re.sub(r"\\u\{([0-9a-f]+)\}", lambda it: chr(int(it[1], 16)), rows)

@@ -43,6 +43,20 @@ abstract class PeriodicEventHandler {
     public final void register() {}
 }
 
+abstract class OneShotEventHandler {
+    OneShotEventHandler(
+            PriorityParameters priority,
+            RelativeTime time,
+            AperiodicParameters release,
+            StorageParameters storage) {}
+
+    public abstract void handleAsyncEvent();
+
+    public void cleanUp() {}
+
+    public final void register() {}
+}
+
 abstract class AperiodicEventHandler {
     AperiodicEventHandler(
             PriorityParameters priority, AperiodicParameters release, StorageParameters storage) {}

@@ -106,7 +106,8 @@ def never_comes(table, sources):
     for at, row in enumerate(table.get("fire", [])):
         why = sources.fire_fault(row["handler"])
         if row["at"] >= units:
-            why = f"unit {row['at']:,} is past the end, {units:,} units"
+            of = " of a mission" if row.get("from") == "mission" else ""
+            why = f"unit {row['at']:,}{of} is past the end, {units:,} units"
         if why:
             yield f"fire number {at + 1} never arrives: {why}"
     for at, row in enumerate(table.get("reading", [])):

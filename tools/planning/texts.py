@@ -12,16 +12,26 @@ from mending.lexemes import RESERVED
 DEEPEST, ROWS = 80, 10_000
 LAST_UNIT = 9_999_999
 INT = (-2_147_483_648, 2_147_483_647)
-BOUNDS = {"version": (1, 1), "units": (0, 10_000_000), "store": (0, 67_108_864)}
+BOUNDS = {"version": (1, 2), "units": (0, 10_000_000), "store": (0, 67_108_864)}
 ROW_KEYS = {
     "fire": {"at": (0, LAST_UNIT), "handler": None},
     "reading": {"port": (0, 255), "at": (0, LAST_UNIT), "value": INT},
 }
+# What a fire has besides in a plan of version 2, and the words that may stand there.
+FROM = {"from": ("start", "mission")}
+# So many bytes of a key are printed.
+TOLD = 256
 NAME = re.compile(r"[A-Za-z_$][A-Za-z0-9_$]{0,63}")
 
 
 def shown(text):
     return "".join(c if c.isprintable() else "?" for c in str(text))
+
+
+def told(key):
+    """A key as scj tells it, on one line."""
+    data = bytes(63 if byte < 32 or byte == 127 else byte for byte in key.encode()[:TOLD])
+    return data.decode(errors="replace")
 
 
 def listed(names):
@@ -65,12 +75,19 @@ PIECES = re.compile(
 )
 
 
+# Stands for a line feed within braces. No text of TOML has it.
+LINE_FEED = "\0"
+
+
 def as_older(text):
     """A text of TOML 1.1, which scj reads, as one of 1.0, which Python reads: line feeds, comments and a last comma within
     braces, two escapes, times without seconds, the second 60 and the year 0."""
-    made, open_signs, whole = [], [], [-1, -1]
+    if LINE_FEED in text:
+        return text
+    made, open_signs, whole, is_open_text = [], [], [-1, -1], False
     for piece in PIECES.findall(text):
-        within = open_signs[-1:] == ["{"]
+        is_open_text = is_open_text or piece in ('"', "'")
+        within = open_signs[-1:] == ["{"] and not is_open_text
         if piece[0] == '"':
             piece = re.sub(r"\\(x[0-9A-Fa-f]{2}|.)", older_escape, piece, flags=re.S)
         elif piece in ("[", "{"):
@@ -84,14 +101,17 @@ def as_older(text):
         elif piece[0] != "'":
             piece = older_words(piece, within)
         made.append(piece)
-        if piece.strip():
+        if piece.strip(" \t\r\n" + LINE_FEED):
             whole = [whole[1], len(made) - 1]
-    return "".join(made)
+    # a line doesn't end around the `=` and the dots of a pair, also within braces
+    within_pair = re.compile(rf"[=.][ \t{LINE_FEED}]*{LINE_FEED}|{LINE_FEED}[ \t{LINE_FEED}]*[=.]")
+    text = within_pair.sub(lambda found: found[0].replace(LINE_FEED, "\n"), "".join(made))
+    return text.replace(LINE_FEED, " ")
 
 
 def older_words(piece, is_within):
     """Keys, numbers, dates and blanks."""
-    piece = re.sub(r"\r?\n", " ", piece) if is_within else piece
+    piece = re.sub(r"\r?\n", LINE_FEED, piece) if is_within else piece
     piece = re.sub(r"(?<![:\d+-])(\d\d:\d\d)(?![:\d.])", r"\1:00", piece)
     piece = re.sub(r"(\d\d:\d\d):60", r"\1:59", piece)
     return re.sub(r"(^|=)(\s*)0000-(?=\d\d-\d\d)", r"\g<1>\g<2>2000-", piece)
@@ -160,13 +180,13 @@ def number_fault(value, bounds):
 
 
 def kind(value):
-    kinds = {str: "a text", bool: "true or false", list: "an array", dict: "a table"}
+    kinds = {str: "a text", bool: "true or false", list: "an array", dict: "a table", int: "a number", float: "a number"}
     return kinds.get(type(value), "a date or a time")
 
 
 def handler_fault(value):
     if not isinstance(value, str):
-        return f"{kind(value) if not isinstance(value, (int, float)) or isinstance(value, bool) else 'a number'} stands where the name of a class is due"
+        return f"{kind(value)} stands where the name of a class is due"
     if value in RESERVED:
         return f"{value} is a word of the language and no class"
     if not NAME.fullmatch(value):
@@ -174,23 +194,45 @@ def handler_fault(value):
     return None
 
 
+def word_fault(value, words):
+    """Why a value is none of these words."""
+    quoted = " or ".join(f'"{it}"' for it in words)
+    if not isinstance(value, str):
+        return f"{kind(value)} stands where {quoted} is due"
+    return None if value in words else f'"{shown(value)}" isn\'t {quoted}'
+
+
+def keys_of(key, version):
+    """The keys of a row. A fire has one more where the version is the number 2."""
+    return ROW_KEYS[key] | (FROM if key == "fire" and is_number(version) and version == 2 else {})
+
+
 def row_fault(row, keys):
     """Why a row isn't one of these keys."""
     if not isinstance(row, dict):
-        return f"{kind(row) if not is_number(row) else 'a number'} stands where a table with {listed(keys)} is due"
+        return f"{kind(row)} stands where a table with {listed(keys)} is due"
     for it in row:
+        if it not in keys and it in FROM and "handler" in keys:
+            return f"it has a key {it}, which a fire has in a plan of version 2 alone"
         if it not in keys:
             return f"it has a key {shown(it)}, which isn't one of {listed(keys)}{nearest(it, keys)}"
-    for it, bounds in keys.items():
+    for it, wanted in keys.items():
         if it not in row:
-            return f"it has no {it}"
-        why = number_fault(row[it], bounds) if bounds else handler_fault(row[it])
+            return f"it has no {it}" + (", which each fire has in a plan of version 2" if it in FROM else "")
+        why = value_fault(row[it], wanted)
         if why:
             return f"its {it}: {why}"
     return None
 
 
-def rows_fault(key, value):
+def value_fault(value, wanted):
+    """Why a value of a row isn't what is wanted: the name of a class, one of some words, or a number within bounds."""
+    if wanted is None:
+        return handler_fault(value)
+    return word_fault(value, wanted) if isinstance(wanted[0], str) else number_fault(value, wanted)
+
+
+def rows_fault(key, value, version):
     """The number of the first row that is wrong, or none, and why."""
     if isinstance(value, dict):
         return None, f"[{key}] is one table; write [[{key}]] before each row"
@@ -199,7 +241,7 @@ def rows_fault(key, value):
     for at, row in enumerate(value[: ROWS + 1]):
         if at == ROWS:
             return at, f"there are {len(value):,} rows, and {ROWS:,} may be"
-        why = row_fault(row, ROW_KEYS[key])
+        why = row_fault(row, keys_of(key, version))
         if why:
             return at, why
     return None, None
@@ -214,9 +256,9 @@ def verdict(data):
         if key in BOUNDS:
             row, why = None, number_fault(table[key], BOUNDS[key])
         elif key in ROW_KEYS:
-            row, why = rows_fault(key, table[key])
+            row, why = rows_fault(key, table[key], table.get("version"))
         else:
-            return f"bad key {key}", None, f"no plan has this key{nearest(key, [*BOUNDS, *ROW_KEYS])}"
+            return f"bad key {told(key)}", None, f"no plan has this key{nearest(key, [*BOUNDS, *ROW_KEYS])}"
         if why:
             return f"bad value {key}", row, why
     for key in BOUNDS:

@@ -51,8 +51,5 @@ pub fn times_of(start_ms: i32, start_ns: i32, period_ms: i32, period_ns: i32) ->
 {
     let start = units_of(start_ms, start_ns)?;
     let period = units_of(period_ms, period_ns)?;
-    if period == 0 {
-        return None;
-    }
     Some((start, period))
 }

@@ -1,6 +1,6 @@
 -- How the values of the code are seen, and what an answer must be.
 use Rattle.std.specs.Prelude.{◌≡◌, ◌≤◌, length, Result, MatchResult, Option, Some, None, List, map, option_map, string_bytes}
-use Rattle.command_line.specs.Job.{Given as GivenTexts, Job as JobOfWords, Check, Run, Show, Gen, Respond, Confirm, Faults, Audit}
+use Rattle.command_line.specs.Job.{Given as GivenTexts, Job as JobOfWords, Check, Run, Show, Gen, Respond, Confirm, Faults, Audit, Migrate}
 use Rattle.command_line.specs.Sizes.{IsSize}
 use Rattle.command_line.specs.declared.given.Given.{Given}
 use Rattle.command_line.specs.declared.jobs.Job.{Job}
@@ -18,6 +18,7 @@ job_seen (job.Respond plan) = Respond (string_bytes plan)
 job_seen (job.Confirm plan) = Confirm (string_bytes plan)
 job_seen (job.Faults sources) = Faults (map string_bytes sources.items)
 job_seen (job.Audit plan trace) = Audit (string_bytes plan) (string_bytes trace)
+job_seen (job.Migrate plan) = Migrate (string_bytes plan)
 
 -- the job that is wanted is answered, and `Usage` only where none is; memory may run out in both
 abbrev pub AnswersJob : Option JobOfWords → Result Job WordsAnswer → Type 0
@@ -38,6 +39,7 @@ KeepsLimits (job.Respond plan) = Unit {0}
 KeepsLimits (job.Confirm plan) = Unit {0}
 KeepsLimits (job.Faults sources) = IsFew sources.items
 KeepsLimits (job.Audit plan trace) = Unit {0}
+KeepsLimits (job.Migrate plan) = Unit {0}
 
 -- what the command found, as texts
 abbrev pub texts_of : Given → GivenTexts

@@ -10,8 +10,8 @@ use Rattle.command_line.specs.Sizes.{size_of}
 
 -- check the files of these names; run their program by the plan in the file of the first name; show them; generate a
 -- program of this size and run it; bound the responses of the rows in the file of this name; confirm the bounds that
--- stand beside them; list the faults of the files of these names that are certain; or audit, by the plan in the file of
--- the first name, the trace in the file of the other
+-- stand beside them; list the faults of the files of these names that are certain; audit, by the plan in the file of
+-- the first name, the trace in the file of the other; or print the plan in the file of this name as one of version 2
 pub data Job : Type 0 where
   Check : List Text → Job
   Run : Text → List Text → Job
@@ -21,6 +21,7 @@ pub data Job : Type 0 where
   Confirm : Text → Job
   Faults : List Text → Job
   Audit : Text → Text → Job
+  Migrate : Text → Job
 
 -- what the command finds in the words: MODE, FILE of `--plan`, N of `--size` and each SOURCE
 pub record Given : Type 0 where
@@ -99,6 +100,9 @@ unfoldable pub audit_job : Given → Option Job
 audit_job g = if is_some g.size then None
     else option_and_then (λ plan. option_map (Audit plan) (only_source g)) (plan_in g)
 
+unfoldable pub migrate_job : Given → Option Job
+migrate_job g = option_map Migrate (plan_alone g)
+
 -- the job of each mode; there are no other modes
 unfoldable pub job_by_mode : Given → Option Job
 job_by_mode g = if bytes_eq g.mode (codes "check") then check_job g
@@ -108,7 +112,8 @@ job_by_mode g = if bytes_eq g.mode (codes "check") then check_job g
     else (if bytes_eq g.mode (codes "respond") then respond_job g
     else (if bytes_eq g.mode (codes "confirm") then confirm_job g
     else (if bytes_eq g.mode (codes "faults") then faults_job g
-    else (if bytes_eq g.mode (codes "audit") then audit_job g else None)))))))
+    else (if bytes_eq g.mode (codes "audit") then audit_job g
+    else (if bytes_eq g.mode (codes "migrate") then migrate_job g else None))))))))
 
 -- ---- the job of the words
 

@@ -23,6 +23,8 @@ pub enum Job {
     Faults { sources: Vec<String> },
     /// Audit the trace in the file of its name by the plan in the file of its name.
     Audit { plan: String, trace: String },
+    /// Print the plan in the file of this name as one of version 2.
+    Migrate { plan: String },
 }
 
 /// Why words give no job.

@@ -2,7 +2,7 @@
 
 ghost use Rattle.std.specs.Prelude.{◌≡◌, IfOk, map, string_bytes};
 ghost use Rattle.command_line.specs.Answers.{AnswersJob, KeepsLimits, texts_of};
-ghost use Rattle.command_line.specs.Job.{audit_job, check_job, confirm_job, faults_job, gen_job, job_by_mode, respond_job, run_job, show_job};
+ghost use Rattle.command_line.specs.Job.{audit_job, check_job, confirm_job, faults_job, gen_job, job_by_mode, migrate_job, respond_job, run_job, show_job};
 
 use crate::given::{
     Given, only_source, plan_alone, plan_in, size_alone, sources_alone, sources_in,
@@ -25,6 +25,7 @@ pub(crate) fn job_by_mode(alloc: Global, given: &Given<'_, '_>) -> Result<Job, W
         "confirm" => confirm_job(alloc, given),
         "faults" => faults_job(alloc, given),
         "audit" => audit_job(alloc, given),
+        "migrate" => migrate_job(alloc, given),
         _ => Err(WordsAnswer::Usage),
     }
 }
@@ -144,6 +145,19 @@ fn audit_job(alloc: Global, given: &Given<'_, '_>) -> Result<Job, WordsAnswer>
     let plan = String::from_str(alloc, plan)?;
     let trace = String::from_str(alloc, trace)?;
     Ok(Job::Audit { plan, trace })
+}
+
+/// `migrate`: a plan alone.
+#[tactic(auto, unfolding(crate::specs::Job::migrate_job))]
+fn migrate_job(alloc: Global, given: &Given<'_, '_>) -> Result<Job, WordsAnswer>
+    ensures job { AnswersJob (migrate_job (texts_of given.now)) result }
+    ensures limits { IfOk result KeepsLimits }
+{
+    let Some(plan) = plan_alone(given) else {
+        return Err(WordsAnswer::Usage);
+    };
+    let plan = String::from_str(alloc, plan)?;
+    Ok(Job::Migrate { plan })
 }
 
 /// The texts, each as a text of its own.

@@ -12,7 +12,7 @@ use Rattle.scj_model.specs.State.{State}
 use Rattle.scj_model.specs.Registry.{aperiodic_of}
 use Rattle.scj_model.specs.Steps.{Step, silently, telling, for_each}
 use Rattle.scj_model.specs.Apply.{takes_releases, release_taken}
-use Rattle.scj_model.specs.Arrivals.{is_due, numbers_where, handlers_due, due_handlers, fired_handler, fired, fired_at, fires_due, arrivals}
+use Rattle.scj_model.specs.Arrivals.{executes_since, is_due, numbers_where, handlers_due, due_handlers, fired_handler, fired, fired_at, fires_due, arrivals}
 use Rattle.mission_sound.specs.Invariant.{Settled}
 use Rattle.mission_sound.proofs.Arriving.{Takes, is_taken}
 use Rattle.mission_sound.proofs.Rows.{HasRow, placed_row, number_has_row}
@@ -131,5 +131,5 @@ module _ (code : Code) where
   pub arrivals_settle : (plan : Plan) (s : State) → Settled code s → Settled code (arrivals code plan s).state
   unfolding arrivals
   arrivals_settle plan s settled =
-      fires_settled plan.fires (fires_due s.unit plan.fires) (for_each release_taken (due_handlers s) s).state
+      fires_settled plan.fires (fires_due (executes_since s) s.unit plan.fires) (for_each release_taken (due_handlers s) s).state
       (due_taken s settled)

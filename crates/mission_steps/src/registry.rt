@@ -1,14 +1,14 @@
 //! The registry: the handlers of a mission, in the order in which they were registered (JSR 302: ManagedEventHandler).
 
-ghost use Rattle.std.specs.Prelude.{◌≡◌, ◌+◌, ◌==◌, ◌&&◌, not, position, option_map, IfOk};
+ghost use Rattle.std.specs.Prelude.{◌≡◌, ◌+◌, ◌==◌, ◌&&◌, position, option_map, IfOk};
 ghost use Rattle.scj_model.specs.declared.handlers.HandlerRow.{HandlerRow as Row};
 ghost use Rattle.scj_model.specs.Code.{code_of};
-ghost use Rattle.scj_model.specs.Registry.{aperiodic_of, handler_number, handler_row, hidden_number, is_periodic, new_row};
+ghost use Rattle.scj_model.specs.Registry.{aperiodic_of, handler_number, handler_row, has_period, hidden_number, is_aperiodic, kind_by, new_row};
 
 use job_frames::Code;
 use run_memory::Object;
 use scj_base::{ClassId, Memory, Ref};
-use scj_model::HandlerRow;
+use scj_model::{HandlerKind, HandlerRow};
 
 /// The number of the handler at a place of the registry: the numbers begin with 1.
 fn number_at(place: Option<usize>) -> Result<Option<u8>, Memory>
@@ -49,16 +49,27 @@ fn place_of(registry: &[HandlerRow], at: Ref) -> Option<usize>
     None
 }
 
+/// Whether a handler of this kind is aperiodic.
+fn is_aperiodic(kind: HandlerKind) -> bool
+    ensures { result ≡ is_aperiodic kind }
+{
+    match kind {
+        HandlerKind::Periodic => false,
+        HandlerKind::OneShot => false,
+        HandlerKind::Aperiodic => true,
+    }
+}
+
 /// Whether a handler is an aperiodic one of exactly this class.
 fn is_aperiodic_of(row: &HandlerRow, class: ClassId) -> bool
-    ensures { result ≡ (not (is_periodic row.now) && (row.now.class == class)) }
+    ensures { result ≡ (is_aperiodic row.now.kind && (row.now.class == class)) }
 {
-    row.period == 0 && row.class == class
+    is_aperiodic(row.kind) && row.class == class
 }
 
 /// The place of the first aperiodic handler of exactly this class.
 fn place_of_aperiodic(registry: &[HandlerRow], class: ClassId) -> Option<usize>
-    ensures { result ≡ position (λ (row : Row). not (is_periodic row) && (row.class == class)) registry.now }
+    ensures { result ≡ position (λ (row : Row). is_aperiodic row.kind && (row.class == class)) registry.now }
 {
     let mut rest = registry;
     let mut place: usize = 0;
@@ -110,6 +121,29 @@ fn hidden_number(code: &Code<'_>, object: &Object, slot: u32) -> u64
     }
 }
 
+/// Whether a handler of the class has a period.
+#[tactic(auto, unfolding(scj_model::specs::Registry::has_period, scj_model::specs::Code::code_of))]
+fn has_period(code: &Code<'_>, class: ClassId) -> bool
+    ensures { result ≡ has_period (code_of code.now).program class }
+{
+    3 < code.layout().hidden(class)
+}
+
+/// The kind of a handler that has a period of so many units, or has none.
+#[tactic(auto, unfolding(scj_model::specs::Registry::kind_by))]
+fn kind_by(has_period: bool, period: u64) -> HandlerKind
+    ensures { result ≡ kind_by has_period period }
+{
+    if !has_period {
+        return HandlerKind::Aperiodic;
+    }
+    if period == 0 {
+        HandlerKind::OneShot
+    } else {
+        HandlerKind::Periodic
+    }
+}
+
 /// The row of a handler object.
 pub(crate) fn new_row(code: &Code<'_>, at: Ref, object: &Object) -> Result<HandlerRow, Memory>
     ensures { IfOk result (λ row. row ≡ new_row (code_of code.now).program at object.now) }
@@ -118,12 +152,14 @@ pub(crate) fn new_row(code: &Code<'_>, at: Ref, object: &Object) -> Result<Handl
     if priority > 255 {
         return Err(Memory);
     }
+    let period = hidden_number(code, object, 3);
     Ok(HandlerRow {
         at,
         class: object.class(),
         priority: priority as u8,
         start: hidden_number(code, object, 2),
-        period: hidden_number(code, object, 3),
+        period,
         bytes: hidden_number(code, object, 1),
+        kind: kind_by(has_period(code, object.class()), period),
     })
 }

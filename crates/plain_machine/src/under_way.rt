@@ -22,7 +22,7 @@ use unit_steps::{Setting, one_unit};
 pub struct UnderWay {
     /// Its state.
     pub(crate) state: RunState,
-    /// How many fires of the plan are past.
+    /// How many of the plan's fires from the start are past.
     pub(crate) past: usize,
     /// What the last unit told.
     pub(crate) told: Vec<Event>,

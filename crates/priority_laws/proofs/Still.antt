@@ -12,7 +12,7 @@ use Rattle.scj_model.specs.State.{MemoryArea, Activity, State, is_exec, is_open_
 use Rattle.scj_model.specs.Registry.{handler_number, handler_row}
 use Rattle.scj_model.specs.Steps.{Step, for_each, telling}
 use Rattle.scj_model.specs.Apply.{waiting_of, most_waiting, takes_releases, release_taken, released, termination, termination_asked, asks_for_end, dropped_release}
-use Rattle.scj_model.specs.Arrivals.{due_handlers, fired_handler, fired, arrivals, fired_at, fires_due}
+use Rattle.scj_model.specs.Arrivals.{executes_since, due_handlers, fired_handler, fired, arrivals, fired_at, fires_due}
 use Rattle.scj_model.specs.Choice.{handler_priority}
 use Rattle.scj_model.specs.Run.{turn_taken}
 use Rattle.priority_laws.specs.Started.{StartedRelease, started_in, started_at, own_priority}
@@ -147,7 +147,7 @@ unfolding arrivals
 still_arrivals code plan s =
     still_then s (for_each release_taken (due_handlers s) s).state _
     (still_each release_taken still_taken (due_handlers s) s)
-    (still_each (fired_at code plan.fires) (still_fired_at code plan.fires) (fires_due s.unit plan.fires)
+    (still_each (fired_at code plan.fires) (still_fired_at code plan.fires) (fires_due (executes_since s) s.unit plan.fires)
     (for_each release_taken (due_handlers s) s).state)
 
 -- ---- the order stays

@@ -29,7 +29,7 @@ use Rattle.scj_model.specs.Steps.{Step, silently, telling, opening, fault_in, fo
 use Rattle.scj_model.specs.Effects.{new_frame}
 use Rattle.scj_model.specs.Apply.{release_taken}
 use Rattle.scj_model.specs.Sequencer.{innermost, SeqEffect, Continues, TakesSafelet, TakesSequencer, TakesMission, LacksSequencer, LacksMission, BeginsMission, BeginsExecution, SkipsExecution, EndsExecution, ClosesMission, Transition, gone_to, mission_closed, seq_applied, transition_done, after_operation, after_execution, has_started, goes_to, phase_after, place_of_object}
-use Rattle.scj_model.specs.Arrivals.{arrivals, fired, fired_at, fired_handler, due_handlers, fires_due}
+use Rattle.scj_model.specs.Arrivals.{executes_since, arrivals, fired, fired_at, fired_handler, due_handlers, fires_due}
 use Rattle.scj_model.specs.Run.{no_activity, started_with, start_op, first_static, empty_state}
 use Rattle.frame_sound.specs.Places.{world_of}
 use Rattle.reference_sound.specs.References.{IfReference, EachReference, JobHolds, LiesInImmortal, ReferencesHold}
@@ -191,7 +191,7 @@ module _ (code : Code) (base : List ℕ) where
   unfolding arrivals
   arrivals_keep plan s held =
       each_keeps base (fired_at code plan.fires) (λ t place h. at_keeps plan.fires t place h)
-      (fires_due s.unit plan.fires) (for_each release_taken (due_handlers s) s).state
+      (fires_due (executes_since s) s.unit plan.fires) (for_each release_taken (due_handlers s) s).state
       (each_keeps base release_taken (λ t handler h. taken_holds t base h handler) (due_handlers s) s held)
 
 -- ---- the first state

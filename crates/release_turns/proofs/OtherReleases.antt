@@ -20,7 +20,7 @@ use Rattle.scj_model.specs.Steps.{Step, silently, telling, for_each, closed_all,
 use Rattle.scj_model.specs.Effects.{Effect, Goes, Prints, Makes, Stores, StoresStatic, SetsHidden, SetsCeiling, Calls, Opens, Leaves, AsksRegistration, AsksRelease, AsksTermination, Faults, Stuck}
 use Rattle.scj_model.specs.Apply.{is_full, called, opened_in, frame_left, waiting_of, most_waiting, takes_releases, release_taken, registered, released, termination, termination_asked, with_frame, applied, dropped_release, asks_for_end, ceiling_entered}
 use Rattle.scj_model.specs.Sequencer.{innermost}
-use Rattle.scj_model.specs.Arrivals.{due_handlers, fired_handler, fired, arrivals, fired_at, fires_due}
+use Rattle.scj_model.specs.Arrivals.{executes_since, due_handlers, fired_handler, fired, arrivals, fired_at, fires_due}
 use Rattle.scj_model.specs.Run.{frame_op, effect_at, place_of_op, start_op, started_with, no_activity, release_op_of, ref_op}
 use Rattle.priority_laws.proofs.AreaLists.{number_cases, get_changed, get_changed_other}
 
@@ -498,5 +498,6 @@ arrives code plan s =
     let g : Grows s (arrivals code plan s).state =
     grows_then s (for_each release_taken (due_handlers s) s).state _
     (grows_each release_taken grows_taken (due_handlers s) s)
-    (grows_each (fired_at code plan.fires) (grows_fired_at code plan.fires) (fires_due s.unit plan.fires) (for_each release_taken (due_handlers s) s).state) in
+    (grows_each (fired_at code plan.fires) (grows_fired_at code plan.fires) (fires_due (executes_since s) s.unit plan.fires)
+    (for_each release_taken (due_handlers s) s).state) in
     record { releases = g.releases; earlier = g.earlier }

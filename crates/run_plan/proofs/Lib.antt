@@ -1,5 +1,8 @@
 pub mod ByKey
 pub mod FireOrder
+pub mod Members
+pub mod Migrated
+pub mod Names
 pub mod ReadingOrder
 pub mod ReadingSearch
 pub mod Tables

@@ -1,10 +1,13 @@
 -- The orders in which fires and readings are kept beside the plan's, so that they are found quickly.
-use Rattle.std.specs.Prelude.{ℕ, nat_lt, nat_le, ◌==◌, Bool, ◌&&◌, ◌||◌, List, filter, length}
+use Rattle.std.specs.Prelude.{ℕ, nat_lt, nat_le, ◌==◌, Bool, true, false, not, Option, ◌&&◌, ◌||◌, List, filter, length}
 use Rattle.std.specs.List.Sorted.{IsSorted, IsStable}
 use Rattle.std.specs.Ordering.{nat_cmp, ordering_then}
 use Rattle.std.specs.declared.cmp.Ordering.{Ordering}
 use Rattle.scj_model.specs.Plan.{Plan}
+use Rattle.scj_model.specs.Arrivals.{comes_in}
 use Rattle.scj_model.specs.declared.plans.Fire.{Fire}
+use Rattle.scj_model.specs.declared.plans.FireFrom.{FireFrom}
+use Rattle.scj_model.specs.declared.plans.FireFrom.TheVariants.{Start, Mission}
 use Rattle.scj_model.specs.declared.plans.ReadingRow.{ReadingRow}
 
 -- fires by their units
@@ -33,10 +36,21 @@ pub record AreByPort (rows sorted : List ReadingRow) : Type 0 where
 abbrev pub count_before : List Fire → ℕ → ℕ
 count_before fires unit = length (filter (λ (fire : Fire). nat_lt fire.at unit) fires)
 
--- how many of a plan's fires are past when a unit begins
-abbrev pub fires_before : Plan → ℕ → ℕ
-fires_before plan unit = count_before plan.fires unit
+-- the fires that are counted from the start of the run, and those that are counted from the origin of each mission
+abbrev pub is_from_start : FireFrom → Bool
+is_from_start Start = true
+is_from_start Mission = false
 
--- the fires of a unit, in the order of the plan
-abbrev pub fires_of_unit : Plan → ℕ → List Fire
-fires_of_unit plan unit = filter (λ (fire : Fire). fire.at == unit) plan.fires
+abbrev pub from_start : List Fire → List Fire
+from_start fires = filter (λ (fire : Fire). is_from_start fire.from) fires
+
+abbrev pub from_mission : List Fire → List Fire
+from_mission fires = filter (λ (fire : Fire). not (is_from_start fire.from)) fires
+
+-- how many of the fires that a plan counts from the start are past when a unit begins
+abbrev pub fires_before : Plan → ℕ → ℕ
+fires_before plan unit = count_before (from_start plan.fires) unit
+
+-- of the fires those that come in a unit of the run, in their order; of a mission that executes its origin is given
+abbrev pub coming : Option ℕ → ℕ → List Fire → List Fire
+coming origin unit fires = filter (comes_in origin unit) fires

@@ -22,13 +22,18 @@ pub data Meaning : Type 0 where
 
 -- ---- the keys that a plan may have
 
--- whether the value is one that its key may have; none where a plan has no such key
-abbrev pub suits : List ℕ → Data → Option Bool
-suits key value =
-    if bytes_eq key (codes "version") then Some (is_some (number_in 1 1 value))
+-- whether a table says that it is of version 2
+abbrev pub is_second : Members → Bool
+is_second table = is_some (number_at (codes "version") 2 2 table)
+
+-- whether the value is one that its key may have in a table that is of version 2 or isn't; none where a plan has no
+-- such key
+abbrev pub suits : Bool → List ℕ → Data → Option Bool
+suits second key value =
+    if bytes_eq key (codes "version") then Some (is_some (number_in 1 2 value))
     else if bytes_eq key (codes "units") then Some (is_some (number_in 0 most_units value))
     else if bytes_eq key (codes "store") then Some (is_some (number_in 0 largest_store value))
-    else if bytes_eq key (codes "fire") then Some (is_some (rows_in fire_of value))
+    else if bytes_eq key (codes "fire") then Some (is_some (rows_in (fire_of second) value))
     else if bytes_eq key (codes "reading") then Some (is_some (rows_in reading_of value))
     else None
 
@@ -40,9 +45,10 @@ refusal_at key (Some false) = Some (bad_value key)
 refusal_at key (Some true) = None
 
 -- of an unknown key and of a known one with another value, the one that stands first
-abbrev pub first_refusal : Members → Option Refusal
-first_refusal no_members = None
-first_refusal (member key value rest) = or_else (refusal_at key (suits key value)) (first_refusal rest)
+abbrev pub first_refusal : Bool → Members → Option Refusal
+first_refusal second no_members = None
+first_refusal second (member key value rest) =
+    or_else (refusal_at key (suits second key value)) (first_refusal second rest)
 
 -- ---- the plan of a table whose entries are right
 
@@ -56,7 +62,7 @@ abbrev pub rows_at : {Row : Type 0} → (Members → Option Row) → List ℕ �
 rows_at row_of key table = unwrap_or (get_member key table >>= rows_in row_of) []
 
 abbrev pub version_at : Members → Option ℕ
-version_at table = number_at (codes "version") 1 1 table
+version_at table = number_at (codes "version") 1 2 table
 
 abbrev pub units_at : Members → Option ℕ
 units_at table = number_at (codes "units") 0 most_units table
@@ -69,7 +75,7 @@ plan_with units store table =
     record {
       units = units;
       store = store;
-      fires = rows_at fire_of (codes "fire") table;
+      fires = rows_at (fire_of (is_second table)) (codes "fire") table;
       readings = rows_at reading_of (codes "reading") table;
     }
 
@@ -84,7 +90,7 @@ completed table =
 -- ---- what a table and a text mean
 
 unfoldable pub meaning_of : Members → Meaning
-meaning_of table = elim (first_refusal table) [ None ↦ completed table | Some refusal ↦ refused refusal ]
+meaning_of table = elim (first_refusal (is_second table) table) [ None ↦ completed table | Some refusal ↦ refused refusal ]
 
 abbrev pub meaning_of_read : Option Members → Meaning
 meaning_of_read None = refused not_toml

@@ -1,27 +1,40 @@
 -- The rows of a plan: its fires and its readings.
-use Rattle.std.specs.Prelude.{ℕ, ℤ, suc, ◌==◌, nat_le, List, [], ◌∷◌, Option, Some, None, if◌then◌else◌, codes, option_map}
+use Rattle.std.specs.Prelude.{ℕ, ℤ, suc, Bool, true, false, ◌==◌, nat_le, List, [], ◌∷◌, Option, Some, None, if◌then◌else◌, codes, option_map}
 use Rattle.scj_model.specs.declared.plans.Fire.{Fire}
+use Rattle.scj_model.specs.declared.plans.FireFrom.{FireFrom}
+use Rattle.scj_model.specs.declared.plans.FireFrom.TheVariants.{Start}
 use Rattle.scj_model.specs.declared.plans.ReadingRow.{ReadingRow}
 use Rattle.scj_rules.specs.Words.{◌>>=◌}
 use Rattle.toml.specs.Data.{Data, as_array, as_table, Items, no_items, item, Members, no_members, member}
 use Rattle.run_plan.specs.Limits.{last_unit, most_rows, last_port}
-use Rattle.run_plan.specs.Values.{number_at, integer_at, name_at}
+use Rattle.run_plan.specs.Values.{from_at, number_at, integer_at, name_at}
 
 -- how many keys a table has
 abbrev pub key_count : Members → ℕ
 key_count no_members = 0
 key_count (member key value rest) = suc (key_count rest)
 
--- a fire is a table of the keys `at` and `handler`, and of no other
-abbrev pub fire_with : Option ℕ → Option (List ℕ) → Option Fire
-fire_with (Some at) (Some handler) = Some (record { at = at; handler = handler })
-fire_with _ _ = None
+abbrev pub fire_with : Option ℕ → Option (List ℕ) → Option FireFrom → Option Fire
+fire_with (Some at) (Some handler) (Some from) = Some (record { at = at; handler = handler; from = from })
+fire_with _ _ _ = None
 
-abbrev pub fire_of : Members → Option Fire
-fire_of row =
+-- a fire of version 1 is a table of the keys `at` and `handler`, and of no other; it is counted from the start
+abbrev pub first_fire_of : Members → Option Fire
+first_fire_of row =
     if key_count row == 2
-    then fire_with (number_at (codes "at") 0 last_unit row) (name_at (codes "handler") row)
+    then fire_with (number_at (codes "at") 0 last_unit row) (name_at (codes "handler") row) (Some Start)
     else None
+
+-- one of version 2 is a table of the keys `at`, `handler` and `from`, and of no other
+abbrev pub second_fire_of : Members → Option Fire
+second_fire_of row =
+    if key_count row == 3
+    then fire_with (number_at (codes "at") 0 last_unit row) (name_at (codes "handler") row) (from_at (codes "from") row)
+    else None
+
+abbrev pub fire_of : Bool → Members → Option Fire
+fire_of false = first_fire_of
+fire_of true = second_fire_of
 
 -- a reading is a table of the keys `port`, `at` and `value`, and of no other
 abbrev pub reading_with : Option ℕ → Option ℕ → Option ℤ → Option ReadingRow

@@ -4,7 +4,7 @@ ghost use Rattle.std.specs.Prelude.{◌≡◌, ◌≤◌, IfOk};
 ghost use Rattle.toml.specs.View.{table_view, view};
 ghost use Rattle.run_plan.specs.Limits.{KeepsLimits, largest_store, most_units};
 ghost use Rattle.run_plan.specs.Answers.{TellsError, TellsMeaning, TellsWhether};
-ghost use Rattle.run_plan.specs.PlanOf.{completed, first_refusal, meaning_of, meaning_of_text, plan_with, refusal_at, suits};
+ghost use Rattle.run_plan.specs.PlanOf.{completed, first_refusal, is_second, meaning_of, meaning_of_text, plan_with, refusal_at, suits};
 
 use crate::answers::{PlanAnswer, bad_key, bad_value};
 use crate::plans::Plan;
@@ -21,25 +21,33 @@ const MOST_UNITS: u64 = 10_000_000;
 /// The most bytes of the store.
 const LARGEST_STORE: u64 = 67_108_864;
 
-/// Whether the value is one that the key may have; none where no plan has the key.
-fn suits(alloc: Global, key: &str, value: &Value) -> Result<Option<bool>, Memory>
-    ensures { IfOk result (λ suited. suited ≡ suits key.now (view value.now)) }
+/// Whether a table says that it is of version 2.
+fn is_second(table: &Table) -> bool
+    ensures { result ≡ is_second (table_view table.now) }
+{
+    number_at(table, "version", 2, 2).is_some()
+}
+
+/// Whether the value is one that the key may have, in a table that is of version 2 or isn't; none where no plan has the
+/// key.
+fn suits(alloc: Global, second: bool, key: &str, value: &Value) -> Result<Option<bool>, Memory>
+    ensures { IfOk result (λ suited. suited ≡ suits second key.now (view value.now)) }
 {
     match key {
-        "version" => Ok(Some(number_in(value, 1, 1).is_some())),
+        "version" => Ok(Some(number_in(value, 1, 2).is_some())),
         "units" => Ok(Some(number_in(value, 0, MOST_UNITS).is_some())),
         "store" => Ok(Some(number_in(value, 0, LARGEST_STORE).is_some())),
-        "fire" => Ok(Some(fires_in(alloc, value)?.is_some())),
+        "fire" => Ok(Some(fires_in(alloc, second, value)?.is_some())),
         "reading" => Ok(Some(readings_in(alloc, value)?.is_some())),
         _ => Ok(None),
     }
 }
 
 /// Refuses an unknown key, and a value that doesn't suit its key.
-fn judge(alloc: Global, key: &str, value: &Value) -> Result<(), PlanAnswer>
-    ensures { TellsWhether (refusal_at key.now (suits key.now (view value.now))) result }
+fn judge(alloc: Global, second: bool, key: &str, value: &Value) -> Result<(), PlanAnswer>
+    ensures { TellsWhether (refusal_at key.now (suits second key.now (view value.now))) result }
 {
-    match suits(alloc, key, value)? {
+    match suits(alloc, second, key, value)? {
         Some(true) => Ok(()),
         Some(false) => Err(bad_value(alloc, key)),
         None => Err(bad_key(alloc, key)),
@@ -47,11 +55,11 @@ fn judge(alloc: Global, key: &str, value: &Value) -> Result<(), PlanAnswer>
 }
 
 /// Refuses the first entry of the table that is wrong.
-fn judge_all(alloc: Global, table: &Table) -> Result<(), PlanAnswer>
-    ensures { TellsWhether (first_refusal (table_view table.now)) result }
+fn judge_all(alloc: Global, second: bool, table: &Table) -> Result<(), PlanAnswer>
+    ensures { TellsWhether (first_refusal second (table_view table.now)) result }
 {
     for (key, value) in table.iter() {
-        judge(alloc, key.as_str(), value)?;
+        judge(alloc, second, key.as_str(), value)?;
     }
     Ok(())
 }
@@ -61,7 +69,7 @@ fn completed(alloc: Global, table: &Table) -> Result<Plan, PlanAnswer>
     ensures meaning { TellsMeaning (completed (table_view table.now)) result }
     ensures limits { IfOk result KeepsLimits }
 {
-    if number_at(table, "version", 1, 1).is_none() {
+    if number_at(table, "version", 1, 2).is_none() {
         return Err(bad_key(alloc, "version"));
     }
     let Some(units) = number_at(table, "units", 0, MOST_UNITS) else {
@@ -81,7 +89,7 @@ fn plan_with(alloc: Global, units: u64, store: u64, table: &Table) -> Result<Pla
     ensures plan { IfOk result (λ plan. plan ≡ plan_with units store (table_view table.now)) }
     ensures limits { IfOk result KeepsLimits }
 {
-    let fires = fires_at(alloc, table)?;
+    let fires = fires_at(alloc, is_second(table), table)?;
     let readings = readings_at(alloc, table)?;
     Plan::new(alloc, units, store, fires, readings)
 }
@@ -92,7 +100,7 @@ fn plan_of(alloc: Global, table: &Table) -> Result<Plan, PlanAnswer>
     ensures meaning { TellsMeaning (meaning_of (table_view table.now)) result }
     ensures limits { IfOk result KeepsLimits }
 {
-    judge_all(alloc, table)?;
+    judge_all(alloc, is_second(table), table)?;
     completed(alloc, table)
 }
 

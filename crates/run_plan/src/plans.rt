@@ -1,7 +1,7 @@
 //! A plan, as a run asks it.
 
 ghost use Rattle.std.specs.Prelude.{◌≡◌, ◌≤◌, ◌+◌, IfOk, length};
-ghost use Rattle.run_plan.specs.Index.{fires_before, fires_of_unit};
+ghost use Rattle.run_plan.specs.Index.{coming, fires_before};
 ghost use Rattle.run_plan.specs.Limits.{AreFires, AreReadings, KeepsLimits, largest_store, most_rows, most_units};
 
 use crate::fires_by_unit::Fires;
@@ -91,17 +91,25 @@ impl Plan {
         &self.readings
     }
 
-    /// The fires of a unit in the order of the plan, where `past` is the number of those of the units before.
+    /// Fires among which those that come in a unit stand in the order of the plan; `origin` is that of the mission,
+    /// while it executes, and `past` the number that `past_fires` gives of the unit before, at first 0.
     ///
-    /// Whoever goes from unit to unit keeps that number, begins it with 0 at unit 0, and adds the length of each answer
-    /// to it. A call looks at the fires that it gives and at one more, so all units together take no more steps than
-    /// there are units and fires.
-    pub fn fires_due(&self, past: usize, unit: u64) -> &[Fire]
+    /// These are the fires of the unit alone, but where both fires that are counted from the start and fires that are
+    /// counted from the origin come in it: then all of the plan are given.
+    pub fn fires_coming(&self, past: usize, origin: Option<u64>, unit: u64) -> &[Fire]
         requires { past ≡ fires_before self.now unit }
-        ensures due { result.now ≡ fires_of_unit self.now unit }
-        ensures past { past + length result.now ≡ fires_before self.now (unit + 1) }
-        ensures limit { past + length result.now ≤ most_rows }
+        ensures { coming origin unit result.now ≡ coming origin unit self.now.fires }
     {
-        self.fires.due(past, unit)
+        self.fires.coming(past, origin, unit)
+    }
+
+    /// How many of the fires that are counted from the start come before the next unit, where `past` come before this
+    /// one.
+    pub fn past_fires(&self, past: usize, unit: u64) -> usize
+        requires { past ≡ fires_before self.now unit }
+        ensures past { result ≡ fires_before self.now (unit + 1) }
+        ensures limit { result ≤ most_rows }
+    {
+        self.fires.past(past, unit)
     }
 }

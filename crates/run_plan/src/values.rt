@@ -6,10 +6,11 @@ ghost use Rattle.toml.specs.Data.{get_member};
 ghost use Rattle.toml.specs.View.{table_view, view};
 ghost use Rattle.run_plan.specs.Limits.{least_value, greatest_value};
 ghost use Rattle.run_plan.specs.Rows.{key_count};
-ghost use Rattle.run_plan.specs.Values.{integer_at, integer_in, name_at, name_in, number_at, number_in, of_32_bits, within};
+ghost use Rattle.run_plan.specs.Values.{from_at, from_in, from_named, integer_at, integer_in, name_at, name_in, number_at, number_in, of_32_bits, within};
 
 use declaration_steps::scope_names::is_name;
 use scj_base::Name;
+use scj_model::FireFrom;
 use toml::{Table, Value};
 
 /// The number, where it lies between the bounds.
@@ -40,7 +41,7 @@ fn of_32_bits(number: i64) -> Option<i32>
 }
 
 /// The whole number between the bounds that the value is.
-pub(crate) fn number_in(value: &Value, least: u64, greatest: u64) -> Option<u64>
+pub fn number_in(value: &Value, least: u64, greatest: u64) -> Option<u64>
     ensures value { result ≡ number_in least greatest (view value.now) }
     ensures bounds { IfSome result (λ n. (least ≤ n) × (n ≤ greatest)) }
 {
@@ -77,15 +78,36 @@ fn name_in(value: &Value) -> Option<Name>
     }
 }
 
+/// From when the unit of a fire is counted, by a word.
+fn from_named(word: &str) -> Option<FireFrom>
+    ensures { result ≡ from_named word.now }
+{
+    match word {
+        "start" => Some(FireFrom::Start),
+        "mission" => Some(FireFrom::Mission),
+        _ => None,
+    }
+}
+
+/// From when the unit of a fire is counted, by the word that the value is.
+fn from_in(value: &Value) -> Option<FireFrom>
+    ensures { result ≡ from_in (view value.now) }
+{
+    match value.as_str() {
+        Some(word) => from_named(word),
+        None => None,
+    }
+}
+
 /// The value at a key.
-pub(crate) fn value_at<'a>(table: &'a Table, key: &str) -> Option<&'a Value>
+pub fn value_at<'a>(table: &'a Table, key: &str) -> Option<&'a Value>
     ensures { option_map (λ value. view value.now) result ≡ get_member key.now (table_view table.now) }
 {
     table.get(key)
 }
 
 /// The whole number between the bounds at a key.
-pub(crate) fn number_at(table: &Table, key: &str, least: u64, greatest: u64) -> Option<u64>
+pub fn number_at(table: &Table, key: &str, least: u64, greatest: u64) -> Option<u64>
     ensures value { result ≡ number_at key.now least greatest (table_view table.now) }
     ensures bounds { IfSome result (λ n. (least ≤ n) × (n ≤ greatest)) }
 {
@@ -116,8 +138,18 @@ pub(crate) fn name_at(table: &Table, key: &str) -> Option<Name>
     }
 }
 
+/// From when the unit of a fire is counted, by the word at a key.
+pub(crate) fn from_at(table: &Table, key: &str) -> Option<FireFrom>
+    ensures { result ≡ from_at key.now (table_view table.now) }
+{
+    match value_at(table, key) {
+        Some(value) => from_in(value),
+        None => None,
+    }
+}
+
 /// How many keys the table has.
-pub(crate) fn key_count(table: &Table) -> usize
+pub fn key_count(table: &Table) -> usize
     ensures { result ≡ key_count (table_view table.now) }
 {
     table.len()

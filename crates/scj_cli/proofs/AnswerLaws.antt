@@ -1,5 +1,5 @@
--- A job has one answer at most on the contents of its files.
-use Rattle.std.proofs.Common.{◌≡◌, ◌<◌, ℕ, List, [], ◌∷◌, length, Option, refl, sym, ◌∙◌, ap, subst, arith}
+-- A job has one answer at most on the contents of its files, but for the spelling of a migrated plan.
+use Rattle.std.proofs.Common.{◌≡◌, ◌<◌, ℕ, List, [], ◌∷◌, length, Option, Some, refl, sym, ◌∙◌, ap, subst, arith}
 use Rattle.scj_base.specs.declared.statuses.Status.{Status}
 use Rattle.scj_base.specs.declared.findings.Found.{Found}
 use Rattle.scj_tree.specs.Forest.{Forest, forest_of}
@@ -8,14 +8,16 @@ use Rattle.scj_check.proofs.SyntaxLaws.{one_program, one_break_told, program_or_
 use Rattle.scj_check.proofs.VerdictLaws.{one_report_of_texts}
 use Rattle.scj_model.specs.Plan.{Plan}
 use Rattle.run_plan.specs.PlanOf.{Meaning, Refusal, plan, refused as no_plan}
+use Rattle.run_plan.specs.NewTable.{IsTextOf, new_table}
 use Rattle.scj_model.specs.Code.{code_of}
 use Rattle.certain_faults.specs.declared.found.CertainFault.{CertainFault}
 use Rattle.certain_faults.specs.Report.{IsFaultReport}
 use Rattle.certain_faults.proofs.Reports.{one_fault_report}
-use Rattle.command_line.specs.Job.{Job}
-use Rattle.scj_cli.specs.Answers.{Answer, IsSameAnswer, shown_text}
-use Rattle.scj_cli.specs.Answers.Answer.{no_job, refused, accepted, ran, show_unreadable, shown, generated, responded, confirmed, faults_of_none, faults_listed, audited}
-use Rattle.scj_cli.specs.Outcomes.{Outcome, Reported, Unplanned, ComesTo, breaks_rules, has_no_plan, runs, run_status, run_out, run_err, gen_out}
+use Rattle.command_line.specs.Job.{Job, Migrate}
+use Rattle.scj_cli.specs.Answers.{Answer, IsSameAnswer, IsSameText, shown_text}
+use Rattle.scj_cli.specs.Answers.Answer.{no_job, refused, accepted, ran, show_unreadable, shown, generated, responded, confirmed, faults_of_none, faults_listed, audited, not_migrated, migrated}
+use Rattle.scj_cli.specs.Answers.IsSameText.{same, spellings}
+use Rattle.scj_cli.specs.Outcomes.{Outcome, Reported, Unplanned, ComesTo, breaks_rules, has_no_plan, runs, run_status, run_out, run_err, gen_out, plan_line}
 use Rattle.scj_cli.specs.FaultLists.{fault_list}
 use Rattle.scj_cli.specs.Reports.{report_text}
 
@@ -61,12 +63,26 @@ one_outcome (runs none reads is) (has_no_plan none_again is_again) = plan_or_ref
 one_outcome (runs none reads is) (runs none_again reads_again is_again) =
     rw (one_forest _ _ _ reads reads_again, same_plan _ _ _ is is_again) refl
 
-same_outcome : {a b : Outcome} → a ≡ b → (out : Outcome → List ℕ) →
-    IsSameAnswer (run_status a) (out a) (run_err a) (run_status b) (out b) (run_err b)
-same_outcome e out = record { same_status = ap run_status e; same_out = ap out e; same_err = ap run_err e }
+is_same : {job : Option Job} {out again : List ℕ} → out ≡ again → IsSameText job out again
+is_same e = rw e same
 
-same_text : {status : Status} {out again err : List ℕ} → out ≡ again → IsSameAnswer status out err status again err
-same_text e = record { same_status = refl; same_out = e; same_err = refl }
+same_outcome : {job : Option Job} {a b : Outcome} → a ≡ b → (out : Outcome → List ℕ) →
+    IsSameAnswer job (run_status a) (out a) (run_err a) (run_status b) (out b) (run_err b)
+same_outcome e out = record { same_status = ap run_status e; same_out = is_same (ap out e); same_err = ap run_err e }
+
+same_text : {job : Option Job} {status : Status} {out again err : List ℕ} → out ≡ again →
+    IsSameAnswer job status out err status again err
+same_text e = record { same_status = refl; same_out = is_same e; same_err = refl }
+
+same_told : {job : Option Job} {status : Status} {out err again : List ℕ} → err ≡ again →
+    IsSameAnswer job status out err status out again
+same_told e = record { same_status = refl; same_out = same; same_err = e }
+
+same_plan_text : {name : List ℕ} {status : Status} {out again err : List ℕ} {p q : Plan} → p ≡ q →
+    IsTextOf (new_table p) out → IsTextOf (new_table q) again →
+    IsSameAnswer (Some (Migrate name)) status out err status again err
+same_plan_text {p = p} e text text_again =
+    record { same_status = refl; same_out = spellings p text (rw e text_again); same_err = refl }
 
 -- the list of the faults of texts that are read
 one_list : (contents : List (List ℕ)) (forest other : Forest) (faults again : List CertainFault) →
@@ -78,7 +94,8 @@ one_list contents forest other faults again reads reads_again report report_agai
 
 pub one_answer_of : {job : Option Job} {contents : List (List ℕ)} {status status_again : Status}
     {out err out_again err_again : List ℕ} → Answer job contents status out err →
-    Answer job contents status_again out_again err_again → IsSameAnswer status out err status_again out_again err_again
+    Answer job contents status_again out_again err_again →
+    IsSameAnswer job status out err status_again out_again err_again
 one_answer_of no_job no_job = same_text refl
 one_answer_of (refused {names = names} some report) (refused some_again report_again) =
     same_text (ap (λ (found : List Found). report_text names found) (one_report_of_texts report report_again))
@@ -105,3 +122,8 @@ one_answer_of (faults_listed none reads faults) (faults_of_none some report) =
 one_answer_of (faults_listed {names = names} none reads faults) (faults_listed none_again reads_again again) =
     same_text (ap (fault_list names) (one_list _ _ _ _ _ reads reads_again faults again))
 one_answer_of audited audited = same_text refl
+one_answer_of (not_migrated is) (not_migrated is_again) = same_told (ap plan_line (same_refusal _ _ _ is is_again))
+one_answer_of (not_migrated is) (migrated is_again text) = plan_or_refusal _ _ _ is is_again
+one_answer_of (migrated is text) (not_migrated is_again) = plan_or_refusal _ _ _ is_again is
+one_answer_of (migrated is text) (migrated is_again text_again) =
+    same_plan_text (same_plan _ _ _ is is_again) text text_again

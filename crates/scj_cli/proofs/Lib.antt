@@ -5,6 +5,7 @@ pub mod DeclaredLaws
 pub mod EndLaws
 pub mod GenLaws
 pub mod LoadLaws
+pub mod MigrationLaws
 pub mod ReadLaws
 pub mod Rows
 pub mod RunLaws

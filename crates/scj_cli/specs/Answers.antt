@@ -2,23 +2,25 @@
 use Rattle.std.specs.Prelude.{◌≡◌, ℕ, ◌+◌, ◌<◌, List, [], ◌∷◌, ◌++◌, length, codes, Option, Some, None}
 use Rattle.scj_base.specs.declared.findings.Found.{Found}
 use Rattle.scj_base.specs.declared.statuses.Status.{Status}
-use Rattle.scj_base.specs.declared.statuses.Status.TheVariants.{Done, Refused, Usage}
+use Rattle.scj_base.specs.declared.statuses.Status.TheVariants.{Done, Refused, Usage, PlanRefused}
 use Rattle.scj_tree.specs.Forest.{Forest}
 use Rattle.scj_rules.specs.Syntax.{Reads, BreaksSyntax}
 use Rattle.scj_rules.specs.Verdicts.{IsReportOf}
 use Rattle.scj_show.specs.Symbols.{text_of_file}
 use Rattle.source_gen.specs.Generated.{source_of, plan_of}
-use Rattle.command_line.specs.Job.{Job, Check, Run, Show, Gen, Respond, Confirm, Faults, Audit}
+use Rattle.command_line.specs.Job.{Job, Check, Run, Show, Gen, Respond, Confirm, Faults, Audit, Migrate}
 use Rattle.scj_model.specs.Code.{code_of}
+use Rattle.scj_model.specs.Plan.{Plan}
 use Rattle.certain_faults.specs.declared.found.CertainFault.{CertainFault}
 use Rattle.certain_faults.specs.Report.{IsFaultReport}
 use Rattle.response_times.specs.DeclaredOf.{declared_of_text}
-use Rattle.run_plan.specs.PlanOf.{meaning_of_text}
+use Rattle.run_plan.specs.PlanOf.{Refusal, meaning_of_text, plan as means_plan, refused as means_none}
+use Rattle.run_plan.specs.NewTable.{IsTextOf, new_table}
 use Rattle.scj_cli.specs.Audits.{audit_status, audit_out, audit_err}
 use Rattle.scj_cli.specs.DeclaredRows.{declared_status, respond_out, confirm_out, declared_err}
 use Rattle.scj_cli.specs.FaultLists.{fault_list}
 use Rattle.scj_cli.specs.Jobs.{sources_among, plan_among}
-use Rattle.scj_cli.specs.Outcomes.{Outcome, ComesTo, run_status, run_out, run_err, gen_out}
+use Rattle.scj_cli.specs.Outcomes.{Outcome, ComesTo, run_status, run_out, run_err, gen_out, plan_line}
 use Rattle.scj_cli.specs.Reports.{report_text}
 
 abbrev pub usage_line : List ℕ
@@ -73,10 +75,23 @@ pub data Answer : Option Job → List (List ℕ) → Status → List ℕ → Lis
   audited : {plan trace plan_text trace_text : List ℕ} →
       Answer (Some (Audit plan trace)) (trace_text ∷ plan_text ∷ []) (audit_status (meaning_of_text plan_text))
       (audit_out trace_text (meaning_of_text plan_text)) (audit_err (meaning_of_text plan_text))
+  not_migrated : {plan text : List ℕ} {refusal : Refusal} →
+      meaning_of_text text ≡ means_none refusal →
+      Answer (Some (Migrate plan)) (text ∷ []) PlanRefused [] (plan_line refusal)
+  migrated : {plan text again : List ℕ} {p : Plan} →
+      meaning_of_text text ≡ means_plan p → IsTextOf (new_table p) again →
+      Answer (Some (Migrate plan)) (text ∷ []) Done again []
 
--- two answers are the same
-pub record IsSameAnswer (status : Status) (out err : List ℕ) (status_again : Status)
+-- two texts on `out` of a job are the same; or they are two spellings of one migrated plan
+pub data IsSameText : Option Job → List ℕ → List ℕ → Type 0 where
+  same : {job : Option Job} {text : List ℕ} → IsSameText job text text
+  spellings : {plan text again : List ℕ} (p : Plan) →
+      IsTextOf (new_table p) text → IsTextOf (new_table p) again →
+      IsSameText (Some (Migrate plan)) text again
+
+-- two answers of a job are the same, but for the spelling of a migrated plan
+pub record IsSameAnswer (job : Option Job) (status : Status) (out err : List ℕ) (status_again : Status)
     (out_again err_again : List ℕ) : Type 0 where
   pub same_status : status ≡ status_again
-  pub same_out : out ≡ out_again
+  pub same_out : IsSameText job out out_again
   pub same_err : err ≡ err_again

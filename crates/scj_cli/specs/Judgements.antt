@@ -20,14 +20,14 @@ use Rattle.scj_cli.specs.declared.runnables.Judged.TheVariants as judged
 -- the refusal tells why the text of a plan is none
 abbrev pub RefusesPlan : Meaning → Refusal → Type 0
 RefusesPlan meaning (refusal.Unplanned line) =
-    (why : PlanRefusal) × (meaning ≡ refused why) × (string_bytes line ≡ plan_line why)
+    (why : PlanRefusal) × (meaning ≡ refused why) × (line.items ≡ plan_line why)
 RefusesPlan meaning refusal.OutOfMemory = Unit {0}
 RefusesPlan meaning _ = ⊥
 
 -- the refusal tells why the text has no declared rows
 abbrev pub RefusesDeclared : DeclaredMeaning → Refusal → Type 0
 RefusesDeclared meaning (refusal.Unplanned line) =
-    (why : PlanRefusal) × (meaning ≡ no_rows why) × (string_bytes line ≡ plan_line why)
+    (why : PlanRefusal) × (meaning ≡ no_rows why) × (line.items ≡ plan_line why)
 RefusesDeclared meaning refusal.OutOfMemory = Unit {0}
 RefusesDeclared meaning _ = ⊥
 
@@ -43,7 +43,7 @@ IsJudged names texts plan_text (judged.Ready runnable) =
 -- there is no run: the text is no plan, or memory ran out
 abbrev pub RefusesRun : List (List ℕ) → List ℕ → Refusal → Type 0
 RefusesRun texts plan_text (refusal.Unplanned line) =
-    (why : PlanRefusal) × ComesTo texts plan_text (Unplanned why) × (string_bytes line ≡ plan_line why)
+    (why : PlanRefusal) × ComesTo texts plan_text (Unplanned why) × (line.items ≡ plan_line why)
 RefusesRun texts plan_text refusal.OutOfMemory = Unit {0}
 RefusesRun texts plan_text _ = ⊥
 

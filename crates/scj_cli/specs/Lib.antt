@@ -5,6 +5,7 @@ pub mod Endings
 pub mod FaultLists
 pub mod Jobs
 pub mod Judgements
+pub mod Keys
 pub mod Modes
 pub mod Outcomes
 pub mod Refusals

@@ -1,5 +1,5 @@
 -- What a mode leaves behind for the end of the call, which tells what is to be told on `err`.
-use Rattle.std.specs.Prelude.{ℕ, List, [], Option, Some, string_bytes}
+use Rattle.std.specs.Prelude.{ℕ, List, [], Option, Some}
 use Rattle.scj_base.specs.declared.statuses.Status.{Status}
 use Rattle.scj_base.specs.declared.statuses.Status.TheVariants.{WriteFault, PlanRefused}
 use Rattle.scj_io.specs.Loads.{ShelfRun}
@@ -38,7 +38,7 @@ abbrev pub RefusesForm : Job → List (List ℕ) → Refusal → Type 0
 RefusesForm job contents Usage = ⊥
 RefusesForm job contents (Unread line) = ⊥
 RefusesForm job contents (Overlong line) = ⊥
-RefusesForm job contents (Unplanned line) = Answer (Some job) contents PlanRefused [] (string_bytes line)
+RefusesForm job contents (Unplanned line) = Answer (Some job) contents PlanRefused [] line.items
 RefusesForm job contents OutOfMemory = Unit {0}
 
 -- the refusal's line was put whole and its status is the call's, or the put failed

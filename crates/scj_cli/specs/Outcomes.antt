@@ -12,6 +12,7 @@ use Rattle.plain_machine.specs.declared.runs.RunEnd.{RunEnd}
 use Rattle.plain_machine.specs.declared.runs.RunEnd.TheVariants.{Halted}
 use Rattle.plain_machine.specs.Ends.{end_of}
 use Rattle.plain_machine.specs.Runs.{trace_of, trace_text}
+use Rattle.scj_cli.specs.Keys.{shown_key}
 use Rattle.scj_cli.specs.Reports.{report_text}
 use Rattle.scj_cli.specs.Summaries.{summary_text}
 
@@ -50,8 +51,8 @@ run_status (Ran forest p) = status_of_end (end_of (trace_of forest p))
 -- the line that tells why a text is no plan
 unfoldable pub plan_line : Refusal → List ℕ
 plan_line not_toml = codes "scj: plan not toml\n"
-plan_line (bad_key key) = codes "scj: plan bad key " ++ (key ++ codes "\n")
-plan_line (bad_value key) = codes "scj: plan bad value " ++ (key ++ codes "\n")
+plan_line (bad_key key) = codes "scj: plan bad key " ++ (shown_key key ++ codes "\n")
+plan_line (bad_value key) = codes "scj: plan bad value " ++ (shown_key key ++ codes "\n")
 
 -- on `out`, of a run of the files of these names
 abbrev pub run_out : List (List ℕ) → Outcome → List ℕ

@@ -19,7 +19,7 @@ abbrev pub line_of : Refusal → List ℕ
 line_of Usage = usage_line
 line_of (Unread line) = string_bytes line
 line_of (Overlong line) = string_bytes line
-line_of (Unplanned line) = string_bytes line
+line_of (Unplanned line) = line.items
 line_of OutOfMemory = memory_line
 
 -- the refusals of a load of the name within the limit

@@ -12,6 +12,7 @@ use crate::checks::check;
 use crate::confirmations::confirm;
 use crate::faults::faults;
 use crate::gens::run_generated;
+use crate::migrations::migrate;
 use crate::refusals::{Refusal, Stop};
 use crate::responses::respond;
 use crate::runs::run;
@@ -104,6 +105,7 @@ fn answer<H: Shelf, K: Sink>(
         Ok(Job::Confirm { plan }) => confirm(alloc, &plan, shelf, out),
         Ok(Job::Faults { sources }) => faults(alloc, &sources, shelf, out),
         Ok(Job::Audit { plan, trace }) => audit(alloc, &plan, &trace, shelf, out),
+        Ok(Job::Migrate { plan }) => migrate(alloc, &plan, shelf, out),
         Err(WordsAnswer::Usage) => Err(Stop::Told(Refusal::Usage)),
         Err(WordsAnswer::Memory) => Err(Stop::Told(Refusal::OutOfMemory)),
     }
@@ -114,7 +116,7 @@ fn tell<E: Sink>(refusal: &Refusal, err: &mut E) -> Status
     ensures { Tells (sink_run (E.taken err.old) (E.taken err.new) (E.faults err.old) (E.faults err.new)) refusal.now
         result }
 {
-    match put_all(err, refusal.line().as_bytes()) {
+    match put_all(err, refusal.line()) {
         Ok(()) => refusal.status(),
         Err(_) => Status::WriteFault,
     }

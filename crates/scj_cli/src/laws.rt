@@ -8,12 +8,12 @@ ghost use Rattle.scj_rules.specs.Syntax.{Reads};
 ghost use Rattle.scj_show.specs.Reread.{WasReadFrom};
 ghost use Rattle.scj_cli.specs.Answers.{Answer, IsSameAnswer};
 
-/// A job has one answer at most on the contents of its files.
+/// A job has one answer at most on the contents of its files; that of a migrated plan may be spelt in several ways.
 pub fn one_answer()
     ensures { (job : Option Job) (contents : List (List ℕ)) (status status_again : Told)
         (out err out_again err_again : List ℕ) →
         Answer job contents status out err → Answer job contents status_again out_again err_again →
-        IsSameAnswer status out err status_again out_again err_again }
+        IsSameAnswer job status out err status_again out_again err_again }
 {}
 
 /// Each file of a program that was read was read from its text. So `show`, whose text is read as the file wherever the

@@ -1,6 +1,6 @@
 //! The texts of plans and of declared rows, read, and what is told of one that is none.
 
-ghost use Rattle.std.specs.Prelude.{◌≡◌, IfOk, IfErr, Err, string_bytes};
+ghost use Rattle.std.specs.Prelude.{◌≡◌, IfOk, IfErr, Err};
 ghost use Rattle.run_plan.specs.PlanOf.{Meaning, meaning_of_text, plan, not_toml, bad_key, bad_value};
 ghost use Rattle.run_plan.specs.Answers.{TellsMeaning};
 ghost use Rattle.response_bounds.specs.Rows.{AreDeclared};
@@ -9,6 +9,7 @@ ghost use Rattle.response_times.specs.Answers.{TellsDeclared};
 ghost use Rattle.scj_cli.specs.Judgements.{RefusesPlan, RefusesDeclared};
 ghost use Rattle.scj_cli.specs.Outcomes.{plan_line};
 
+use crate::keys::key_line;
 use crate::refusals::Refusal;
 use response_times::{DeclaredError, DeclaredFile, read_declared};
 use run_plan::{Plan, PlanAnswer, read_plan};
@@ -66,24 +67,24 @@ fn refusal_of_rows(alloc: Global, error: &DeclaredError) -> Result<Refusal, Allo
 
 /// The line of a text that isn't TOML.
 #[tactic(auto, unfolding(crate::specs::Outcomes::plan_line))]
-fn not_toml(alloc: Global) -> Result<String, AllocError>
-    ensures { IfOk result (λ line. string_bytes line ≡ plan_line not_toml) }
+fn not_toml(alloc: Global) -> Result<Vec<u8>, AllocError>
+    ensures { IfOk result (λ line. line.items ≡ plan_line not_toml) }
 {
-    String::from_str(alloc, "scj: plan not toml\n")
+    b"scj: plan not toml\n".to_vec(alloc)
 }
 
 /// The line of a wrong key.
 #[tactic(auto, unfolding(crate::specs::Outcomes::plan_line))]
-fn bad_key(alloc: Global, key: &str) -> Result<String, AllocError>
-    ensures { IfOk result (λ line. string_bytes line ≡ plan_line (bad_key key.now)) }
+fn bad_key(alloc: Global, key: &str) -> Result<Vec<u8>, AllocError>
+    ensures { IfOk result (λ line. line.items ≡ plan_line (bad_key key.now)) }
 {
-    format!(in alloc; "scj: plan bad key {key}\n")
+    key_line(alloc, b"scj: plan bad key ", key.as_bytes())
 }
 
 /// The line of a wrong value.
 #[tactic(auto, unfolding(crate::specs::Outcomes::plan_line))]
-fn bad_value(alloc: Global, key: &str) -> Result<String, AllocError>
-    ensures { IfOk result (λ line. string_bytes line ≡ plan_line (bad_value key.now)) }
+fn bad_value(alloc: Global, key: &str) -> Result<Vec<u8>, AllocError>
+    ensures { IfOk result (λ line. line.items ≡ plan_line (bad_value key.now)) }
 {
-    format!(in alloc; "scj: plan bad value {key}\n")
+    key_line(alloc, b"scj: plan bad value ", key.as_bytes())
 }

@@ -17,8 +17,8 @@ pub enum Refusal {
     Unread(String),
     /// A file has more bytes than are read, with the line that says so.
     Overlong(String),
-    /// The text of a plan is none, with the line that says so.
-    Unplanned(String),
+    /// The text of a plan is none, with the line that says so. It may end within a character of a key.
+    Unplanned(Vec<u8>),
     /// There was no memory.
     OutOfMemory,
 }
@@ -38,15 +38,15 @@ impl Refusal {
     }
 
     /// The line, with its end.
-    pub fn line(&self) -> &str
+    pub fn line(&self) -> &[u8]
         ensures { result.now ≡ line_of self.now }
     {
         match self {
-            Refusal::Usage => "scj: usage\n",
-            Refusal::Unread(line) => line.as_str(),
-            Refusal::Overlong(line) => line.as_str(),
-            Refusal::Unplanned(line) => line.as_str(),
-            Refusal::OutOfMemory => "scj: memory\n",
+            Refusal::Usage => b"scj: usage\n",
+            Refusal::Unread(line) => line.as_bytes(),
+            Refusal::Overlong(line) => line.as_bytes(),
+            Refusal::Unplanned(line) => line.as_slice(),
+            Refusal::OutOfMemory => b"scj: memory\n",
         }
     }
 }

@@ -14,7 +14,7 @@ use Rattle.scj_model.specs.State.{State, is_exec, is_over, Turn, IdleTurn, TurnO
 use Rattle.scj_model.specs.Steps.{Step, silently, telling, for_each, then_do, then_try}
 use Rattle.scj_model.specs.Sequencer.{phase_after, after_execution, after_operation, has_started}
 use Rattle.scj_model.specs.Apply.{release_taken, takes_releases}
-use Rattle.scj_model.specs.Arrivals.{handlers_due, fires_due, due_handlers, fired_at, arrivals}
+use Rattle.scj_model.specs.Arrivals.{handlers_due, executes_since, fires_due, due_handlers, fired_at, arrivals}
 use Rattle.scj_model.specs.Choice.{Candidate, candidate, candidates_from, candidates, most_urgent, chosen, by_priority}
 use Rattle.scj_model.specs.Run.{is_same_turn, tell_turn, with_turn, turn_taken, turn_acts, sequencer_turn, acts, next_unit, one_unit, RunSoFar, continued, one_more_unit, run}
 
@@ -30,7 +30,12 @@ pub record IsIdle (s : State) : Type 0 where
 unfoldable pub nothing_due : ℕ → List HandlerRow → List Fire → ℕ → ℕ → Bool
 nothing_due origin registry fires unit zero = true
 nothing_due origin registry fires unit (suc k) =
-    is_empty (handlers_due origin unit registry) && (is_empty (fires_due unit fires) && nothing_due origin registry fires (unit + 1) k)
+    is_empty (handlers_due origin unit registry) && (is_empty (fires_due (Some origin) unit fires) && nothing_due origin registry fires (unit + 1) k)
+
+-- a mission that executes does so since its origin
+since_origin : (s : State) → is_exec s.phase ≡ true → executes_since s ≡ Some s.origin
+unfolding executes_since
+since_origin s h = ap (λ (b : Bool). if b then Some s.origin else None) h
 
 nothing_in : {A : Type 0} (xs : List A) → is_empty xs ≡ true → xs ≡ []
 unfolding is_empty
@@ -45,10 +50,10 @@ none_either_way : (b : Bool) (xs : List ℕ) → xs ≡ [] → (if b then xs els
 none_either_way true xs h = h
 none_either_way false xs h = refl
 
-idle_arrivals : (code : Code) (plan : Plan) (s : State) → handlers_due s.origin s.unit s.registry ≡ [] → fires_due s.unit plan.fires ≡ [] → arrivals code plan s ≡ silently s
+idle_arrivals : (code : Code) (plan : Plan) (s : State) → handlers_due s.origin s.unit s.registry ≡ [] → fires_due (executes_since s) s.unit plan.fires ≡ [] → arrivals code plan s ≡ silently s
 unfolding arrivals due_handlers for_each
 idle_arrivals code plan s h f =
-    ap (λ (xs : List ℕ). then_do (for_each release_taken xs s) (for_each (fired_at code plan.fires) (fires_due s.unit plan.fires)))
+    ap (λ (xs : List ℕ). then_do (for_each release_taken xs s) (for_each (fired_at code plan.fires) (fires_due (executes_since s) s.unit plan.fires)))
     (none_either_way (takes_releases s) (handlers_due s.origin s.unit s.registry) h)
     ∙ ap (λ (ys : List ℕ). then_do (silently s) (for_each (fired_at code plan.fires) ys)) f
 
@@ -70,7 +75,7 @@ idle_phase code s i =
     ap (λ (b : Bool). if b then after_execution code s else (elim s.outcome as (λ x. Option Step) [ None ↦ Some (silently s) | Some value ↦ after_operation code s value ])) i.executes
     ∙ if_false (s.is_end_asked && not (has_started s)) _ _ (ap (λ (b : Bool). b && not (has_started s)) i.no_end)
 
-idle_unit : (code : Code) (plan : Plan) (s : State) → IsIdle s → handlers_due s.origin s.unit s.registry ≡ [] → fires_due s.unit plan.fires ≡ [] → one_unit code plan by_priority s ≡ Some (silently (next_unit s))
+idle_unit : (code : Code) (plan : Plan) (s : State) → IsIdle s → handlers_due s.origin s.unit s.registry ≡ [] → fires_due (executes_since s) s.unit plan.fires ≡ [] → one_unit code plan by_priority s ≡ Some (silently (next_unit s))
 unfolding one_unit
 idle_unit code plan s i h f =
     ap (λ (a : Step). then_try a (acts code plan.readings by_priority) >>= (λ r. then_try r (phase_after code)) >>= (λ r. Some (telling (next_unit r.state) r.events)))
@@ -93,7 +98,7 @@ run_more code plan n (suc k) =
     let e : n + suc k ≡ suc n + k = omega arith in
     ap (run code plan by_priority) e ∙ run_more code plan (suc n) k
 
-idle_more : (code : Code) (plan : Plan) (s : State) (events : List Event) → IsIdle s → handlers_due s.origin s.unit s.registry ≡ [] → fires_due s.unit plan.fires ≡ [] → one_more_unit code plan by_priority (record { state = s; events = events; is_stuck = false }) ≡ record { state = next_unit s; events = events; is_stuck = false }
+idle_more : (code : Code) (plan : Plan) (s : State) (events : List Event) → IsIdle s → handlers_due s.origin s.unit s.registry ≡ [] → fires_due (executes_since s) s.unit plan.fires ≡ [] → one_more_unit code plan by_priority (record { state = s; events = events; is_stuck = false }) ≡ record { state = next_unit s; events = events; is_stuck = false }
 unfolding one_more_unit continued
 idle_more code plan s events i h f =
     let r : RunSoFar = record { state = s; events = events; is_stuck = false } in
@@ -107,9 +112,10 @@ idle_units code plan zero s events i d =
     let e : s.unit ≡ s.unit + 0 = omega arith in
     ap (λ (u : ℕ). record { state = record s { unit = u }; events = events; is_stuck = false }) e
 idle_units code plan (suc k) s events i d =
-    let h : (is_empty (handlers_due s.origin s.unit s.registry) ≡ true) × ((is_empty (fires_due s.unit plan.fires) && nothing_due s.origin s.registry plan.fires (s.unit + 1) k) ≡ true) = both _ _ d in
-    let f : (is_empty (fires_due s.unit plan.fires) ≡ true) × (nothing_due s.origin s.registry plan.fires (s.unit + 1) k ≡ true) = both _ _ h.1 in
+    let h : (is_empty (handlers_due s.origin s.unit s.registry) ≡ true) × ((is_empty (fires_due (Some s.origin) s.unit plan.fires) && nothing_due s.origin s.registry plan.fires (s.unit + 1) k) ≡ true) = both _ _ d in
+    let f : (is_empty (fires_due (Some s.origin) s.unit plan.fires) ≡ true) × (nothing_due s.origin s.registry plan.fires (s.unit + 1) k ≡ true) = both _ _ h.1 in
     let e : s.unit + 1 + k ≡ s.unit + suc k = omega arith in
-    ap (more_units code plan k) (idle_more code plan s events i (nothing_in _ h.0) (nothing_in _ f.0))
+    ap (more_units code plan k) (idle_more code plan s events i (nothing_in _ h.0)
+    (ap (λ (o : Option ℕ). fires_due o s.unit plan.fires) (since_origin s i.executes) ∙ nothing_in _ f.0))
     ∙ (idle_units code plan k (next_unit s) events (record { executes = i.executes; goes_on = i.goes_on; no_end = i.no_end; nobody = i.nobody; was_idle = i.was_idle }) f.1
     ∙ ap (λ (u : ℕ). record { state = record s { unit = u }; events = events; is_stuck = false }) e)

@@ -20,7 +20,7 @@ use Rattle.scj_model.specs.Steps.{Step, silently, telling, of_release, closed_al
 use Rattle.scj_model.specs.Effects.{Effect, Goes, Prints, Makes, Stores, StoresStatic, SetsHidden, SetsCeiling, Calls, Opens, Leaves, AsksRegistration, AsksRelease, AsksTermination, Faults, Stuck}
 use Rattle.scj_model.specs.Apply.{tell_priority, called, opened_in, frame_left, release_taken, registered, released, termination, termination_asked, applied, is_full, waiting_of, most_waiting, takes_releases, is_sequencer, with_frame, asks_for_end, ceiling_entered}
 use Rattle.scj_model.specs.Sequencer.{innermost, area_opened, safelet_made, body_called, method_called, sequencer_op, after_operation, has_started, after_execution, phase_after, ClosesMission, EndsExecution, Transition, goes_to, seq_applied, transition, transition_done, after_initialize}
-use Rattle.scj_model.specs.Arrivals.{due_handlers, fired_handler, fired, arrivals, fired_at, fires_due}
+use Rattle.scj_model.specs.Arrivals.{executes_since, due_handlers, fired_handler, fired, arrivals, fired_at, fires_due}
 use Rattle.scj_model.specs.Choice.{Policy}
 use Rattle.scj_model.specs.Run.{tell_turn, turn_taken, turn_acts, acts, next_unit, one_unit, empty_state, RunSoFar, has_ended, continued, one_more_unit, run, told_by, frame_op, effect_at, place_of_op, start_op, started_with, no_activity, release_op_of, sequencer_turn, ref_op, is_same_turn}
 use Rattle.scj_model.specs.LastLine.{is_last_line, HasNoLastLine, EndsInLastLine}
@@ -469,7 +469,7 @@ unfolding arrivals
 quiet_arrivals code plan s h =
     let first : IsQuiet (for_each release_taken (due_handlers s) s) = quiet_each release_taken quiet_taken (due_handlers s) s h in
     quiet_behind (for_each release_taken (due_handlers s) s) _ first.no_last
-    (quiet_each (fired_at code plan.fires) (quiet_fired_at code plan.fires) (fires_due s.unit plan.fires) (for_each release_taken (due_handlers s) s).state first.goes_on)
+    (quiet_each (fired_at code plan.fires) (quiet_fired_at code plan.fires) (fires_due (executes_since s) s.unit plan.fires) (for_each release_taken (due_handlers s) s).state first.goes_on)
 
 tells_turn : (s : State) (turn : Turn) → HasNoLastLine (tell_turn s turn)
 unfolding tell_turn is_last_line

@@ -23,7 +23,7 @@ use Rattle.scj_model.specs.Steps.{Step, silently, telling, for_each, closed_all,
 use Rattle.scj_model.specs.Effects.{Effect, Goes, Prints, Makes, Stores, StoresStatic, SetsHidden, SetsCeiling, Calls, Opens, Leaves, AsksRegistration, AsksRelease, AsksTermination, Faults, Stuck}
 use Rattle.scj_model.specs.Apply.{is_full, called, opened_in, returned, frame_left, waiting_of, most_waiting, takes_releases, release_taken, registered, released, termination, termination_asked, with_frame, applied, dropped_release, tell_dropped, asks_for_end, ceiling_entered}
 use Rattle.scj_model.specs.Sequencer.{innermost, area_opened, safelet_made, body_called, method_called, sequencer_op, after_operation, has_started, after_execution, phase_after, BeginsExecution, BeginsMission, ClosesMission, Continues, EndsExecution, LacksMission, LacksSequencer, SeqEffect, SkipsExecution, TakesMission, TakesSafelet, TakesSequencer, Transition, goes_to, gone_to, seq_applied, transition_done}
-use Rattle.scj_model.specs.Arrivals.{due_handlers, fired_handler, fired, arrivals, fired_at, fires_due}
+use Rattle.scj_model.specs.Arrivals.{executes_since, due_handlers, fired_handler, fired, arrivals, fired_at, fires_due}
 use Rattle.scj_model.specs.Choice.{Policy}
 use Rattle.scj_model.specs.Run.{frame_op, effect_at, place_of_op, start_op, started_with, no_activity, release_op_of, sequencer_turn, ref_op, turn_taken, turn_acts, acts, one_unit, empty_state, RunSoFar, has_ended, continued, one_more_unit, run}
 use Rattle.scj_model.specs.Order.{IsOrderly}
@@ -536,7 +536,7 @@ orderly_fired_at code fires s place o = go (slice_get fires place)
 orderly_arrivals : (code : Code) (plan : Plan) (s : State) → IsOrderly s → IsOrderly (arrivals code plan s).state
 unfolding arrivals
 orderly_arrivals code plan s o =
-    orderly_each (fired_at code plan.fires) (orderly_fired_at code plan.fires) (fires_due s.unit plan.fires) (for_each release_taken (due_handlers s) s).state
+    orderly_each (fired_at code plan.fires) (orderly_fired_at code plan.fires) (fires_due (executes_since s) s.unit plan.fires) (for_each release_taken (due_handlers s) s).state
     (orderly_each release_taken orderly_taken (due_handlers s) s o)
 
 -- what an operation leaves, so that the order is kept by what follows

@@ -6,6 +6,7 @@ use Rattle.scj_base.specs.declared.values.Value.{Value}
 use Rattle.scj_base.specs.declared.values.Value.TheVariants.{Int, At}
 use Rattle.scj_model.specs.declared.events.Event.{Event}
 use Rattle.scj_model.specs.declared.events.Event.TheVariants.{Mission, Register, Exec, Arrive, Run, Idle, Prio, Print, End}
+use Rattle.scj_model.specs.declared.handlers.HandlerKind.TheVariants.{Periodic, Aperiodic}
 use Rattle.scj_model.specs.declared.handlers.HandlerRow.{HandlerRow}
 use Rattle.scj_model.specs.declared.operations.SeqOp.TheVariants.{Execute}
 use Rattle.scj_model.specs.declared.phases.Phase.TheVariants.{Exec as InExecution}
@@ -70,9 +71,9 @@ ended handler number = record { handler = handler; number = number; status = End
 
 abbrev handlers : List HandlerRow
 handlers =
-    record { at = 4; class = 21; priority = 18; start = 0; period = 0; bytes = 0 }
-    ∷ record { at = 5; class = 22; priority = 12; start = 0; period = 2000; bytes = 24 }
-    ∷ record { at = 6; class = 23; priority = 10; start = 5; period = 2500; bytes = 0 }
+    record { at = 4; class = 21; priority = 18; start = 0; period = 0; bytes = 0; kind = Aperiodic }
+    ∷ record { at = 5; class = 22; priority = 12; start = 0; period = 2000; bytes = 24; kind = Periodic }
+    ∷ record { at = 6; class = 23; priority = 10; start = 5; period = 2500; bytes = 0; kind = Periodic }
     ∷ []
 
 abbrev idle_at : ℕ → ℕ → List Object → List MemoryArea → List Release → State

@@ -1,13 +1,14 @@
 -- A mission that a release ends: a waiting release is dropped, and a later fire has no effect.
 use Rattle.std.proofs.Common.{◌≡◌, ◌++◌, [], ◌∷◌, refl, codes}
 use Rattle.scj_model.specs.declared.plans.Fire.{Fire}
+use Rattle.scj_model.specs.declared.plans.FireFrom.TheVariants.{Start}
 use Rattle.std.specs.Prelude.{ℕ}
 use Rattle.scj_model.proofs.Computing.{computing_machine}
 use Rattle.scj_model.proofs.Printed.{printed, with_fires}
 use Rattle.scj_model.proofs.ProgramEndsItself.{ends_itself}
 
 abbrev fire : ℕ → Fire
-fire unit = record { at = unit; handler = codes "H" }
+fire unit = record { at = unit; handler = codes "H"; from = Start }
 
 termination :
     printed ends_itself (codes "B.java" ∷ codes "C.java" ∷ []) (with_fires 100 600 (fire 50 ∷ fire 53 ∷ fire 54 ∷ []))

@@ -1,6 +1,7 @@
 -- Private memories: exactly filled, one byte too small, entered by two releases at once, and entered in a cycle.
 use Rattle.std.proofs.Common.{◌≡◌, ◌++◌, [], ◌∷◌, refl, codes}
 use Rattle.scj_model.specs.declared.plans.Fire.{Fire}
+use Rattle.scj_model.specs.declared.plans.FireFrom.TheVariants.{Start}
 use Rattle.std.specs.Prelude.{ℕ}
 use Rattle.scj_model.proofs.Computing.{computing_machine}
 use Rattle.scj_model.proofs.Printed.{printed, with_store, with_fires}
@@ -10,7 +11,7 @@ use Rattle.scj_model.proofs.ProgramTwoHandlers.{two_handlers}
 use Rattle.scj_model.proofs.ProgramScopedCycle.{scoped_cycle}
 
 abbrev fire : ℕ → Fire
-fire unit = record { at = unit; handler = codes "H" }
+fire unit = record { at = unit; handler = codes "H"; from = Start }
 
 memory_exactly_filled :
     printed two_boxes (codes "B.java" ∷ codes "C.java" ∷ []) (with_fires 100 1000 (fire 50 ∷ []))

@@ -1,6 +1,7 @@
 -- As many waiting releases as may wait, and one more; and as many frames as a job may have, and one more.
 use Rattle.std.proofs.Common.{◌≡◌, ◌++◌, [], ◌∷◌, refl, codes}
 use Rattle.scj_model.specs.declared.plans.Fire.{Fire}
+use Rattle.scj_model.specs.declared.plans.FireFrom.TheVariants.{Start}
 use Rattle.std.specs.Prelude.{ℕ, ◌+◌, ◌*◌, List, replicate, decimal, zero, suc}
 use Rattle.scj_model.proofs.Computing.{computing_machine}
 use Rattle.scj_model.proofs.Printed.{printed, with_fires}
@@ -8,7 +9,7 @@ use Rattle.scj_model.proofs.ProgramEmptyHandler.{empty_handler}
 use Rattle.scj_model.proofs.ProgramEndlessCalls.{endless_calls}
 
 abbrev fire : ℕ → Fire
-fire unit = record { at = unit; handler = codes "H" }
+fire unit = record { at = unit; handler = codes "H"; from = Start }
 
 frames_full :
     printed endless_calls (codes "B.java" ∷ codes "C.java" ∷ []) (with_fires 200 600 (fire 50 ∷ []))

@@ -5,12 +5,14 @@ use Rattle.std.proofs.Math.Nat.{mod-eq-sub-div-mul, div-mul-le_self, mul-mod_lef
 use Rattle.std.proofs.lemmas.Bool.Decides.{nat_tests}
 use Rattle.std.proofs.lemmas.List.{append-nil, append_assoc}
 use Rattle.scj_model.specs.declared.events.Event.{Event}
+use Rattle.scj_model.specs.declared.handlers.HandlerKind.{HandlerKind}
+use Rattle.scj_model.specs.declared.handlers.HandlerKind.TheVariants.{Periodic, OneShot, Aperiodic}
 use Rattle.scj_model.specs.declared.handlers.HandlerRow.{HandlerRow}
 use Rattle.scj_model.specs.Code.{Code}
 use Rattle.scj_model.specs.Plan.{Plan}
 use Rattle.scj_model.specs.State.{State}
 use Rattle.scj_model.specs.Steps.{Step, telling}
-use Rattle.scj_model.specs.Arrivals.{is_due}
+use Rattle.scj_model.specs.Arrivals.{is_due, is_due_after}
 use Rattle.scj_model.specs.Choice.{Policy}
 use Rattle.scj_model.specs.Run.{RunSoFar, has_ended, continued, one_more_unit, one_unit, run}
 
@@ -53,32 +55,47 @@ run_grows code plan policy n (suc k) =
 
 -- ---- when a handler is due
 
-abbrev IsDueAfter : ℕ → ℕ → HandlerRow → Type 0
-IsDueAfter origin unit row = (0 < row.period) × ((i : ℕ) × (unit ≡ origin + row.start + i * row.period))
+due_tests : (p x b unit : ℕ) → (not (nat_lt unit b) && (x % p == 0)) ≡ true → (b ≤ unit) × (x % p ≡ 0)
+due_tests p x b unit h = (grind (arith, nat_tests), grind (arith, nat_tests))
 
-due_tests : (p x b unit : ℕ) → (nat_lt 0 p && (not (nat_lt unit b) && (x % p == 0))) ≡ true → (0 < p) × (b ≤ unit) × (x % p ≡ 0)
-due_tests p x b unit h = (grind (arith, nat_tests), grind (arith, nat_tests), grind (arith, nat_tests))
-
-tests_due : (p x b unit : ℕ) → 0 < p → b ≤ unit → x % p ≡ 0 → (nat_lt 0 p && (not (nat_lt unit b) && (x % p == 0))) ≡ true
-tests_due p x b unit h k l = grind (arith, nat_tests)
+tests_due : (p x b unit : ℕ) → b ≤ unit → x % p ≡ 0 → (not (nat_lt unit b) && (x % p == 0)) ≡ true
+tests_due p x b unit k l = grind (arith, nat_tests)
 
 whole_periods : (p x : ℕ) → x % p ≡ 0 → x / p * p ≡ x
 whole_periods p x h = omega (arith, h, mod-eq-sub-div-mul x p, div-mul-le_self x p)
 
-due_after : (origin unit : ℕ) (row : HandlerRow) → is_due origin unit row ≡ true → IsDueAfter origin unit row
-unfolding is_due
-due_after origin unit row h =
-    let b : ℕ = origin + row.start in
-    let t : (0 < row.period) × (b ≤ unit) × ((unit - b) % row.period ≡ 0) = due_tests row.period (unit - b) b unit h in
-    (t.0, ((unit - b) / row.period, omega (arith, t.1, whole_periods row.period (unit - b) t.2)))
+due_after : (first period unit : ℕ) → is_due_after Periodic first period unit ≡ true → (i : ℕ) × (unit ≡ first + i * period)
+unfolding is_due_after
+due_after first period unit h =
+    let t : (first ≤ unit) × ((unit - first) % period ≡ 0) = due_tests period (unit - first) first unit h in
+    ((unit - first) / period, omega (arith, t.0, whole_periods period (unit - first) t.1))
 
-after_due : (origin unit : ℕ) (row : HandlerRow) → IsDueAfter origin unit row → is_due origin unit row ≡ true
-unfolding is_due
-after_due origin unit row h =
-    let b : ℕ = origin + row.start in
-    let e : unit - b ≡ h.1.0 * row.period = omega (arith, h.1.1) in
-    let z : (unit - b) % row.period ≡ 0 = ap (λ (x : ℕ). x % row.period) e ∙ mul-mod_left h.1.0 row.period in
-    tests_due row.period (unit - b) b unit h.0 (omega (arith, h.1.1)) z
+after_due : (first period unit : ℕ) → 0 < period → (i : ℕ) × (unit ≡ first + i * period) → is_due_after Periodic first period unit ≡ true
+unfolding is_due_after
+after_due first period unit p h =
+    let e : unit - first ≡ h.0 * period = omega (arith, h.1) in
+    let z : (unit - first) % period ≡ 0 = ap (λ (x : ℕ). x % period) e ∙ mul-mod_left h.0 period in
+    tests_due period (unit - first) first unit (omega (arith, h.1)) z
 
-pub due : (origin unit : ℕ) (row : HandlerRow) → (is_due origin unit row ≡ true) ↔ IsDueAfter origin unit row
-due origin unit row = (due_after origin unit row, after_due origin unit row)
+-- a handler of the kind is due as one of that kind is
+due_by_kind : (kind : HandlerKind) (origin unit : ℕ) (row : HandlerRow) → row.kind ≡ kind → is_due origin unit row ≡ is_due_after kind (origin + row.start) row.period unit
+unfolding is_due
+due_by_kind kind origin unit row e = ap (λ (k : HandlerKind). is_due_after k (origin + row.start) row.period unit) e
+
+pub periodic_due : (origin unit : ℕ) (row : HandlerRow) → row.kind ≡ Periodic → 0 < row.period → (is_due origin unit row ≡ true) ↔ ((i : ℕ) × (unit ≡ origin + row.start + i * row.period))
+periodic_due origin unit row e p =
+    let same : is_due origin unit row ≡ is_due_after Periodic (origin + row.start) row.period unit = due_by_kind Periodic origin unit row e in
+    (λ h. due_after (origin + row.start) row.period unit (sym same ∙ h), λ h. same ∙ after_due (origin + row.start) row.period unit p h)
+
+one_shot_due_at : (first period unit : ℕ) → (is_due_after OneShot first period unit ≡ true) ↔ (unit ≡ first)
+unfolding is_due_after
+one_shot_due_at first period unit = (λ h. grind (arith, nat_tests), λ h. grind (arith, nat_tests))
+
+pub one_shot_due : (origin unit : ℕ) (row : HandlerRow) → row.kind ≡ OneShot → (is_due origin unit row ≡ true) ↔ (unit ≡ origin + row.start)
+one_shot_due origin unit row e =
+    let same : is_due origin unit row ≡ is_due_after OneShot (origin + row.start) row.period unit = due_by_kind OneShot origin unit row e in
+    (λ h. (one_shot_due_at (origin + row.start) row.period unit).0 (sym same ∙ h), λ h. same ∙ (one_shot_due_at (origin + row.start) row.period unit).1 h)
+
+pub aperiodic_due : (origin unit : ℕ) (row : HandlerRow) → row.kind ≡ Aperiodic → is_due origin unit row ≡ false
+unfolding is_due_after
+aperiodic_due origin unit row e = due_by_kind Aperiodic origin unit row e

@@ -24,7 +24,7 @@ use Rattle.scj_model.specs.Steps.{Step, silently, telling, for_each, closed_all,
 use Rattle.scj_model.specs.Effects.{Effect, Goes, Prints, Makes, Stores, StoresStatic, SetsHidden, SetsCeiling, Calls, Opens, Leaves, AsksRegistration, AsksRelease, AsksTermination, Faults, Stuck}
 use Rattle.scj_model.specs.Apply.{is_full, called, opened_in, frame_left, waiting_of, most_waiting, takes_releases, release_taken, registered, released, termination, termination_asked, with_frame, applied, asks_for_end, ceiling_entered, is_sequencer}
 use Rattle.scj_model.specs.Sequencer.{innermost, area_opened, safelet_made, body_called, method_called, sequencer_op, after_operation, has_started, phase_after, BeginsExecution, BeginsMission, ClosesMission, Continues, EndsExecution, LacksMission, LacksSequencer, SeqEffect, SkipsExecution, TakesMission, TakesSafelet, TakesSequencer, Transition, goes_to, gone_to, seq_applied, transition_done}
-use Rattle.scj_model.specs.Arrivals.{due_handlers, fired_handler, fired, arrivals, fired_at, fires_due}
+use Rattle.scj_model.specs.Arrivals.{executes_since, due_handlers, fired_handler, fired, arrivals, fired_at, fires_due}
 use Rattle.scj_model.specs.Choice.{Policy}
 use Rattle.scj_model.specs.Run.{frame_op, effect_at, place_of_op, start_op, started_with, no_activity, release_op_of, sequencer_turn, ref_op, turn_taken, turn_acts, acts}
 
@@ -322,5 +322,5 @@ keeps_fired_at code fires s place = go (slice_get fires place)
 pub arrivals_keep_unit : (code : Code) (plan : Plan) (s : State) → KeepsUnit s (arrivals code plan s)
 unfolding arrivals
 arrivals_keep_unit code plan s =
-    keeps_each (fired_at code plan.fires) (keeps_fired_at code plan.fires) (fires_due s.unit plan.fires) (for_each release_taken (due_handlers s) s).state
+    keeps_each (fired_at code plan.fires) (keeps_fired_at code plan.fires) (fires_due (executes_since s) s.unit plan.fires) (for_each release_taken (due_handlers s) s).state
     ∙ keeps_each release_taken keeps_taken (due_handlers s) s

@@ -1,6 +1,6 @@
 -- The operations: what each does, as an effect, in the order of its faults (JLS chapters 14 and 15; JSR 302:
 -- ManagedMemory, Services, the event handlers and Mission). In all of these f is the frame without the operation.
-use Rattle.std.specs.Prelude.{ℕ, ◌+◌, ◌*◌, ◌/◌, ◌%◌, ◌==◌, nat_lt, Bool, true, false, not, ◌&&◌, List, [], ◌∷◌, length, slice_get, slice_set, ℤ, pos, negsuc, unsigned_abs, Option, Some, None, if◌then◌else◌, codes}
+use Rattle.std.specs.Prelude.{ℕ, ◌+◌, ◌*◌, ◌/◌, ◌%◌, ◌==◌, nat_lt, Bool, true, false, not, ◌&&◌, List, [], ◌∷◌, length, slice_get, slice_set, ℤ, pos, negsuc, unsigned_abs, Option, Some, None, if◌then◌else◌, codes, option_map}
 use Rattle.std.specs.Int.{is_negative, is_in_range}
 use Rattle.scj_base.specs.declared.faults.RunFault.TheVariants.{ArrayIndex, NegativeSize, DivideByZero, ClassCast, BadPriority, BadPeriod, BadPort}
 use Rattle.scj_base.specs.declared.values.Value.{Value}
@@ -213,8 +213,7 @@ units_of _ _ = None
 -- the start and the period in units, where they are right
 abbrev pub times_of : ℤ → ℤ → ℤ → ℤ → Option (ℕ × ℕ)
 times_of start_ms start_ns period_ms period_ns =
-    units_of start_ms start_ns >>= (λ start. units_of period_ms period_ns >>= (λ period.
-    if period == 0 then None else Some (start, period)))
+    units_of start_ms start_ns >>= (λ start. option_map (λ period. (start, period)) (units_of period_ms period_ns))
 
 -- of a periodic handler: its priority, the milliseconds and nanoseconds of its start and of its period, its storage
 abbrev pub periodic_parameters : Frame → ℕ → List Value → Effect

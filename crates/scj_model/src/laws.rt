@@ -8,6 +8,7 @@ ghost use Rattle.scj_rules.specs.Contexts.{Declarations};
 ghost use Rattle.scj_rules.specs.Layout.{slots};
 ghost use Rattle.scj_rules.specs.Phases.{IsAccepted};
 ghost use Rattle.scj_model.specs.declared.events.Event.{Event as Line};
+ghost use Rattle.scj_model.specs.declared.handlers.HandlerKind.TheVariants.{Periodic, OneShot, Aperiodic};
 ghost use Rattle.scj_model.specs.declared.handlers.HandlerRow.{HandlerRow as Row};
 ghost use Rattle.scj_model.specs.declared.plans.ReadingRow.{ReadingRow as Reading};
 ghost use Rattle.scj_model.specs.Code.{Code, code_of};
@@ -85,9 +86,12 @@ pub fn new_objects_fill_their_slots()
     ensures all { (p : Declarations) (class : ℕ) → length (new_slots p class) ≡ slots p class }
 {}
 
-/// A periodic handler is due in the units that are the origin, its start and some periods.
+/// A periodic handler is due in the units that are the origin, its start and some periods, a one-shot handler in the
+/// origin and its start alone, and an aperiodic one in none.
 pub fn due_after_whole_periods()
-    ensures { (origin unit : ℕ) (row : Row) → (is_due origin unit row ≡ true) ↔ ((0 < row.period) × ((i : ℕ) × (unit ≡ origin + row.start + i * row.period))) }
+    ensures periodic { (origin unit : ℕ) (row : Row) → row.kind ≡ Periodic → 0 < row.period → (is_due origin unit row ≡ true) ↔ ((i : ℕ) × (unit ≡ origin + row.start + i * row.period)) }
+    ensures one_shot { (origin unit : ℕ) (row : Row) → row.kind ≡ OneShot → (is_due origin unit row ≡ true) ↔ (unit ≡ origin + row.start) }
+    ensures aperiodic { (origin unit : ℕ) (row : Row) → row.kind ≡ Aperiodic → is_due origin unit row ≡ false }
 {}
 
 /// A program that breaks no rule runs: two handlers of one class share the store to its last byte.

@@ -9,7 +9,7 @@ pub mod phases;
 pub mod plans;
 
 pub use events::Event;
-pub use handlers::HandlerRow;
+pub use handlers::{HandlerKind, HandlerRow};
 pub use operations::{Op, SeqOp};
 pub use phases::Phase;
-pub use plans::{Fire, ReadingRow};
+pub use plans::{Fire, FireFrom, ReadingRow};

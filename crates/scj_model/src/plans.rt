@@ -2,6 +2,15 @@
 
 use scj_base::Name;
 
+/// From when the unit of a fire is counted.
+#[derive(Clone, Copy, Debug, PartialEq, Eq)]
+pub enum FireFrom {
+    /// From the start of the run: the fire comes once.
+    Start,
+    /// From the origin of each mission: the fire comes in each that lasts until then.
+    Mission,
+}
+
 /// A release of an aperiodic handler from outside.
 #[derive(Clone, Copy, Debug)]
 pub struct Fire {
@@ -9,6 +18,8 @@ pub struct Fire {
     pub at: u64,
     /// The handler's class.
     pub handler: Name,
+    /// From when the unit is counted.
+    pub from: FireFrom,
 }
 
 /// What a port of the device reads from a unit on.

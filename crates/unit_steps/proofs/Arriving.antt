@@ -5,6 +5,7 @@ use Rattle.std.proofs.lemmas.List.{drop_all, drop_more}
 use Rattle.std.proofs.lemmas.Option.{slice_get-get_or}
 use Rattle.scj_rules.specs.Words.{holds}
 use Rattle.scj_model.specs.declared.events.Event.{Event}
+use Rattle.scj_model.specs.declared.handlers.HandlerKind.TheVariants.{Aperiodic}
 use Rattle.scj_model.specs.declared.handlers.HandlerRow.{HandlerRow}
 use Rattle.scj_model.specs.Code.{Code}
 use Rattle.scj_model.specs.State.{Release, State}
@@ -70,7 +71,7 @@ same_after s t u v h e k =
 -- ---- from handler to handler
 
 abbrev no_row : HandlerRow
-no_row = record { at = 0; class = 0; priority = 0; start = 0; period = 0; bytes = 0 }
+no_row = record { at = 0; class = 0; priority = 0; start = 0; period = 0; bytes = 0; kind = Aperiodic }
 
 -- the handlers from a place on that are due in a state
 abbrev pub due_from : State → ℕ → List ℕ

@@ -1,6 +1,6 @@
 -- The plan's fires of a unit, as the code goes from fire to fire; and all arrivals of a unit.
-use Rattle.std.specs.Prelude.{Option, Some, None, if◌then◌else◌, ◌==◌}
-use Rattle.std.proofs.Common.{◌≡◌, ◌∙◌, ◌≤◌, ◌<◌, ℕ, ◌-◌, Bool, true, false, List, [], ◌∷◌, ◌++◌, length, drop, take, filter, get_or, refl, ap, sym, arith}
+use Rattle.std.specs.Prelude.{Option, Some, None, if◌then◌else◌}
+use Rattle.std.proofs.Common.{◌≡◌, ◌∙◌, ◌≤◌, ◌<◌, ℕ, ◌-◌, Bool, true, false, List, [], ◌∷◌, ◌++◌, length, drop, take, get_or, refl, ap, sym, arith}
 use Rattle.std.proofs.lemmas.List.{take_all}
 use Rattle.scj_tree.specs.Forest.{Forest}
 use Rattle.scj_rules.specs.Words.{◌>>=◌}
@@ -13,14 +13,16 @@ use Rattle.scj_model.specs.Code.{Code, code_of}
 use Rattle.scj_model.specs.Plan.{Plan}
 use Rattle.scj_model.specs.State.{State}
 use Rattle.scj_model.specs.Registry.{aperiodic_of}
-use Rattle.scj_model.specs.Steps.{Step, telling, then_do, for_each}
+use Rattle.scj_model.specs.Steps.{Step, silently, telling, then_do, for_each}
 use Rattle.scj_model.specs.Apply.{release_taken, takes_releases}
-use Rattle.scj_model.specs.Arrivals.{arrivals, due_handlers, fired, fired_at, fired_handler, fires_due}
+use Rattle.scj_model.specs.Arrivals.{arrivals, comes_in, due_handlers, executes_since, fired, fired_at, fired_handler, fires_due}
+use Rattle.run_plan.specs.Index.{coming}
 use Rattle.run_state.specs.declared.states.RunState.{RunState}
 use Rattle.run_state.specs.Seen.{AreAllBegun, state_of}
 use Rattle.run_state.specs.Steps.{IsStep}
 use Rattle.run_state.proofs.StepLemmas.{same_step}
-use Rattle.unit_steps.proofs.FiresByPlaces.{fires_of_the_unit}
+use Rattle.unit_steps.specs.Arriving.{fired_in}
+use Rattle.unit_steps.proofs.FiresByPlaces.{fires_among, fires_of_the_unit}
 use Rattle.unit_steps.proofs.UnderWay.{IsUnderWay, all_done, both_done, goes_on}
 
 -- ---- the handler of a fire
@@ -81,6 +83,18 @@ miss_told code st fire before after e told begun =
     (misses code (state_of code st) fire e)
     (record { state = refl; told = told; begun = begun })
 
+module _ (code : Code) (origin : Option ℕ) (unit : ℕ) (s : State) (fire : Fire) where
+  abbrev fired_if : Bool → Step
+  fired_if comes = if comes then fired code s fire else silently s
+
+  pub comes : comes_in origin unit fire ≡ true → fired_in code origin unit s fire ≡ fired code s fire
+  unfolding fired_in
+  comes e = ap fired_if e
+
+  pub comes_not : comes_in origin unit fire ≡ false → fired_in code origin unit s fire ≡ silently s
+  unfolding fired_in
+  comes_not e = ap fired_if e
+
 -- ---- fire after fire
 
 -- the first of a list, and what is behind it
@@ -97,22 +111,22 @@ none_left : {A : Type 0} (rest : List A) → length rest < 1 → rest ≡ []
 none_left [] few = refl
 none_left (x ∷ xs) few = absurd (omega (arith, few))
 
-module _ (code : Code) where
+module _ (code : Code) (origin : Option ℕ) (unit : ℕ) where
   abbrev pub fired_all : List Fire → State → Step
-  fired_all fires = for_each (fired code) fires
+  fired_all fires = for_each (fired_in code origin unit) fires
 
   one_fired : (fire : Fire) (others rest : List Fire) (s : State) → rest ≡ fire ∷ others →
-      fired_all rest s ≡ then_do (fired code s fire) (fired_all others)
+      fired_all rest s ≡ then_do (fired_in code origin unit s fire) (fired_all others)
   unfolding for_each
   one_fired fire others rest s e = ap (λ (fires : List Fire). fired_all fires s) e
 
   pub next_fired : (whole : Step) (fire : Fire) (rest : List Fire) (was st : RunState)
       (before middle after : List Event) → 1 ≤ length rest → fire ≡ get_or rest 0 fire →
       IsUnderWay code whole (fired_all rest) was before middle →
-      IsStep code (fired code (state_of code was) fire) st middle after →
+      IsStep code (fired_in code origin unit (state_of code was) fire) st middle after →
       IsUnderWay code whole (fired_all (take (length rest - 1) (drop 1 rest))) st before after
   next_fired whole fire rest was st before middle after some first h k =
-      goes_on code whole (fired code (state_of code was) fire) (fired_all rest)
+      goes_on code whole (fired_in code origin unit (state_of code was) fire) (fired_all rest)
       (fired_all (take (length rest - 1) (drop 1 rest))) was st before middle after
       (one_fired fire (take (length rest - 1) (drop 1 rest)) rest (state_of code was)
       (first_and_others rest fire some first)) h k
@@ -127,23 +141,30 @@ module _ (code : Code) where
 -- ---- all arrivals
 
 module _ (code : Code) (plan : Plan) (was mid st : RunState) (before middle after : List Event) (fires : List Fire)
+    (origin : Option ℕ)
   where
-    same_fires : (s : State) → fires ≡ filter (λ (fire : Fire). fire.at == was.unit) plan.fires →
-        for_each (fired_at code plan.fires) (fires_due (state_of code was).unit plan.fires) s
-        ≡ for_each (fired code) fires s
+    same_fires : (s : State) → origin ≡ executes_since (state_of code was) →
+        coming origin was.unit fires ≡ coming origin was.unit plan.fires →
+        for_each (fired_at code plan.fires)
+        (fires_due (executes_since (state_of code was)) (state_of code was).unit plan.fires) s
+        ≡ for_each (fired_in code origin was.unit) fires s
     unfolding state_of
-    same_fires s e =
-        fires_of_the_unit code plan.fires was.unit s
-        ∙ ap (λ (xs : List Fire). for_each (fired code) xs s) (sym e)
+    same_fires s o e =
+        ap (λ (since : Option ℕ). for_each (fired_at code plan.fires) (fires_due since was.unit plan.fires) s) (sym o)
+        ∙ (fires_of_the_unit code origin was.unit plan.fires s
+        ∙ (ap (λ (xs : List Fire). for_each (fired code) xs s) (sym e)
+        ∙ sym (fires_among code origin was.unit fires s)))
 
-    pub both_arrived : fires ≡ filter (λ (fire : Fire). fire.at == was.unit) plan.fires →
+    pub both_arrived : origin ≡ executes_since (state_of code was) →
+        coming origin was.unit fires ≡ coming origin was.unit plan.fires →
         IsStep code (for_each release_taken (due_handlers (state_of code was)) (state_of code was)) mid before middle →
-        IsStep code (for_each (fired code) fires (state_of code mid)) st middle after →
+        IsStep code (for_each (fired_in code origin was.unit) fires (state_of code mid)) st middle after →
         IsStep code (arrivals code plan (state_of code was)) st before after
     unfolding arrivals
-    both_arrived e h k =
+    both_arrived o e h k =
         both_done code (for_each release_taken (due_handlers (state_of code was)) (state_of code was))
-        (for_each (fired_at code plan.fires) (fires_due (state_of code was).unit plan.fires)) mid st before middle after
+        (for_each (fired_at code plan.fires)
+        (fires_due (executes_since (state_of code was)) (state_of code was).unit plan.fires)) mid st before middle after
         h
-        (same_step code st middle after (for_each (fired code) fires (state_of code mid)) _
-        (same_fires (state_of code mid) e) k)
+        (same_step code st middle after (for_each (fired_in code origin was.unit) fires (state_of code mid)) _
+        (same_fires (state_of code mid) o e) k)

@@ -1,6 +1,7 @@
 pub mod Alike
 pub mod Arriving
 pub mod Composed
+pub mod DueUnits
 pub mod FiresByPlaces
 pub mod Firing
 pub mod JobActivity

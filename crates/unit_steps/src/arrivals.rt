@@ -5,16 +5,16 @@ ghost use Rattle.std.specs.Prelude.{◌≡◌, ◌+◌, IfOk, slice_get};
 ghost use Rattle.scj_rules.specs.Words.{holds};
 ghost use Rattle.scj_model.specs.Code.{Code as CodeOfRun, code_of};
 ghost use Rattle.scj_model.specs.Apply.{release_taken};
-ghost use Rattle.scj_model.specs.Arrivals.{arrivals, due_handlers, fired, fired_handler, is_due};
+ghost use Rattle.scj_model.specs.Arrivals.{arrivals, due_handlers, executes_since, fired, fired_handler, is_due};
 ghost use Rattle.scj_model.specs.Steps.{for_each};
 ghost use Rattle.run_plan.specs.Index.{fires_before};
 ghost use Rattle.run_state.specs.Seen.{AreAllBegun, state_of};
 ghost use Rattle.run_state.specs.Steps.{IsStep};
-ghost use Rattle.unit_steps.specs.Arriving.{arrived_at};
+ghost use Rattle.unit_steps.specs.Arriving.{arrived_at, fired_in};
 
-use crate::dues::is_due;
+use crate::dues::{comes_in, is_due};
 use class_rows::ClassTable;
-use mission_steps::{aperiodic_of, release_taken, takes_releases};
+use mission_steps::{aperiodic_of, is_exec, release_taken, takes_releases};
 use run_plan::Plan;
 use run_state::RunState;
 use run_state::told::tell;
@@ -125,9 +125,34 @@ fn fired(
     }
 }
 
-/// These fires, one after the other.
+/// A fire of the plan, if it comes in this unit; `origin` is that of the mission, while it executes.
+fn fired_in(
+    classes: &ClassTable<'_>,
+    origin: Option<u64>,
+    unit: u64,
+    state: &mut RunState,
+    fire: &Fire,
+    told: &mut Vec<Event>,
+) -> Result<(), Memory>
+    requires begun { AreAllBegun classes.now.nodes state.old }
+    ensures { IfOk result
+        (λ _. IsStep (code_of classes.now)
+        (fired_in (code_of classes.now) origin unit
+        (state_of (code_of classes.now) state.old) fire.now)
+        state.new told.old.items told.new.items) }
+{
+    if !comes_in(origin, unit, fire) {
+        return Ok(());
+    }
+    fired(classes, state, fire, told)?;
+    Ok(())
+}
+
+/// Those of these fires that come in this unit, one after the other.
 fn fires_in_order(
     classes: &ClassTable<'_>,
+    origin: Option<u64>,
+    unit: u64,
     state: &mut RunState,
     fires: &[Fire],
     told: &mut Vec<Event>,
@@ -135,18 +160,32 @@ fn fires_in_order(
     requires begun { AreAllBegun classes.now.nodes state.old }
     ensures { IfOk result
         (λ _. IsStep (code_of classes.now)
-        (for_each (fired (code_of classes.now)) fires.now (state_of (code_of classes.now) state.old)) state.new
-        told.old.items told.new.items) }
+        (for_each (fired_in (code_of classes.now) origin unit) fires.now
+        (state_of (code_of classes.now) state.old))
+        state.new told.old.items told.new.items) }
 {
     let mut rest = fires;
     while let [fire, others @ ..] = rest {
-        fired(classes, state, fire, told)?;
+        fired_in(classes, origin, unit, state, fire, told)?;
         rest = others;
     }
     Ok(())
 }
 
-/// The releases that are taken in at the beginning of a unit. `past` is how many fires of the plan are past.
+/// The origin of the mission, while it executes.
+#[tactic(auto, unfolding(scj_model::specs::Arrivals::executes_since, run_state::specs::Seen::state_of))]
+fn executes_since(state: &RunState) -> Option<u64>
+    ensures { (code : CodeOfRun) → result ≡ executes_since (state_of code state.now) }
+{
+    if is_exec(state.phase) {
+        Some(state.origin)
+    } else {
+        None
+    }
+}
+
+/// The releases that are taken in at the beginning of a unit. `past` is how many of the plan's fires from the start are
+/// past.
 pub(crate) fn arrivals(
     classes: &ClassTable<'_>,
     plan: &Plan,
@@ -162,9 +201,12 @@ pub(crate) fn arrivals(
         told.new.items) }
     ensures past { IfOk result (λ _. past.new ≡ fires_before plan.now (state.old.unit + 1)) }
 {
-    let fires = plan.fires_due(*past, state.unit);
+    let origin = executes_since(state);
+    let unit = state.unit;
+    let fires = plan.fires_coming(*past, origin, unit);
+    let next = plan.past_fires(*past, unit);
     periodic_arrivals(state, told)?;
-    fires_in_order(classes, state, fires, told)?;
-    *past += fires.len();
+    fires_in_order(classes, origin, unit, state, fires, told)?;
+    *past = next;
     Ok(())
 }

@@ -43,7 +43,8 @@ fn next_unit(state: &mut RunState) -> Result<(), Memory>
 }
 
 /// One unit: arrivals, the choice, one operation, and what follows in the sequencer. It tells whether the unit has a
-/// result, which it has in every run of an accepted program. `past` is how many fires of the plan are past.
+/// result, which it has in every run of an accepted program. `past` is how many of the plan's fires from the start are
+/// past.
 pub fn one_unit(
     alloc: Global,
     setting: Setting<'_>,

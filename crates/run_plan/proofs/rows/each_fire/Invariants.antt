@@ -7,5 +7,5 @@ use Rattle.run_plan.proofs.rows.each_fire.Given as goal
 abbrev pub invariant-loop-value : goal.invariant-loop-value
 invariant-loop-value l =
     (vec_len l.fires ≡ l.value-index)
-    × (option_map (λ others. l.fires.items ++ others) (each_row fire_of (items_view (drop l.value-index l.values))) ≡ each_row fire_of (items_view l.values))
+    × (option_map (λ others. l.fires.items ++ others) (each_row (fire_of l.second) (items_view (drop l.value-index l.values))) ≡ each_row (fire_of l.second) (items_view l.values))
     × All IsFire l.fires.items

@@ -9,8 +9,8 @@ use Rattle.unit_steps.proofs.arrivals.fires_in_order.Given as goal
 abbrev pub invariant-loop-rest : goal.invariant-loop-rest
 invariant-loop-rest l =
     IsUnderWay (code_of l.classes)
-    (fired_all (code_of l.classes) l.fires (state_of (code_of l.classes) l.initial.state))
-    (fired_all (code_of l.classes) l.rest) l.state l.initial.told.items l.told.items
+    (fired_all (code_of l.classes) l.origin l.unit l.fires (state_of (code_of l.classes) l.initial.state))
+    (fired_all (code_of l.classes) l.origin l.unit l.rest) l.state l.initial.told.items l.told.items
 
 abbrev pub decreases-loop-rest : goal.decreases-loop-rest
 decreases-loop-rest l = length l.rest
