@@ -11,6 +11,8 @@ import sys
 import slow_machine
 
 UNKNOWN, OBJECT = object(), object()
+# the operations that may have a certain fault
+FAULTING = ("BIN", "ALLOCARRAY", "READ", "ENTER", "SETCEILING", "PARAMS")
 INT = range(-(2**31), 2**31)
 
 
@@ -54,10 +56,7 @@ class Walk:
             self.binary(operation)
         elif word in ("AND", "OR"):
             self.pop()
-            right = self.program.of(what)
-            Walk(self.program, self.found).all(right)
-            if self.calls(right):
-                self.stack = [UNKNOWN] * len(self.stack)
+            Walk(self.program, self.found).all(self.program.of(what))
             self.stack.append(UNKNOWN)
         elif word == "ALLOC":
             self.stack.append(OBJECT)
@@ -68,14 +67,6 @@ class Walk:
             self.stack.append(OBJECT)
         else:
             self.other(operation)
-
-    def calls(self, operations):
-        """Whether a method is called among operations, or in a right operand of && and || among them."""
-        return any(
-            operation.word in ("CALL", "CALLSTATIC")
-            or (operation.word in ("AND", "OR") and self.calls(self.program.of(operation.about)))
-            for operation in operations
-        )
 
     def binary(self, operation):
         left, right = self.pop(2)
@@ -109,8 +100,6 @@ class Walk:
         elif word in ("CALL", "CALLSTATIC"):
             method = what
             self.pop(len(method.params) + (word == "CALL"))
-            # nothing is known any more of what stands below a call
-            self.stack = [UNKNOWN] * len(self.stack)
             if method.result != "void":
                 self.stack.append(UNKNOWN)
         elif word == "CONSTRUCT":
@@ -160,8 +149,6 @@ def form_fault(numbers):
     if any(is_number(ms) and ms < 0 for ms in times[0::2]):
         return "BadPeriod"
     if any(is_number(ns) and not (0 <= ns < 1000000 and ns % 1000 == 0) for ns in times[1::2]):
-        return "BadPeriod"
-    if times and all(map(is_number, times[2:])) and times[2:] == [0, 0]:
         return "BadPeriod"
     if not all(map(is_number, times)):
         return None

@@ -57,6 +57,6 @@ class Seq extends MissionSequencer {
   public void handleAsyncEvent() { }
 }
 @Scope("M") @DefineScope(name="PW11", parent="M") class W11 extends PeriodicEventHandler {
-  W11() { super(new PriorityParameters(5), new PeriodicParameters(new RelativeTime(0, 0), new RelativeTime(1 - 1, 7 * 0)), new StorageParameters(8)); }
+  W11() { super(new PriorityParameters(5), new PeriodicParameters(new RelativeTime(0, 0), new RelativeTime(1 - 1, 7 * 0)), new StorageParameters(0 - 1)); }
   public void handleAsyncEvent() { }
 }

@@ -1,9 +1,9 @@
 -- The operands of frames are what is known of them: each operation of a frame keeps that.
-use Rattle.std.specs.Prelude.{Option, Some, None, slice_get, slice_set, ℤ, pos, length, unsigned_abs, ◌==◌, not, option_map, codes, nat_lt}
+use Rattle.std.specs.Prelude.{Option, Some, None, is_some, slice_get, slice_set, ℤ, pos, length, unsigned_abs, ◌==◌, not, option_map, codes, nat_lt}
 use Rattle.std.specs.Int.{is_negative}
-use Rattle.std.proofs.Common.{◌≡◌, ℕ, zero, suc, List, [], ◌∷◌, ◌++◌, Bool, true, false, refl, sym, ap, ◌∙◌, subst, if◌then◌else◌, append-nil}
+use Rattle.std.proofs.Common.{◌≡◌, ℕ, zero, suc, ◌+◌, List, [], ◌∷◌, ◌++◌, Bool, true, false, refl, sym, ap, ◌∙◌, subst, arith, if◌then◌else◌, append-nil}
 use Rattle.scj_base.specs.declared.faults.RunFault.{RunFault}
-use Rattle.scj_base.specs.declared.faults.RunFault.TheVariants.{ArrayIndex, NegativeSize, DivideByZero, ClassCast, BadPriority, BadPeriod, BadPort}
+use Rattle.scj_base.specs.declared.faults.RunFault.TheVariants.{NullPointer, ArrayIndex, NegativeSize, DivideByZero, ClassCast, BadPriority, BadPeriod, BadPort}
 use Rattle.scj_base.specs.declared.values.Value.{Value}
 use Rattle.scj_base.specs.declared.values.Value.TheVariants.{Int, Bool as Truth, Null, At}
 use Rattle.scj_builtins.specs.Framework.{mission_sequencer, periodic_handler}
@@ -24,8 +24,8 @@ use Rattle.scj_model.specs.Code.{Code, binding, part}
 use Rattle.scj_model.specs.State.{Object, Frame}
 use Rattle.scj_model.specs.Memory.{literal_value, default_value, new_slots, new_elements}
 use Rattle.scj_model.specs.Arithmetic.{binary_value, divides_by_zero, unary_value}
-use Rattle.scj_model.specs.Ops.{ops_of, body_ops, put_in_front, right_operand, if_parts, turn_ops, optional_ops}
-use Rattle.scj_model.specs.Effects.{Effect, Goes, Prints, Makes, Stores, StoresStatic, SetsHidden, SetsCeiling, Calls, Opens, Leaves, AsksRegistration, AsksRelease, AsksTermination, Faults, Stuck, given, pop, pop_from, pop_all, pushes, new_frame}
+use Rattle.scj_model.specs.Ops.{ops_of, body_ops, leaves_value, put_in_front, right_operand, if_parts, turn_ops, optional_ops}
+use Rattle.scj_model.specs.Effects.{Effect, Goes, Prints, Makes, Stores, StoresStatic, SetsHidden, SetsCeiling, Calls, Opens, Leaves, AsksRegistration, AsksRelease, AsksTermination, Faults, Stuck, given, pop, pop_from, pop_all, pushes, as_object, new_frame}
 use Rattle.scj_model.specs.Operations.{Environment, effect_of, bound_local, bound_field, bound_static, bound_class, bound_method, bound_static_method, operator_of, assigned, argument_count, first_argument, super_count, with_field, with_run, index_in, is_port, is_priority, periodic_parameters, right_parameters, times_of, constructs}
 use Rattle.priority_laws.proofs.OperationCases.{on_given, on_if, on_int, on_reference, on_object, on_truth}
 use Rattle.certain_faults.specs.declared.known.Known.{Known}
@@ -34,7 +34,7 @@ use Rattle.certain_faults.specs.declared.known.Left.{Left}
 use Rattle.certain_faults.specs.declared.known.Left.TheVariants.{Forgets, Zero, One, Two, Four}
 use Rattle.certain_faults.specs.Known.{known, unary_known, binary_known, left_by_literal, left_by}
 use Rattle.certain_faults.proofs.Stacks.{Stack, nothing, put, taken, dropped, dropped_taken, with_left, Less, less_nothing, less_unknown, less_same}
-use Rattle.certain_faults.proofs.Passes.{asked, unary_by, binary_by, behind_right, behind_arguments, part_left, left_below, step, Passes, passes_less, Any, any_none, any_then, any_op}
+use Rattle.certain_faults.proofs.Passes.{asked, unary_by, binary_by, behind_right, behind_arguments, with_result, behind_call, behind_static_call, part_left, left_below, step, Passes, passes_less, Any, any_none, any_then, any_op}
 use Rattle.certain_faults.proofs.RunsOfNodes.{ClassesAskNothing, nodes_run, nodes_run_anywhere}
 
 -- ---- values
@@ -70,24 +70,34 @@ pub record Explained (code : Code) (f : Frame) : Type 0 where
   pub passes : Passes code f.rest stack
   pub shadows : Shadows stack f.operands
 
--- a frame under one that runs this body, which may give nothing
+-- a frame under one that runs this body, of which may be said whether it gives a value
 abbrev pub with_given : Option Value → List Value → List Value
 with_given None operands = operands
 with_given (Some v) operands = v ∷ operands
 
-pub record Waits (code : Code) (GivesNothing : Body → Type 0) (f : Frame) (body : Body) : Type 0 where
+pub record Waits (code : Code) (Gives : Body → Bool → Type 0) (f : Frame) (body : Body) : Type 0 where
   pub stack : Stack
   pub passes : Passes code f.rest stack
-  pub returns : (v : Option Value) → (GivesNothing body → v ≡ None) → Shadows stack (with_given v f.operands)
+  pub returns : (v : Option Value) → ((b : Bool) → Gives body b → is_some v ≡ b) →
+      Shadows stack (with_given v f.operands)
 
--- the body of an operation's constructor gives nothing
-abbrev pub ConstructorsGiveNothing : Code → (Body → Type 0) → Op → Type 0
-ConstructorsGiveNothing code G (CONSTRUCT id) =
+-- the body that an operation calls gives no value where it is a constructor's, and one where what is bound leaves one.
+-- The object of a call stands behind the arguments
+abbrev pub GivesAsBound : Code → (Body → Bool → Type 0) → Environment → Frame → Op → Type 0
+GivesAsBound code G world f (CONSTRUCT id) =
     (class : ℕ) (body : Body) → bound_class (binding code id) ≡ Some class →
-    constructor_body code.program class ≡ Some body → G body
-ConstructorsGiveNothing code G _ = Unit {0}
+    constructor_body code.program class ≡ Some body → G body false
+GivesAsBound code G world f (CALL id) =
+    (method count r : ℕ) (o : Object) (body : Body) → bound_method (binding code id) ≡ Some method →
+    part code argument_count id ≡ Some count → slice_get f.operands count ≡ Some (At r) →
+    world.object_at r ≡ Some o → body_of code.program o.class method ≡ Some body →
+    G body (leaves_value (binding code id))
+GivesAsBound code G world f (CALLSTATIC id) =
+    (method : ℕ × ℕ) (body : Body) → bound_static_method (binding code id) ≡ Some method →
+    body_of code.program method.0 method.1 ≡ Some body → G body (leaves_value (binding code id))
+GivesAsBound code G world f _ = Unit {0}
 
-module _ (code : Code) (G : Body → Type 0) where
+module _ (code : Code) (G : Body → Bool → Type 0) where
   abbrev pub IsExplained : Effect → Type 0
   IsExplained (Goes h) = Explained code h
   IsExplained (Prints h label value) = Explained code h
@@ -149,31 +159,50 @@ module _ (code : Code) (G : Body → Type 0) where
             shadows = x.shadows;
           }
 
-      on_pop : (s : Stack) (h : Frame) (next : Value → Frame → Effect) → Stands s h →
-          ((v : Value) (k : Frame) → Holds (s 0) (Some v) → Stands (taken s) k → Fine (next v k)) → Fine (pop h next)
-      on_pop s h next x more = go h.operands refl
+      on_popped : (s : Stack) (h : Frame) (next : Value → Frame → Effect) → Stands s h →
+          ((v : Value) (k : Frame) → h.operands ≡ v ∷ k.operands → Holds (s 0) (Some v) → Stands (taken s) k →
+          Fine (next v k)) → Fine (pop h next)
+      on_popped s h next x more = go h.operands refl
         where
           go : (vs : List Value) → h.operands ≡ vs →
               Fine (elim vs as (λ z. Effect) [ [] ↦ Stuck | value ∷ below ↦ next value (record h { operands = below }) ])
           go [] e = stuck
           go (v ∷ below) e =
               (let y : Shadows s (v ∷ below) = subst (Shadows s) e x.shadows in
-              more v (record h { operands = below }) (y.is 0)
+              more v (record h { operands = below }) e (y.is 0)
               (record { same = x.same; shadows = shadows_taken s v below y }))
 
-      on_pop_from : (count : ℕ) (s : Stack) (h : Frame) (got : List Value) (next : List Value → Frame → Effect) →
-          Stands s h → ((vs : List Value) (k : Frame) → Stands (dropped count s) k → Fine (next vs k)) →
+      on_pop : (s : Stack) (h : Frame) (next : Value → Frame → Effect) → Stands s h →
+          ((v : Value) (k : Frame) → Holds (s 0) (Some v) → Stands (taken s) k → Fine (next v k)) → Fine (pop h next)
+      on_pop s h next x more = on_popped s h next x (λ v k e holds y. more v k holds y)
+
+      -- the operands that are left stood behind those that are popped
+      abbrev StoodBehind : ℕ → Frame → Frame → Type 0
+      StoodBehind count h k = (n : ℕ) → slice_get h.operands (count + n) ≡ slice_get k.operands n
+
+      on_popped_from : (count : ℕ) (s : Stack) (h : Frame) (got : List Value) (next : List Value → Frame → Effect) →
+          Stands s h →
+          ((vs : List Value) (k : Frame) → StoodBehind count h k → Stands (dropped count s) k → Fine (next vs k)) →
           Fine (pop_from count h got next)
-      on_pop_from zero s h got next x more = more got h x
-      on_pop_from (suc count) s h got next x more =
-          on_pop s h (λ v g. pop_from count g (v ∷ got) next) x
-          (λ v k holds y. on_pop_from count (taken s) k (v ∷ got) next y
-          (λ vs l z. more vs l (subst (λ (t : Stack). Stands t l) (dropped_taken count s) z)))
+      on_popped_from zero s h got next x more =
+          more got h (λ n. ap (slice_get h.operands) (let same : zero + n ≡ n = omega arith in same)) x
+      on_popped_from (suc count) s h got next x more =
+          on_popped s h (λ v g. pop_from count g (v ∷ got) next) x
+          (λ v k e holds y. on_popped_from count (taken s) k (v ∷ got) next y
+          (λ vs l b z. more vs l (λ n. ap (λ (us : List Value). slice_get us (suc count + n)) e
+          ∙ ap (slice_get (v ∷ k.operands)) (let same : suc count + n ≡ suc (count + n) = omega arith in same) ∙ b n)
+          (subst (λ (t : Stack). Stands t l) (dropped_taken count s) z)))
 
       on_pop_all : (count : ℕ) (s : Stack) (h : Frame) (next : List Value → Frame → Effect) → Stands s h →
           ((vs : List Value) (k : Frame) → Stands (dropped count s) k → Fine (next vs k)) →
           Fine (pop_all count h next)
-      on_pop_all count s h next x more = on_pop_from count s h [] next x more
+      on_pop_all count s h next x more = on_popped_from count s h [] next x (λ vs k b z. more vs k z)
+
+      on_object_at : (v : Value) (next : ℕ → Effect) → ((r : ℕ) → v ≡ At r → Fine (next r)) → Fine (as_object v next)
+      on_object_at (At r) next h = h r refl
+      on_object_at Null next h = faults NullPointer
+      on_object_at (Int z) next h = stuck
+      on_object_at (Truth b) next h = stuck
 
       pushed : (k : Known) (s : Stack) (h : Frame) (v : Value) → Stands s h → Holds k (Some v) →
           Passes code rest (put k s) → Fine (pushes h v)
@@ -207,7 +236,7 @@ module _ (code : Code) (G : Body → Type 0) where
           }
 
       calls_constructor : (s : Stack) (h : Frame) (body : Body) (called_at this : Option ℕ) (area : ℕ)
-          (arguments : List Value) → G body → Stands s h → Passes code rest s →
+          (arguments : List Value) → G body false → Stands s h → Passes code rest s →
           Fine (Calls h (new_frame code body called_at this area arguments))
       unfolding new_frame
       calls_constructor s h body called_at this area arguments g x p =
@@ -216,11 +245,38 @@ module _ (code : Code) (G : Body → Type 0) where
               record {
                 stack = s;
                 passes = subst (λ (xs : List Op). Passes code xs s) (sym x.same) p;
-                returns = λ v e. subst (λ (o : Option Value). Shadows s (with_given o h.operands)) (sym (e g)) x.shadows;
+                returns = λ v e. nothing_given v (e false g);
               },
               record { stack = nothing; passes = body_passes body; shadows = shadows_nothing [] },
             );
           }
+        where
+          nothing_given : (v : Option Value) → is_some v ≡ false → Shadows s (with_given v h.operands)
+          nothing_given None e = x.shadows
+          nothing_given (Some v) e = absurd (cc (e))
+
+      -- the method leaves a value as is bound
+      calls_method : (gives : Bool) (s : Stack) (h : Frame) (body : Body) (called_at this : Option ℕ) (area : ℕ)
+          (arguments : List Value) → G body gives → Stands s h → Passes code rest (with_result gives s) →
+          Fine (Calls h (new_frame code body called_at this area arguments))
+      unfolding new_frame
+      calls_method false s h body called_at this area arguments g x p =
+          calls_plain s h body called_at this area arguments x p
+      calls_method true s h body called_at this area arguments g x p =
+          record {
+            is = (
+              record {
+                stack = put Unknown s;
+                passes = subst (λ (xs : List Op). Passes code xs (put Unknown s)) (sym x.same) p;
+                returns = λ v e. one_given v (e true g);
+              },
+              record { stack = nothing; passes = body_passes body; shadows = shadows_nothing [] },
+            );
+          }
+        where
+          one_given : (v : Option Value) → is_some v ≡ true → Shadows (put Unknown s) (with_given v h.operands)
+          one_given None e = absurd (cc (e))
+          one_given (Some v) e = shadows_put Unknown s v h.operands tt x.shadows
 
       -- ---- operators
 
@@ -480,7 +536,7 @@ module _ (code : Code) (G : Body → Type 0) where
                 (any_chosen b (part code (turn_ops code id) id)
                 (λ turn q. of_node (slice_get code.program.nodes id) turn q) ops e) p)
 
-        construct_fine : (id : ℕ) → IsLeft (CONSTRUCT id) → ConstructorsGiveNothing code G (CONSTRUCT id) →
+        construct_fine : (id : ℕ) → IsLeft (CONSTRUCT id) → GivesAsBound code G world f (CONSTRUCT id) →
             Fine (effect_of code world f (CONSTRUCT id))
         unfolding effect_of step
         construct_fine id p c =
@@ -497,6 +553,52 @@ module _ (code : Code) (G : Body → Type 0) where
                 on_pop (dropped count s) g _ y (λ object h holds z.
                 on_reference Fine stuck faults object _ (λ r.
                 calls_constructor (dropped count s) g body (Some id) (Some r) g.area arguments (c class body e k) y q))))
+
+        call_fine : (id : ℕ) → IsLeft (CALL id) → GivesAsBound code G world f (CALL id) →
+            Fine (effect_of code world f (CALL id))
+        unfolding effect_of step
+        call_fine id p c =
+            on_given Fine stuck faults (bound_method (binding code id)) _
+            (λ method e. counted method e (part code argument_count id) refl p)
+          where
+            counted : (method : ℕ) → bound_method (binding code id) ≡ Some method → (o : Option ℕ) →
+                part code argument_count id ≡ o → Passes code rest (behind_call (leaves_value (binding code id)) o s) →
+                Fine (given o (λ count. pop_all count f (λ arguments g. pop g (λ object k. as_object object (λ r.
+                given (world.object_at r) (λ o. given (body_of code.program o.class method) (λ body.
+                Calls k (new_frame code body (Some id) (Some r) k.area arguments))))))))
+            counted method e None is q = stuck
+            counted method e (Some count) is q =
+                on_popped_from count s f [] _ x (λ arguments g b y. on_popped (dropped count s) g _ y (λ object k h holds z.
+                on_object_at object _ (λ r at.
+                on_given Fine stuck faults (world.object_at r) _ (λ o there.
+                on_given Fine stuck faults (body_of code.program o.class method) _ (λ body u.
+                calls_method (leaves_value (binding code id)) (taken (dropped count s)) k body (Some id) (Some r) k.area
+                arguments
+                (c method count r o body e is (popped count g object k b h ∙ ap (λ (v : Value). Some v) at) there u) z q)))))
+              where
+                popped : (count : ℕ) (g : Frame) (object : Value) (k : Frame) → StoodBehind count f g →
+                    g.operands ≡ object ∷ k.operands → slice_get f.operands count ≡ Some object
+                popped count g object k b h =
+                    ap (slice_get f.operands) (let same : count ≡ count + 0 = omega arith in same)
+                    ∙ b 0 ∙ ap (λ (us : List Value). slice_get us 0) h
+
+        call_static_fine : (id : ℕ) → IsLeft (CALLSTATIC id) → GivesAsBound code G world f (CALLSTATIC id) →
+            Fine (effect_of code world f (CALLSTATIC id))
+        unfolding effect_of step
+        call_static_fine id p c =
+            on_given Fine stuck faults (bound_static_method (binding code id)) _
+            (λ method e. counted method e (part code argument_count id) p)
+          where
+            counted : (method : ℕ × ℕ) → bound_static_method (binding code id) ≡ Some method → (o : Option ℕ) →
+                Passes code rest (behind_static_call (leaves_value (binding code id)) o s) →
+                Fine (given o (λ count. given (body_of code.program method.0 method.1) (λ body.
+                pop_all count f (λ arguments g. Calls g (new_frame code body (Some id) None g.area arguments)))))
+            counted method e None q = stuck
+            counted method e (Some count) q =
+                on_given Fine stuck faults (body_of code.program method.0 method.1) _ (λ body u.
+                on_pop_all count s f _ x (λ arguments g y.
+                calls_method (leaves_value (binding code id)) (dropped count s) g body (Some id) None g.area arguments
+                (c method body e u) y q))
 
         -- a form is read
         periodic_fine : (r : ℕ) (g : Frame) → g.rest ≡ rest → (values : List Value) → Passes code rest nothing →
@@ -612,7 +714,7 @@ module _ (code : Code) (G : Body → Type 0) where
         leaves : (g : Frame) (v : Option Value) → Fine (Leaves g v)
         leaves g v = record { is = tt }
 
-        pub operation_fine : (op : Op) → IsLeft op → ConstructorsGiveNothing code G op → Fine (effect_of code world f op)
+        pub operation_fine : (op : Op) → IsLeft op → GivesAsBound code G world f op → Fine (effect_of code world f op)
         unfolding effect_of step new_frame
         operation_fine (PUSH id) p c = pushes_literal (part code literal_value id) p
         operation_fine (THIS id) p c =
@@ -653,19 +755,8 @@ module _ (code : Code) (G : Body → Type 0) where
             on_if Fine stuck faults (is_negative n) (Faults NegativeSize)
             (Makes k class (new_elements kind (unsigned_abs n))) (λ t. faults NegativeSize)
             (λ t. array_made k class (new_elements kind (unsigned_abs n)) y p)))))
-        operation_fine (CALL id) p c =
-            on_given Fine stuck faults (bound_method (binding code id)) _ (λ method e.
-            on_given Fine stuck faults (part code argument_count id) _ (λ count h.
-            on_pop_all count s f _ x (λ arguments g y. on_pop (dropped count s) g _ y (λ object k holds z.
-            on_object Fine stuck faults object _ (λ r. on_given Fine stuck faults (world.object_at r) _ (λ o t.
-            on_given Fine stuck faults (body_of code.program o.class method) _ (λ body u.
-            calls_plain (taken (dropped count s)) k body (Some id) (Some r) k.area arguments z p)))))))
-        operation_fine (CALLSTATIC id) p c =
-            on_given Fine stuck faults (bound_static_method (binding code id)) _ (λ method e.
-            on_given Fine stuck faults (part code argument_count id) _ (λ count h.
-            on_given Fine stuck faults (body_of code.program method.0 method.1) _ (λ body u.
-            on_pop_all count s f _ x (λ arguments g y.
-            calls_plain (dropped count s) g body (Some id) None g.area arguments y p))))
+        operation_fine (CALL id) p c = call_fine id p c
+        operation_fine (CALLSTATIC id) p c = call_static_fine id p c
         operation_fine (CAST id) p c =
             on_given Fine stuck faults (bound_class (binding code id)) _ (λ class e.
             on_pop s f _ x (λ v k holds y. cast_fine class k y p v))

@@ -20,7 +20,7 @@ use Rattle.reference_sound.proofs.Closing.{one_closes}
 use Rattle.certain_faults.proofs.Frames.{Explained, Waits, Fine}
 use Rattle.certain_faults.proofs.Jobs.{Jobs, jobs_still, jobs_of, jobs_on, jobs_ended, jobs_faulted, Lead, leads, none_leads, released_jobs, asked_jobs}
 
-module _ (code : Code) (G : Body → Type 0) where
+module _ (code : Code) (G : Body → Bool → Type 0) where
   -- the frames of a job: each frame under another one waits for that one's body
   abbrev pub Under : Body → List Frame → Type 0
   Under body [] = Unit {0}
@@ -41,7 +41,7 @@ module _ (code : Code) (G : Body → Type 0) where
   KeepsBody body (SetsCeiling h r ceiling) = h.body ≡ body
   KeepsBody body (Calls h g) = h.body ≡ body
   KeepsBody body (Opens h g scope bytes) = h.body ≡ body
-  KeepsBody body (Leaves h value) = G body → value ≡ None
+  KeepsBody body (Leaves h value) = (b : Bool) → G body b → is_some value ≡ b
   KeepsBody body (AsksRegistration h r) = h.body ≡ body
   KeepsBody body (AsksRelease h r) = h.body ≡ body
   KeepsBody body (AsksTermination h r) = h.body ≡ body
@@ -168,13 +168,14 @@ module _ (code : Code) (G : Body → Type 0) where
         go false false false = leads Frames _ (faulted StoreFull)
 
     -- the frame below goes on with what the body gave
-    given_back : (value : Option Value) → (G body → value ≡ None) → (fs : List Frame) → Under body fs →
+    given_back : (value : Option Value) → ((b : Bool) → G body b → is_some value ≡ b) → (fs : List Frame) →
+        Under body fs →
         Frames (returned value fs)
     unfolding returned
     given_back None r [] u = tt
     given_back (Some v) r [] u = tt
     given_back None r (f ∷ fs) u = (
-      record { stack = u.0.stack; passes = u.0.passes; shadows = u.0.returns None (λ g. refl) },
+      record { stack = u.0.stack; passes = u.0.passes; shadows = u.0.returns None r },
       u.1,
     )
     given_back (Some v) r (f ∷ fs) u = (
@@ -182,7 +183,7 @@ module _ (code : Code) (G : Body → Type 0) where
       u.1,
     )
 
-    left_on : (h : Frame) (value : Option Value) → (G body → value ≡ None) → Kept (Leaves h value)
+    left_on : (h : Frame) (value : Option Value) → ((b : Bool) → G body b → is_some value ≡ b) → Kept (Leaves h value)
     unfolding applied frame_left job_ended
     left_on h value r =
         leads Frames _

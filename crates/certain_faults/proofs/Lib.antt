@@ -1,6 +1,7 @@
 pub mod CodeLemmas
 pub mod Ends
 pub mod Frames
+pub mod GivenAsBound
 pub mod Jobs
 pub mod Kept
 pub mod Meets

@@ -1,10 +1,9 @@
 -- Where the operands are what is known of them, the operation of a node that is certain to end with a fault ends with
 -- it.
-use Rattle.std.specs.Prelude.{Option, Some, None, slice_get, ℤ, pos, negsuc, ◌==◌, ◌&&◌, ◌%◌, ◌*◌, ◌/◌, nat_lt, not, is_some, unsigned_abs}
-use Rattle.std.specs.Ordering.{int_eq}
+use Rattle.std.specs.Prelude.{Option, Some, None, slice_get, ℤ, pos, negsuc, ◌==◌, ◌&&◌, ◌%◌, ◌*◌, ◌/◌, nat_lt, not, is_some, option_map, unsigned_abs}
 use Rattle.std.specs.Int.{is_negative}
-use Rattle.std.proofs.Common.{◌≡◌, ℕ, suc, ◌+◌, List, [], ◌∷◌, Bool, true, false, ◌⊎◌, inl, inr, refl, sym, ap, ◌∙◌, subst, arith, if◌then◌else◌, eqb-true}
-use Rattle.std.proofs.lemmas.Bool.Decides.{nat_tests, Decides-int_eq}
+use Rattle.std.proofs.Common.{◌≡◌, ℕ, suc, ◌+◌, List, [], ◌∷◌, Bool, true, false, ◌⊎◌, inl, inr, refl, sym, ap, ◌∙◌, subst, arith, if◌then◌else◌}
+use Rattle.std.proofs.lemmas.Bool.Decides.{nat_tests}
 use Rattle.scj_base.specs.declared.faults.RunFault.{RunFault}
 use Rattle.scj_base.specs.declared.faults.RunFault.TheVariants.{NullPointer, NegativeSize, DivideByZero, BadPriority, BadPeriod, BadPort}
 use Rattle.scj_base.specs.declared.values.Value.{Value}
@@ -23,7 +22,7 @@ use Rattle.certain_faults.specs.declared.known.Known.{Known}
 use Rattle.certain_faults.specs.declared.known.Known.TheVariants.{Unknown, Exactly, Object}
 use Rattle.certain_faults.specs.declared.known.Left.{Left}
 use Rattle.certain_faults.specs.declared.known.Left.TheVariants.{Forgets, Zero, One, Two, Four}
-use Rattle.certain_faults.specs.Faults.{fault_if, known_number, is_known, division_fault, length_fault, port_fault, size_fault, ceiling_fault, is_wrong_time, is_zero_time, is_known_time, times_fault, storage_fault, priority_fault}
+use Rattle.certain_faults.specs.Faults.{fault_if, known_number, is_known, division_fault, length_fault, port_fault, size_fault, ceiling_fault, is_wrong_time, is_known_time, times_fault, storage_fault, priority_fault}
 use Rattle.certain_faults.proofs.Stacks.{Stack, nothing, put, taken, with_left, Less}
 use Rattle.certain_faults.proofs.Frames.{Holds, Shadows}
 
@@ -296,21 +295,6 @@ module _ (fault : RunFault) where
         go true t u = negative_none m n (test_holds is_negative ms m t h)
         go false t u = wrong_none m n (test_holds (λ z. not (is_some (units_of (pos 0) z))) ns n u k)
 
-    zero_is : (z : ℤ) → int_eq z (pos 0) ≡ true → z ≡ pos 0
-    zero_is z e = (Decides-int_eq z (pos 0)).0 e
-
-    both_hold : (a b : Bool) → (a && b) ≡ true → (a ≡ true) × (b ≡ true)
-    both_hold true true e = (refl, refl)
-    both_hold true false e = absurd (cc (e))
-    both_hold false b e = absurd (cc (e))
-
-    zero_time : is_zero_time ms ns ≡ true → units_of m n ≡ Some 0
-    unfolding is_zero_time
-    zero_time e =
-        let t = both_hold (is_known (λ z. int_eq z (pos 0)) ms) (is_known (λ z. int_eq z (pos 0)) ns) e in
-        ap (λ z. units_of z n) (zero_is m (test_holds (λ z. int_eq z (pos 0)) ms m t.0 h))
-        ∙ ap (units_of (pos 0)) (zero_is n (test_holds (λ z. int_eq z (pos 0)) ns n t.1 k))
-
   -- a test of a number that is known tells of the number that is there
   test_is : (test : ℤ → Bool) (k : Known) (z : ℤ) → is_some (known_number k) ≡ true → Holds k (Some (Int z)) →
       is_known test k ≡ test z
@@ -352,23 +336,6 @@ module _ (fault : RunFault) where
   both_are true false e = absurd (cc (e))
   both_are false u e = absurd (cc (e))
 
-  right_period : (m n : ℤ) (x : IsRight m n) → (int_eq m (pos 0) && int_eq n (pos 0)) ≡ false →
-      (1000 * x.a + x.b / 1000 == 0) ≡ false
-  right_period m n x e = go (1000 * x.a + x.b / 1000 == 0) refl
-    where
-      go : (t : Bool) → (1000 * x.a + x.b / 1000 == 0) ≡ t → (1000 * x.a + x.b / 1000 == 0) ≡ false
-      go false u = u
-      go true u =
-          absurd
-          (let sum : 1000 * x.a + x.b / 1000 ≡ 0 = eqb-true (1000 * x.a + x.b / 1000) 0 u in
-          let rest : x.b % 1000 ≡ 0 = eqb-true (x.b % 1000) 0 (both_are (x.b % 1000 == 0) (nat_lt x.b 1000000) x.whole).0 in
-          let none : x.a ≡ 0 = omega (arith, sum) in
-          let no_more : x.b ≡ 0 = omega (arith, sum, rest) in
-          let zero : (int_eq m (pos 0) && int_eq n (pos 0)) ≡ true =
-          ap (λ z. int_eq z (pos 0) && int_eq n (pos 0)) (x.ms ∙ ap pos none)
-          ∙ ap (λ z. int_eq (pos 0) (pos 0) && int_eq z (pos 0)) (x.ns ∙ ap pos no_more) in
-          cc (zero, e))
-
   -- ---- the numbers of a form, each of which is what is known of it
 
   module _ (r : ℕ) (g : Frame) (kp ksms ksns kpms kpns kst : Known) (priority sms sns pms pns storage : ℤ)
@@ -397,7 +364,7 @@ module _ (fault : RunFault) where
           (sym (test_holds is_negative kst storage test.0 hst)) (ends_now NegativeSize test.1))
 
       abbrev Behind : ℕ → Option ℕ → Option (ℕ × ℕ)
-      Behind start period = period >>= (λ p. if p == 0 then None else Some (start, p))
+      Behind start period = option_map (λ p. (start, p)) period
 
       start_wrong : units_of sms sns ≡ None → times_of sms sns pms pns ≡ None
       start_wrong e = ap (λ (o : Option ℕ). o >>= (λ start. Behind start (units_of pms pns))) e
@@ -409,9 +376,6 @@ module _ (fault : RunFault) where
 
       period_wrong : units_of pms pns ≡ None → times_of sms sns pms pns ≡ None
       period_wrong e = none_behind (units_of pms pns) (λ start. ap (Behind start) e) (units_of sms sns)
-
-      period_zero : units_of pms pns ≡ Some 0 → times_of sms sns pms pns ≡ None
-      period_zero e = none_behind (units_of pms pns) (λ start. ap (Behind start) e) (units_of sms sns)
 
       right_of : (ms ns : Known) (m n : ℤ) → Holds ms (Some (Int m)) → Holds ns (Some (Int n)) →
           is_known_time ms ns ≡ true → is_wrong_time ms ns ≡ false → IsRight m n
@@ -429,51 +393,35 @@ module _ (fault : RunFault) where
           go true a w p q = absurd (cc (w))
           go false a w p q = right_time m n (sym p ∙ a) (sym q ∙ w)
 
-      nonzero_of : is_known_time kpms kpns ≡ true → is_zero_time kpms kpns ≡ false →
-          (int_eq pms (pos 0) && int_eq pns (pos 0)) ≡ false
-      unfolding is_known_time is_zero_time
-      nonzero_of t z =
-          let both = both_are (is_some (known_number kpms)) (is_some (known_number kpns)) t in
-          ap (λ (b : Bool). b && int_eq pns (pos 0)) (sym (test_is (λ z. int_eq z (pos 0)) kpms pms both.0 hpms))
-          ∙ ap (λ (b : Bool). is_known (λ z. int_eq z (pos 0)) kpms && b)
-          (sym (test_is (λ z. int_eq z (pos 0)) kpns pns both.1 hpns)) ∙ z
-
       times_right : is_known_time ksms ksns ≡ true → is_known_time kpms kpns ≡ true → is_wrong_time ksms ksns ≡ false →
-          is_wrong_time kpms kpns ≡ false → is_zero_time kpms kpns ≡ false →
-          (t : ℕ × ℕ) × (times_of sms sns pms pns ≡ Some t)
-      times_right ks kq ws wp zp =
+          is_wrong_time kpms kpns ≡ false → (t : ℕ × ℕ) × (times_of sms sns pms pns ≡ Some t)
+      times_right ks kq ws wp =
           let start = right_of ksms ksns sms sns hsms hsns ks ws in
-          let period = right_of kpms kpns pms pns hpms hpns kq wp in
-          let more = right_period pms pns period (nonzero_of kq zp) in (
+          let period = right_of kpms kpns pms pns hpms hpns kq wp in (
             (1000 * start.a + start.b / 1000, 1000 * period.a + period.b / 1000),
             ap (λ (o : Option ℕ). o >>= (λ start. Behind start (units_of pms pns))) (right_units sms sns start)
-                ∙ ap (Behind (1000 * start.a + start.b / 1000)) (right_units pms pns period)
-                ∙ ap
-                (λ (b : Bool). if b then None
-                else Some (1000 * start.a + start.b / 1000, 1000 * period.a + period.b / 1000)) more,
+                ∙ ap (Behind (1000 * start.a + start.b / 1000)) (right_units pms pns period),
           )
 
       times_end : (next : Option RunFault) → next ≡ storage_fault kst →
           times_fault ksms ksns kpms kpns next ≡ Some fault → Ends fault (Timed (times_of sms sns pms pns))
       unfolding times_fault
       times_end next same e =
-          go (is_wrong_time ksms ksns) refl (is_wrong_time kpms kpns) refl (is_zero_time kpms kpns) refl
-          (is_known_time ksms ksns) refl (is_known_time kpms kpns) refl e
+          go (is_wrong_time ksms ksns) refl (is_wrong_time kpms kpns) refl (is_known_time ksms ksns) refl
+          (is_known_time kpms kpns) refl e
         where
-          go : (a : Bool) → is_wrong_time ksms ksns ≡ a → (b : Bool) → is_wrong_time kpms kpns ≡ b → (c : Bool) →
-              is_zero_time kpms kpns ≡ c → (u : Bool) → is_known_time ksms ksns ≡ u → (v : Bool) →
-              is_known_time kpms kpns ≡ v →
-              (if a then Some BadPeriod else (if b then Some BadPeriod else (if c then Some BadPeriod
-              else (if u && v then next else None)))) ≡ Some fault →
+          go : (a : Bool) → is_wrong_time ksms ksns ≡ a → (b : Bool) → is_wrong_time kpms kpns ≡ b → (u : Bool) →
+              is_known_time ksms ksns ≡ u → (v : Bool) → is_known_time kpms kpns ≡ v →
+              (if a then Some BadPeriod else (if b then Some BadPeriod else (if u && v then next else None)))
+              ≡ Some fault →
               Ends fault (Timed (times_of sms sns pms pns))
-          go true t b x c y u p v q e = none_timed (start_wrong (wrong_time ksms ksns sms sns hsms hsns t)) e
-          go false t true x c y u p v q e = none_timed (period_wrong (wrong_time kpms kpns pms pns hpms hpns x)) e
-          go false t false x true y u p v q e = none_timed (period_zero (zero_time kpms kpns pms pns hpms hpns y)) e
-          go false t false x false y true p true q e =
-              (let right = times_right p q t x y in
+          go true t b x u p v q e = none_timed (start_wrong (wrong_time ksms ksns sms sns hsms hsns t)) e
+          go false t true x u p v q e = none_timed (period_wrong (wrong_time kpms kpns pms pns hpms hpns x)) e
+          go false t false x true p true q e =
+              (let right = times_right p q t x in
               stored (sym same ∙ e) (times_of sms sns pms pns) right.0 right.1)
-          go false t false x false y true p false q e = absurd (none_some e)
-          go false t false x false y false p v q e = absurd (none_some e)
+          go false t false x true p false q e = absurd (none_some e)
+          go false t false x false p v q e = absurd (none_some e)
 
       -- a priority, and what is asked behind it
       priority_ends : (next : Option RunFault) (then_ : Effect) → priority_fault kp next ≡ Some fault →

@@ -6,10 +6,10 @@ use Rattle.scj_tree.specs.declared.nodes.Node.{Node}
 use Rattle.scj_tree.specs.declared.nodes.Node.TheVariants.{Call as CallNode, NewArray, SuperCall}
 use Rattle.scj_tree.specs.Recursion.{below}
 use Rattle.scj_model.specs.declared.operations.Op.{Op}
-use Rattle.scj_model.specs.declared.operations.Op.TheVariants.{Push as PUSH, This as THIS, Load as LOAD, Get as GET, GetStatic as GETSTATIC, Length as LENGTH, Elem as ELEM, Unary as UNARY, Bin as BIN, And as AND, Or as OR, Alloc as ALLOC, Construct as CONSTRUCT, AllocArray as ALLOCARRAY, Cast as CAST, Enter as ENTER, SetCeiling as SETCEILING, Read as READ, Params as PARAMS}
-use Rattle.scj_model.specs.Code.{Code, part}
+use Rattle.scj_model.specs.declared.operations.Op.TheVariants.{Push as PUSH, This as THIS, Load as LOAD, Get as GET, GetStatic as GETSTATIC, Length as LENGTH, Elem as ELEM, Unary as UNARY, Bin as BIN, And as AND, Or as OR, Alloc as ALLOC, Construct as CONSTRUCT, AllocArray as ALLOCARRAY, Call as CALL, CallStatic as CALLSTATIC, Cast as CAST, Enter as ENTER, SetCeiling as SETCEILING, Read as READ, Params as PARAMS}
+use Rattle.scj_model.specs.Code.{Code, binding, part}
 use Rattle.scj_model.specs.Memory.{literal_value}
-use Rattle.scj_model.specs.Ops.{right_operand}
+use Rattle.scj_model.specs.Ops.{leaves_value, right_operand}
 use Rattle.scj_model.specs.Operations.{operator_of, argument_count}
 use Rattle.certain_faults.specs.declared.known.Known.{Known}
 use Rattle.certain_faults.specs.declared.known.Known.TheVariants.{Unknown, Object}
@@ -69,6 +69,19 @@ abbrev pub behind_arguments : Option ℕ → Stack → Stack
 behind_arguments None s = nothing
 behind_arguments (Some count) s = dropped count s
 
+-- what a call gives, if anything, comes in the place of the arguments and of the object
+abbrev pub with_result : Bool → Stack → Stack
+with_result true s = put Unknown s
+with_result false s = nothing
+
+abbrev pub behind_call : Bool → Option ℕ → Stack → Stack
+behind_call gives None s = nothing
+behind_call gives (Some count) s = with_result gives (taken (dropped count s))
+
+abbrev pub behind_static_call : Bool → Option ℕ → Stack → Stack
+behind_static_call gives None s = nothing
+behind_static_call gives (Some count) s = with_result gives (dropped count s)
+
 unfoldable pub step : Code → Op → Stack → Stack
 step code (PUSH id) s = with_left (left_by_literal (part code literal_value id)) s
 step code (THIS id) s = put Object s
@@ -84,6 +97,8 @@ step code (OR id) s = behind_right (part_left code id (part code right_operand i
 step code (ALLOC id) s = put Object s
 step code (CONSTRUCT id) s = behind_arguments (part code argument_count id) s
 step code (ALLOCARRAY id) s = put Object (taken s)
+step code (CALL id) s = behind_call (leaves_value (binding code id)) (part code argument_count id) s
+step code (CALLSTATIC id) s = behind_static_call (leaves_value (binding code id)) (part code argument_count id) s
 step code (CAST id) s = put Unknown (taken s)
 step code (READ id) s = put Unknown (taken s)
 step code _ s = nothing
@@ -109,6 +124,22 @@ arguments_less : (o : Option ℕ) (s t : Stack) → Less s t → Less (behind_ar
 arguments_less None s t h = less_nothing nothing
 arguments_less (Some count) s t h = less_dropped count s t h
 
+result_less : (gives : Bool) (s t : Stack) → Less s t → Less (with_result gives s) (with_result gives t)
+result_less true s t h = less_put Unknown s t h
+result_less false s t h = less_nothing nothing
+
+call_less : (gives : Bool) (o : Option ℕ) (s t : Stack) → Less s t → Less (behind_call gives o s) (behind_call gives o t)
+call_less gives None s t h = less_nothing nothing
+call_less gives (Some count) s t h =
+    result_less gives (taken (dropped count s)) (taken (dropped count t))
+    (less_taken (dropped count s) (dropped count t) (less_dropped count s t h))
+
+static_call_less : (gives : Bool) (o : Option ℕ) (s t : Stack) → Less s t →
+    Less (behind_static_call gives o s) (behind_static_call gives o t)
+static_call_less gives None s t h = less_nothing nothing
+static_call_less gives (Some count) s t h =
+    result_less gives (dropped count s) (dropped count t) (less_dropped count s t h)
+
 module _ (code : Code) where
   pub step_less : (op : Op) (s t : Stack) → Less s t → Less (step code op s) (step code op t)
   unfolding step
@@ -133,6 +164,8 @@ module _ (code : Code) where
   step_less (ALLOC id) s t h = less_put Object s t h
   step_less (CONSTRUCT id) s t h = arguments_less (part code argument_count id) s t h
   step_less (ALLOCARRAY id) s t h = less_put Object (taken s) (taken t) (less_taken s t h)
+  step_less (CALL id) s t h = call_less (leaves_value (binding code id)) (part code argument_count id) s t h
+  step_less (CALLSTATIC id) s t h = static_call_less (leaves_value (binding code id)) (part code argument_count id) s t h
   step_less (CAST id) s t h = less_put Unknown (taken s) (taken t) (less_taken s t h)
   step_less (READ id) s t h = less_put Unknown (taken s) (taken t) (less_taken s t h)
   step_less _ s t h = less_nothing nothing

@@ -27,7 +27,7 @@ use Rattle.scj_model.specs.Steps.{Step, silently, telling, allocating, opening, 
 use Rattle.scj_model.specs.Effects.{new_frame}
 use Rattle.scj_model.specs.Apply.{release_taken}
 use Rattle.scj_model.specs.Sequencer.{innermost, done, area_opened, safelet_made, body_called, method_called, sequencer_op, SeqEffect, Continues, TakesSafelet, TakesSequencer, TakesMission, LacksSequencer, LacksMission, BeginsMission, BeginsExecution, SkipsExecution, EndsExecution, ClosesMission, Transition, gone_to, mission_closed, seq_applied, transition_done, after_operation, after_execution, has_started, goes_to, phase_after, place_of_object}
-use Rattle.scj_model.specs.Arrivals.{arrivals, fired, fired_at, fired_handler, due_handlers, fires_due}
+use Rattle.scj_model.specs.Arrivals.{arrivals, executes_since, fired, fired_at, fired_handler, due_handlers, fires_due}
 use Rattle.scj_model.specs.Run.{no_activity, started_with, start_op, empty_state}
 use Rattle.reference_sound.proofs.Closing.{one_closes}
 use Rattle.certain_faults.proofs.Jobs.{Jobs, jobs_still, jobs_of, sequencer_has, jobs_on, jobs_faulted, Lead, leads, none_leads, any_leads, taken_jobs}
@@ -234,7 +234,7 @@ module _ (code : Code) (J : List Frame → Type 0) where
   unfolding arrivals
   arrival_jobs plan s held =
       each_keeps J (fired_at code plan.fires) (λ t place h. at_jobs plan.fires t place h)
-      (fires_due s.unit plan.fires) (for_each release_taken (due_handlers s) s).state
+      (fires_due (executes_since s) s.unit plan.fires) (for_each release_taken (due_handlers s) s).state
       (each_keeps J release_taken (λ t handler h. taken_jobs J t handler h) (due_handlers s) s held)
 
   pub first_jobs : J [] → (plan : Plan) → Jobs J (empty_state code plan)

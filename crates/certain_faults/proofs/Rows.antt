@@ -11,7 +11,7 @@ use Rattle.certain_faults.specs.declared.known.Known.{Known}
 use Rattle.certain_faults.specs.declared.known.Known.TheVariants.{Unknown, Exactly, Object}
 use Rattle.certain_faults.specs.declared.known.Left.TheVariants.{Zero, One, Four}
 use Rattle.certain_faults.specs.Known.{known, binary_known, operator_known, in_place_of_two, left_by_name}
-use Rattle.certain_faults.specs.Faults.{is_known, known_number, division_fault, length_fault, port_fault, size_fault, ceiling_fault, is_wrong_time, is_zero_time, is_known_time, times_fault, storage_fault, priority_fault, periodic_fault, parameters_fault, aperiodic_fault}
+use Rattle.certain_faults.specs.Faults.{is_known, known_number, division_fault, length_fault, port_fault, size_fault, ceiling_fault, is_wrong_time, is_known_time, times_fault, storage_fault, priority_fault, periodic_fault, parameters_fault, aperiodic_fault}
 
 abbrev number : ℕ → Known
 number n = Exactly (Int (pos n))
@@ -118,19 +118,23 @@ aperiodic_29 = refl
 
 period_999000 : periodic_fault (One (number 5)) (Four (number 0) (number 0) (number 1) (number 999000)) (One (number 8))
     ≡ None
-unfolding periodic_fault priority_fault times_fault is_wrong_time is_zero_time is_known_time known_number storage_fault is_known
+unfolding periodic_fault priority_fault times_fault is_wrong_time is_known_time known_number storage_fault is_known
 period_999000 = refl
 
 period_999001 : periodic_fault (One (number 5)) (Four (number 0) (number 0) (number 1) (number 999001)) (One minus_one)
     ≡ Some BadPeriod
-unfolding periodic_fault priority_fault times_fault is_wrong_time is_zero_time is_known_time known_number storage_fault is_known
+unfolding periodic_fault priority_fault times_fault is_wrong_time is_known_time known_number storage_fault is_known
 period_999001 = refl
 
-period_0 : periodic_fault (One (number 5)) (Four (number 0) (number 0) (number 0) (number 0)) (One (number 8))
-    ≡ Some BadPeriod
-unfolding periodic_fault priority_fault times_fault is_wrong_time is_zero_time is_known_time known_number storage_fault is_known
+period_0 : periodic_fault (One (number 5)) (Four (number 0) (number 0) (number 0) (number 0)) (One (number 8)) ≡ None
+unfolding periodic_fault priority_fault times_fault is_wrong_time is_known_time known_number storage_fault is_known
 period_0 = refl
 
+behind_period_0 : periodic_fault (One (number 5)) (Four (number 0) (number 0) (number 0) (number 0)) (One minus_one)
+    ≡ Some NegativeSize
+unfolding periodic_fault priority_fault times_fault is_wrong_time is_known_time known_number storage_fault is_known
+behind_period_0 = refl
+
 start_unknown : periodic_fault (One (number 5)) (Four Unknown (number 0) (number 1) (number 0)) (One minus_one) ≡ None
-unfolding periodic_fault priority_fault times_fault is_wrong_time is_zero_time is_known_time known_number storage_fault is_known
+unfolding periodic_fault priority_fault times_fault is_wrong_time is_known_time known_number storage_fault is_known
 start_unknown = refl

@@ -1,6 +1,6 @@
 -- In each state that a run of an accepted program comes to, the operands of all frames are what is known of them.
-use Rattle.std.specs.Prelude.{Option, Some, None, slice_get, option_map}
-use Rattle.std.proofs.Common.{◌≡◌, ℕ, List, [], ◌∷◌, Bool, true, false, refl, sym, ◌∙◌, ap, subst, if◌then◌else◌}
+use Rattle.std.specs.Prelude.{Option, Some, None, is_some, slice_get, option_map}
+use Rattle.std.proofs.Common.{◌≡◌, ℕ, List, [], ◌∷◌, Bool, true, false, refl, ◌∙◌, ap, subst, if◌then◌else◌}
 use Rattle.scj_base.specs.declared.values.Value.{Value}
 use Rattle.scj_tree.specs.declared.nodes.Node.{Node}
 use Rattle.scj_tree.specs.Forest.{Forest}
@@ -11,21 +11,18 @@ use Rattle.scj_rules.specs.Classes.{ClassRow}
 use Rattle.scj_rules.specs.Words.{◌>>=◌}
 use Rattle.scj_rules.specs.Contexts.{Declarations, declarations_of}
 use Rattle.scj_rules.specs.ScopeRules.{user_class_in}
-use Rattle.scj_rules.specs.Bodies.{constructor_body}
 use Rattle.accepted_laws.specs.Kinds.{Kind}
 use Rattle.accepted_laws.specs.Programs.{IsAcceptedProgram}
 use Rattle.accepted_laws.proofs.Tools.{some_inj}
 use Rattle.accepted_laws.proofs.ClassNumbers.{user_class_is}
 use Rattle.accepted_laws.proofs.ClassSorts.{well_sorted}
 use Rattle.scj_model.specs.declared.operations.Op.{Op}
-use Rattle.scj_model.specs.declared.operations.Op.TheVariants.{Construct as CONSTRUCT}
 use Rattle.scj_model.specs.declared.plans.ReadingRow.{ReadingRow}
-use Rattle.scj_model.specs.Code.{Code, binding, code_of, part}
+use Rattle.scj_model.specs.Code.{Code, code_of, part}
 use Rattle.scj_model.specs.Plan.{Plan}
 use Rattle.scj_model.specs.State.{Frame, Activity, Waits as Waiting, Started, Ended, Dropped, ReleaseStatus, Release, Job, TheSequencer, ReleaseAt, State, activity_in, activity_of, is_exec, Turn, IdleTurn, TurnOf}
 use Rattle.scj_model.specs.Steps.{Step, silently, then_try}
 use Rattle.scj_model.specs.Effects.{Effect, Goes, Prints, Makes, Stores, StoresStatic, SetsHidden, SetsCeiling, Calls, Opens, Leaves, AsksRegistration, AsksRelease, AsksTermination, Faults, Stuck, new_frame}
-use Rattle.scj_model.specs.Operations.{bound_class}
 use Rattle.scj_model.specs.Apply.{applied}
 use Rattle.scj_model.specs.Sequencer.{sequencer_op}
 use Rattle.scj_model.specs.Choice.{Policy, by_list}
@@ -38,7 +35,6 @@ use Rattle.frame_sound.specs.Places.{World, world_of, denote}
 use Rattle.frame_sound.specs.Fine.{Ready, FramesFine, list_of, MemoryFine, JobFine}
 use Rattle.frame_sound.specs.EffectsFine.{Fine as EffectIsFine, ReturnFine}
 use Rattle.frame_sound.proofs.NextOperation.{next_fine}
-use Rattle.frame_sound.proofs.GivenValues.{one_signature}
 use Rattle.mission_sound.specs.Bases.{areas_of}
 use Rattle.mission_sound.specs.Invariant.{Invariant}
 use Rattle.mission_sound.proofs.Phases.{time_passes}
@@ -48,7 +44,8 @@ use Rattle.scope_sound.proofs.InAnyOrder.{reached_is_sound}
 use Rattle.scope_sound.proofs.Operated.{operated}
 use Rattle.certain_faults.proofs.Passes.{Passes, arguments_of}
 use Rattle.certain_faults.proofs.RunsOfNodes.{ClassesAskNothing}
-use Rattle.certain_faults.proofs.Frames.{ConstructorsGiveNothing, new_explained, operation_fine}
+use Rattle.certain_faults.proofs.Frames.{new_explained, operation_fine}
+use Rattle.certain_faults.proofs.GivenAsBound.{GivesSo, given_as_bound}
 use Rattle.certain_faults.proofs.Jobs.{Jobs, jobs_still, Lead, leads, none_leads, any_leads, told_leads}
 use Rattle.certain_faults.proofs.Kept.{Frames, KeepsBody, effect_kept}
 use Rattle.certain_faults.proofs.Phases.{sequencer_jobs, start_jobs, phase_jobs, arrival_jobs, first_jobs}
@@ -79,25 +76,21 @@ classes_ask_nothing forest a = record { is = λ class node e. at class node (use
 -- ---- one operation
 
 module _ (code : Code) where
-  -- a body that gives nothing
-  abbrev pub GivesNothing : Body → Type 0
-  GivesNothing body = (c : ℕ) (sig : Signature) → Runs code.program body c sig → sig.gives ≡ None
-
   abbrev pub All : List Frame → Type 0
-  All = Frames code GivesNothing
+  All = Frames code (GivesSo code)
 
-  none_returned : (w : World) (den : Scope → Option ℕ) (gives : Option Kind) (value : Option Value) →
-      ReturnFine code.program w den gives value → gives ≡ None → value ≡ None
-  none_returned w den gives value fine e = go value (subst (λ k. ReturnFine code.program w den k value) e fine)
-    where
-      go : (value : Option Value) → ReturnFine code.program w den None value → value ≡ None
-      go None h = refl
-      go (Some v) h = absurd h
+  -- a value is given exactly where the signature has one
+  returned_so : (w : World) (den : Scope → Option ℕ) (gives : Option Kind) (value : Option Value) →
+      ReturnFine code.program w den gives value → is_some value ≡ is_some gives
+  returned_so w den None None h = refl
+  returned_so w den (Some k) (Some v) h = refl
+  returned_so w den None (Some v) h = absurd h
+  returned_so w den (Some k) None h = absurd h
 
   module _ (w : World) (list : List ℕ) (f : Frame) (rest : List Op) (c : ℕ) (sig : Signature)
       (runs : Runs code.program f.body c sig) where
     keeps_body : (e : Effect) → EffectIsFine code w list c sig (record f { rest = rest }) e →
-        KeepsBody code GivesNothing f.body e
+        KeepsBody code (GivesSo code) f.body e
     keeps_body (Goes h) x = x.is.same.body
     keeps_body (Prints h label value) x = x.is.same.body
     keeps_body (Makes h class values) x = x.is.goes.same.body
@@ -108,29 +101,12 @@ module _ (code : Code) where
     keeps_body (Calls h g) x = x.is.goes.same.body
     keeps_body (Opens h g scope bytes) x = x.is.goes.same.body
     keeps_body (Leaves h v) x =
-        λ g. none_returned w (denote w list f.this f.area) sig.gives v x.is.1 (g c sig runs)
+        λ b g. returned_so w (denote w list f.this f.area) sig.gives v x.is.1 ∙ g c sig runs
     keeps_body (AsksRegistration h r) x = x.is.0.same.body
     keeps_body (AsksRelease h r) x = x.is.0.same.body
     keeps_body (AsksTermination h r) x = x.is.0.same.body
     keeps_body (Faults fault) x = tt
     keeps_body Stuck x = tt
-
-    constructors : (op : Op) → Ready code w list c sig (record f { rest = op ∷ rest }) None →
-        ConstructorsGiveNothing code GivesNothing op
-    constructors (CONSTRUCT id) ready = λ class body e k. given class body e k
-      where
-        given : (class : ℕ) (body : Body) → bound_class (binding code id) ≡ Some class →
-            constructor_body code.program class ≡ Some body → GivesNothing body
-        given class body e k d own own_runs =
-            let need = ready.flow.1.needed in
-            let same : need.class ≡ class = some_inj need.class class (sym need.is ∙ e) in
-            let body_is : need.constructor.body ≡ body =
-            some_inj need.constructor.body body
-            (sym need.constructor.is ∙ ap (constructor_body code.program) same ∙ k) in
-            let its = subst (λ b. Runs code.program b need.class need.constructor.sig) body_is need.constructor.runs in
-            let one = one_signature code.program body d need.class own need.constructor.sig own_runs its in
-            ap (λ (s : Signature). s.gives) one.signature ∙ need.constructor.gives_nothing
-    constructors _ ready = tt
 
 -- ---- the next operation of a job
 
@@ -170,15 +146,16 @@ module _ (code : Code) (facts : Facts code) (bare : ClassesAskNothing code) (row
           (record f { rest = ops }) None) r ready in
           let passes : Passes code (op ∷ rest) mine.0.stack =
           subst (λ (ops : List Op). Passes code ops mine.0.stack) r mine.0.passes in
-          effect_kept code (GivesNothing code) s held job activity f.body below mine.1 (place_of_op code op)
+          effect_kept code (GivesSo code) s held job activity f.body below mine.1 (place_of_op code op)
           (effect_at code rows s f op rest)
           (keeps_body code (world_of s) (list_of base (f ∷ below)) f rest fine.0.class fine.0.sig ready.runs
           (effect_at code rows s f op rest)
           (next_fine code facts (world_of s).areas (environment rows s) (list_of base (f ∷ below)) fine.0.class
           fine.0.sig f op rest fine.1 memory.heap memory.statics again))
-          (operation_fine code (GivesNothing code) bare rest (environment rows s) (record f { rest = rest })
+          (operation_fine code (GivesSo code) bare rest (environment rows s) (record f { rest = rest })
           mine.0.stack (record { same = refl; shadows = mine.0.shadows }) op passes.1
-          (constructors code (world_of s) (list_of base (f ∷ below)) f rest fine.0.class fine.0.sig ready.runs op again))
+          (given_as_bound code facts (environment rows s) (world_of s) memory.heap refl (list_of base (f ∷ below))
+          fine.0.class fine.0.sig f rest op again))
 
   pub frame_jobs : JobFine code (world_of s) base activity → Lead (All code) (frame_op code rows s job activity)
   unfolding frame_op
@@ -189,7 +166,7 @@ module _ (code : Code) (facts : Facts code) (bare : ClassesAskNothing code) (row
 fresh : (code : Code) → ClassesAskNothing code → (body : Body) (called_at this : Option ℕ) (area : ℕ)
     (opened : Option ℕ) → All code (record (new_frame code body called_at this area []) { opened = opened } ∷ [])
 fresh code bare body called_at this area opened =
-    let x = new_explained code (GivesNothing code) bare body called_at this area [] in
+    let x = new_explained code (GivesSo code) bare body called_at this area [] in
     (record { stack = x.stack; passes = x.passes; shadows = x.shadows }, tt)
 
 module _ (code : Code) (facts : Facts code) (bare : ClassesAskNothing code) (rows : List ReadingRow) where

@@ -10,6 +10,7 @@ use Rattle.scj_tree.specs.Recursion.{below}
 use Rattle.scj_tree.proofs.RecursionLemmas.{by_smaller-is}
 use Rattle.scj_rules.specs.declared.typing.Binding.{Binding}
 use Rattle.scj_rules.specs.declared.typing.Binding.TheVariants.{Plain, Local, Field, Static, Length, Class as ClassNamed, Method, StaticMethod, Builtin}
+use Rattle.scj_rules.specs.declared.typing.Target.{Target}
 use Rattle.scj_rules.specs.declared.views.Declared.{Declared}
 use Rattle.scj_rules.specs.declared.views.WrittenType.TheVariants.{Void as void_type}
 use Rattle.scj_rules.specs.Words.{is_among, ◌>>=◌}
@@ -28,9 +29,9 @@ use Rattle.certain_faults.specs.declared.known.Known.{Known}
 use Rattle.certain_faults.specs.declared.known.Known.TheVariants.{Unknown, Object}
 use Rattle.certain_faults.specs.declared.known.Left.{Left}
 use Rattle.certain_faults.specs.declared.known.Left.TheVariants.{Forgets, Zero, One, Two, Four}
-use Rattle.certain_faults.specs.Known.{unary_known, binary_known, is_conditional, operator_known, in_place_of, in_place_of_two, left_by_name, left_by_access, leaves_one, all_leave_one, end_to_end, left_by_part, left_by_new, left_by_read, left_by_call, left_by_node, next_left, left_by}
+use Rattle.certain_faults.specs.Known.{unary_known, binary_known, is_conditional, operator_known, in_place_of, in_place_of_two, left_by_name, left_by_access, leaves_one, all_leave_one, end_to_end, left_by_part, left_by_new, leaves_receiver, left_by_method, left_by_read, left_by_call, left_by_node, next_left, left_by}
 use Rattle.certain_faults.proofs.Stacks.{Stack, nothing, put, taken, dropped, with_left, with_all, Less, less_same, less_nothing, less_left, less_all}
-use Rattle.certain_faults.proofs.Passes.{array_length, arguments_of, left_below, part_left, with_parts, asked, unary_by, binary_by, behind_right, behind_arguments, step, Runs, runs_none, runs_op, runs_then, runs_less, Any, any_of, any_none, any_then, any_op, any_if}
+use Rattle.certain_faults.proofs.Passes.{array_length, arguments_of, left_below, part_left, with_parts, asked, unary_by, binary_by, behind_right, behind_arguments, with_result, behind_call, behind_static_call, step, Runs, runs_none, runs_op, runs_then, runs_less, Any, any_of, any_none, any_then, any_op, any_if}
 
 -- a class has no arguments of its own
 pub record ClassesAskNothing (code : Code) : Type 0 where
@@ -415,21 +416,120 @@ module _ (code : Code) (bare : ClassesAskNothing code) (id : ℕ) where
               (sym same) (read_runs s))
           go false e = (any_builtin method).is s
 
-      call_runs : (b : Binding) (s : Stack) →
-          Runs code (call_ops ops id object arguments b) s (with_left (left_by_call left arguments b) s)
-      unfolding call_ops left_by_call asked with_left
-      call_runs (Builtin t) s = builtin_runs t.id s
-      call_runs (Method t) s =
-          (any_then code (receiver_ops ops id object) (flat_map ops arguments ++ CALL id ∷ []) (any_receiver object)
-          (any_behind (flat_map ops arguments) (CALL id) (any_all arguments) refl)).is s
-      call_runs (StaticMethod t) s =
-          (any_behind (flat_map ops arguments) (CALLSTATIC id) (any_all arguments) refl).is s
-      call_runs Plain s = (any_none code).is s
-      call_runs (Local k) s = (any_none code).is s
-      call_runs (Field k) s = (any_none code).is s
-      call_runs (Static k) s = (any_none code).is s
-      call_runs Length s = (any_none code).is s
-      call_runs (ClassNamed class) s = (any_none code).is s
+      -- behind the object of a call, and behind the arguments that come then
+      abbrev behind_receiver : Option ℕ → Stack → Stack
+      behind_receiver None s = put Object s
+      behind_receiver (Some x) s = with_left (left x) s
+
+      receiver_runs : (o : Option ℕ) (s : Stack) → Runs code (receiver_ops ops id o) s (behind_receiver o s)
+      unfolding receiver_ops step asked
+      receiver_runs None s = runs_op code (THIS id) s (less_nothing s)
+      receiver_runs (Some x) s = parts x s
+
+      static_less : (gives : Bool) (s : Stack) →
+          Less (with_left (left_by_method left arguments gives) s)
+          (with_result gives (dropped (length arguments) (with_all left arguments s)))
+      unfolding left_by_method with_left
+      static_less gives s = go gives (all_leave_one left arguments) refl
+        where
+          go : (g b : Bool) → all_leave_one left arguments ≡ b →
+              Less (with_left (if g && b then One Unknown else Forgets) s)
+              (with_result g (dropped (length arguments) (with_all left arguments s)))
+          go true true e =
+              subst (λ (t : Stack). Less (put Unknown s) (put Unknown t)) (sym (all_dropped left arguments s e))
+              (less_same (put Unknown s))
+          go true false e = less_nothing _
+          go false b e = less_nothing _
+
+      taken_less : (a : Known) (s : Stack) (b : Bool) → all_leave_one left arguments ≡ b →
+          Less (with_left (if b then One Unknown else Forgets) s)
+          (put Unknown (taken (dropped (length arguments) (with_all left arguments (put a s)))))
+      unfolding with_left
+      taken_less a s true e =
+          subst (λ (t : Stack). Less (put Unknown s) (put Unknown (taken t)))
+          (sym (all_dropped left arguments (put a s) e)) (less_same (put Unknown s))
+      taken_less a s false e = less_nothing _
+
+      receiver_less : (o : Option ℕ) (gives : Bool) (s : Stack) →
+          Less (with_left (left_by_method left arguments (gives && leaves_receiver left o)) s)
+          (with_result gives (taken (dropped (length arguments) (with_all left arguments (behind_receiver o s)))))
+      unfolding left_by_method leaves_receiver leaves_one with_left
+      receiver_less o false s = less_nothing _
+      receiver_less None true s = taken_less Object s (all_leave_one left arguments) refl
+      receiver_less (Some x) true s = go (left x)
+        where
+          go : (l : Left) →
+              Less (with_left (if leaves_one l && all_leave_one left arguments then One Unknown else Forgets) s)
+              (put Unknown (taken (dropped (length arguments) (with_all left arguments (with_left l s)))))
+          go (One a) = taken_less a s (all_leave_one left arguments) refl
+          go Forgets = less_nothing _
+          go Zero = less_nothing _
+          go (Two a b) = less_nothing _
+          go (Four a b c d) = less_nothing _
+
+      module _ (count : part code argument_count id ≡ Some (length arguments)) where
+        static_runs : (t : Target) → binding code id ≡ StaticMethod t → (s : Stack) →
+            Runs code (flat_map ops arguments ++ CALLSTATIC id ∷ []) s
+            (with_left (left_by_method left arguments t.gives) s)
+        unfolding step asked leaves_value
+        static_runs t bound s =
+            runs_less code (flat_map ops arguments ++ CALLSTATIC id ∷ []) s
+            (with_left (left_by_method left arguments t.gives) s)
+            (step code (CALLSTATIC id) (with_all left arguments s)) less
+            (behind (flat_map ops arguments) (CALLSTATIC id) s (with_all left arguments s) (all_run arguments s)
+            (less_nothing _))
+          where
+            told : Stack
+            told = with_left (left_by_method left arguments t.gives) s
+
+            less : Less (with_left (left_by_method left arguments t.gives) s)
+                (step code (CALLSTATIC id) (with_all left arguments s))
+            less =
+                subst (λ (g : Bool). Less told
+                (behind_static_call g (part code argument_count id) (with_all left arguments s)))
+                (sym (ap leaves_value bound))
+                (subst (λ (o : Option ℕ). Less told (behind_static_call t.gives o (with_all left arguments s)))
+                (sym count) (static_less t.gives s))
+
+        method_runs : (t : Target) → binding code id ≡ Method t → (s : Stack) →
+            Runs code (receiver_ops ops id object ++ (flat_map ops arguments ++ CALL id ∷ [])) s
+            (with_left (left_by_method left arguments (t.gives && leaves_receiver left object)) s)
+        unfolding step asked leaves_value
+        method_runs t bound s =
+            runs_less code (receiver_ops ops id object ++ (flat_map ops arguments ++ CALL id ∷ [])) s told
+            (step code (CALL id) (with_all left arguments (behind_receiver object s))) less
+            (runs_then code (receiver_ops ops id object) (flat_map ops arguments ++ CALL id ∷ []) s
+            (behind_receiver object s) (step code (CALL id) (with_all left arguments (behind_receiver object s)))
+            (receiver_runs object s)
+            (behind (flat_map ops arguments) (CALL id) (behind_receiver object s)
+            (with_all left arguments (behind_receiver object s)) (all_run arguments (behind_receiver object s))
+            (less_nothing _)))
+          where
+            told : Stack
+            told = with_left (left_by_method left arguments (t.gives && leaves_receiver left object)) s
+
+            less : Less (with_left (left_by_method left arguments (t.gives && leaves_receiver left object)) s)
+                (step code (CALL id) (with_all left arguments (behind_receiver object s)))
+            less =
+                subst (λ (g : Bool). Less told
+                (behind_call g (part code argument_count id) (with_all left arguments (behind_receiver object s))))
+                (sym (ap leaves_value bound))
+                (subst (λ (o : Option ℕ). Less told
+                (behind_call t.gives o (with_all left arguments (behind_receiver object s)))) (sym count)
+                (receiver_less object t.gives s))
+
+        call_runs : (b : Binding) → binding code id ≡ b → (s : Stack) →
+            Runs code (call_ops ops id object arguments b) s (with_left (left_by_call left object arguments b) s)
+        unfolding call_ops left_by_call with_left
+        call_runs (Builtin t) bound s = builtin_runs t.id s
+        call_runs (Method t) bound s = method_runs t bound s
+        call_runs (StaticMethod t) bound s = static_runs t bound s
+        call_runs Plain bound s = (any_none code).is s
+        call_runs (Local k) bound s = (any_none code).is s
+        call_runs (Field k) bound s = (any_none code).is s
+        call_runs (Static k) bound s = (any_none code).is s
+        call_runs Length bound s = (any_none code).is s
+        call_runs (ClassNamed class) bound s = (any_none code).is s
 
     -- ---- super parts, of the node itself or of a class that has no arguments
 
@@ -576,7 +676,8 @@ module _ (code : Code) (bare : ClassesAskNothing code) (id : ℕ) where
     node_runs (NewArray place element size) there s =
         new_array_runs size (read_part (NewArray place element size) there array_length) s
     node_runs (Call place name object arguments) there s =
-        call_runs object arguments (read_part (Call place name object arguments) there arguments_of) (binding code id) s
+        call_runs object arguments (read_part (Call place name object arguments) there arguments_of)
+        (read_part (Call place name object arguments) there argument_count) (binding code id) refl s
     node_runs (Cast place name_place name operand) there s = cast_runs operand s
     node_runs (LocalNode place name flags declared_type) there s = (any_op code (ZERO id) refl).is s
     node_runs (LocalWithValue place name_place name flags declared_type value) there s =

@@ -2,7 +2,6 @@
 -- is done. An operation tests its faults in an order; one that comes later is certain only where what comes first is
 -- known not to come.
 use Rattle.std.specs.Prelude.{◌≡◌, ℕ, ◌==◌, Bool, true, false, not, ◌&&◌, List, [], ◌∷◌, slice_get, ℤ, pos, Option, Some, None, if◌then◌else◌, is_some}
-use Rattle.std.specs.Ordering.{int_eq}
 use Rattle.std.specs.Int.{is_negative}
 use Rattle.scj_base.specs.declared.faults.RunFault.{RunFault}
 use Rattle.scj_base.specs.declared.faults.RunFault.TheVariants.{NullPointer, NegativeSize, DivideByZero, BadPriority, BadPeriod, BadPort}
@@ -73,9 +72,6 @@ unfoldable pub is_wrong_time : Known → Known → Bool
 is_wrong_time ms ns =
     if is_known is_negative ms then true else is_known (λ z. not (is_some (units_of (pos 0) z))) ns
 
-unfoldable pub is_zero_time : Known → Known → Bool
-is_zero_time ms ns = is_known (λ z. int_eq z (pos 0)) ms && is_known (λ z. int_eq z (pos 0)) ns
-
 -- each number of a time is known
 unfoldable pub is_known_time : Known → Known → Bool
 is_known_time ms ns = is_some (known_number ms) && is_some (known_number ns)
@@ -85,8 +81,7 @@ unfoldable pub times_fault : Known → Known → Known → Known → Option RunF
 times_fault sms sns pms pns next =
     if is_wrong_time sms sns then Some BadPeriod
     else (if is_wrong_time pms pns then Some BadPeriod
-    else (if is_zero_time pms pns then Some BadPeriod
-    else (if is_known_time sms sns && is_known_time pms pns then next else None)))
+    else (if is_known_time sms sns && is_known_time pms pns then next else None))
 
 unfoldable pub storage_fault : Known → Option RunFault
 storage_fault storage = fault_if (is_known is_negative storage) NegativeSize

@@ -1,8 +1,7 @@
 -- What is known before a run of the values that the operations of a node leave: the value of a constant, and of `this`
 -- and of a new object that it isn't null. A constant is a literal, or operators and parentheses on constants, by the
--- arithmetic of runs. Nothing is known of what a method gives, and once one is called nothing more of what was there
--- before.
-use Rattle.std.specs.Prelude.{ℕ, ◌==◌, Bool, true, false, List, [], ◌∷◌, slice_get, Option, Some, None, if◌then◌else◌}
+-- arithmetic of runs. Of what a method gives it is known that it is one operand, and nothing more.
+use Rattle.std.specs.Prelude.{ℕ, ◌==◌, ◌&&◌, Bool, true, false, List, [], ◌∷◌, slice_get, Option, Some, None, if◌then◌else◌}
 use Rattle.std.specs.List.{list_all}
 use Rattle.scj_base.specs.Vocabulary.{sign_and_and, sign_or_or}
 use Rattle.scj_base.specs.declared.values.Value.{Value}
@@ -11,7 +10,7 @@ use Rattle.scj_tree.specs.declared.nodes.Node.{Node}
 use Rattle.scj_tree.specs.declared.nodes.Node.TheVariants.{Binary, Unary, Cast, Parenthesized, SimpleName, FieldAccess, Call, Element, New, NewArray, Number, True, False, Null, This}
 use Rattle.scj_tree.specs.Recursion.{by_smaller}
 use Rattle.scj_rules.specs.declared.typing.Binding.{Binding}
-use Rattle.scj_rules.specs.declared.typing.Binding.TheVariants.{Local, Field, Static, Length, Class as ClassNamed, Builtin}
+use Rattle.scj_rules.specs.declared.typing.Binding.TheVariants.{Local, Field, Static, Length, Class as ClassNamed, Method, StaticMethod, Builtin}
 use Rattle.scj_rules.specs.Words.{is_among}
 use Rattle.scj_model.specs.Code.{Code, binding, part}
 use Rattle.scj_model.specs.Arithmetic.{binary_value, divides_by_zero, unary_value}
@@ -98,14 +97,26 @@ unfoldable pub left_by_new : (ℕ → Left) → List ℕ → Binding → Left
 left_by_new left arguments (ClassNamed class) = if all_leave_one left arguments then One Object else Forgets
 left_by_new left arguments _ = left_by_part left arguments
 
--- of the calls that of `Device.read` alone calls no method and leaves an operand
+-- a call of a method leaves its result, where there is one, in the place of the object and the arguments
+unfoldable pub leaves_receiver : (ℕ → Left) → Option ℕ → Bool
+leaves_receiver left None = true
+leaves_receiver left (Some object) = leaves_one (left object)
+
+unfoldable pub left_by_method : (ℕ → Left) → List ℕ → Bool → Left
+left_by_method left arguments gives = if gives && all_leave_one left arguments then One Unknown else Forgets
+
+-- of the calls of the framework that of `Device.read` alone leaves an operand
 unfoldable pub left_by_read : (ℕ → Left) → List ℕ → Left
 left_by_read left (x ∷ []) = in_place_of (left x) (λ a. Unknown)
 left_by_read left _ = Forgets
 
-unfoldable pub left_by_call : (ℕ → Left) → List ℕ → Binding → Left
-left_by_call left arguments (Builtin t) = if t.id == device_read then left_by_read left arguments else Forgets
-left_by_call left arguments _ = Forgets
+unfoldable pub left_by_call : (ℕ → Left) → Option ℕ → List ℕ → Binding → Left
+left_by_call left object arguments (Method t) =
+    left_by_method left arguments (t.gives && leaves_receiver left object)
+left_by_call left object arguments (StaticMethod t) = left_by_method left arguments t.gives
+left_by_call left object arguments (Builtin t) =
+    if t.id == device_read then left_by_read left arguments else Forgets
+left_by_call left object arguments _ = Forgets
 
 -- ---- all nodes
 
@@ -125,7 +136,8 @@ left_by_node code left id (Binary place operator l r) = in_place_of_two (left l)
 left_by_node code left id (New place name_place name arguments) = left_by_new left arguments (binding code id)
 left_by_node code left id (NewArray place element length) = in_place_of (left length) (λ a. Object)
 left_by_node code left id (Cast place name_place name operand) = in_place_of (left operand) (λ a. Unknown)
-left_by_node code left id (Call place name object arguments) = left_by_call left arguments (binding code id)
+left_by_node code left id (Call place name object arguments) =
+    left_by_call left object arguments (binding code id)
 left_by_node code left id _ = Forgets
 
 unfoldable pub next_left : Code → ℕ → (ℕ → Left) → Left

@@ -3,12 +3,12 @@
 ghost use Rattle.std.specs.Prelude.{◌≡◌};
 ghost use Rattle.scj_tree.specs.Recursion.{lookup};
 ghost use Rattle.certain_faults.specs.declared.known.Left.TheVariants.{Forgets as forgets};
-ghost use Rattle.certain_faults.specs.Faults.{is_wrong_time, is_zero_time, is_known_time, times_fault, storage_fault, priority_fault, periodic_fault, parameters_fault, aperiodic_fault, form_fault, super_fault};
+ghost use Rattle.certain_faults.specs.Faults.{is_wrong_time, is_known_time, times_fault, storage_fault, priority_fault, periodic_fault, parameters_fault, aperiodic_fault, form_fault, super_fault};
 
 use crate::facts::{has_form, is_priority, is_user_class};
 use crate::known::{Known, Left};
 use crate::nodes::left_at;
-use crate::numbers::{is_negative, is_no_nanoseconds, is_zero, known_number};
+use crate::numbers::{is_negative, is_no_nanoseconds, known_number};
 use scj_base::ids::PERIODIC_EVENT_HANDLER;
 use scj_base::{ClassId, NodeId, RunFault, Value};
 use scj_rules::Binding;
@@ -19,14 +19,6 @@ fn is_wrong_time(ms: Known, ns: Known) -> bool
     ensures { result ≡ is_wrong_time ms ns }
 {
     is_negative(ms) || is_no_nanoseconds(ns)
-}
-
-/// Whether a time is known to be 0.
-#[tactic(auto, unfolding(crate::specs::Faults::is_zero_time))]
-fn is_zero_time(ms: Known, ns: Known) -> bool
-    ensures { result ≡ is_zero_time ms ns }
-{
-    is_zero(ms) && is_zero(ns)
 }
 
 /// Whether both numbers of a time are known.
@@ -55,9 +47,6 @@ fn times_fault(times: Times, next: Option<RunFault>) -> Option<RunFault>
         return Some(RunFault::BadPeriod);
     }
     if is_wrong_time(times.pms, times.pns) {
-        return Some(RunFault::BadPeriod);
-    }
-    if is_zero_time(times.pms, times.pns) {
         return Some(RunFault::BadPeriod);
     }
     if is_known_time(times.sms, times.sns) && is_known_time(times.pms, times.pns) {

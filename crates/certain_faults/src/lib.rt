@@ -2,6 +2,7 @@
 //! operation fault whenever it is done.
 #![tactic(auto)]
 
+mod calls;
 mod facts;
 mod faults;
 mod forms;

@@ -6,11 +6,11 @@ ghost use Rattle.scj_model.specs.Code.{code_of, binding, part};
 ghost use Rattle.scj_model.specs.Memory.{literal_value};
 ghost use Rattle.certain_faults.specs.declared.known.Left.TheVariants.{Forgets as forgets};
 ghost use Rattle.certain_faults.specs.declared.known.Known.TheVariants.{Unknown as unknown, Exactly as exactly};
-ghost use Rattle.certain_faults.specs.Known.{known, unary_known, binary_known, operator_known, left_by_literal, in_place_of, in_place_of_two, left_by_name, left_by_access, leaves_one, all_leave_one, end_to_end, left_by_part, left_by_new, left_by_read, left_by_call, left_by_node, next_left};
+ghost use Rattle.certain_faults.specs.Known.{known, unary_known, binary_known, operator_known, left_by_literal, in_place_of, in_place_of_two, left_by_name, left_by_access, leaves_one, all_leave_one, end_to_end, left_by_part, left_by_new, left_by_node, next_left};
 
+use crate::calls::call_left;
 use crate::facts::binding;
 use crate::known::{Known, Left};
-use scj_base::ids::DEVICE_READ;
 use scj_base::{NodeId, Value, vocabulary};
 use scj_rules::{Binding, Checked};
 use scj_tree::Node;
@@ -79,7 +79,7 @@ fn operator_known(operator: u8, left: Known, right: Known) -> Known
 
 /// One operand in the place of one that is left.
 #[tactic(auto, unfolding(crate::specs::Known::in_place_of))]
-fn in_place_of(left: Left, value: Known) -> Left
+pub fn in_place_of(left: Left, value: Known) -> Left
     ensures { result ≡ in_place_of left (λ a. value) }
 {
     match left {
@@ -157,7 +157,7 @@ fn access_left(binding: Binding, object: Left) -> Left
 
 /// Whether each of the nodes leaves one operand.
 #[tactic(auto, unfolding(crate::specs::Known::leaves_one))]
-fn all_leave_one(rows: &[Left], nodes: &[NodeId]) -> bool
+pub fn all_leave_one(rows: &[Left], nodes: &[NodeId]) -> bool
     ensures { result ≡ all_leave_one (lookup forgets rows.now) nodes.now }
 {
     nodes.iter().all(|node| leaves_one(left_at(rows, *node)))
@@ -165,7 +165,7 @@ fn all_leave_one(rows: &[Left], nodes: &[NodeId]) -> bool
 
 /// Whether one operand is left.
 #[tactic(auto, unfolding(crate::specs::Known::leaves_one))]
-fn leaves_one(left: Left) -> bool
+pub fn leaves_one(left: Left) -> bool
     ensures { result ≡ leaves_one left }
 {
     matches!(left, Left::One(_))
@@ -213,23 +213,6 @@ fn new_left(rows: &[Left], arguments: &[NodeId], binding: Binding) -> Left
     }
 }
 
-/// What a call leaves.
-#[tactic(auto, unfolding(crate::specs::Known::left_by_call, crate::specs::Known::left_by_read))]
-fn call_left(rows: &[Left], arguments: &[NodeId], binding: Binding) -> Left
-    ensures { result ≡ left_by_call (lookup forgets rows.now) arguments.now binding }
-{
-    let Binding::Builtin(target) = binding else {
-        return Left::Forgets;
-    };
-    if target.id != DEVICE_READ {
-        return Left::Forgets;
-    }
-    match arguments {
-        [x] => in_place_of(left_at(rows, *x), Known::Unknown),
-        _ => Left::Forgets,
-    }
-}
-
 /// What the operations of a node leave, by what those of its parts leave.
 #[tactic(auto, unfolding(crate::specs::Known::left_by_node, scj_model::specs::Code::code_of, scj_rules::specs::Contexts::declarations_of))]
 fn left_by_node(checked: &Checked, rows: &[Left], id: NodeId, node: &Node) -> Left
@@ -262,7 +245,11 @@ fn left_by_node(checked: &Checked, rows: &[Left], id: NodeId, node: &Node) -> Le
         Node::New { arguments, .. } => new_left(rows, arguments.items(), binding(checked, id)),
         Node::NewArray { length, .. } => in_place_of(left_at(rows, *length), Known::Object),
         Node::Cast { operand, .. } => in_place_of(left_at(rows, *operand), Known::Unknown),
-        Node::Call { arguments, .. } => call_left(rows, arguments.items(), binding(checked, id)),
+        Node::Call {
+            object,
+            arguments,
+            ..
+        } => call_left(rows, *object, arguments.items(), binding(checked, id)),
         _ => Left::Forgets,
     }
 }

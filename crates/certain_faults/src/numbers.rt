@@ -1,7 +1,6 @@
 //! Tests of numbers that are known.
 
 ghost use Rattle.std.specs.Prelude.{◌≡◌, not, pos, is_some};
-ghost use Rattle.std.specs.Ordering.{int_eq};
 ghost use Rattle.std.specs.Int.{is_negative};
 ghost use Rattle.scj_model.specs.Operations.{is_port, is_priority, units_of};
 ghost use Rattle.certain_faults.specs.Faults.{known_number, is_known};
@@ -61,17 +60,6 @@ pub fn is_no_nanoseconds(known: Known) -> bool
 {
     match known {
         Known::Exactly(Value::Int(number)) => !is_nanoseconds(number),
-        _ => false,
-    }
-}
-
-/// Whether a number is known and 0.
-#[tactic(auto, unfolding(crate::specs::Faults::is_known))]
-pub fn is_zero(known: Known) -> bool
-    ensures { result ≡ is_known (λ z. int_eq z (pos 0)) known }
-{
-    match known {
-        Known::Exactly(Value::Int(number)) => number == 0,
         _ => false,
     }
 }

@@ -29,6 +29,7 @@ use Rattle.scope_flow.specs.CallFacts.{ReceiverIs, CallFact}
 use Rattle.flow_facts.proofs.Arrays.{is_current}
 use Rattle.flow_facts.proofs.Bodies.{signature, taken_real, method_takes}
 use Rattle.flow_facts.proofs.Dispatched.{each_dispatched}
+use Rattle.flow_facts.proofs.Invocations.{call_value}
 use Rattle.flow_facts.proofs.Literals.{value_of, values_of, object_of_own}
 use Rattle.flow_facts.proofs.NewObjects.{all_go, real_now}
 
@@ -126,4 +127,5 @@ module _ (forest : Forest) (accepted : IsAccepted forest) (whole : IsForest fore
         each = each_dispatched forest accepted whole sorted is_read x.class x.n f x.taken x.runs x.named x.is_user plain
             x.is_runs x.takes x.numbered (not_long f m.type m.typed);
         is_given = x.gives ∙ ap (λ s. seen_option x.scope s (kind_given_by p f)) now;
+        is_left = call_value forest accepted whole sorted id place name object arguments o there j;
       }

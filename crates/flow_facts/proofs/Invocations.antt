@@ -191,17 +191,23 @@ module _ (forest : Forest) (accepted : IsAccepted forest) (whole : IsForest fore
               (sym (ap (λ (o : Option Ty). kind_of o (scope_at_node p x)) (t.1 ∙ ap (λ t. Some t) v)) ∙ j),
         )
 
+    pub call_value : (x : ℕ) (place : Pos) (name : List ℕ) (object : Option ℕ) (arguments : List ℕ)
+        (gives : Option Kind) → slice_get forest.nodes x ≡ Some (Call place name object arguments) →
+        Judged p x gives → leaves_value (binding_at_node p x) ≡ is_some gives
+    call_value x place name object arguments None there j =
+        let q = call_leaves x place name object arguments Void there (void_of x j) in
+        q.leaves ∙ ap not (void_written p.names q.method.method.declared.declared_type q.typed)
+    call_value x place name object arguments (Some k) there j =
+        let t = value_of x k j in
+        let q = call_leaves x place name object arguments t.0 there t.1 in
+        q.leaves ∙ ap not (written_void p.names q.method.method.declared.declared_type t.0 q.typed t.2)
+
     leaves : (x : ℕ) (node : Node) (gives : Option Kind) → slice_get forest.nodes x ≡ Some node →
         is_invocation node ≡ true → IsValue p x node → Judged p x gives →
         leaves_value (binding_at_node p x) ≡ is_some gives
     unfolding is_invocation
-    leaves x (Call place name object arguments) None there k v j =
-        let q = call_leaves x place name object arguments Void there (void_of x j) in
-        q.leaves ∙ ap not (void_written p.names q.method.method.declared.declared_type q.typed)
-    leaves x (Call place name object arguments) (Some k2) there k v j =
-        let t = value_of x k2 j in
-        let q = call_leaves x place name object arguments t.0 there t.1 in
-        q.leaves ∙ ap not (written_void p.names q.method.method.declared.declared_type t.0 q.typed t.2)
+    leaves x (Call place name object arguments) gives there k v j =
+        call_value x place name object arguments gives there j
     leaves x (New place name_place name arguments) None there k v j =
         absurd (new_no_void x place name_place name arguments there (void_of x j))
     leaves x (New place name_place name arguments) (Some k2) there k v j =

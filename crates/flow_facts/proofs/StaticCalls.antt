@@ -54,6 +54,7 @@ use Rattle.flow_facts.proofs.Bodies.{signature, taken_real, method_body}
 use Rattle.flow_facts.proofs.CallParts.{user_not_memory, call_parts, passed_rightly, user_called}
 use Rattle.flow_facts.proofs.Calls.{Invoked, not_long}
 use Rattle.flow_facts.proofs.Dispatched.{body_found}
+use Rattle.flow_facts.proofs.Invocations.{call_value}
 use Rattle.flow_facts.proofs.Literals.{values_of}
 use Rattle.flow_facts.proofs.NewObjects.{all_go, real_now}
 use Rattle.flow_facts.proofs.StaticMethods.{never_this, static_runs, all_without, result_itself, result_without, static_body, own_is_named, static_node}
@@ -268,4 +269,5 @@ module _ (forest : Forest) (accepted : IsAccepted forest) (whole : IsForest fore
         gives_itself = result_itself forest accepted whole sorted f static;
         is_given = static_gives id place name object arguments f x.r now o there x.is_receiver m static here
             (v.given ∙ sym v.typed) j;
+        is_left = call_value forest accepted whole sorted id place name object arguments o there j;
       }

@@ -1,5 +1,5 @@
 -- The operations of each call flow, where those of the nodes before it do.
-use Rattle.std.specs.Prelude.{Option, Some, None, slice_get, flat_map}
+use Rattle.std.specs.Prelude.{Option, Some, None, is_some, slice_get, flat_map}
 use Rattle.std.proofs.Common.{◌≡◌, ℕ, List, [], ◌∷◌, ◌++◌, refl, sym, ◌∙◌, ap, subst, ◌⊎◌, inl, inr}
 use Rattle.scj_tree.specs.declared.nodes.Node.{Node}
 use Rattle.scj_tree.specs.declared.nodes.Node.TheVariants.{Call}
@@ -25,6 +25,12 @@ use Rattle.scope_flow.specs.ValueFacts.{HaveValues}
 use Rattle.scope_flow.specs.CallFacts.{ReceiverIs, CallFact, StaticCallFact, EnterFact, ExecuteInFact, SetCeilingFact, PrintFact, ReadFact, ReceiverFact, RegisterFact, BuiltinCases, BuiltinFact}
 use Rattle.scope_flow.proofs.Known.{among_self, among_trans}
 use Rattle.scope_flow.proofs.FlowTools.{After, FlowsBelow, value, join2, join3, arguments, as_many, behind_option, own_reference, scope_of_receiver}
+
+-- seen from elsewhere it is a value still
+seen_is_some : (home now : Scope) (o : Option Kind) → is_some (seen_option home now o) ≡ is_some o
+unfolding seen_option
+seen_is_some home now None = refl
+seen_is_some home now (Some k) = refl
 
 module _ (code : Code) (b c : ℕ) (sig : Signature) (id : ℕ) (sub : ℕ → List Op) (hyp : FlowsBelow code b c sig id sub) (o : Option Kind) (j : Judged code.program id o) (ls : List ℕ) (am : Among (known_variables code.program id) ls) (os : List Op) (s : List Kind) (a : After code b c sig o ls os s) where
   abbrev F : List Op → List ℕ → List Kind → Type 0
@@ -87,6 +93,7 @@ module _ (code : Code) (b c : ℕ) (sig : Signature) (id : ℕ) (sub : ℕ → L
           runs = r.runs;
           each = r.each;
           by_expression = given _ r.is_given;
+          is_left = r.is_left ∙ ap is_some r.is_given ∙ seen_is_some r.scope sig.runs_in r.static.gives;
           leaves = refl;
         };
         goes = next _ r.is_given ns (among_trans ls ms ns m n);
@@ -122,6 +129,7 @@ module _ (code : Code) (b c : ℕ) (sig : Signature) (id : ℕ) (sub : ℕ → L
           gives_no_this = r.gives_no_this;
           gives_itself = r.gives_itself;
           by_expression = given _ r.is_given;
+          is_left = r.is_left ∙ ap is_some r.is_given ∙ seen_is_some Any sig.runs_in r.static.gives;
           leaves = refl;
         };
         goes = next _ r.is_given ms m;

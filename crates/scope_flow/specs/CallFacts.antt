@@ -1,5 +1,5 @@
 -- What each call of an accepted program has; and all expressions.
-use Rattle.std.specs.Prelude.{◌≡◌, ℕ, ◌<◌, true, false, ◌⊎◌, List, [], ◌∷◌, Option, Some, None, slice_get}
+use Rattle.std.specs.Prelude.{◌≡◌, ℕ, ◌<◌, true, false, ◌⊎◌, List, [], ◌∷◌, Option, Some, None, is_some, slice_get}
 use Rattle.scj_base.specs.declared.places.Pos.{Pos}
 use Rattle.scj_builtins.specs.Framework.{mission_request_termination, periodic_handler_register, aperiodic_handler_register, aperiodic_handler_release, managed_memory_enter_private_memory, managed_memory_execute_in_area_of, services_set_ceiling, trace_print, device_read}
 use Rattle.scj_tree.specs.declared.nodes.Node.{Node}
@@ -19,11 +19,12 @@ use Rattle.scj_rules.specs.Types.{conditional_operators}
 use Rattle.scj_rules.specs.Bodies.{body_of}
 use Rattle.accepted_laws.specs.Kinds.{Kind, number, truth, reference, seen_option, AllFit, RunsHere}
 use Rattle.scj_model.specs.Code.{Code, binding}
+use Rattle.scj_model.specs.Ops.{leaves_value}
 use Rattle.scope_flow.specs.Signatures.{Gives, Signature, IsBody, runs_for_object, IsConcrete, IsDispatched, IsEntered, IsExecuted, AreWithoutThis}
 use Rattle.scope_flow.specs.Needs.{pushed}
 use Rattle.scope_flow.specs.ValueFacts.{HasValue, HaveValues, HasObject, ThisFact, LocalFact, OwnFieldFact, StaticFact, FieldFact, LengthFact, ElementFact, UnaryFact, ShortFact, BinaryFact, NewFact, NewArrayFact, CastFact}
 
--- ---- calls
+-- ---- calls. What is bound says of each whether it leaves a value
 
 abbrev pub ReceiverIs : Declarations → ℕ → ℕ → ℕ → Option ℕ → ℕ → Scope → Type 0
 ReceiverIs p b c id None class scope = (own : HasObject p b c) × (class ≡ c) × (scope ≡ own.home)
@@ -43,6 +44,7 @@ pub record CallFact (code : Code) (b c : ℕ) (sig : Signature) (id : ℕ) (obje
   pub each : (on : ℕ) → is_sub code.program.classes on class ≡ true → IsConcrete code.program on →
       IsDispatched code.program on target.id static
   pub is_given : gives ≡ seen_option scope sig.runs_in static.gives
+  pub is_left : leaves_value (binding code id) ≡ is_some gives
 
 pub record StaticCallFact (code : Code) (b c : ℕ) (sig : Signature) (id : ℕ) (arguments : List ℕ) (gives : Option Kind) : Type 0 where
   pub target : Target
@@ -61,6 +63,7 @@ pub record StaticCallFact (code : Code) (b c : ℕ) (sig : Signature) (id : ℕ)
   pub gives_no_this : AreWithoutThis (pushed static.gives [])
   pub gives_itself : Gives code.program Any static.gives static.gives
   pub is_given : gives ≡ seen_option Any sig.runs_in static.gives
+  pub is_left : leaves_value (binding code id) ≡ is_some gives
 
 -- ---- calls of the framework
 

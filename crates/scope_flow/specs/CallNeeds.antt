@@ -1,5 +1,5 @@
 -- What operations need and leave: of calls, of the framework, and of assignments.
-use Rattle.std.specs.Prelude.{◌≡◌, ℕ, true, false, ◌⊎◌, List, [], ◌∷◌, length, Option, Some, None}
+use Rattle.std.specs.Prelude.{◌≡◌, ℕ, true, false, ◌⊎◌, List, [], ◌∷◌, length, Option, Some, None, is_some}
 use Rattle.scj_tree.specs.declared.nodes.Node.{Node}
 use Rattle.scj_tree.specs.declared.nodes.Node.TheVariants.{Call as CallNode}
 use Rattle.scj_rules.specs.declared.typing.Ty.{Ty}
@@ -15,13 +15,14 @@ use Rattle.scj_rules.specs.Types.{is_array}
 use Rattle.scj_rules.specs.Bodies.{body_of}
 use Rattle.accepted_laws.specs.Kinds.{Kind, number, reference, seen_option, Fits, AllFit, RunsHere}
 use Rattle.scj_model.specs.Code.{Code, binding, part}
+use Rattle.scj_model.specs.Ops.{leaves_value}
 use Rattle.scj_model.specs.Operations.{bound_field, bound_static, bound_class, bound_method, bound_static_method, assigned, argument_count, first_argument}
 use Rattle.scope_flow.specs.Slots.{kind_of_elements, HasField, HasStatic}
 use Rattle.scope_flow.specs.Signatures.{Gives, Signature, IsBody, runs_for_object, IsConcrete, IsDispatched, IsEntered, IsExecuted, AreWithoutThis}
 use Rattle.scope_flow.specs.Pushers.{IsKindOfExpression, IsGivenBy, IsScopeOfReceiver}
 use Rattle.scope_flow.specs.Needs.{pushed, stacked}
 
--- ---- calls
+-- ---- calls: one leaves a value where its method has a result
 
 -- the receiver of a call, if it is written
 unfoldable pub receiver_of : Node → Option (Option ℕ)
@@ -46,6 +47,7 @@ pub record CallNeeds (code : Code) (c : ℕ) (sig : Signature) (id : ℕ) (s out
   pub each : (c : ℕ) → is_sub code.program.classes c class ≡ true → IsConcrete code.program c →
       IsDispatched code.program c method static
   pub by_expression : IsGivenBy code.program id (seen_option scope sig.runs_in static.gives)
+  pub is_left : leaves_value (binding code id) ≡ is_some static.gives
   pub leaves : out ≡ pushed (seen_option scope sig.runs_in static.gives) others
 
 -- a static method runs in CALLER, and no THIS is in its scopes
@@ -68,6 +70,7 @@ pub record CallStaticNeeds (code : Code) (sig : Signature) (id : ℕ) (s out : L
   pub gives_no_this : AreWithoutThis (pushed static.gives [])
   pub gives_itself : Gives code.program Any static.gives static.gives
   pub by_expression : IsGivenBy code.program id (seen_option Any sig.runs_in static.gives)
+  pub is_left : leaves_value (binding code id) ≡ is_some static.gives
   pub leaves : out ≡ pushed (seen_option Any sig.runs_in static.gives) others
 
 -- an object that passes a cast lies where it lay, or where the class's objects lie

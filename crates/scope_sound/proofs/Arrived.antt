@@ -9,7 +9,7 @@ use Rattle.scj_model.specs.Plan.{Plan}
 use Rattle.scj_model.specs.State.{Release, Waits, State, is_over}
 use Rattle.scj_model.specs.Steps.{Step, silently, telling, for_each}
 use Rattle.scj_model.specs.Apply.{release_taken, releases_of, waiting_of, most_waiting}
-use Rattle.scj_model.specs.Arrivals.{arrivals, due_handlers, fired, fired_at, fired_handler, fires_due}
+use Rattle.scj_model.specs.Arrivals.{executes_since, arrivals, due_handlers, fired, fired_at, fired_handler, fires_due}
 use Rattle.scj_model.specs.Run.{empty_state}
 use Rattle.mission_sound.specs.Bases.{areas_of}
 use Rattle.mission_sound.specs.SequencerFacts.{SequencerFacts}
@@ -81,7 +81,7 @@ module _ (code : Code) where
   arrivals_still plan s =
       both_still s (for_each release_taken (due_handlers s) s).state _
       (each_still release_taken taken_still (due_handlers s) s)
-      (each_still (fired_at code plan.fires) (at_still plan.fires) (fires_due s.unit plan.fires)
+      (each_still (fired_at code plan.fires) (at_still plan.fires) (fires_due (executes_since s) s.unit plan.fires)
       (for_each release_taken (due_handlers s) s).state)
 
   pub sound_on_arrival : (plan : Plan) (s : State) → Sound code s → is_over s.phase ≡ false →

@@ -119,6 +119,15 @@ module _ (code : Code) (w : World) (list : List ℕ) (c : ℕ) (sig : Signature)
       let y = operand_at qs ks vs p.1 h.1 i q e in
       record { pusher = y.pusher; is = y.is; kind = y.kind; is_pushed = y.is_pushed; has = y.has }
 
+  as_many_pushed : (qs : List Pusher) (ks : List Kind) (vs : List Value) → ArePushed code.program c qs ks →
+      AllHave code.program w den ks vs → length qs ≡ length vs
+  as_many_pushed [] [] [] p h = refl
+  as_many_pushed qs [] (v ∷ vs) p h = absurd h
+  as_many_pushed qs (k ∷ ks) [] p h = absurd h
+  as_many_pushed (q ∷ qs) [] [] p h = absurd p
+  as_many_pushed [] (k ∷ ks) (v ∷ vs) p h = absurd p
+  as_many_pushed (q ∷ qs) (k ∷ ks) (v ∷ vs) p h = ap suc (as_many_pushed qs ks vs p.1 h.1)
+
   -- ---- the frame
 
   stood : Stood code f.body c f.rest (pushed t r.kinds)
@@ -135,6 +144,7 @@ module _ (code : Code) (w : World) (list : List ℕ) (c : ℕ) (sig : Signature)
         locals = local_lies;
         pushers = pushers;
         came = came;
+        as_many = as_many_pushed pushers r.kinds f.operands are r.operands;
         operands = λ i q e. (let x = operand_at pushers r.kinds f.operands are r.operands i q e in
             operand_of_kind x.pusher pushers i q x.is x.kind x.is_pushed x.has);
       }

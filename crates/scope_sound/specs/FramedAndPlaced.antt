@@ -1,6 +1,6 @@
 -- The two halves of what holds in each state that a run comes to: that each job is framed, and that all objects and
 -- areas are placed.
-use Rattle.std.specs.Prelude.{◌≡◌, ℕ, true, ◌⊎◌, List, [], ◌∷◌, ◌++◌, slice_get, Some}
+use Rattle.std.specs.Prelude.{◌≡◌, ℕ, true, ◌⊎◌, List, [], ◌∷◌, ◌++◌, length, slice_get, Some}
 use Rattle.scj_base.specs.declared.values.Value.TheVariants.{At}
 use Rattle.scj_rules.specs.declared.typing.Scope.{Scope}
 use Rattle.scj_rules.specs.Words.{is_among}
@@ -53,6 +53,7 @@ pub record FrameFramed (code : Code) (w : World) (list : List ℕ) (f : Frame) (
   -- what pushed the operands, on a way through the body to the operations that are left
   pub pushers : List Pusher
   pub came : Comes code f.body f.rest (given ++ pushers)
+  pub as_many : length pushers ≡ length f.operands
   pub operands : (i r : ℕ) → slice_get f.operands i ≡ Some (At r) → OperandLies code w list f class pushers i r
 
 -- ---- all frames of a job
