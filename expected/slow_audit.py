@@ -143,6 +143,14 @@ def executes(lines):
     return False
 
 
+def is_due(lines, unit, fire):
+    """Whether a fire is due in a unit behind these lines: one of version 1 has no `from`, and counts from the start."""
+    if fire.get("from", "start") == "start":
+        return fire["at"] == unit
+    begins = [line.unit for line in lines if line.word == b"exec"]
+    return executes(lines) and begins[-1] + 1 + fire["at"] == unit
+
+
 def misses_choice(lines, line):
     """Whether a choice should stand before the line and doesn't."""
     if not lines or not executes(lines) or line.unit <= lines[-1].unit:
@@ -170,7 +178,7 @@ def passes(plan, lines, line):
         arrived = sum(other.word == b"arrive" and other.k == line.k for other in here)
         return line.k <= len(handlers(lines)) and line.n == arrived + 1
     if line.word == b"miss":
-        return any(fire["at"] == line.unit and fire["handler"].encode() == line.name for fire in plan.get("fire", []))
+        return any(is_due(lines, line.unit, fire) and fire["handler"].encode() == line.name for fire in plan.get("fire", []))
     if line.word in (b"run", b"idle"):
         choice = line.release if line.word == b"run" else "idle"
         return choice == pick(lines) and choice != last_choice(lines)

@@ -13,7 +13,7 @@ mod MembersAgain
 mod MembersLexed
 mod Printing
 mod Rests
-mod Sources
+pub mod Sources
 mod StatementsAgain
 mod StatementsLexed
 mod Unfolding

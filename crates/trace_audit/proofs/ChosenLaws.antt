@@ -1,5 +1,5 @@
 -- Pick is what the machine chooses.
-use Rattle.std.proofs.Common.{◌≡◌, ℕ, zero, suc, ◌+◌, ◌<◌, ◌≤◌, ◌==◌, nat_lt, Bool, true, false, not, ◌&&◌, ◌||◌, List, [], ◌∷◌, ◌++◌, length, map, take, drop, Option, None, Some, if◌then◌else◌, refl, sym, ap, ◌∙◌, subst, arith}
+use Rattle.std.proofs.Common.{◌≡◌, ℕ, zero, suc, ◌+◌, ◌<◌, ◌≤◌, Bool, true, false, List, [], ◌∷◌, ◌++◌, length, map, take, drop, Option, None, Some, if◌then◌else◌, refl, sym, ap, ◌∙◌, arith}
 use Rattle.std.specs.Prelude.{slice_get, option_map, option_to_list}
 use Rattle.std.proofs.lemmas.List.{take-append-drop}
 use Rattle.std.proofs.lemmas.Option.{slice_get-map, slice_get_within}
@@ -9,10 +9,8 @@ use Rattle.scj_model.specs.Registry.{handler_row}
 use Rattle.scj_model.specs.State.{ReleaseStatus, Waits as WaitsNow, Started as StartedNow, Ended, Dropped, Release as ReleaseNow, State}
 use Rattle.accepted_laws.proofs.Lists.{get_left}
 use Rattle.trace_audit.specs.declared.releases.Release.{Release}
-use Rattle.trace_audit.specs.declared.releases.Standing.{Standing}
-use Rattle.trace_audit.specs.declared.releases.Standing.TheVariants.{Waits, Started, Gone}
 use Rattle.trace_audit.specs.Replay.{HandlerSeen, Releases, candidate_at, candidates_from, picked_place, priority_at}
-use Rattle.trace_audit.specs.StandsFor.{StandsFor, release_seen, standing_of}
+use Rattle.trace_audit.specs.StandsFor.{StandsFor, release_seen}
 
 -- ---- a place further on
 
@@ -75,7 +73,7 @@ seen_by handlers k = go (slice_get handlers k)
     go None = refl
     go (Some h) = refl
 
-same_priority : (s : State) (all : Releases) → StandsFor s all → (handler : ℕ) →
+pub same_priority : (s : State) (all : Releases) → StandsFor s all → (handler : ℕ) →
     handler_priority s handler ≡ priority_at all.handlers handler
 same_priority s all stands zero = refl
 same_priority s all stands (suc k) =

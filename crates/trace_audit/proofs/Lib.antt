@@ -2,6 +2,7 @@ pub mod ArgumentLaws
 pub mod ArrivalLaws
 pub mod ChosenLaws
 pub mod Decimals
+pub mod FireLaws
 pub mod KeyLaws
 pub mod LineLaws
 pub mod Partings

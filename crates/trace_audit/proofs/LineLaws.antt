@@ -240,16 +240,21 @@ fits_of_passes plan replay line h = by_entry line.entry (passes_parts plan repla
     by_entry Stopped h = refl
 
 replayed_if : (plan : Plan) (replay : Replay) (line : Line) → passes plan replay line ≡ true →
-    replayed plan replay line ≡ Some (entry_done (begun replay line.unit) line.entry)
+    replayed plan replay line ≡ Some (entry_done (begun replay line.unit) line.unit line.entry)
 unfolding replayed
 replayed_if plan replay line e =
-    ap (λ (b : Bool). if b then Some (entry_done (begun replay line.unit) line.entry) else None) e
+    ap (λ (b : Bool). if b then Some (entry_done (begun replay line.unit) line.unit line.entry) else None) e
 
 pub replayed_not : (plan : Plan) (replay : Replay) (line : Line) → passes plan replay line ≡ false →
     replayed plan replay line ≡ None
 unfolding replayed
 replayed_not plan replay line e =
-    ap (λ (b : Bool). if b then Some (entry_done (begun replay line.unit) line.entry) else None) e
+    ap (λ (b : Bool). if b then Some (entry_done (begun replay line.unit) line.unit line.entry) else None) e
+
+-- a line passes by each of two plans that are the same
+pub passes_alike : (kept plan : Plan) (replay : Replay) (line : Line) {b : Bool} → kept ≡ plan →
+    b ≡ passes kept replay line → passes plan replay line ≡ b
+passes_alike kept plan replay line e h = sym (h ∙ ap (λ (p : Plan). passes p replay line) e)
 
 pub no_line_stops : (plan : Plan) (replay : Replay) (number : ℕ) (bytes front back : List ℕ) →
     parted line_feed bytes ≡ Some (record { front = front; back = back }) → line_of front ≡ None →
@@ -267,9 +272,9 @@ line_stops plan replay number bytes front back line e f g =
 pub line_goes_on : (plan : Plan) (replay : Replay) (number : ℕ) (bytes front back : List ℕ) (line : Line) →
     parted line_feed bytes ≡ Some (record { front = front; back = back }) → line_of front ≡ Some line →
     passes plan replay line ≡ true → audit_from plan replay number (lines_of bytes)
-    ≡ audit_from plan (entry_done (begun replay line.unit) line.entry) (number + 1) (lines_of back)
+    ≡ audit_from plan (entry_done (begun replay line.unit) line.unit line.entry) (number + 1) (lines_of back)
 line_goes_on plan replay number bytes front back line e f g =
-    audit_next plan replay (entry_done (begun replay line.unit) line.entry) number bytes front back e
+    audit_next plan replay (entry_done (begun replay line.unit) line.unit line.entry) number bytes front back e
     (ap (λ (o : Option Line). o >>= replayed plan replay) f ∙ replayed_if plan replay line g)
 
 -- what is parted off is shorter

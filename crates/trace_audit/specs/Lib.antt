@@ -1,4 +1,5 @@
 pub mod Audits
+pub mod Fires
 pub mod Index
 pub mod Lines
 pub mod Parts

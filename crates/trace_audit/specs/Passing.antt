@@ -3,6 +3,7 @@ use Rattle.std.specs.Prelude.{ℕ, ◌+◌, ◌==◌, nat_le, nat_lt, Bool, true
 use Rattle.std.specs.List.{list_any}
 use Rattle.std.specs.Str.{bytes_eq}
 use Rattle.scj_rules.specs.Words.{holds}
+use Rattle.scj_model.specs.Arrivals.{comes_in}
 use Rattle.scj_model.specs.Plan.{Plan}
 use Rattle.scj_model.specs.declared.plans.Fire.{Fire}
 use Rattle.trace_audit.specs.declared.choices.Choice.{Choice}
@@ -10,7 +11,7 @@ use Rattle.trace_audit.specs.declared.choices.Choice.TheVariants.{Idle as Nobody
 use Rattle.trace_audit.specs.declared.lines.Entry.{Entry}
 use Rattle.trace_audit.specs.declared.lines.Entry.TheVariants.{Mission, Register, Exec, Arrive, Miss, Run, Idle, Prio, End, Drop, Cleanup, Done, Halted, Stopped}
 use Rattle.trace_audit.specs.declared.lines.Line.{Line}
-use Rattle.trace_audit.specs.Replay.{Replay, Releases, differs, picked, picked_place, is_same_choice, handler_at, release_named, no_releases, registered, arrived, started, raised, gone, is_waiting}
+use Rattle.trace_audit.specs.Replay.{Replay, Releases, differs, is_executing, picked, picked_place, is_same_choice, handler_at, release_named, no_releases, registered, arrived, started, raised, gone, is_waiting}
 
 -- ---- units
 
@@ -42,16 +43,16 @@ misses_no_choice replay unit =
     elim replay.unit [
       | None ↦ true
       | Some u ↦
-          if replay.is_executing && nat_lt u unit
+          if is_executing replay && nat_lt u unit
           then (not replay.owes_choice || replay.has_choice) && (not (differs replay) || (unit == u + 1))
           else true
     ]
 
 -- ---- entries
 
--- the fire may be due in the unit, and names the handler's class
-abbrev pub is_fire : ℕ → List ℕ → Fire → Bool
-is_fire unit name fire = (fire.at == unit) && bytes_eq fire.handler name
+-- the fire comes in the unit, and names the handler's class; the origin is that of a mission that executes
+abbrev pub is_fire : Option ℕ → ℕ → List ℕ → Fire → Bool
+is_fire origin unit name fire = comes_in origin unit fire && bytes_eq fire.handler name
 
 -- the last choice was a release of this handler
 abbrev pub is_of : ℕ → Choice → Bool
@@ -66,7 +67,8 @@ unfoldable pub entry_passes : Plan → Replay → ℕ → Entry → Bool
 entry_passes plan replay unit (Register handler priority) = handler == length replay.all.handlers + 1
 entry_passes plan replay unit (Arrive handler number) =
     holds (handler_at replay.all.handlers handler) (λ h. number == h.arrived + 1)
-entry_passes plan replay unit (Miss name) = list_any (is_fire unit name) plan.fires
+entry_passes plan replay unit (Miss name) =
+    list_any (is_fire replay.executes_since unit name) plan.fires
 entry_passes plan replay unit (Run handler number) = is_right_choice replay (Chosen handler number)
 entry_passes plan replay unit Idle = is_right_choice replay Nobody
 entry_passes plan replay unit (Prio handler priority) = holds replay.last_choice (is_of handler)
@@ -101,7 +103,7 @@ begun replay unit =
     if is_first replay unit
     then record replay {
       unit = Some unit;
-      owes_choice = replay.is_executing && differs replay;
+      owes_choice = is_executing replay && differs replay;
       has_choice = false;
     }
     else replay
@@ -130,22 +132,22 @@ table_done replay (End handler number) = gone handler number replay.all
 table_done replay (Drop handler number) = gone handler number replay.all
 table_done replay _ = replay.all
 
--- the rest of the replay behind an entry
-unfoldable pub rest_done : Replay → Entry → Replay
-rest_done replay Exec = record replay { is_executing = true; last_choice = None }
-rest_done replay (Run handler number) =
+-- the rest of the replay behind an entry of a unit
+unfoldable pub rest_done : Replay → ℕ → Entry → Replay
+rest_done replay unit Exec = record replay { executes_since = Some (unit + 1); last_choice = None }
+rest_done replay unit (Run handler number) =
     record replay { last_choice = Some (Chosen handler number); has_choice = true }
-rest_done replay Idle = record replay { last_choice = Some Nobody; has_choice = true }
-rest_done replay Cleanup = record replay { is_executing = false }
-rest_done replay Done = record replay { is_over = true }
-rest_done replay Halted = record replay { is_over = true }
-rest_done replay Stopped = record replay { is_over = true }
-rest_done replay _ = replay
+rest_done replay unit Idle = record replay { last_choice = Some Nobody; has_choice = true }
+rest_done replay unit Cleanup = record replay { executes_since = None }
+rest_done replay unit Done = record replay { is_over = true }
+rest_done replay unit Halted = record replay { is_over = true }
+rest_done replay unit Stopped = record replay { is_over = true }
+rest_done replay unit _ = replay
 
-abbrev pub entry_done : Replay → Entry → Replay
-entry_done replay entry = rest_done (record replay { all = table_done replay entry }) entry
+abbrev pub entry_done : Replay → ℕ → Entry → Replay
+entry_done replay unit entry = rest_done (record replay { all = table_done replay entry }) unit entry
 
 -- the replay behind a line; none where the line doesn't pass
 unfoldable pub replayed : Plan → Replay → Line → Option Replay
 replayed plan replay line =
-    if passes plan replay line then Some (entry_done (begun replay line.unit) line.entry) else None
+    if passes plan replay line then Some (entry_done (begun replay line.unit) line.unit line.entry) else None

@@ -1,6 +1,6 @@
 -- Replay: what the lines of a trace tell so far of handlers, releases and choices; and Pick, the release that Chosen
 -- picks of them.
-use Rattle.std.specs.Prelude.{ℕ, zero, suc, ◌+◌, ◌==◌, Bool, true, false, not, ◌&&◌, List, [], ◌∷◌, ◌++◌, slice_get, position, option_map, option_to_list, Option, Some, None}
+use Rattle.std.specs.Prelude.{ℕ, zero, suc, ◌+◌, ◌==◌, Bool, true, false, not, ◌&&◌, List, [], ◌∷◌, ◌++◌, slice_get, position, option_map, option_to_list, Option, Some, None, is_some}
 use Rattle.scj_rules.specs.Words.{holds}
 use Rattle.scj_model.specs.Choice.{Candidate, most_urgent}
 use Rattle.scj_model.specs.State.{changed}
@@ -130,13 +130,13 @@ gone handler number all = restanding (λ standing. Gone) handler number all
 
 -- ---- a replay
 
--- the releases; whose turn it was last; whether Exec runs; the unit of the line before; whether Exec ran when that unit
--- began, and Pick differed then from the last choice; whether the unit has a choice so far; and whether a last line
--- stood
+-- the releases; whose turn it was last; the origin, where Exec runs: the unit behind that of `exec`; the unit of the
+-- line before; whether Exec ran when that unit began, and Pick differed then from the last choice; whether the unit has
+-- a choice so far; and whether a last line stood
 pub record Replay : Type 0 where
   pub all : Releases
   pub last_choice : Option Choice
-  pub is_executing : Bool
+  pub executes_since : Option ℕ
   pub unit : Option ℕ
   pub owes_choice : Bool
   pub has_choice : Bool
@@ -148,12 +148,16 @@ nothing_told =
     record {
       all = no_releases;
       last_choice = None;
-      is_executing = false;
+      executes_since = None;
       unit = None;
       owes_choice = false;
       has_choice = false;
       is_over = false;
     }
+
+-- Exec runs
+abbrev pub is_executing : Replay → Bool
+is_executing replay = is_some replay.executes_since
 
 -- Pick isn't the last choice
 abbrev pub differs : Replay → Bool

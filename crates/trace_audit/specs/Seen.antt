@@ -8,7 +8,7 @@ replay_seen replay =
     record {
       all = seen replay.table;
       last_choice = replay.last_choice;
-      is_executing = replay.is_executing;
+      executes_since = replay.executes_since;
       unit = replay.unit;
       owes_choice = replay.owes_choice;
       has_choice = replay.has_choice;

@@ -6,6 +6,7 @@ ghost use Rattle.trace_audit.specs.Audits.{audit_of};
 
 use crate::answers::Audit;
 use crate::parts::parted;
+use crate::planned::AuditPlan;
 use crate::reading::line_of;
 use crate::replays::Replay;
 use run_plan::Plan;
@@ -30,6 +31,7 @@ fn ended(rest: &[u8], is_over: bool, number: u64) -> Audit
 pub fn audit(alloc: Global, trace: &[u8], plan: &Plan) -> Result<Audit, AllocError>
     ensures { IfOk result (λ answer. answer ≡ audit_of plan.now trace.now) }
 {
+    let plan = AuditPlan::new(alloc, plan)?;
     let mut replay = Replay::new(alloc);
     let mut rest = trace;
     let mut number: u64 = 1;
@@ -37,7 +39,7 @@ pub fn audit(alloc: Global, trace: &[u8], plan: &Plan) -> Result<Audit, AllocErr
         let Some(line) = line_of(bytes) else {
             return Ok(Audit::No { line: number });
         };
-        if !replay.passes(plan, &line) {
+        if !replay.passes(&plan, &line) {
             return Ok(Audit::No { line: number });
         }
         replay.take(&line)?;

@@ -5,6 +5,7 @@
 pub mod answers;
 mod audits;
 pub mod choices;
+mod fire_keys;
 mod forms;
 mod handlers;
 mod keys;

@@ -1,17 +1,18 @@
 //! A replay: what the lines of a trace tell so far, and which line passes next.
 
-ghost use Rattle.std.specs.Prelude.{◌≡◌, OnOk, true};
+ghost use Rattle.std.specs.Prelude.{◌≡◌, ◌≤◌, OnOk, true};
+ghost use Rattle.std.specs.Bool.{OnTrue};
+ghost use Rattle.run_plan.specs.Limits.{most_units};
 ghost use Rattle.scj_rules.specs.Words.{holds};
 ghost use Rattle.trace_audit.specs.Index.{IsKept};
 ghost use Rattle.trace_audit.specs.Passing.{begun, entry_done, entry_passes, fits_entry, is_first, is_in_order, is_of, is_right_choice, last_number, misses_no_choice, passes, rest_done, table_done};
-ghost use Rattle.trace_audit.specs.Replay.{differs, is_same_choice, nothing_told};
+ghost use Rattle.trace_audit.specs.Replay.{differs, is_executing, is_same_choice, nothing_told};
 ghost use Rattle.trace_audit.specs.Seen.{replay_seen};
 
 use crate::choices::{Choice, is_same_choice, number_in};
 use crate::lines::{Entry, Line};
-use crate::planned::{is_fired, is_within};
+use crate::planned::AuditPlan;
 use crate::tables::ReleaseTable;
-use run_plan::Plan;
 use std::alloc::{AllocError, Global};
 
 /// What the lines of a trace tell so far.
@@ -19,8 +20,8 @@ use std::alloc::{AllocError, Global};
 pub struct Replay {
     table: ReleaseTable,
     last_choice: Option<Choice>,
-    /// Whether Exec runs.
-    is_executing: bool,
+    /// The origin, where Exec runs: the unit behind that of `exec`.
+    executes_since: Option<u64>,
     /// The unit of the line before.
     unit: Option<u64>,
     /// Whether Exec ran when that unit began, and Pick differed then from the last choice.
@@ -40,7 +41,7 @@ impl Replay {
         Replay {
             table: ReleaseTable::new(alloc),
             last_choice: None,
-            is_executing: false,
+            executes_since: None,
             unit: None,
             owes_choice: false,
             has_choice: false,
@@ -53,6 +54,13 @@ impl Replay {
         ensures { result ≡ (replay_seen self.now).is_over }
     {
         self.is_over
+    }
+
+    /// Whether Exec runs.
+    fn is_executing(&self) -> bool
+        ensures { result ≡ is_executing (replay_seen self.now) }
+    {
+        self.executes_since.is_some()
     }
 
     /// Whether the choice is the last one.
@@ -107,7 +115,7 @@ impl Replay {
         let Some(before) = self.unit else {
             return true;
         };
-        if !(self.is_executing && before < unit) {
+        if !(self.is_executing() && before < unit) {
             return true;
         }
         if self.owes_choice && !self.has_choice {
@@ -128,7 +136,7 @@ impl Replay {
 
     /// Whether an entry passes.
     #[tactic(auto, unfolding(crate::specs::Passing::entry_passes))]
-    fn entry_passes(&mut self, plan: &Plan, unit: u64, entry: &Entry) -> bool
+    fn entry_passes(&mut self, plan: &AuditPlan, unit: u64, entry: &Entry) -> bool
         requires kept { IsKept self.old.table }
         ensures value { result ≡ entry_passes plan.now (replay_seen self.old) unit entry.now }
         ensures seen { replay_seen self.new ≡ replay_seen self.old }
@@ -139,7 +147,7 @@ impl Replay {
                 *handler as usize == self.table.handler_count() + 1
             }
             Entry::Arrive { handler, number } => self.table.is_next(*handler, *number),
-            Entry::Miss { name } => is_fired(plan, unit, name),
+            Entry::Miss { name } => plan.is_fired(self.executes_since, unit, name),
             Entry::Run { handler, number } => {
                 let choice = Choice::Chosen {
                     handler: *handler,
@@ -163,13 +171,14 @@ impl Replay {
     }
 
     /// Whether a line passes.
-    pub fn passes(&mut self, plan: &Plan, line: &Line) -> bool
+    pub fn passes(&mut self, plan: &AuditPlan, line: &Line) -> bool
         requires kept { IsKept self.old.table }
         ensures value { result ≡ passes plan.now (replay_seen self.old) line.now }
+        ensures small { OnTrue result (line.now.unit ≤ most_units) }
         ensures seen { replay_seen self.new ≡ replay_seen self.old }
         ensures kept { IsKept self.new.table }
     {
-        if self.is_over || !self.is_in_order(line.unit) || !is_within(plan, line) {
+        if self.is_over || !self.is_in_order(line.unit) || !plan.is_within(line) {
             return false;
         }
         self.misses_no_choice(line.unit) && self.entry_passes(plan, line.unit, &line.entry)
@@ -193,7 +202,7 @@ impl Replay {
     {
         if self.is_first(unit) {
             let differs = self.differs();
-            self.owes_choice = self.is_executing && differs;
+            self.owes_choice = self.is_executing() && differs;
             self.unit = Some(unit);
             self.has_choice = false;
         }
@@ -237,14 +246,15 @@ impl Replay {
 
     /// Does what an entry says to the rest.
     #[tactic(auto, unfolding(crate::specs::Passing::rest_done))]
-    fn rest_done(&mut self, entry: &Entry)
+    fn rest_done(&mut self, unit: u64, entry: &Entry)
         requires kept { IsKept self.old.table }
-        ensures seen { replay_seen self.new ≡ rest_done (replay_seen self.old) entry.now }
+        requires small { unit ≤ most_units }
+        ensures seen { replay_seen self.new ≡ rest_done (replay_seen self.old) unit entry.now }
         ensures kept { IsKept self.new.table }
     {
         match entry {
             Entry::Exec => {
-                self.is_executing = true;
+                self.executes_since = Some(unit + 1);
                 self.last_choice = None;
             }
             Entry::Run { handler, number } => {
@@ -258,7 +268,7 @@ impl Replay {
                 self.last_choice = Some(Choice::Idle);
                 self.has_choice = true;
             }
-            Entry::Cleanup => self.is_executing = false,
+            Entry::Cleanup => self.executes_since = None,
             Entry::Done | Entry::Halted | Entry::Stopped => self.is_over = true,
             _ => {}
         }
@@ -268,12 +278,13 @@ impl Replay {
     pub fn take(&mut self, line: &Line) -> Result<(), AllocError>
         requires kept { IsKept self.old.table }
         requires fits { fits_entry (replay_seen self.old).all line.now.entry ≡ true }
-        ensures seen { OnOk result (replay_seen self.new ≡ entry_done (begun (replay_seen self.old) line.now.unit) line.now.entry) }
+        requires small { line.now.unit ≤ most_units }
+        ensures seen { OnOk result (replay_seen self.new ≡ entry_done (begun (replay_seen self.old) line.now.unit) line.now.unit line.now.entry) }
         ensures kept { OnOk result (IsKept self.new.table) }
     {
         self.begin(line.unit);
         self.table_done(&line.entry)?;
-        self.rest_done(&line.entry);
+        self.rest_done(line.unit, &line.entry);
         Ok(())
     }
 }

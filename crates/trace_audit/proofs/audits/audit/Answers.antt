@@ -5,7 +5,7 @@ use Rattle.trace_audit.specs.Replay.{Replay}
 use Rattle.trace_audit.specs.Passing.{begun, entry_done, fits_entry, passes}
 use Rattle.trace_audit.specs.Audits.{audit_from, audit_of, lines_of}
 use Rattle.trace_audit.specs.Seen.{replay_seen}
-use Rattle.trace_audit.proofs.LineLaws.{audit_last, fits_of_passes, line_goes_on, line_stops, no_line_stops, parted_shorter}
+use Rattle.trace_audit.proofs.LineLaws.{audit_last, fits_of_passes, line_goes_on, line_stops, no_line_stops, parted_shorter, passes_alike}
 use Rattle.trace_audit.proofs.audits.audit.Goals as goal
 
 pub loop-bytes-init : goal.loop-bytes-init
@@ -29,7 +29,8 @@ pub returns-then-not-passes : goal.returns-then-not-passes
 returns-then-not-passes c =
     let is : line_of c.in-Some.bytes.now ≡ Some c.in-Some-line_of.line = cc in
     let fails : passes c.args.plan.now (replay_seen c.loop-bytes.replay) c.in-Some-line_of.line ≡ false =
-    sym c.passes.ensures.value ∙ c.if-not-passes.true in
+    passes_alike c.in_ok-plan.plan c.args.plan.now (replay_seen c.loop-bytes.replay) c.in-Some-line_of.line
+    c.in_ok-plan.ensures c.passes.ensures.value ∙ c.if-not-passes.true in
     sym (c.loop-bytes.invariant.same
     ∙ line_stops c.args.plan.now (replay_seen c.loop-bytes.replay) c.loop-bytes.number c.loop-bytes.rest.now
     c.in-Some.bytes.now c.in-Some.others.now c.in-Some-line_of.line c.in-Some.ensures is fails)
@@ -38,7 +39,8 @@ pub take-requires-clause-fits : goal.take-requires-clause-fits
 take-requires-clause-fits c =
     ap (λ (r : Replay). fits_entry r.all c.in-Some-line_of.line.entry) c.passes.ensures.seen
     ∙ fits_of_passes c.args.plan.now (replay_seen c.loop-bytes.replay) c.in-Some-line_of.line
-    (sym c.passes.ensures.value ∙ c.if-not-passes.false)
+    (passes_alike c.in_ok-plan.plan c.args.plan.now (replay_seen c.loop-bytes.replay)
+    c.in-Some-line_of.line c.in_ok-plan.ensures c.passes.ensures.value ∙ c.if-not-passes.false)
 
 pub overflow_add-number : goal.overflow_add-number
 overflow_add-number c =
@@ -64,9 +66,11 @@ loop-bytes-preserved c =
       same = c.loop-bytes.invariant.same
           ∙ (line_goes_on c.args.plan.now (replay_seen c.loop-bytes.replay) c.loop-bytes.number
           c.loop-bytes.rest.now c.in-Some.bytes.now c.in-Some.others.now c.in-Some-line_of.line c.in-Some.ensures is
-          (sym c.passes.ensures.value ∙ c.if-not-passes.false)
+          (passes_alike c.in_ok-plan.plan c.args.plan.now (replay_seen c.loop-bytes.replay)
+          c.in-Some-line_of.line c.in_ok-plan.ensures c.passes.ensures.value ∙ c.if-not-passes.false)
           ∙ (sym (ap (λ (r : Replay). audit_from c.args.plan.now
-          (entry_done (begun r c.in-Some-line_of.line.unit) c.in-Some-line_of.line.entry) (c.loop-bytes.number + 1)
+          (entry_done (begun r c.in-Some-line_of.line.unit) c.in-Some-line_of.line.unit
+          c.in-Some-line_of.line.entry) (c.loop-bytes.number + 1)
           (lines_of c.in-Some.others.now)) c.passes.ensures.seen)
           ∙ sym (ap (λ (r : Replay). audit_from c.args.plan.now r (c.loop-bytes.number + 1)
           (lines_of c.in-Some.others.now)) c.in_ok-take.ensures.seen)));

@@ -1,0 +1,213 @@
+-- The next operation of a release, by its effect: what it tells, and what it leaves.
+use Rattle.std.proofs.Common.{◌≡◌, ℕ, ◌+◌, nat_lt, Bool, true, false, not, List, [], ◌∷◌, ◌++◌, length, Option, Some, None, if◌then◌else◌, refl, sym, ap, subst}
+use Rattle.std.specs.Prelude.{ℤ, option_map, slice_get, is_some, codes}
+use Rattle.scj_base.specs.declared.places.Pos.{Pos}
+use Rattle.scj_base.specs.declared.faults.RunFault.TheVariants.{NotInitializing, TooManyHandlers}
+use Rattle.scj_base.specs.declared.values.Value.{Value}
+use Rattle.scj_rules.specs.Words.{◌>>=◌}
+use Rattle.scj_rules.specs.ScopeRules.{defined_by_chain}
+use Rattle.scj_rules.specs.Bodies.{body_named, class_place}
+use Rattle.scj_model.specs.declared.events.Event.TheVariants as event
+use Rattle.scj_model.specs.declared.handlers.HandlerRow.{HandlerRow}
+use Rattle.scj_model.specs.declared.operations.Op.{Op}
+use Rattle.scj_model.specs.declared.phases.Phase.{Phase}
+use Rattle.scj_model.specs.declared.phases.Phase.TheVariants.{Boot, Next, Init, Exec, Cleanup, Over}
+use Rattle.scj_model.specs.declared.plans.ReadingRow.{ReadingRow}
+use Rattle.scj_model.specs.Code.{Code}
+use Rattle.scj_model.specs.Plan.{Plan}
+use Rattle.scj_model.specs.TraceText.{unit_of}
+use Rattle.scj_model.specs.State.{Object, Frame, Activity, ReleaseStatus, Waits, Started, Ended, Dropped, Release, ReleaseAt, State, with_activity, object_at, is_init, is_exec}
+use Rattle.scj_model.specs.Registry.{new_row, most_handlers, handler_number, handler_row}
+use Rattle.scj_model.specs.Steps.{Step, silently, telling, fault_in}
+use Rattle.scj_model.specs.Effects.{Effect, Goes, Prints, Makes, Stores, StoresStatic, SetsHidden, SetsCeiling, Calls, Opens, Leaves, AsksRegistration, AsksRelease, AsksTermination, Faults, Stuck}
+use Rattle.scj_model.specs.Apply.{class_name, registered, with_frame, applied}
+use Rattle.scj_model.specs.Sequencer.{innermost}
+use Rattle.scj_model.specs.Choice.{handler_priority}
+use Rattle.scj_model.specs.Run.{frame_op, effect_at, place_of_op, start_op, started_with, no_activity, release_op_of, ref_op}
+use Rattle.trace_audit.specs.Replay.{Replay}
+use Rattle.audited_runs.proofs.InUnit.{Live}
+use Rattle.accepted_laws.proofs.Tools.{some_inj}
+use Rattle.audited_runs.proofs.Executing.{Acts, Beside, Executes, becomes_from, beside_same}
+use Rattle.audited_runs.proofs.Acting.{acts_stays, none_told, print_tells_none}
+use Rattle.audited_runs.proofs.Arriving.{TellsOf, released_told, silent_told}
+use Rattle.audited_runs.proofs.Ending.{asked_told}
+use Rattle.audited_runs.proofs.Operating.{allocating_told, called_told, fault_told, gets, left_told, opened_told, opening_told}
+
+-- ---- options
+
+pub record TellsIf (plan : Plan) (s : State) (r : Replay) (o : Option Step) : Type 0 where
+  pub is : (step : Step) → o ≡ Some step → TellsOf plan s r step
+
+pub tells_some : (plan : Plan) (s : State) (r : Replay) (x : Step) → TellsOf plan s r x → TellsIf plan s r (Some x)
+tells_some plan s r x h =
+    record { is = λ step e. subst (λ (y : Step). TellsOf plan s r y) (some_inj x step e) h }
+
+pub tells_nothing : (plan : Plan) (s : State) (r : Replay) → TellsIf plan s r None
+tells_nothing plan s r = record { is = λ step e. absurd (cc (e)) }
+
+pub tells_bind : {A : Type 0} (plan : Plan) (s : State) (r : Replay) (o : Option A) (f : A → Option Step) →
+    ((a : A) → o ≡ Some a → TellsIf plan s r (f a)) → TellsIf plan s r (o >>= f)
+tells_bind plan s r None f h = tells_nothing plan s r
+tells_bind plan s r (Some a) f h = h a refl
+
+pub tells_mapped : {A : Type 0} (plan : Plan) (s : State) (r : Replay) (o : Option A) (f : A → Step) →
+    ((a : A) → TellsOf plan s r (f a)) → TellsIf plan s r (option_map f o)
+tells_mapped plan s r None f h = tells_nothing plan s r
+tells_mapped plan s r (Some a) f h = tells_some plan s r (f a) (h a)
+
+-- in execution nothing is registered
+init_not_exec : (phase : Phase) → is_exec phase ≡ true → is_init phase ≡ false
+unfolding is_exec is_init
+init_not_exec Boot e = refl
+init_not_exec Next e = refl
+init_not_exec Init e = absurd (cc (e))
+init_not_exec Exec e = refl
+init_not_exec Cleanup e = refl
+init_not_exec Over e = refl
+
+-- ---- effects
+
+module _ (plan : Plan) (code : Code) (s : State) (p : ℕ) (r : Replay) (live : Live plan s.unit r)
+    (activity : Activity) (h : Acts s p activity.priority r) where
+  beside_objects : (objects : List Object) → Beside s (record s { objects = objects })
+  beside_objects objects =
+      record {
+        alike = record { registry = refl; earlier = refl; last = refl; phase = refl; unit = refl; origin = refl };
+        releases = refl;
+      }
+
+  beside_statics : (statics : List Value) → Beside s (record s { statics = statics })
+  beside_statics statics =
+      record {
+        alike = record { registry = refl; earlier = refl; last = refl; phase = refl; unit = refl; origin = refl };
+        releases = refl;
+      }
+
+  with_frame_executes : (f : Frame) (below : List Frame) → Executes (with_frame s (ReleaseAt p) activity f below) r
+  unfolding with_activity
+  with_frame_executes f below =
+      acts_stays s p activity.priority r h (with_frame s (ReleaseAt p) activity f below)
+      (record activity { frames = f ∷ below }) refl
+      (becomes_from s s p (Started (record activity { frames = f ∷ below })) (beside_same s))
+
+  prints_told : (f : Frame) (below : List Frame) (label : ℕ) (value : ℤ) →
+      TellsOf plan s r
+      (telling (with_frame s (ReleaseAt p) activity f below) (event.Print s.unit label value ∷ []))
+  unfolding with_activity unit_of
+  prints_told f below label value =
+      silent_told plan (with_frame s (ReleaseAt p) activity f below) r (event.Print s.unit label value ∷ [])
+      (with_frame_executes f below)
+      (none_told plan s.unit r (event.Print s.unit label value) (print_tells_none s.unit label value) live refl)
+
+  registered_told : (place : Pos) (object : ℕ) (o : Object) (after : State) →
+      TellsOf plan s r (registered code s (ReleaseAt p) activity place object o after)
+  unfolding registered
+  registered_told place object o after =
+      subst (λ (b : Bool). TellsOf plan s r
+      (if not b then fault_in s (ReleaseAt p) activity place NotInitializing
+      else (if is_some (handler_number s.registry object) then silently after
+      else (if not (nat_lt (length s.registry) most_handlers) then fault_in s (ReleaseAt p) activity place TooManyHandlers
+      else (let row = new_row code.program object o in
+      telling (record after { registry = after.registry ++ row ∷ [] })
+      (event.Register s.unit (length s.registry + 1) (class_name code o.class) row.priority ∷ []))))))
+      (sym (init_not_exec s.phase h.exec)) (fault_told plan s p activity.priority r live h activity place _)
+
+  applied_told : (below : List Frame) (place : Pos) (effect : Effect) →
+      TellsIf plan s r (applied code s (ReleaseAt p) activity below place effect)
+  unfolding applied with_activity
+  applied_told below place (Goes f) =
+      tells_some plan s r _ (gets plan s p activity.priority r live h s _ (beside_same s) refl)
+  applied_told below place (Prints f label value) = tells_some plan s r _ (prints_told f below label value)
+  applied_told below place (Makes f class slots) =
+      tells_some plan s r _ (allocating_told plan s p activity.priority r live h activity place class f.area slots _
+      (λ t a b. gets plan s p activity.priority r live h t _ b refl))
+  applied_told below place (Stores f object slot value) =
+      tells_some plan s r _ (gets plan s p activity.priority r live h (record s { objects = _ }) _ (beside_objects _) refl)
+  applied_told below place (StoresStatic f k value) =
+      tells_some plan s r _ (gets plan s p activity.priority r live h (record s { statics = _ }) _ (beside_statics _) refl)
+  applied_told below place (SetsHidden f object values) =
+      tells_some plan s r _ (gets plan s p activity.priority r live h (record s { objects = _ }) _ (beside_objects _) refl)
+  applied_told below place (SetsCeiling f object ceiling) =
+      tells_some plan s r _ (fault_told plan s p activity.priority r live h activity place _)
+  applied_told below place (Calls f g) =
+      tells_some plan s r _ (called_told plan s p activity.priority r live h code activity (f ∷ below) place g refl)
+  applied_told below place (Opens f g scope bytes) =
+      tells_some plan s r _
+      (opened_told plan s p activity.priority r live h activity (f ∷ below) place g scope bytes refl)
+  applied_told below place (Leaves f value) =
+      tells_some plan s r _ (left_told plan s p r activity f below value live h)
+  applied_told below place (AsksRegistration f object) =
+      tells_mapped plan s r (object_at s object) _
+      (λ o. registered_told place object o (with_frame s (ReleaseAt p) activity f below))
+  applied_told below place (AsksRelease f object) =
+      tells_some plan s r _
+      (released_told plan (with_frame s (ReleaseAt p) activity f below) r object live (with_frame_executes f below))
+  applied_told below place (AsksTermination f object) =
+      tells_some plan s r _
+      (asked_told plan (with_frame s (ReleaseAt p) activity f below) r object live (with_frame_executes f below))
+  applied_told below place (Faults fault) =
+      tells_some plan s r _ (fault_told plan s p activity.priority r live h activity place fault)
+  applied_told below place Stuck = tells_nothing plan s r
+
+  frame_told : (rows : List ReadingRow) → TellsIf plan s r (frame_op code rows s (ReleaseAt p) activity)
+  unfolding frame_op
+  frame_told rows = go activity.frames
+    where
+      act : (f : Frame) (below : List Frame) (ops : List Op) → TellsIf plan s r (elim ops [ [] ↦ None | op ∷ rest ↦ applied code s (ReleaseAt p) activity below (place_of_op code op) (effect_at code rows s f op rest) ])
+      act f below [] = tells_nothing plan s r
+      act f below (op ∷ rest) = applied_told below (place_of_op code op) (effect_at code rows s f op rest)
+
+      go : (fs : List Frame) → TellsIf plan s r (elim fs [ [] ↦ None | f ∷ below ↦ elim f.rest [ [] ↦ None | op ∷ rest ↦ applied code s (ReleaseAt p) activity below (place_of_op code op) (effect_at code rows s f op rest) ] ])
+      go [] = tells_nothing plan s r
+      go (f ∷ below) = act f below f.rest
+
+-- ---- the first operation
+
+priority_of : (s : State) (handler : ℕ) (row : HandlerRow) → handler_row s.registry handler ≡ Some row →
+    row.priority ≡ handler_priority s handler
+priority_of s handler row e =
+    sym (ap (λ (o : Option HandlerRow). elim o as (λ z. ℕ) [ None ↦ 0 | Some x ↦ x.priority ]) e)
+
+start_told : (plan : Plan) (code : Code) (s : State) (p : ℕ) (r : Replay) (x : Release) → Live plan s.unit r →
+    Acts s p (handler_priority s x.handler) r → TellsIf plan s r (start_op code s p x)
+unfolding start_op started_with with_activity
+start_told plan code s p r x live h =
+    tells_bind plan s r (handler_row s.registry x.handler) _ (λ row e.
+    tells_bind plan s r (defined_by_chain code.program row.class) _ (λ scope f.
+    tells_bind plan s r (body_named code.program row.class (codes "handleAsyncEvent")) _ (λ body g.
+    tells_some plan s r _
+    (opening_told plan s p (handler_priority s x.handler) r live h no_activity (class_place code.program row.class) scope
+    (innermost s.activity.areas) row.bytes _
+    (λ t a b. gets plan s p (handler_priority s x.handler) r live h t _ b (priority_of s x.handler row e))))))
+
+-- ---- any operation
+
+-- the active priority with which a release acts
+unfoldable pub active_of : State → Release → ReleaseStatus → ℕ
+active_of s x Waits = handler_priority s x.handler
+active_of s x (Started activity) = activity.priority
+active_of s x Ended = 0
+active_of s x Dropped = 0
+
+release_told : (plan : Plan) (code : Code) (rows : List ReadingRow) (s : State) (p : ℕ) (r : Replay) (x : Release)
+    (status : ReleaseStatus) → Live plan s.unit r → Acts s p (active_of s x status) r →
+    TellsIf plan s r
+    (elim status as (λ z. Option Step) [
+      | Waits ↦ start_op code s p x
+      | Started activity ↦ frame_op code rows s (ReleaseAt p) activity
+      | Ended ↦ None
+      | Dropped ↦ None
+    ])
+unfolding active_of
+release_told plan code rows s p r x Waits live h = start_told plan code s p r x live h
+release_told plan code rows s p r x (Started activity) live h = frame_told plan code s p r live activity h rows
+release_told plan code rows s p r x Ended live h = tells_nothing plan s r
+release_told plan code rows s p r x Dropped live h = tells_nothing plan s r
+
+pub operation_told : (plan : Plan) (code : Code) (rows : List ReadingRow) (s : State) (p : ℕ) (r : Replay)
+    (x : Release) → slice_get s.releases p ≡ Some x → Live plan s.unit r → Acts s p (active_of s x x.status) r →
+    TellsIf plan s r (ref_op code rows s (ReleaseAt p))
+unfolding ref_op release_op_of
+operation_told plan code rows s p r x there live h =
+    subst (λ (o : Option Release). TellsIf plan s r (o >>= release_op_of code rows s p)) (sym there)
+    (release_told plan code rows s p r x x.status live h)

@@ -1,0 +1,54 @@
+-- The parts of an event that an audit doesn't look at fit: those that the program and its states bound, and the others.
+use Rattle.std.proofs.Common.{◌≡◌, ◌≤◌, ◌<◌, ◌+◌, ◌^◌, ℕ, zero, suc, true, All, List, [], ◌∷◌, length, sym, subst, arith}
+use Rattle.std.proofs.lemmas.List.Elements.{All-head, All-tail}
+use Rattle.source_nodes.specs.Nodes.{IsPlace}
+use Rattle.std.specs.List.{list_all}
+use Rattle.scj_base.specs.Lexeme.{is_name, is_text_byte}
+use Rattle.scj_tree.specs.declared.nodes.Node.{Node}
+use Rattle.scj_model.specs.declared.events.Event.{Event}
+use Rattle.scj_model.specs.declared.events.Event.TheVariants as event
+use Rattle.scj_model.specs.TraceText.{file_name, label}
+use Rattle.trace_audit.specs.Parts.{is_file_name}
+use Rattle.audited_runs.specs.Alone.{FitsAlone}
+use Rattle.audited_runs.proofs.proper.Steps.{IsProper}
+use Rattle.trace_audit.specs.Printed.{Has32Bits, Has64Bits, IsHandlerNumber, IsPriorityNumber}
+
+-- what an event that passes needs besides to have the form of a line
+abbrev pub PartsFit : List Node → List (List ℕ) → Event → Type 0
+PartsFit nodes files (event.Mission unit class) = is_name class ≡ true
+PartsFit nodes files (event.Register unit handler class priority) =
+    (handler ≤ 64) × (is_name class ≡ true) × IsPriorityNumber priority
+PartsFit nodes files (event.Lost unit handler) = IsHandlerNumber handler
+PartsFit nodes files (event.Prio unit handler priority) = IsPriorityNumber priority
+PartsFit nodes files (event.Print unit text value) =
+    (list_all is_text_byte (label nodes text) ≡ true) × Has32Bits value
+PartsFit nodes files (event.Fault unit fault place) =
+    (is_file_name (file_name files place.file) ≡ true) × (1 ≤ place.line) × Has64Bits place.line
+PartsFit nodes files e = Unit {0}
+
+-- the name of a file that is there
+named_file : (names : List (List ℕ)) (n : ℕ) → n < length names → All (λ name. is_file_name name ≡ true) names →
+    is_file_name (file_name names n) ≡ true
+named_file [] n l h = absurd (omega (arith, l))
+named_file (name ∷ names) zero l h = All-head (λ x. is_file_name x ≡ true) name names h
+named_file (name ∷ names) (suc n) l h =
+    named_file names n (omega (arith, l)) (All-tail (λ x. is_file_name x ≡ true) name names h)
+
+-- those that the program and its states bound, and the others, together
+pub parts_fit : (nodes : List Node) (names : List (List ℕ)) (files longest : ℕ) → length names ≡ files →
+    All (λ name. is_file_name name ≡ true) names → longest + 1 < 2 ^ 64 → (e : Event) →
+    IsProper nodes (IsPlace files longest) e → FitsAlone e → PartsFit nodes names e
+parts_fit nodes names files longest many named short (event.Mission unit class) h k = h
+parts_fit nodes names files longest many named short (event.Register unit handler class priority) h k = h
+parts_fit nodes names files longest many named short (event.Lost unit handler) h k = h
+parts_fit nodes names files longest many named short (event.Prio unit handler priority) h k = h
+parts_fit nodes names files longest many named short (event.Print unit text value) h k = (h, k)
+parts_fit nodes names files longest many named short (event.Fault unit fault place) h k = (
+  named_file names place.file (subst (λ n. place.file < n) (sym many) h.file) named,
+  h.first,
+  small place.line h.last,
+)
+  where
+    small : (line : ℕ) → line ≤ longest + 1 → line < 2 ^ 64
+    small line l = omega (arith, l, short)
+parts_fit nodes names files longest many named short _ h k = tt

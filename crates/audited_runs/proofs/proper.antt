@@ -1,0 +1,14 @@
+pub mod Alone
+pub mod Backing
+pub mod Bodies
+pub mod Classes
+pub mod CountedTurns
+pub mod Counts
+pub mod Effects
+pub mod Known
+pub mod Lengths
+pub mod Nodes
+pub mod Phases
+pub mod Places
+pub mod Steps
+pub mod Turns

@@ -1,0 +1,25 @@
+-- What the events of an effect need to have proper parts.
+use Rattle.std.specs.Prelude.{◌≡◌, ℕ, true, List, slice_get, Some, unwrap_or}
+use Rattle.scj_base.specs.declared.places.Pos.{Pos}
+use Rattle.scj_base.specs.Lexeme.{is_name}
+use Rattle.scj_model.specs.Apply.{class_name}
+use Rattle.scj_model.specs.Code.{Code}
+use Rattle.scj_model.specs.Effects.{Effect, Goes, Prints, Leaves, AsksRegistration}
+use Rattle.scj_model.specs.Registry.{new_row}
+use Rattle.scj_model.specs.State.{Object, Activity, Job, ReleaseAt}
+use Rattle.priority_laws.specs.Handlers.{IsPriority}
+
+-- the class of an object has a name, and its row a priority
+pub record RegistersWell (code : Code) (r : ℕ) (o : Object) : Type 0 where
+  pub named : is_name (class_name code o.class) ≡ true
+  pub priority : IsPriority (new_row code.program r o).priority
+
+-- a place for a fault, where the effect may have one; the priority that comes back to a release that a frame leaves
+abbrev pub Backs : (Pos → Type 0) → Code → List Object → Job → Activity → Pos → Effect → Type 0
+Backs F code objects job a place (Goes f) = Unit {0}
+Backs F code objects job a place (Prints f label value) = Unit {0}
+Backs F code objects job a place (Leaves f value) =
+    (p : ℕ) → job ≡ ReleaseAt p → IsPriority (unwrap_or f.saved a.priority)
+Backs F code objects job a place (AsksRegistration f r) =
+    F place × ((o : Object) → slice_get objects r ≡ Some o → RegistersWell code r o)
+Backs F code objects job a place e = F place

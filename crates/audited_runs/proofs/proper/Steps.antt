@@ -1,0 +1,118 @@
+-- Steps whose events have proper parts, as far as the program and its states say, and whose registry is as small as it
+-- may be.
+use Rattle.std.proofs.Common.{◌≡◌, ◌≤◌, Bool, true, false, All, List, [], ◌∷◌, ◌++◌, length, Option, Some, None, if◌then◌else◌, refl, subst}
+use Rattle.std.specs.Prelude.{option_map}
+use Rattle.std.specs.List.{list_all}
+use Rattle.std.proofs.lemmas.List.Elements.{All-append, All-cons, All-nil}
+use Rattle.accepted_laws.proofs.Tools.{some_inj}
+use Rattle.scj_base.specs.declared.places.Pos.{Pos}
+use Rattle.scj_base.specs.Lexeme.{is_name, is_text_byte}
+use Rattle.scj_rules.specs.Words.{◌>>=◌}
+use Rattle.scj_tree.specs.declared.nodes.Node.{Node}
+use Rattle.scj_model.specs.declared.events.Event.{Event}
+use Rattle.scj_model.specs.declared.events.Event.TheVariants as event
+use Rattle.scj_model.specs.State.{State}
+use Rattle.scj_model.specs.Steps.{Step, silently, telling, then_do, then_try}
+use Rattle.scj_model.specs.TraceText.{label}
+use Rattle.trace_audit.specs.Printed.{IsHandlerNumber, IsPriorityNumber}
+
+-- names are names, texts texts, and the numbers of handlers and priorities as large as they may be; F is asked of the
+-- places of faults
+abbrev pub IsProper : List Node → (Pos → Type 0) → Event → Type 0
+IsProper nodes F (event.Mission unit class) = is_name class ≡ true
+IsProper nodes F (event.Register unit handler class priority) =
+    (handler ≤ 64) × (is_name class ≡ true) × IsPriorityNumber priority
+IsProper nodes F (event.Lost unit handler) = IsHandlerNumber handler
+IsProper nodes F (event.Prio unit handler priority) = IsPriorityNumber priority
+IsProper nodes F (event.Print unit text value) = list_all is_text_byte (label nodes text) ≡ true
+IsProper nodes F (event.Fault unit fault place) = F place
+IsProper nodes F e = Unit {0}
+
+-- what holds of steps, by the cases in which they are made
+module _ (Q : Step → Type 0) where
+  pub record GoodIf (o : Option Step) : Type 0 where
+    pub is : (x : Step) → o ≡ Some x → Q x
+
+  pub good_if : (b : Bool) (x y : Step) → (b ≡ true → Q x) → (b ≡ false → Q y) → Q (if b then x else y)
+  good_if true x y h k = h refl
+  good_if false x y h k = k refl
+
+  pub good_option : {A : Type 0} (o : Option A) (x : Step) (f : A → Step) → (o ≡ None → Q x) →
+      ((a : A) → o ≡ Some a → Q (f a)) → Q (elim o as (λ _. Step) [ None ↦ x | Some a ↦ f a ])
+  good_option None x f h k = h refl
+  good_option (Some a) x f h k = k a refl
+
+  pub some_good : (x : Step) → Q x → GoodIf (Some x)
+  some_good x h = record { is = λ y e. subst (λ (z : Step). Q z) (some_inj x y e) h }
+
+  pub nothing_good : GoodIf None
+  nothing_good = record { is = λ y e. absurd (cc (e)) }
+
+  pub either_good : (b : Bool) (o p : Option Step) → (b ≡ true → GoodIf o) → (b ≡ false → GoodIf p) →
+      GoodIf (if b then o else p)
+  either_good true o p h k = h refl
+  either_good false o p h k = k refl
+
+  pub bind_good : {A : Type 0} (o : Option A) (f : A → Option Step) → ((a : A) → o ≡ Some a → GoodIf (f a)) →
+      GoodIf (o >>= f)
+  bind_good None f h = nothing_good
+  bind_good (Some a) f h = h a refl
+
+  pub mapped_good : {A : Type 0} (o : Option A) (f : A → Step) → ((a : A) → o ≡ Some a → Q (f a)) →
+      GoodIf (option_map f o)
+  mapped_good None f h = nothing_good
+  mapped_good (Some a) f h = some_good (f a) (h a refl)
+
+module _ (nodes : List Node) (F : Pos → Type 0) where
+  pub record Good (x : Step) : Type 0 where
+    pub events : All (IsProper nodes F) x.events
+    pub few : length x.state.registry ≤ 64
+
+  -- ---- events
+
+  pub none_proper : All (IsProper nodes F) []
+  none_proper = All-nil (IsProper nodes F)
+
+  pub one_proper : (e : Event) → IsProper nodes F e → All (IsProper nodes F) (e ∷ [])
+  one_proper e h = All-cons (IsProper nodes F) e [] h none_proper
+
+  pub two_proper : (e f : Event) → IsProper nodes F e → IsProper nodes F f → All (IsProper nodes F) (e ∷ f ∷ [])
+  two_proper e f h k = All-cons (IsProper nodes F) e (f ∷ []) h (one_proper f k)
+
+  pub if_proper : (b : Bool) (es fs : List Event) → All (IsProper nodes F) es → All (IsProper nodes F) fs →
+      All (IsProper nodes F) (if b then es else fs)
+  if_proper true es fs h k = h
+  if_proper false es fs h k = k
+
+  pub elim_proper : {A : Type 0} (o : Option A) (tell : A → List Event) →
+      ((a : A) → All (IsProper nodes F) (tell a)) →
+      All (IsProper nodes F) (elim o as (λ _. List Event) [ None ↦ [] | Some a ↦ tell a ])
+  elim_proper None tell h = none_proper
+  elim_proper (Some a) tell h = h a
+
+  -- ---- steps
+
+  pub good_silent : (s : State) → length s.registry ≤ 64 → Good (silently s)
+  good_silent s few = record { events = none_proper; few = few }
+
+  pub good_then : (first : Step) (next : State → Step) → Good first → Good (next first.state) →
+      Good (then_do first next)
+  good_then first next h k =
+      record {
+        events = All-append (IsProper nodes F) first.events (next first.state).events h.events k.events;
+        few = k.few;
+      }
+
+  pub tried_good : (first : Step) (next : State → Option Step) → All (IsProper nodes F) first.events →
+      GoodIf Good (next first.state) → GoodIf Good (then_try first next)
+  tried_good first next h k = go (next first.state) k
+    where
+      go : (o : Option Step) → GoodIf Good o →
+          GoodIf Good (option_map (λ (second : Step). telling second.state (first.events ++ second.events)) o)
+      go None g = nothing_good Good
+      go (Some second) g =
+          some_good Good (telling second.state (first.events ++ second.events))
+          (record {
+            events = All-append (IsProper nodes F) first.events second.events h (g.is second refl).events;
+            few = (g.is second refl).few;
+          })

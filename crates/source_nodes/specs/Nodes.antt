@@ -1,0 +1,28 @@
+-- The words and the places of nodes that were read from texts.
+use Rattle.std.specs.Prelude.{◌≡◌, ◌≤◌, ◌<◌, ℕ, ◌+◌, true, List, [], ◌∷◌, length, slice_get, Some}
+use Rattle.scj_base.specs.declared.places.Pos.{Pos}
+use Rattle.scj_base.specs.Lexeme.{AllOf, is_name, is_text_byte}
+use Rattle.scj_tree.specs.declared.nodes.Node.{Node}
+use Rattle.scj_tree.specs.declared.nodes.Node.TheVariants.{Class, Text}
+use Rattle.scj_tree.specs.Shape.{place_of}
+
+-- the name of a class is a name, and the bytes of a text may stand between quotes
+unfoldable pub HasWords : Node → Type 0
+HasWords (Class place name flags header members) = is_name name ≡ true
+HasWords (Text place bytes) = AllOf is_text_byte bytes
+HasWords _ = Unit {0}
+
+-- a place in one of so many files, of which none has more bytes than this
+pub record IsPlace (files longest : ℕ) (p : Pos) : Type 0 where
+  pub file : p.file < files
+  pub first : 1 ≤ p.line
+  pub last : p.line ≤ longest + 1
+
+pub record NodesFit (nodes : List Node) (files longest : ℕ) : Type 0 where
+  pub words : (id : ℕ) (node : Node) → slice_get nodes id ≡ Some node → HasWords node
+  pub places : (id : ℕ) (node : Node) → slice_get nodes id ≡ Some node → IsPlace files longest (place_of node)
+
+-- each text has at most so many bytes
+abbrev pub AreShort : ℕ → List (List ℕ) → Type 0
+AreShort longest [] = Unit {0}
+AreShort longest (text ∷ texts) = (length text ≤ longest) × AreShort longest texts
