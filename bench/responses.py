@@ -16,6 +16,16 @@ import time
 
 ROWS = 64
 RESPOND, CONFIRM = 50.0, 10.0
+# Costs and gaps of a load that is whole but for 15 millionths, the most urgent rows first.
+NEAR = ((9, 200), (4, 176), (1, 67), (1, 62), (1, 17), (3, 188), (3, 99), (2, 57), (1, 176), (4, 88), (3, 73), (1, 118),
+        (4, 194), (4, 99), (1, 78), (1, 141), (1, 26), (6, 176), (2, 135), (1, 195), (1, 196), (1, 50), (6, 134), (2, 44),
+        (5, 115), (3, 68), (1, 6), (2, 110), (1, 195), (7, 145), (2, 87), (1, 83), (3, 281))  # fmt: skip
+
+
+def with_others(urgent):
+    """These rows under falling priorities, and below them rows of one operation each, 64 in all."""
+    rows = [(28 - place * 20 // len(urgent), cost, gap) for place, (cost, gap) in enumerate(urgent)]
+    return rows + [(1 + place % 7, 1, 10_000_000 - place) for place in range(ROWS - len(rows))]
 
 
 def spread(place):
@@ -35,6 +45,7 @@ def families():
         "gaps 2, 3, 7, 43, 1811 under falling priorities": [
             (max(28 - i, 1), 1, (2, 3, 7, 43, 1811)[i] if i < 5 else 10_000_000) for i in range(ROWS)
         ],
+        "33 gaps of 6 to 281, a load of nearly 1": with_others(NEAR),
         "costs and gaps by chance": [
             (28 - min(i // 3, 27), chance.randint(1, 100_000), chance.randint(5_000_000, 10_000_000)) for i in range(ROWS)
         ],

@@ -10,6 +10,7 @@ use Rattle.scj_model.specs.Plan.{Plan}
 use Rattle.scj_model.specs.State.{State, Waits, is_exec}
 use Rattle.scj_model.specs.Choice.{may_act}
 use Rattle.scj_model.specs.declared.plans.Fire.{Fire}
+use Rattle.scj_model.specs.declared.plans.FireFrom.TheVariants.{Start}
 use Rattle.scj_model.proofs.AcceptedPrograms.{empty_handler_accepted}
 use Rattle.scj_model.proofs.Computing.{computing_machine}
 use Rattle.scj_model.proofs.ProgramEmptyHandler.{empty_handler}
@@ -29,7 +30,7 @@ unfoldable one_handler : Code
 one_handler = code_of empty_handler
 
 abbrev fire : Fire
-fire = record { at = 44; handler = codes "H" }
+fire = record { at = 44; handler = codes "H"; from = Start }
 
 unfoldable one_fire : Plan
 one_fire = with_fires 100 600 (fire ∷ [])

@@ -1,1 +1,2 @@
 pub mod MetBounds
+pub mod KeptRows

@@ -5,6 +5,8 @@ pub mod Blocking
 pub mod Interference
 pub mod EndsInTime
 pub mod Monotone
-pub mod Loads
+pub mod LevelSums
+pub mod Levels
 pub mod LeastBounds
 pub mod FoundBounds
+pub mod AddedCosts

@@ -1,4 +1,4 @@
-pub mod Loads
+pub mod Levels
 pub mod Periods
 pub mod Responses
 pub mod Rows

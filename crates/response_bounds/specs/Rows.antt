@@ -40,10 +40,13 @@ row_at rows k = elim (slice_get rows k) [ None ↦ no_row | Some row ↦ row ]
 
 -- ---- blocking
 
--- the section of another row with which it may block: it is of lower priority, and its ceiling isn't below
+-- the section of a row with which it may block at a level, a priority: it is of lower priority, and its ceiling isn't below
+abbrev pub section_at : ℕ → Declared → ℕ
+section_at level other = if nat_lt other.priority level && not (nat_lt other.ceiling level) then other.section else 0
+
+-- that with which another row may block
 abbrev pub section_of : Declared → Declared → ℕ
-section_of mine other =
-    if nat_lt other.priority mine.priority && not (nat_lt other.ceiling mine.priority) then other.section else 0
+section_of mine other = section_at mine.priority other
 
 unfoldable pub section_over : List Declared → ℕ → ℕ → ℕ
 section_over rows i j = section_of (row_at rows i) (row_at rows j)
@@ -58,10 +61,13 @@ blocking rows i = max_below (section_over rows i) (length rows)
 abbrev pub releases_within : ℕ → ℕ → ℕ
 releases_within x gap = (x + (gap - 1)) / gap
 
--- the work of another row in x units: it isn't of lower priority
+-- the work of a row at a level in x units: it isn't of lower priority
+abbrev pub work_at : ℕ → Declared → ℕ → ℕ
+work_at level other x = if not (nat_lt other.priority level) then releases_within x other.gap * other.cost else 0
+
+-- that of another row
 abbrev pub work_of : Declared → Declared → ℕ → ℕ
-work_of mine other x =
-    if not (nat_lt other.priority mine.priority) then releases_within x other.gap * other.cost else 0
+work_of mine other x = work_at mine.priority other x
 
 unfoldable pub work_over : List Declared → ℕ → ℕ → ℕ → ℕ
 work_over rows i x j = if not (j == i) then work_of (row_at rows i) (row_at rows j) x else 0

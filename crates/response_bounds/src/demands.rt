@@ -1,51 +1,35 @@
 //! The work that is to be done until a release has ended: what blocks it, its own cost, and the work of others.
 
 ghost use Rattle.std.specs.Prelude.{◌≡◌, ◌≤◌, ◌<◌, ◌*◌, length};
-ghost use Rattle.response_bounds.specs.Loads.{long_work, share_of, short_load, whole};
-ghost use Rattle.response_bounds.specs.Rows.{AreDeclared, IsDeclared, blocking, demand, most_units, other_work, row_at, section_of, work_of};
+ghost use Rattle.response_bounds.specs.Levels.{level_blocking, level_demand, level_work};
+ghost use Rattle.response_bounds.specs.Rows.{AreDeclared, IsDeclared, blocking, demand, most_units, other_work, row_at, section_at, work_at};
 
 use crate::rows::Declared;
 
-/// The parts in which a load is counted.
-pub(crate) const WHOLE: u64 = 4_294_967_296;
-
-/// The section with which the other row may block.
-fn section_of(mine: &Declared, other: &Declared) -> u64
-    requires { IsDeclared other.now }
-    ensures section { result ≡ section_of mine.now other.now }
+/// The section with which the row may block at the level.
+fn section_at(level: u8, row: &Declared) -> u64
+    requires { IsDeclared row.now }
+    ensures section { result ≡ section_at level row.now }
     ensures limit { result ≤ most_units }
 {
-    if other.priority < mine.priority && other.ceiling >= mine.priority {
-        other.section
+    if row.priority < level && row.ceiling >= level {
+        row.section
     } else {
         0
     }
 }
 
-/// The work of the other row in so many units.
-fn work_of(mine: &Declared, other: &Declared, units: u64) -> u64
-    requires declared { IsDeclared other.now }
+/// The work of the row at the level in so many units.
+fn work_at(level: u8, row: &Declared, units: u64) -> u64
+    requires declared { IsDeclared row.now }
     requires units { units ≤ most_units }
-    ensures work { result ≡ work_of mine.now other.now units }
+    ensures work { result ≡ work_at level row.now units }
     ensures limit { result ≤ most_units * most_units }
 {
-    if other.priority >= mine.priority {
-        (units + (other.gap - 1)) / other.gap * other.cost
+    if row.priority >= level {
+        (units + (row.gap - 1)) / row.gap * row.cost
     } else {
         0
-    }
-}
-
-/// The load of the other row.
-fn share_of(mine: &Declared, other: &Declared) -> u64
-    requires declared { IsDeclared other.now }
-    ensures share { result ≡ share_of mine.now other.now }
-    ensures limit { result ≤ most_units * whole }
-{
-    if other.priority < mine.priority {
-        0
-    } else {
-        other.cost * WHOLE / other.gap
     }
 }
 
@@ -59,7 +43,7 @@ pub fn blocking(rows: &[Declared], row: usize) -> u64
 {
     let mut greatest: u64 = 0;
     for other in 0..rows.len() {
-        greatest = greatest.max(section_of(&rows[row], &rows[other]));
+        greatest = greatest.max(section_at(rows[row].priority, &rows[other]));
     }
     greatest
 }
@@ -76,42 +60,7 @@ pub fn other_work(rows: &[Declared], row: usize, units: u64) -> u64
     let mut sum: u64 = 0;
     for other in 0..rows.len() {
         if other != row {
-            sum += work_of(&rows[row], &rows[other], units);
-        }
-    }
-    sum
-}
-
-/// The load of the other rows with gaps below the limit.
-#[tactic(auto, unfolding(crate::specs::Sums::sum_below, crate::specs::Rows::row_at, crate::specs::Loads::share_over, crate::specs::Loads::short_load))]
-pub(crate) fn short_load(rows: &[Declared], row: usize, limit: u64) -> u64
-    requires declared { AreDeclared rows.now }
-    requires row { row < length rows.now }
-    ensures load { result ≡ short_load rows.now row limit }
-    ensures limit { result ≤ 64 * (most_units * whole) }
-{
-    let mut sum: u64 = 0;
-    for other in 0..rows.len() {
-        if other != row && rows[other].gap < limit {
-            sum += share_of(&rows[row], &rows[other]);
-        }
-    }
-    sum
-}
-
-/// The work of the other rows with other gaps, in so many units.
-#[tactic(auto, unfolding(crate::specs::Sums::sum_below, crate::specs::Rows::row_at, crate::specs::Loads::long_over, crate::specs::Loads::long_work))]
-pub(crate) fn long_work(rows: &[Declared], row: usize, units: u64, limit: u64) -> u64
-    requires declared { AreDeclared rows.now }
-    requires row { row < length rows.now }
-    requires units { units ≤ most_units }
-    ensures work { result ≡ long_work rows.now row units limit }
-    ensures limit { result ≤ 64 * (most_units * most_units) }
-{
-    let mut sum: u64 = 0;
-    for other in 0..rows.len() {
-        if other != row && rows[other].gap >= limit {
-            sum += work_of(&rows[row], &rows[other], units);
+            sum += work_at(rows[row].priority, &rows[other], units);
         }
     }
     sum
@@ -148,4 +97,43 @@ pub fn demand(rows: &[Declared], row: usize, units: u64) -> u64
     ensures limit { result ≤ 65 * (most_units * most_units) }
 {
     blocking(rows, row) + cost_of(rows, row) + other_work(rows, row, units)
+}
+
+/// The greatest section that may block at the level.
+#[tactic(auto, unfolding(crate::specs::Sums::max_below, crate::specs::Rows::row_at, crate::specs::Levels::level_section_over, crate::specs::Levels::level_blocking))]
+fn level_blocking(rows: &[Declared], level: u8) -> u64
+    requires { AreDeclared rows.now }
+    ensures blocking { result ≡ level_blocking rows.now level }
+    ensures limit { result ≤ most_units }
+{
+    let mut greatest: u64 = 0;
+    for row in 0..rows.len() {
+        greatest = greatest.max(section_at(level, &rows[row]));
+    }
+    greatest
+}
+
+/// The work of the rows of at least this priority in so many units.
+#[tactic(auto, unfolding(crate::specs::Sums::sum_below, crate::specs::Rows::row_at, crate::specs::Levels::level_work_over, crate::specs::Levels::level_work))]
+fn level_work(rows: &[Declared], level: u8, units: u64) -> u64
+    requires declared { AreDeclared rows.now }
+    requires units { units ≤ most_units }
+    ensures work { result ≡ level_work rows.now level units }
+    ensures limit { result ≤ 64 * (most_units * most_units) }
+{
+    let mut sum: u64 = 0;
+    for row in 0..rows.len() {
+        sum += work_at(level, &rows[row], units);
+    }
+    sum
+}
+
+/// What is to be done at the level in so many units.
+#[tactic(auto, unfolding(crate::specs::Levels::level_demand))]
+pub(crate) fn level_demand(rows: &[Declared], level: u8, units: u64) -> u64
+    requires declared { AreDeclared rows.now }
+    requires units { units ≤ most_units }
+    ensures { result ≡ level_demand rows.now level units }
+{
+    level_blocking(rows, level) + level_work(rows, level, units)
 }

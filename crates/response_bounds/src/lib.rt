@@ -6,6 +6,8 @@ pub mod demands;
 pub mod laws;
 pub mod responses;
 pub mod rows;
+pub mod sweep;
 
-pub use responses::{Response, are_bounds, least_response};
+pub use responses::{Response, are_bounds};
 pub use rows::Declared;
+pub use sweep::respond;

@@ -3,6 +3,5 @@ pub mod Followed
 pub mod Bounded
 pub mod FromMission
 pub mod Accepted
-pub mod Tables
 pub mod Texts
 pub mod HandlerRows

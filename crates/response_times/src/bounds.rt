@@ -9,21 +9,17 @@ ghost use Rattle.response_bounds.specs.Responses.{are_bounds, responses_of};
 ghost use Rattle.response_bounds.specs.Rows.{AreDeclared};
 ghost use Rattle.response_times.specs.Runs.{RespondsAsClaimed, Within};
 
-use response_bounds::{Declared, Response, are_bounds, least_response};
+use response_bounds::{Declared, Response, are_bounds};
 use std::alloc::{AllocError, Global};
 
 /// The response of each row, in the order of the rows.
-#[tactic(auto, unfolding(response_bounds::specs::Responses::responses_of, response_bounds::specs::Responses::responses_below))]
+#[tactic(auto, using(response_bounds::proofs::FoundBounds::all_right))]
 pub fn respond(alloc: Global, rows: &[Declared]) -> Result<Vec<Response>, AllocError>
     requires { AreDeclared rows.now }
     ensures responses { IfOk result (λ answer. answer.items ≡ responses_of rows.now) }
     ensures right { IfOk result (λ answer. are_bounds rows.now answer.items ≡ true) }
 {
-    let mut answer = Vec::new(alloc);
-    for row in 0..rows.len() {
-        answer.push(least_response(rows, row))?;
-    }
-    Ok(answer)
+    response_bounds::respond(alloc, rows)
 }
 
 /// Whether the claims are one for each row, and each of them is right.

@@ -10,8 +10,8 @@ ghost use Rattle.response_times.specs.DeclaredOf.{IsHandler, claims_of, complete
 use crate::answers::{DeclaredError, bad_key, bad_value};
 use crate::files::{Claims, DeclaredFile, DeclaredRows};
 use crate::handlers::{HandlerClaim, handlers_at, handlers_in};
-use crate::values::{number_at, number_in};
 use response_bounds::{Declared, Response};
+use run_plan::values::{number_at, number_in};
 use scj_base::Memory;
 use std::alloc::Global;
 use toml::de::Error;

@@ -7,8 +7,8 @@ ghost use Rattle.run_plan.specs.Rows.{each_row};
 ghost use Rattle.response_bounds.specs.Rows.{IsDeclared, most_rows};
 ghost use Rattle.response_times.specs.DeclaredOf.{IsHandler, claim_in, claim_of, few_handlers, handler_of, handlers_in, keys_of, row_in};
 
-use crate::values::{key_count, number_at, number_in, value_at};
 use response_bounds::{Declared, Response};
+use run_plan::values::{key_count, number_at, number_in, value_at};
 use scj_base::Memory;
 use std::alloc::Global;
 use toml::{Table, Value};
@@ -129,7 +129,7 @@ fn each_handler(alloc: Global, values: &[Value]) -> Result<Option<Vec<HandlerCla
 }
 
 /// The handlers that an array of few values is.
-#[tactic(auto, using(crate::proofs::Tables::counts))]
+#[tactic(auto, using(run_plan::proofs::Tables::counts))]
 fn few_handlers(alloc: Global, values: &[Value]) -> Result<Option<Vec<HandlerClaim>>, Memory>
     ensures value { IfOk result (λ o. option_map (λ v. v.items) o ≡ few_handlers (items_view values.now)) }
     ensures some { IfOk result (λ o. IfSome o (λ v. 1 ≤ vec_len v)) }

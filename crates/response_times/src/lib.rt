@@ -9,7 +9,6 @@ pub mod files;
 pub mod handlers;
 pub mod laws;
 pub mod lines;
-mod values;
 
 pub use answers::DeclaredError;
 pub use bounds::{check_response, respond};
