@@ -1,4 +1,9 @@
+pub mod FewNodes
 pub mod GateRead
 pub mod GateRun
+pub mod JobLimits
+pub mod SafeCalls
 pub mod SafeLaws
 pub mod Sample
+pub mod Shrinking
+pub mod SmallPrograms

@@ -1,3 +1,4 @@
 pub mod Instances
+pub mod SafeCalls
 pub mod SafePrograms
 pub mod SharedGate
