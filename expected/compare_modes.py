@@ -1,10 +1,15 @@
 #!/usr/bin/env python3
-"""Compares what a program answers in the modes audit, respond, confirm and faults with the slow versions beside this file.
+"""Compares what a program answers in the modes audit, respond, confirm, faults and migrate with the slow versions beside
+this file.
 
     compare_modes.py PROGRAM audit      each trace of the table `runs` with its plan, and each with a line removed,
-                                        doubled, swapped with its neighbour, and changed in a number
+                                        doubled, swapped with its neighbour, and changed in a number, and with misses
+                                        that come elsewhere
     compare_modes.py PROGRAM responses  2,000 files of rows, made from a seed, with bounds that are claimed
     compare_modes.py PROGRAM faults     the programs of the table `runs`, each with two literals replaced
+    compare_modes.py PROGRAM migrations the runs of the table `runs` by their plans, migrated
+    compare_modes.py PROGRAM plans      4,000 texts that are nearly plans, made from a seed: what is told of each, by
+                                        tools/planning/texts.py, and what is printed of the right ones
 
 PROGRAM is called as `./scj` is. It prints how many answers were compared, and each that is another one; the exit
 status is then 1. It is no part of the gate.
@@ -17,6 +22,7 @@ import sys
 import tempfile
 
 import phrases
+import plan_texts
 import slow_audit
 import slow_faults
 import slow_machine
@@ -24,8 +30,12 @@ import slow_responses
 import table_files
 import tomllib
 
+sys.path.append(str(pathlib.Path(__file__).resolve().parent.parent / "tools"))
+from planning.texts import read_toml, verdict
+
 SEED = 20261201
 ROW_FILES = 2000
+PLAN_TEXTS = 4000
 LITERALS = ["0", "1", "28", "29", "255", "256", "300", "999000", "999001", "1000000", "(- 1)", "2147483647"]
 
 
@@ -53,8 +63,11 @@ class Comparison:
         data = content if isinstance(content, bytes) else content.encode()
         (self.folder / name).write_bytes(data)
 
+    def whole_call(self, *words):
+        return subprocess.run([self.program, *words], cwd=self.folder, capture_output=True, text=True, errors="replace")
+
     def call(self, *words):
-        return subprocess.run([self.program, *words], cwd=self.folder, capture_output=True, text=True).stdout
+        return self.whole_call(*words).stdout
 
     def compare(self, what, answer, wanted):
         self.count += 1
@@ -83,13 +96,28 @@ def changed(chance, lines):
         yield "renumbered", lines[:at] + [lines[at][: number.start()] + other + lines[at][number.end() :]] + lines[at + 1 :]
 
 
+def misses(chance, lines, plan):
+    """The lines with a miss in the next unit, or of another class, and with one behind the end of an execution."""
+    places = [at for at, line in enumerate(lines) if b" miss " in line]
+    if places:
+        at = chance.choice(places)
+        unit, _, name = lines[at].split()
+        other = b"%d miss %s\n" % (int(unit) + chance.randrange(2), chance.choice([name, b"H1", b"Nobody"]))
+        yield "another miss", lines[:at] + [other] + lines[at + 1 :]
+    places = [at for at, line in enumerate(lines) if line.endswith(b" cleanup\n")]
+    if places and plan.get("fire"):
+        at, fire = chance.choice(places), chance.choice(plan["fire"])
+        other = b"%s miss %s\n" % (lines[at].split()[0], fire["handler"].encode())
+        yield "a miss behind cleanup", lines[: at + 1] + [other] + lines[at + 1 :]
+
+
 def audits(comparison):
     chance = random.Random(SEED)
     for name, _, plan, trace in cases():
         comparison.put("plan.toml", plan)
         read = tomllib.loads(plan)
         lines = trace.encode().splitlines(keepends=True)
-        for what, text in [("whole", lines), *changed(chance, lines)]:
+        for what, text in [("whole", lines), *changed(chance, lines), *misses(chance, lines, read)]:
             text = b"".join(text)
             comparison.put("trace", text)
             wanted = "yes" if what == "whole" else slow_audit.audit(read, text)
@@ -131,16 +159,21 @@ def responses(comparison):
         )
 
 
+def replace_literals(chance, files):
+    """Puts others in the place of two literals of the files."""
+    for _ in range(2):
+        file = chance.choice(sorted(files))
+        numbers = list(re.finditer(r"(?<![\w.$])[0-9]+(?![\w.])", files[file]))
+        if numbers:
+            number = chance.choice(numbers)
+            text = files[file]
+            files[file] = text[: number.start()] + chance.choice(LITERALS) + text[number.end() :]
+
+
 def faults(comparison):
     chance = random.Random(SEED)
     for name, files, _, _ in cases():
-        for _ in range(2):
-            file = chance.choice(sorted(files))
-            numbers = list(re.finditer(r"(?<![\w.$])[0-9]+(?![\w.])", files[file]))
-            if numbers:
-                number = chance.choice(numbers)
-                text = files[file]
-                files[file] = text[: number.start()] + chance.choice(LITERALS) + text[number.end() :]
+        replace_literals(chance, files)
         names = sorted(files)
         for file in names:
             comparison.put(file, files[file])
@@ -152,8 +185,37 @@ def faults(comparison):
         comparison.compare(name, comparison.call("faults", *names), f"{wanted}faults {len(found)}\n")
 
 
+def new_table(plan):
+    """A plan as one of version 2."""
+    fires = [{"from": "start"} | fire for fire in plan.get("fire", [])]
+    return plan | {"version": 2, "fire": fires, "reading": plan.get("reading", [])}
+
+
+def migrations(comparison):
+    for name, files, plan, trace in cases():
+        for file, text in [*files.items(), ("plan.toml", plan)]:
+            comparison.put(file, text)
+        text = comparison.call("migrate", "--plan", "plan.toml")
+        comparison.compare(name, tomllib.loads(text), new_table(tomllib.loads(plan)))
+        comparison.put("migrated.toml", text)
+        comparison.compare(name, comparison.call("run", "--plan", "migrated.toml", *files), trace)
+
+
+def plans(comparison):
+    chance = random.Random(SEED)
+    for number in range(PLAN_TEXTS):
+        text = plan_texts.text(chance)
+        comparison.put("plan.toml", text)
+        said, _, _ = verdict(text.encode())
+        call = comparison.whole_call("migrate", "--plan", "plan.toml")
+        told = (call.returncode, call.stderr)
+        comparison.compare(f"text {number}", told, (0, "") if said is None else (4, f"scj: plan {said}\n"))
+        if said is None:
+            comparison.compare(f"text {number}", tomllib.loads(call.stdout), new_table(read_toml(text.encode())[0]))
+
+
 def main():
-    kinds = {"audit": audits, "responses": responses, "faults": faults}
+    kinds = {"audit": audits, "responses": responses, "faults": faults, "migrations": migrations, "plans": plans}
     if len(sys.argv) != 3 or sys.argv[2] not in kinds:
         sys.exit(__doc__)
     comparison = Comparison(sys.argv[1])

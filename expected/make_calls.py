@@ -176,7 +176,7 @@ def numbers(tables):
         tables.plan(without(key) + "[%s]\n" % key, [], 4, "plan bad value " + key)
         tables.plan(without(key) + "%s.a = 1\n" % key, [], 4, "plan bad value " + key)
     tables.case("run plans at their bounds", "-< A.java")
-    for value in "0", "2", "-1", "10":
+    for value in "0", "3", "-1", "10":
         tables.plan(with_value("version", value), [], 4, "plan bad value version")
     for value in "+1", "0x1", "0o1", "0b1", "0x0_1":
         tables.plan(with_value("version", value), IDLE, 3)
@@ -224,6 +224,162 @@ def fires(tables):
     tables.plan(PLAN + "[fire]\nat = 1\nhandler = \"H\"\n", [], 4, "plan bad value fire")
     tables.plan(PLAN + "fire = []\n[[fire]]\nat = 1\nhandler = \"H\"\n", [], 4, "plan not toml")
     tables.plan(PLAN + "fires = []\n", [], 4, "plan bad key fires")
+
+
+# ---- plans of version 2
+
+
+SECOND = PLAN.replace("version = 1", "version = 2")
+FROM_START = '{ at = 3, handler = "H", from = "start" }'
+FROM_MISSION = '{ at = 3, handler = "H", from = "mission" }'
+IN_FIRST = '{ at = 3, handler = "H" }'
+
+
+def second_fires(tables):
+    """A.java has no mission, so a fire from the start misses, and one from the mission never comes."""
+    tables.case("run plans of version 2", "-< A.java")
+    tables.plan(SECOND, IDLE, 3)
+    tables.plan(SECOND + "reading = [{ port = 0, at = 0, value = 5 }]\n", IDLE, 3)
+    for rows, lines in [("", []), (FROM_START, ["3 miss H"]), (FROM_MISSION, []),
+                        ('{ from = "start", handler = "H", at = 3 }', ["3 miss H"]),
+                        ("{ at = 3, handler = 'H', from = 'start' }", ["3 miss H"]),
+                        ('{ at = 3, "handler" = "H", "from" = """start""" }', ["3 miss H"]),
+                        (", ".join([FROM_START, FROM_MISSION.replace("H", "K"), FROM_START.replace("H", "L")]),
+                         ["3 miss H", "3 miss L"]),
+                        (FROM_MISSION.replace("3", "0") + ", " + FROM_START.replace("3", "0"), ["0 miss H"]),
+                        (FROM_MISSION.replace("3", "9999999"), [])]:
+        tables.plan(SECOND + "fire = [%s]\n" % rows, lines + IDLE, 3)
+    tables.plan(SECOND + '[[fire]]\nat = 3\nhandler = "H"\nfrom = "start"\n[[fire]]\nat = 1\nfrom = "start"\n'
+                'handler = "K"\n', ["1 miss K", "3 miss H"] + IDLE, 3)
+    for value in "+2", "0x2", "0o2", "0b10", "0b1_0":
+        tables.plan(with_value("version", value), IDLE, 3)
+        tables.plan(with_value("version", value) + "fire = [%s]\n" % FROM_START, ["3 miss H"] + IDLE, 3)
+    tables.plan("fire = [%s]\n%s" % (FROM_START, SECOND), ["3 miss H"] + IDLE, 3)
+
+
+def second_refusals(tables):
+    tables.case("run what is no plan of version 2", "-< A.java")
+    for value in ['"Start"', '"start "', '" mission"', '"missions"', '"end"', '""', '"start\\n"', '"START"', "1", "1.0",
+                  "true", "[]", '["start"]', "{ }", "1979-05-27"]:
+        tables.plan(SECOND + 'fire = [{ at = 3, handler = "H", from = %s }]\n' % value, [], 4, "plan bad value fire")
+    for rows in [IN_FIRST, FROM_START + ", " + IN_FIRST, IN_FIRST + ", " + FROM_MISSION, "{ }", '{ from = "start" }',
+                 '{ at = 3, from = "start" }', '{ handler = "H", from = "start" }',
+                 '{ at = 3, handler = "H", From = "start" }', '{ at = 3, handler = "H", from = "start", more = 1 }',
+                 FROM_START.replace("3", "10000000"), FROM_START.replace("3", "-1"), FROM_START.replace("H", "class")]:
+        tables.plan(SECOND + "fire = [%s]\n" % rows, [], 4, "plan bad value fire")
+    for rows in FROM_START, FROM_MISSION, IN_FIRST + ", " + FROM_START, FROM_MISSION + ", " + IN_FIRST:
+        tables.plan(PLAN + "fire = [%s]\n" % rows, [], 4, "plan bad value fire")
+    tables.plan(SECOND + 'fire = [{ at = 3, handler = "H", from = "start", from = "start" }]\n', [], 4, "plan not toml")
+    tables.case("run fires of version 2 under other versions", "-< A.java")
+    for value in "0", "3", "-2", "2.0", "2e0", '"2"', "true", "[2]", "{ a = 2 }", "1979-05-27", "20":
+        tables.plan(with_value("version", value) + "fire = [%s]\n" % FROM_START, [], 4, "plan bad value fire")
+        tables.plan(with_value("version", value) + "fire = [%s]\n" % IN_FIRST, [], 4, "plan bad value version")
+        tables.plan(with_value("version", value) + "fire = []\n", [], 4, "plan bad value version")
+    tables.plan(without("version") + "fire = [%s]\n" % FROM_START, [], 4, "plan bad value fire")
+    tables.plan(without("version") + "fire = [%s]\n" % IN_FIRST, [], 4, "plan bad key version")
+    tables.plan(SECOND + 'from = "start"\n', [], 4, "plan bad key from")
+    tables.plan(SECOND + 'from = "start"\nfire = [%s]\n' % IN_FIRST, [], 4, "plan bad value fire")
+    tables.plan(SECOND + 'fires = [%s]\n' % FROM_START, [], 4, "plan bad key fires")
+    tables.plan(SECOND + 'reading = [{ port = 0, at = 0, value = 5, from = "start" }]\n', [], 4, "plan bad value reading")
+    for text, told in [("version = 2\n", "bad key units"), ("version = 2\nunits = 5\n", "bad key store"),
+                       ("version = 2\nversion = 2\n", "not toml"), ("version = 1\nversion = 2\n", "not toml"),
+                       (SECOND.replace("64", "-1"), "bad value store"), (SECOND + "a = 1\n", "bad key a")]:
+        tables.plan(text, [], 4, "plan " + told)
+
+
+# ---- plans that are migrated
+
+
+def as_text(units, store, fires=(), readings=()):
+    """A plan of version 2 as `toml` prints its table: keys in their order, and rows behind the other keys."""
+    lines = [] if fires else ["fire = []"]
+    lines += [] if readings else ["reading = []"]
+    lines += ["store = %d" % store, "units = %d" % units, "version = 2"]
+    for at, handler, begin in fires:
+        lines += ["", "[[fire]]", "at = %d" % at, 'from = "%s"' % begin, 'handler = "%s"' % handler]
+    for port, at, value in readings:
+        lines += ["", "[[reading]]", "at = %d" % at, "port = %d" % port, "value = %d" % value]
+    return lines
+
+
+def migrations(tables):
+    """What is printed, and that it runs as the plan before. The row of 65 fires is that of runs/lost."""
+    folder = HERE / "runs" / "lost"
+    tables.case("migrate the plan of lost", *("-< programs/empty_handler/" + name for name in ("B.java", "C.java")))
+    tables.file("plan.toml", (folder / "plan.toml").read_text())
+    text = as_text(200, 600, [(50, "H", "start")] * 65)
+    tables.call("migrate --plan plan.toml", text, 0)
+    trace = (folder / "trace").read_text().splitlines()
+    words = "run --plan %s programs/empty_handler/B.java programs/empty_handler/C.java"
+    tables.call(words % "plan.toml", trace, status_of(trace))
+    tables.plan("\n".join(text) + "\n", trace, status_of(trace),
+                sources="programs/empty_handler/B.java programs/empty_handler/C.java")
+    tables.call("migrate --plan plan.toml", text, 0)
+    tables.case("migrate examples/pump_station", "-< examples/pump_station/plan.toml")
+    tables.call("migrate --plan examples/pump_station/plan.toml",
+                as_text(13000, 4096, [(2500, "Alarm", "start"), (7000, "Alarm", "start")],
+                        [(1, 0, 50), (1, 4000, 97), (1, 7500, 30)]), 0)
+    tables.case("migrate plans", "-< A.java")
+
+    def migrated(text, lines):
+        tables.file("plan.toml", text)
+        tables.call("migrate --plan plan.toml", lines, 0)
+    for front in PLAN, SECOND:
+        migrated(front, as_text(100, 64))
+        migrated("# a plan\n" + front + "reading = []\nfire = []\n", as_text(100, 64))
+        migrated(front + "reading = [{ value = 0x10, at = 0, port = 0 }]\n", as_text(100, 64, readings=[(0, 0, 16)]))
+    migrated("version = 1\nunits = 10_000_000\nstore = 0x400_0000\n", as_text(10000000, 67108864))
+    migrated("version = 1\nunits = 0\nstore = +0\n", as_text(0, 0))
+    migrated(PLAN + 'fire = [{ at = 9, handler = "K" }, { at = 3, handler = "H" }, { at = 9, handler = "_$1" }]\n',
+             as_text(100, 64, [(9, "K", "start"), (3, "H", "start"), (9, "_$1", "start")]))
+    migrated(SECOND + "fire = [%s, %s]\n" % (FROM_MISSION, FROM_START),
+             as_text(100, 64, [(3, "H", "mission"), (3, "H", "start")]))
+    rows = [(255, 9999999, 2147483647), (0, 0, -2147483648), (0, 0, 7)]
+    migrated(PLAN + "reading = [%s]\n" % ", ".join("{ port = %d, at = %d, value = %d }" % row for row in rows)
+             + 'fire = [{ at = 9999999, handler = "%s" }]\n' % ("N" * 64),
+             as_text(100, 64, [(9999999, "N" * 64, "start")], rows))
+    for text, told in [("version = 1\nunits = ", "not toml"), ("", "bad key version"),
+                       (PLAN + "fire = [%s]\n" % FROM_START, "bad value fire"),
+                       (SECOND + "fire = [%s]\n" % IN_FIRST, "bad value fire"), (with_value("version", "3"), "bad value version"),
+                       (PLAN + "a = 1\n", "bad key a"), (with_value("units", "-1"), "bad value units"),
+                       (ONE_ROW, "bad key handler"), ("version = 2\nunits = 5\n", "bad key store")]:
+        tables.file("plan.toml", text)
+        tables.call("migrate --plan plan.toml", [], 4, "plan " + told)
+
+
+def migrations_outside(tables):
+    """Words, limits, and what goes wrong outside."""
+    text = as_text(100, 64)
+    tables.case("migrate with other words, and where a file can't be had", "-< A.java", "-- plan.toml", *PLAN.splitlines())
+    tables.line("-* 1048577 long")
+    tables.line("-* 1048576 blank")
+    for words in "--plan plan.toml", "--plan=plan.toml", "--plan plan.toml --":
+        tables.call("migrate " + words, text, 0)
+    for words in ("", " plan.toml", " --plan", " --plan=", " --plan plan.toml A.java", " --plan plan.toml plan.toml",
+                  " --plan plan.toml --size 5", " --size 5", " --plan plan.toml --plan plan.toml"):
+        tables.call("migrate" + words, [], 2, "usage")
+    for words in "Migrate --plan plan.toml", "migrat --plan plan.toml", "check --plan plan.toml":
+        tables.call(words, [], 2, "usage")
+    tables.call("migrate --plan none", [], 5, "read none")
+    tables.call("migrate --plan long", [], 8, "too long long")
+    tables.call("migrate --plan blank", [], 4, "plan bad key version")
+    tables.call("migrate --plan A.java", [], 4, "plan not toml")
+    size = sum(len(line) + 1 for line in text)
+    tables.line("! room %d" % (size - 1))
+    tables.call("migrate --plan plan.toml", [], 6)
+    tables.line("! room %d" % size)
+    tables.call("migrate --plan plan.toml", text, 0)
+    tables.line("! out 1")
+    tables.call("migrate --plan plan.toml", [], 6)
+    tables.line("! err 1")
+    tables.call("migrate --plan none", [], 6)
+    tables.call("migrate --plan blank", [], 6)
+    tables.case("migrate, and the load fails", "-- plan.toml", *PLAN.splitlines(), "! load 1")
+    tables.call("migrate --plan plan.toml", [], 5, "read plan.toml")
+    tables.call("migrate --plan plan.toml", text, 0)
+
+
+# ---- readings
 
 
 READER = """class App implements Safelet {
@@ -289,6 +445,22 @@ def texts(tables):
                       (PLAN + '"a b" = 1\n', "a b"), (PLAN + '"version " = 1\n', "version "),
                       ("alpha = 1\nunits = -1\n", "alpha"), (PLAN + "at = 1\n", "at")]:
         tables.plan(text, [], 4, "plan bad key " + key)
+    # a key is told on one line, and no more than 256 bytes of it
+    for key, told in [("a\\nb", "a?b"), ("\\n", "?"), ("\\u0000", "?"), ("a\\tb\\r", "a?b?"), ("\\u001f\\u007f", "??"),
+                      ("\\u0020 \\u007e", "  ~"), ("\\e[31m", "?[31m"), ("\\x5cx1b", "?"), ("\\u00e9", "\u00e9"),
+                      ("a\\nscj: plan bad key b", "a?scj: plan bad key b"), ("a" * 256, "a" * 256),
+                      ("a" * 257, "a" * 256), ("a" * 255 + "\\n" + "b" * 9, "a" * 255 + "?"),
+                      ("\\n" * 256 + "b", "?" * 256), ("\\xc3\\xa9" * 130, "\u00e9" * 128)]:
+        tables.plan(PLAN + '"%s" = 1\n' % key, [], 4, "plan bad key " + told)
+    # forms that other readers of TOML take or refuse
+    tables.plan("\\xef\\xbb\\xbf" + PLAN, IDLE, 3)
+    tables.plan(PLAN + 'fire = [{\n  at = 3, # in braces\n  handler = "H",\n}]\n', ["3 miss H"] + IDLE, 3)
+    for row in "at\n= 3", "at =\n3", "at = # in braces\n3":
+        tables.plan(PLAN + 'fire = [{ %s, handler = "H" }]\n' % row, [], 4, "plan not toml")
+    for value in "07:32", "23:59:60", "0000-01-01", '"\\e"', '"\\x5cx1b"', "1e308", "{ a = 1,\n }":
+        tables.plan(with_value("units", value), [], 4, "plan bad value units")
+    for value in "1e999", "-1e999", "24:00:00", "07:60":
+        tables.plan(with_value("units", value), [], 4, "plan not toml")
     for text, key in [("units = -1\n", "units"), ("zeta = 1\nunits = -1\n", "units"),
                       ("units = -1\nversion = 2\nstore = -1\nfire = 1\nreading = 1\n", "fire"),
                       ("units = -1\nversion = 2\nstore = -1\nreading = 1\n", "reading"),
@@ -493,7 +665,8 @@ def no_rows(tables):
         refused(text, "not toml")
     for text, key in [("", "version"), ("version = 1\n", "handler"), (ONE_ROW.replace("version = 1\n", ""), "version"),
                       ("rows = 1\n" + ONE_ROW, "rows"), ("units = 1\nversion = 2\n", "units"), (PLAN, "store"),
-                      (ONE_ROW.replace("handler", "Handler"), "Handler")]:
+                      (ONE_ROW.replace("handler", "Handler"), "Handler"), ('"a\\nb" = 1\n' + ONE_ROW, "a?b"),
+                      ('"%s" = 1\n' % ("a" * 257) + ONE_ROW, "a" * 256)]:
         refused(text, "bad key " + key)
     for value in "0", "2", "1.0", '"1"', "true", "[1]":
         refused(ONE_ROW.replace("version = 1", "version = " + value), "bad value version")
@@ -701,8 +874,8 @@ def audits_outside(tables):
 
 def made():
     tables = Tables()
-    for part in (hand_made, examples, broken_examples, generated, words, numbers, fires, readings, texts, large,
-                 outside, order, limits, responses, no_rows, rows_outside, faults,
+    for part in (hand_made, examples, broken_examples, generated, words, numbers, fires, second_fires, second_refusals,
+                 readings, texts, large, migrations, migrations_outside, outside, order, limits, responses, no_rows, rows_outside, faults,
                  faults_outside, audits, changed_traces, audits_outside):
         part(tables)
     return tables

@@ -14,9 +14,10 @@ last. No line of a file begins with `== ` or `-- `. STDOUT has for each case the
 trace, and `status 0`, or `status 3` where the run halts.
 
 The programs of small_runs.py stand first. The others are made from a seed, so each call makes the same ones. Such a
-program is put together from parts that keep the rules on scopes by the way they are made, here and in edge_runs.py;
-slow_rules.py is asked of each one, and what it refuses is left out. A trace has at most 150 lines: the plan's units
-are cut where it would have more.
+program is put together from parts that keep the rules on scopes by the way they are made, here and in edge_runs.py and
+mission_runs.py; slow_rules.py is asked of each one, and what it refuses is left out. The last 1,000 are those of
+mission_runs.py, whose missions are begun again and again and whose plans are of version 2. A trace has at most 150
+lines: the plan's units are cut where it would have more.
 """
 import collections
 import io
@@ -28,12 +29,14 @@ import re
 import sys
 
 import edge_runs
+import mission_runs
 import phrases
 import slow_machine
 import small_runs
 import table_files
 
-CASES = 3000
+FIRST_CASES, MISSION_CASES = 3000, 1000
+CASES = FIRST_CASES + MISSION_CASES
 SAMPLE = 60
 LINES = 150
 SEED = 20260801
@@ -830,6 +833,25 @@ def made(number):
             machine = run(files, plan)
     except slow_machine.Refused:
         return None
+    return cut(files, plan, machine)
+
+
+def made_of_missions(number):
+    """The same of a program whose missions follow one another, and a plan of version 2."""
+    maker = Maker(1000000 + number)
+    missions = mission_runs.Missions(maker)
+    missions.program()
+    files = maker.sources()
+    try:
+        plan = missions.plan(files, run)
+        machine = run(files, plan)
+    except slow_machine.Refused:
+        return None
+    return cut(files, plan, machine)
+
+
+def cut(files, plan, machine):
+    """The case, whose plan has fewer units where the trace is too long."""
     if len(machine.lines) > LINES:
         units = int(machine.lines[LINES - 1].split(" ")[0])
         plan = re.sub(r"units = \d+", "units = %d" % units, plan)
@@ -869,22 +891,24 @@ def small_cases(counts):
         yield name, (files, plan, machine.lines)
 
 
-def generated_cases(counts):
+def generated_cases(name, make, counts):
     """The cases that are made from the seed, without an end."""
     made_so_far = 0
     with multiprocessing.Pool() as pool:
-        for case in pool.imap(made, range(2 * CASES), chunksize=8):
+        for case in pool.imap(make, range(2 * CASES), chunksize=8):
             if case is None:
                 counts["refused programs, left out"] += 1
                 continue
             counts.update(case[3])
             made_so_far += 1
-            yield "run%04d" % made_so_far, case[:3]
+            yield "%s%04d" % (name, made_so_far), case[:3]
 
 
 def cases(count, counts):
     """So many cases."""
-    return itertools.islice(itertools.chain(small_cases(counts), generated_cases(counts)), count)
+    first = itertools.chain(small_cases(counts), generated_cases("run", made, counts))
+    missions = generated_cases("missions", made_of_missions, counts)
+    return itertools.islice(itertools.chain(itertools.islice(first, FIRST_CASES), missions), count)
 
 
 def write(given, expected, count, counts):

@@ -381,18 +381,32 @@ class Machine:
     def arrivals(self):
         if self.takes_in():
             for handler in self.registry:
-                if self.is_periodic(handler.thing):
-                    since = self.unit - self.origin - handler.thing.start
-                    if since >= 0 and since % handler.thing.period == 0:
-                        self.arrive(handler)
+                if self.is_periodic(handler.thing) and self.is_released(handler.thing):
+                    self.note("one-shot" if handler.thing.period == 0 else "by the period")
+                    self.arrive(handler)
         for fire in self.plan.get("fire", []):
-            if fire["at"] == self.unit:
+            if self.is_due(fire):
+                self.note("fire from the %s in %s%s" % (
+                    fire.get("from", "start"), self.phase, ", an end asked" if self.end_asked else ""))
                 handler = next((h for h in self.registry if h.thing.kind.name == fire["handler"]
                                 and not self.is_periodic(h.thing)), None)
                 if self.takes_in() and handler is not None:
                     self.arrive(handler)
                 else:
                     self.tell("miss " + fire["handler"])
+
+    def is_released(self, thing):
+        """Whether a periodic handler is due: one without a period, which is one-shot, at its start alone."""
+        since = self.unit - self.origin - thing.start
+        if thing.period == 0:
+            return since == 0
+        return since >= 0 and since % thing.period == 0
+
+    def is_due(self, fire):
+        """A fire of a plan of version 1 has no `from`, and counts from the start of the run."""
+        if fire.get("from", "start") == "mission":
+            return self.phase == "execution" and self.unit == self.origin + fire["at"]
+        return self.unit == fire["at"]
 
     def is_periodic(self, thing):
         return "PeriodicEventHandler" in self.rules.chain(thing.kind)
@@ -676,8 +690,6 @@ class Machine:
         start = period = None
         if times:
             start, period = self.units_of(*times[:2]), self.units_of(*times[2:])
-            if period == 0:
-                raise Fault("BadPeriod")
         if storage < 0:
             raise Fault("NegativeSize")
         if above != "MissionSequencer":

@@ -79,9 +79,12 @@ def files(*parts, fields="", begin="", missions=1, initialize="H h = new H(this)
 
 
 def plan(*fires, units=900, store=100000, readings=()):
-    text = "version = 1\nunits = %d\nstore = %d\n" % (units, store)
+    """A plan; one of version 2 where its fires say from where they count."""
+    second = bool(fires and len(fires[0]) == 3)
+    text = "version = %d\nunits = %d\nstore = %d\n" % (1 + second, units, store)
     if fires:
-        text += "fire = [%s]\n" % ", ".join('{at = %d, handler = "%s"}' % fire for fire in fires)
+        row = '{at = %d, handler = "%s"' + (', from = "%s"}' if second else "}")
+        text += "fire = [%s]\n" % ", ".join(row % fire for fire in fires)
     if readings:
         text += "reading = [%s]\n" % ", ".join("{port = %d, at = %d, value = %d}" % row for row in readings)
     return text
@@ -90,6 +93,11 @@ def plan(*fires, units=900, store=100000, readings=()):
 def released(*units):
     """Fires of H, so far apart that one release ends before the next."""
     return [(unit, "H") for unit in units]
+
+
+def one_shots(*starts, priority=9, period="0, 0"):
+    """Statements that register a one-shot handler for each start, in units."""
+    return " ".join("new T(%d, %d, %s, 0).register();" % (priority, 1000 * start, period) for start in starts)
 
 
 def begun(*statements):
@@ -151,11 +159,13 @@ RUNS = {
         files(handler(each("Object o = null; Services.setCeiling(o, 29);", "Services.setCeiling(this, 0);",
                            "Services.setCeiling(this, 28);"))), plan(*released(150, 200, 250))),
     "a priority before a period": (
-        files(handler(""), TIMED, initialize="new T(29, 0, 0, 0, -1).register();"), plan(units=200)),
+        files(handler(""), TIMED, initialize="new T(29, 0, 0, 500, -1).register();"), plan(units=200)),
     "a period before a storage": (
-        files(handler(""), TIMED, initialize="new T(28, 0, 0, 0, -1).register();"), plan(units=200)),
+        files(handler(""), TIMED, initialize="new T(28, 0, 0, 500, -1).register();"), plan(units=200)),
     "a start of a part of a microsecond before a storage": (
         files(handler(""), TIMED, initialize="new T(28, 999, 1, 0, -1).register();"), plan(units=200)),
+    "a one-shot handler before a storage": (
+        files(handler(""), TIMED, initialize="new T(28, 0, 0, 0, -1).register();"), plan(units=200)),
     "the depth at a super part": (
         files(CELL, "class Sub extends Cell { Sub(int a) { super(a); } }\n",
               handler(each("down(60);", "down(61);"), methods=below('new Sub(a); Trace.print("new", 1);'))),
@@ -211,6 +221,49 @@ RUNS = {
               initialize="if (G.first == null) G.first = this; else { k = 1; @Scope(IMMORTAL) Mission o = G.first; "
               "o.requestTermination(); } H h = new H(this); h.register();", fields=" int k;", missions=2),
         plan(*released(150, 260))),
+    # one-shot handlers
+    "one-shot handlers with a start and without": (
+        files(handler(""), TIMED, initialize=one_shots(0, 0, 1, 30, 900)), plan(units=1500)),
+    "one-shot handlers in the order of their numbers": (
+        files(handler(""), TIMED, initialize=one_shots(40) + " " + one_shots(40, period="0, 40000") + " " + one_shots(40)),
+        plan((1, "T"), units=260)),
+    "one-shot handlers of a mission that is begun again": (
+        files(handler("m.requestTermination();"), TIMED, missions=3,
+              initialize=one_shots(0, 20, 100) + " new H(this).register();"), plan((150, "H"), (320, "H"), units=700)),
+    "a one-shot handler that is due when an end was asked": (
+        files(handler("m.requestTermination(); " + "c = c + 1; " * 6), TIMED,
+              initialize=one_shots(30, 31, 42) + " new H(this).register();"), plan((30, "H", "mission"), units=300)),
+    "a start that is no int": (
+        files(handler(""), "@Scope(\"M\") @DefineScope(name=\"PT\", parent=\"M\") class T extends PeriodicEventHandler {\n"
+              " T() { super(new PriorityParameters(9), new PeriodicParameters(new RelativeTime(4294967, 296000), "
+              "new RelativeTime(0, 0)), new StorageParameters(0)); }\n public void handleAsyncEvent() { }\n}\n",
+              initialize="new T().register();"), plan(units=300)),
+    # fires that count from a mission
+    "fires from the mission, in its first unit and behind": (
+        files(handler('Trace.print("c", c);')), plan(*((at, "H", "mission") for at in (0, 1, 17, 0, 99)), units=300)),
+    "fires from a mission that is begun again": (
+        files(handler("if (c > 1) m.requestTermination();"), missions=3),
+        plan((20, "H", "mission"), (90, "H", "mission"), (80, "H", "mission"), (400, "H", "mission"), units=900)),
+    "fires of both kinds in one unit": (
+        files(handler('Trace.print("h", c);', priority=5), handler('Trace.print("k", c);', "K", "PK"),
+              initialize="new H(this).register(); new K(this).register();"),
+        plan((30, "K", "mission"), (85, "H", "start"), (30, "H", "mission"), (86, "K", "start"), (29, "H", "mission"),
+             (85, "K", "start"), (31, "H", "mission"), (84, "K", "start"), (30, "N", "mission"), units=300)),
+    "a fire from the mission misses while an end is asked": (
+        files(handler("m.requestTermination(); " + "c = c + 1; " * 6)),
+        plan(*((at, "H", "mission") for at in (10, 18, 19, 20, 25, 60)), (130, "H", "start"), units=300)),
+    "fires from a mission without an execution": (
+        files(handler(""), initialize="new H(this).register(); requestTermination();", missions=2),
+        plan((0, "H", "mission"), (1, "H", "mission"), (60, "H", "start"), units=300)),
+    "fires from a mission without handlers": (
+        files(handler(""), initialize="", missions=2),
+        plan((0, "H", "mission"), (1, "H", "mission"), (60, "H", "start"), units=300)),
+    "the last unit of an execution": (
+        files(handler("m.requestTermination();"), missions=2),
+        plan((0, "H", "mission"), (4, "H", "mission"), (5, "H", "mission"), (6, "H", "mission"), (7, "H", "mission"),
+             (8, "H", "mission"), (9, "H", "mission"), (10, "H", "mission"), (11, "H", "mission"), units=400)),
+    "many fires from the mission": (
+        files(handler("")), plan(*[(3, "H", "mission")] * 65, units=100)),
     # numbers that don't fit
     "the least number": (
         begun('int m = -2147483648; Trace.print("d", m / -1); Trace.print("r", m % -1); Trace.print("n", -m); '

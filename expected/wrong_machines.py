@@ -106,7 +106,7 @@ def taking(*order):
             times = numbers[1:-1]
 
             def is_bad():
-                return times and (any(m < 0 for m in times[::2]) or times[2:] == [0, 0]
+                return times and (any(m < 0 for m in times[::2])
                                   or any(n not in range(0, 1000000, 1000) for n in times[1::2]))
             first_of(order, {"BadPriority": lambda: numbers[0] not in PRIORITIES, "BadPeriod": is_bad,
                              "NegativeSize": lambda: numbers[-1] < 0})

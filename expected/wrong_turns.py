@@ -53,6 +53,69 @@ class FiresFirst(Machine):
         self.plan = plan
 
 
+class OneShotAgain(Machine):
+    def is_released(self, thing):
+        since = self.unit - self.origin - thing.start
+        return Machine.is_released(self, thing) or thing.period == 0 and since == thing.start
+
+
+class OneShotAlways(Machine):
+    def is_released(self, thing):
+        return thing.period == 0 and self.unit - self.origin >= thing.start or Machine.is_released(self, thing)
+
+
+class OneShotAtOnce(Machine):
+    def is_released(self, thing):
+        return self.unit == self.origin if thing.period == 0 else Machine.is_released(self, thing)
+
+
+class OneShotNever(Machine):
+    def is_released(self, thing):
+        return thing.period != 0 and Machine.is_released(self, thing)
+
+
+class OneShotOnceInARun(Machine):
+    def is_released(self, thing):
+        return Machine.is_released(self, thing) and (thing.period != 0 or self.counts["line cleanup"] == 0)
+
+
+class OneShotsLast(Machine):
+    def arrivals(self):
+        whole = self.registry
+        self.registry = sorted(whole, key=lambda it: self.is_periodic(it.thing) and it.thing.period == 0)
+        Machine.arrivals(self)
+        self.registry = whole
+
+
+def coming(is_due):
+    """Fires from a mission are due in other units."""
+    class Wrong(Machine):
+        def is_due(self, fire):
+            if fire.get("from") != "mission":
+                return Machine.is_due(self, fire)
+            return self.origin is not None and is_due(self, fire)
+    return Wrong
+
+
+class FirstOrigin(Machine):
+    def is_due(self, fire):
+        if fire.get("from") == "mission" and self.phase == "execution":
+            self.first = getattr(self, "first", self.origin)
+            return self.unit == self.first + fire["at"]
+        return Machine.is_due(self, fire)
+
+
+def ordering(key):
+    """The fires of a unit in another order."""
+    class Wrong(Machine):
+        def arrivals(self):
+            before = self.plan
+            self.plan = dict(before, fire=sorted(before.get("fire", []), key=key))
+            Machine.arrivals(self)
+            self.plan = before
+    return Wrong
+
+
 class FiresReversed(Machine):
     def arrivals(self):
         before = self.plan
@@ -335,6 +398,23 @@ TURNS = {
     "the last choice of the mission before counts, by its numbers": KeepsLastChoice,
     "no idle at the beginning of execution": SilentIdle,
     "the origin is the unit in which initialize leaves": EarlyOrigin,
+    # one-shot handlers
+    "a one-shot handler comes again after its start": OneShotAgain,
+    "a one-shot handler comes in each unit from its start on": OneShotAlways,
+    "a one-shot handler comes at the origin": OneShotAtOnce,
+    "a one-shot handler never comes": OneShotNever,
+    "a one-shot handler comes in the first mission alone": OneShotOnceInARun,
+    "one-shot handlers behind the periodic ones": OneShotsLast,
+    # fires that count from a mission
+    "a fire from the mission counts from the start": coming(lambda it, fire: it.unit == fire["at"]),
+    "a fire from the mission counts from the unit before the origin": coming(
+        lambda it, fire: it.phase == "execution" and it.unit == it.origin - 1 + fire["at"]),
+    "a fire from the mission misses outside execution": coming(lambda it, fire: it.unit == it.origin + fire["at"]),
+    "a fire from the mission doesn't miss where an end was asked": coming(
+        lambda it, fire: it.takes_in() and it.unit == it.origin + fire["at"]),
+    "a fire from the mission counts from the first one": FirstOrigin,
+    "fires from the start before those from the mission": ordering(lambda fire: fire.get("from") == "mission"),
+    "fires in the order of their units": ordering(lambda fire: fire["at"]),
     # missions
     "a handler that is registered again is one too many": FullAgain,
     "the handlers of the mission before stay": KeepsRegistry,

@@ -16,9 +16,13 @@ mod lexing;
 #[cfg(test)]
 mod lines;
 #[cfg(test)]
+mod migrating;
+#[cfg(test)]
 mod outside;
 #[cfg(test)]
 mod plans;
+#[cfg(test)]
+mod responses;
 #[cfg(test)]
 mod showing;
 #[cfg(test)]

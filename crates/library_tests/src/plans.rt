@@ -69,7 +69,9 @@ bad key Units | version = 2;Units = 5;store = -8
 bad value fire | version = 2;store = -8;reading = 1;fire = 1
 bad value reading | version = 2;store = -8;reading = 1
 bad value store | version = 2;store = -8
-bad value version | version = 2
+bad value version | version = 3
+bad key units | version = 2
+plan | version = 2;units = 5;store = 8
 bad key  | \"\" = 1;fire = 1
 bad key ü | \"ü\" = 1;version = 1;units = 5;store = 8
 bad key a | a.b = 1
@@ -92,9 +94,19 @@ static VERSIONS: &str = "\
 plan | 1
 plan | +1
 bad value version | 0
-bad value version | 2
+plan | 2
+plan | 0b10
+bad value version | 3
 bad value version | 1.0
-bad value version | \"1\"";
+bad value version | 2.0
+bad value version | \"1\"
+bad value version | \"2\"
+plan | 2;fire = [{ at = 1, handler = \"H\", from = \"start\" }]
+bad value fire | 1;fire = [{ at = 1, handler = \"H\", from = \"start\" }]
+bad value fire | 3;fire = [{ at = 1, handler = \"H\", from = \"start\" }]
+bad value fire | 2.0;fire = [{ at = 1, handler = \"H\", from = \"start\" }]
+bad value version | 3;fire = [{ at = 1, handler = \"H\" }]
+bad value fire | 2;fire = [{ at = 1, handler = \"H\" }]";
 
 static UNITS: &str = "\
 plan | 0
@@ -172,6 +184,25 @@ not toml | [{ at = 1, at = 1, handler = \"a\" }]
 plan | [];[[reading]];port = 1;at = 0;value = 1
 not toml | [];[[fire]];at = 1;handler = \"a\"";
 
+static SECOND_FIRES: &str = "\
+plan | []
+plan | [{ at = 0, handler = \"Alarm\", from = \"start\" }]
+plan | [{ at = 9999999, handler = \"Alarm\", from = \"mission\" }]
+plan | [{ from = 'mission', handler = \"A\", at = 1 }, { at = 0, handler = \"A\", from = \"start\" }]
+bad value fire | [{ at = 10000000, handler = \"Alarm\", from = \"mission\" }]
+bad value fire | [{ at = 1, handler = \"9a\", from = \"mission\" }]
+bad value fire | [{ at = 1, handler = \"a\" }]
+bad value fire | [{ at = 1, from = \"start\" }]
+bad value fire | [{ handler = \"a\", from = \"start\" }]
+bad value fire | [{ at = 1, handler = \"a\", from = \"start\" }, { at = 1, handler = \"a\" }]
+bad value fire | [{ at = 1, handler = \"a\", from = \"start\", port = 1 }]
+bad value fire | [{ at = 1, handler = \"a\", From = \"start\" }]
+bad value fire | [{ at = 1, handler = \"a\", from = \"Start\" }]
+bad value fire | [{ at = 1, handler = \"a\", from = \"missions\" }]
+bad value fire | [{ at = 1, handler = \"a\", from = \"\" }]
+bad value fire | [{ at = 1, handler = \"a\", from = 1 }]
+bad value fire | [{ at = 1, handler = \"a\", from = [\"start\"] }]";
+
 static READINGS: &str = "\
 plan | []
 plan | [{ port = 0, at = 0, value = 0 }]
@@ -202,7 +233,9 @@ fn tells_of_rows(rt: HostRuntime) -> Result<(), Fail> {
     let quiet = "version = 1\nunits = 5\nstore = 8\n";
     let fires = text_of(alloc, quiet, "fire = ")?;
     let readings = text_of(alloc, quiet, "reading = ")?;
+    let second = text_of(alloc, "version = 2\nunits = 5\nstore = 8\n", "fire = ")?;
     assert_eq!(rt; first_wrong(alloc, fires.as_str(), FIRES)?, None);
+    assert_eq!(rt; first_wrong(alloc, second.as_str(), SECOND_FIRES)?, None);
     assert_eq!(rt; first_wrong(alloc, readings.as_str(), READINGS)?, None);
     Ok(())
 }
@@ -346,11 +379,12 @@ fn walk(alloc: Global, plan: &Plan) -> Result<Vec<u8>, AllocError> {
     let mut past = 0;
     for unit in 0..6u8 {
         came.push(b'0' + unit)?;
-        let due = plan.fires_due(past, unit as u64);
-        for fire in due {
-            came.extend_from_slice(fire.handler.bytes())?;
+        for fire in plan.fires_coming(past, None, unit as u64) {
+            if fire.at == unit as u64 {
+                came.extend_from_slice(fire.handler.bytes())?;
+            }
         }
-        past += due.len();
+        past = plan.past_fires(past, unit as u64);
     }
     Ok(came)
 }

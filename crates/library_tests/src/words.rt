@@ -4,7 +4,7 @@ use command_line::{Job, WordsAnswer, read_words};
 use std::alloc::{AllocError, Global};
 use std::test::Fail;
 
-static REFUSED: [&str; 31] = [
+static REFUSED: [&str; 34] = [
     "",
     "check",
     "walk A",
@@ -36,6 +36,9 @@ static REFUSED: [&str; 31] = [
     "audit --plan p",
     "audit --plan p t u",
     "audit --plan p t --size 5",
+    "migrate",
+    "migrate --plan p A",
+    "migrate --plan p --size 5",
 ];
 
 /// The words of a line, parted by single spaces.
@@ -104,6 +107,14 @@ fn audits(rt: HostRuntime) -> Result<(), Fail> {
     let plan = String::from_str(rt.alloc(), "p")?;
     let trace = String::from_str(rt.alloc(), "t")?;
     assert!(rt; read_words(rt.alloc(), words.as_slice()) == Ok(Job::Audit { plan, trace }));
+    Ok(())
+}
+
+#[test]
+fn migrates(rt: HostRuntime) -> Result<(), Fail> {
+    let words = words_of(rt.alloc(), "migrate --plan p")?;
+    let plan = String::from_str(rt.alloc(), "p")?;
+    assert!(rt; read_words(rt.alloc(), words.as_slice()) == Ok(Job::Migrate { plan }));
     Ok(())
 }
 
