@@ -1,11 +1,12 @@
-"""Makes docs/RULE_INDEX.md: for each rule of docs/RULES.md its definition, the code that notes it, and wrong bodies.
+"""Makes docs/RULE_INDEX.md: for each rule of docs/RULES.md its definition, the code that notes it, wrong bodies, tests.
 
     python3 rule_index.py          writes the page
     python3 rule_index.py --check  compares it with what would be written
 
 Definitions are found by the rule's code in them, or in the comment above them as `-- C1, what it asks`; functions by
-the code in them, or in their documentation as `Notes C1 at`. The wrong bodies stand below, by hand. What isn't found,
-and an edit that isn't there, fails.
+the code in them, or in their documentation as `Notes C1 at`. Tests are the cases of the table `reports` that are named
+after the rule. The wrong bodies stand in rule_rows.py, by hand. What isn't found, an edit that isn't there, and a case
+that doesn't print its rule alone fail.
 """
 
 import glob
@@ -13,96 +14,20 @@ import os
 import re
 import sys
 
+sys.dont_write_bytecode = True
+from rule_rows import COMMON, EDITS
+
 PAGE = "docs/RULE_INDEX.md"
 # Where rules are defined: those of lexemes, of the grammar, and all others.
 DEFINED_IN = ("scj_base", "scj_tree", "scj_rules")
 # What names more rules than so is about all of them.
 MOST = 16
 
-EDITS = {
-    "L1": "scj_lexer/sign_left_out scj_lexer/tab_no_blank",
-    "L2": "scj_lexer/number_one_larger",
-    "L3": "scj_lexer/open_comment_as_bad_byte scj_lexer/overlapping_close",
-    "L4": "scj_lexer/name_one_shorter",
-    "P1": "parser_steps/place_one_token_late parser_steps/token_skipped scj_parser/stops_are_too_deep "
-    "scj_check/grammar_break_dropped",
-    "P2": "scj_parser/deep_at_64 scj_parser/first_node_named "
-    "scj_parser/super_call_under_no_block",
-    "C1": "class_rules/later_class_has_the_name",
-    "C2": "class_rules/forbidden_super_by_another_rule",
-    "C3": "class_headers/cycles_forgiven",
-    "C4": "class_rules/earlier_names_forgotten class_rows/class_lost symbol_table/look_up_begins_at_the_class",
-    "C5": "class_rules/earlier_names_forgotten",
-    "C6": "class_rules/parameters_compared_with_themselves symbol_table/names_stay_when_a_class_is_left "
-    "class_rows/a_step_leads_too_far",
-    "C7": "node_views/static_is_abstract class_rules/framework_methods_left_open "
-    "class_rows/open_names_stay_open",
-    "C8": "class_table/safelets_left_out "
-    "scj_tree/first_file_left_out",
-    "C9": "node_rules/cast_of_any_class node_rules/mission_argument_noted",
-    "C10": "class_headers/too_many_either_way "
-    "class_rules/forbidden_super_by_another_rule class_headers/interfaces_are_forgotten",
-    "C11": "node_rules/local_at_its_value node_rules/static_class "
-    "class_rows/another_name_is_told class_table/runs_are_not_told",
-    "K1": "class_rules/last_allowed_class_is_too_many",
-    "K2": "node_rules/one_local_more",
-    "K3": "node_rules/one_parameter_more",
-    "K4": "symbol_table/fields_above_are_not_counted",
-    "T1": "type_check/unknown_name_passed_over node_contexts/local_known_in_its_own_value "
-    "node_contexts/local_known_below_an_if_alone",
-    "T2": "program_facts/same_variable_again",
-    "T3": "type_check/operands_swapped",
-    "T4": "type_rules/static_field_through_a_value class_rows/field_above_lost class_rows/one_change_too_late",
-    "T5": "type_rules/size_method_called class_rows/framework_root_not_asked",
-    "T6": "type_rules/more_arguments_than_parameters node_views/first_parameter_twice",
-    "T7": "type_rules/value_and_target_swapped",
-    "T8": "type_rules/condition_of_int",
-    "T9": "type_words/void_is_long",
-    "T10": "type_words/loops_never_return type_words/one_branch_returns type_words/while_true_may_end",
-    "T11": "type_rules/static_class_made",
-    "T12": "type_rules/cast_of_any_reference",
-    "T13": "program_facts/object_in_static_members",
-    "T14": "type_rules/form_twice_for_storage type_words/largest_size_refused",
-    "S1": "scope_tree/entered_under_the_parent",
-    "S2": "scope_tree/place_of_the_scope",
-    "S3": "scope_tree/every_scope_is_on_a_cycle",
-    "S4": "scope_tree/wrong_parent_as_wrong_class",
-    "S5": "scope_tree/mission_below_a_mission scope_tree/wrong_parent_as_wrong_class",
-    "S6": "scope_tree/scope_written_is_missing",
-    "A1": "annotation_rules/annotated_variables_passed_over "
-    "annotation_rules/contradiction_as_unknown",
-    "A2": "annotation_rules/other_scope_in_a_subclass scope_tree/implied_scope_is_unknown",
-    "A3": "static_scopes/field_may_lie_inside",
-    "A4": "static_scopes/field_may_lie_inside",
-    "A5": "static_scopes/field_may_lie_inside",
-    "A6": "annotation_rules/override_may_run_elsewhere",
-    "A7": "annotation_rules/unknown_runs_in_as_other static_scopes/static_method_may_name_this",
-    "A8": "static_scopes/nothing_defined_fixes_nothing class_rows/another_name_is_told",
-    "A9": "annotation_rules/contradiction_as_unknown static_scopes/unknown_name_as_known_elsewhere",
-    "E1": "runs_in_check/new_in_immortal_alone",
-    "E2": "runs_in_check/caller_refused static_scopes/method_runs_with_its_object",
-    "E3": "runs_in_check/caller_value_into_an_own_field runs_in_check/this_not_replaced static_scopes/null_fits_nothing",
-    "E4": "runs_in_check/caller_value_into_an_own_field",
-    "E5": "runs_in_check/caller_value_into_an_own_field",
-    "E6": "runs_in_check/caller_value_into_an_own_field",
-    "E7": "runs_in_check/entered_from_anywhere",
-    "E8": "runs_in_check/executed_in_any_area",
-    "E9": "runs_in_check/caller_value_into_an_own_field",
-    "E10": "runs_in_check/array_of_inner_scope scope_tree/own_scope_is_not_outer",
-}
-# Of every rule.
-COMMON = {
-    "the order of a report, and each break once": "scj_check/not_sorted",
-    "the phases": "scj_check/scopes_and_uses_together",
-    "the places of the lexemes": "scj_lexer/line_ended_by_carriage_return",
-    "the texts of the rules, their codes and their order": "scj_base/another_rule_code scj_base/order_turned",
-}
-
 HEAD = """# Where each rule stands
 
-`docs/RULES.md` says what each rule asks. This page leads from its code to its definition, to the functions that note its breaks or choose the rule, and to wrong bodies that the proofs must refuse. `python3 .ci/rule_index.py` makes the page.
+`docs/RULES.md` says what each rule asks. This page leads from its code to its definition, to the functions that note its breaks or choose the rule, to wrong bodies that the proofs must refuse, and to tests. `python3 .ci/rule_index.py` makes the page.
 
-Definitions stand in a crate's `specs/`, functions in its `src/`, and wrong bodies, as edits, in its `must-fail/`. A definition is named as it stands in its file, without `.antt`.
+Definitions stand in a crate's `specs/`, functions in its `src/`, and wrong bodies, as edits, in its `must-fail/`. A definition is named as it stands in its file, without `.antt`. Tests are cases of the table `reports` (`crates/scj_tables`, `docs/TESTING.md`): the example of `docs/RULES.md`, texts that break the rule alone, and texts that come near and break nothing.
 """
 
 
@@ -190,6 +115,41 @@ def named_rules(pattern, begins, comment, mention):
     return found
 
 
+def report_cases():
+    """The cases of the table `reports`: of each name the lines that are printed for it."""
+    text = read("crates/scj_tables/stdout").partition("%% reports\n")[2].partition("\n%% ")[0]
+    found = {}
+    for case in re.split(r"(?m)^== ", text)[1:]:
+        name, _, lines = case.partition("\n")
+        found[name] = lines.split("\n")
+    return found
+
+
+def ranged(name, numbers):
+    """Cases `name 1`, `name 2` as one phrase."""
+    return f"`{name} {numbers[0]}`" if len(numbers) == 1 else f"`{name} {numbers[0]}` to `{numbers[-1]}`"
+
+
+def tests_of(rule, cases, fail):
+    """The cases that are named after a rule. Its example and those alone print the rule, and no other one."""
+    example = f"RULES {rule}"
+    path = f"crates/scj_tables/data/{rule}.java"
+    tests = [link(f"`{example}`", path)] if example in cases and os.path.isfile(path) else []
+    breaking = [example] if tests else []
+    for kind in "alone", "near":
+        numbers = sorted(int(name.split()[2]) for name in cases if re.fullmatch(rf"{rule} {kind} \d+", name))
+        if numbers:
+            tests.append(ranged(f"{rule} {kind}", numbers))
+        breaking += [f"{rule} {kind} {number}" for number in numbers if kind == "alone"]
+    for name in breaking:
+        printed = {found[1] for found in map(re.compile(r"\S+:\d+:\d+: ([A-Z]+\d+) ").match, cases[name]) if found}
+        if rule not in printed or (name != example and printed != {rule}):
+            fail(f"the case {name} doesn't show {rule}")
+    if not breaking:
+        fail(f"no case of the table reports shows {rule}")
+    return ", ".join(tests)
+
+
 def told(places):
     """Items by their files: `item`, `item` in crate/file."""
     files = {}
@@ -199,7 +159,7 @@ def told(places):
     for path, items in files.items():
         _, crate, folder, *rest = path.split("/")
         name = "/".join(rest)
-        place = f"{crate}/{os.path.splitext(name)[0]}" if folder == "specs" else f"{crate}/{name}"
+        place = f"{crate}/{os.path.splitext(name)[0]}" if folder in ("specs", "proofs") else f"{crate}/{name}"
         parts.append(f"{', '.join(f'`{item}`' for item in items)} in {link(place, path)}")
     return "; ".join(parts)
 
@@ -237,7 +197,8 @@ def page(fail):
     for rule, places in documented_rules(files, [rule for rule, _ in heads]).items():
         row = functions.setdefault(rule, [])
         row += [place for place in places if place not in row]
-    lines = [HEAD, "| Rule | Defined by | Noted by | Wrong bodies |", "|---|---|---|---|"]
+    cases = report_cases()
+    lines = [HEAD, "| Rule | Defined by | Noted by | Wrong bodies | Tests |", "|---|---|---|---|---|"]
     for rule, text in heads:
         for what, found in ("definition", definitions), ("function", functions), ("row of edits", EDITS):
             if not found.get(rule):
@@ -247,6 +208,7 @@ def page(fail):
             told(definitions.get(rule, [])),
             told(functions.get(rule, [])),
             edits_told(EDITS.get(rule, ""), fail),
+            tests_of(rule, cases, fail),
         ]
         lines.append(f"| {' | '.join(cells)} |")
     lines += ["", "Of all rules:", ""]
