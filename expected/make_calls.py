@@ -128,8 +128,17 @@ def words(tables):
                  "run --plan plan.toml --plan plan.toml A.java", "run --plan plan.toml --size 1 A.java",
                  "run --plan= A.java", "run --plan plan.toml ", "run 100 A.java", "Run --plan plan.toml A.java",
                  "run --units 5 --plan plan.toml A.java", "check --plan plan.toml A.java",
-                 "show --plan plan.toml A.java"):
+                 "show --plan plan.toml A.java", "help", "--help", "check -h A.java", "A.java check",
+                 "check --pla plan.toml A.java"):
         tables.call(text, [], 2, "usage")
+    tables.case("run with sources on both sides, and a file whose name begins with a dash", "-< A.java", "-- plan.toml",
+                *PLAN.splitlines())
+    tables.file("-B.java", "class B { }\n")
+    tables.call("run -- A.java", [], 2, "usage")
+    tables.call("check -- A.java -B.java", ["accepted"], 0)
+    tables.call("check A.java -B.java", [], 2, "usage")
+    tables.file("C.java", "class C { }\n")
+    tables.call("run A.java --plan plan.toml C.java", IDLE, 3)
     names = ["C%d.java" % number for number in range(1, 17)]
     tables.case("run sixteen sources, and seventeen", "-< A.java", "-- plan.toml", *PLAN.splitlines())
     for number, name in enumerate(names, 1):
@@ -180,8 +189,8 @@ def numbers(tables):
         tables.plan(with_value("version", value), [], 4, "plan bad value version")
     for value in "+1", "0x1", "0o1", "0b1", "0x0_1":
         tables.plan(with_value("version", value), IDLE, 3)
-    for value, lines, status in [("0", ["0 stopped"], 0), ("1", ["1 stopped"], 0), ("8", ["8 stopped"], 0),
-                                 ("9", IDLE, 3), ("1_0", IDLE, 3), ("10000000", IDLE, 3)]:
+    for value, lines, status in [("0", ["0 stopped"], 0), ("-0", ["0 stopped"], 0), ("1", ["1 stopped"], 0),
+                                 ("8", ["8 stopped"], 0), ("9", IDLE, 3), ("1_0", IDLE, 3), ("10000000", IDLE, 3)]:
         tables.plan(with_value("units", value), lines, status)
     tables.plan(with_value("units", "10000001"), [], 4, "plan bad value units")
     full = ["0 fault StoreFull A.java:1", "0 halted"]
@@ -202,6 +211,7 @@ def fires(tables):
                        ('{ at = 9, handler = "Q" }, { at = 9999999, handler = "H" }', []),
                        ('{ at = 0x3, handler = "%s" }' % long_name, ["3 miss " + long_name]),
                        ('{ at = 3, handler = "App" }, { at = 4, handler = "Object" }', ["3 miss App", "4 miss Object"]),
+                       ('{ at = 3, handler = "Class" }', ["3 miss Class"]),
                        ('{ at = 3, handler = \'H\' }', ["3 miss H"])]:
         tables.plan(PLAN + "fire = [%s]\n" % row, lines + IDLE, 3)
     tables.plan(PLAN + "[[fire]]\nat = 3\nhandler = \"H\"\n[[fire]]\nat = 1\nhandler = \"K\"\n",
@@ -395,8 +405,8 @@ def readings(tables):
     tables.file("R.java", READER)
     good = "{ port = 0, at = 0, value = 5 }"
 
-    def taken(rows):
-        text = PLAN + "reading = [%s]\n" % rows
+    def taken(rows, form="reading = [%s]\n"):
+        text = PLAN + form % rows
         lines = slow_machine.trace(["R.java"], [READER], tomllib.loads(text))
         tables.plan(text, lines, status_of(lines), sources="R.java")
     for rows in ["", good, "{ value = 5, at = 0, port = 0 }", "{ port = 255, at = 0, value = 2147483647 }",
@@ -407,6 +417,7 @@ def readings(tables):
                  "{ port = 1, at = 0, value = 7 }",
                  "{ port = 0, at = 0, value = -1 }, { port = 255, at = 8, value = 1 }"]:
         taken(rows)
+    taken("port = 0\nat = 0\nvalue = 5\n", "[[reading]]\n%s")
 
     def refused(rows):
         tables.plan(PLAN + "reading = [%s]\n" % rows, [], 4, "plan bad value reading", sources="R.java")
@@ -436,7 +447,8 @@ def texts(tables):
     tables.plan("version = 1\nunits = 0\nstore = 1000\n", ["0 stopped"], 0, sources="B.java P.java")
     tables.case("run texts that are no plan", "-< A.java")
     for text in ["version = 1\nunits = \n", "version = 1\nversion = 1\n", "version\n", "= 1\n", "{ }\n", "[version\n",
-                 "version = 1 units = 5\n", PLAN + "# \\xff\n", "\\xff\n", PLAN + '"a" = "\\xc3"\n', "class A { }\n"]:
+                 "version = 1 units = 5\n", "version: 1\n", PLAN + "# \\x01\n", PLAN + "# \\xff\n", "\\xff\n",
+                 PLAN + '"a" = "\\xc3"\n', "class A { }\n"]:
         tables.plan(text, [], 4, "plan not toml")
     for text, key in [("", "version"), ("# nothing\n", "version"), ("version = 1\nunits = 5\n", "store"),
                       ("version = 1\nstore = 5\n", "units"), ("units = 5\nstore = 5\n", "version"),
@@ -468,7 +480,7 @@ def texts(tables):
         tables.plan(text, [], 4, "plan bad value " + key)
     for text in [PLAN.removesuffix("\n"), PLAN.replace("\n", "\\x0d\n"), "\n\n# a\n" + PLAN + "\n",
                  "store = 64\nunits = 100\nversion = 1\n", PLAN.replace(" = ", "="),
-                 PLAN.replace("version", '"version"'),
+                 PLAN.replace("version", '"version"'), PLAN.replace("units", "'units'"),
                  PLAN + "# \\xc3\\xa9\n"]:
         tables.plan(text, IDLE, 3)
 
@@ -492,6 +504,10 @@ def large(tables):
         tables.line("-+ 100000 [\\")
         if ending:
             tables.line("-+ 100000 ]\\")
+        tables.call("run --plan plan.toml A.java", [], 4, "plan not toml")
+    for text in "[", "{ a = ":
+        tables.file("plan.toml", "" if text == "[" else "a = ")
+        tables.line("-+ 100000 %s\\" % text)
         tables.call("run --plan plan.toml A.java", [], 4, "plan not toml")
     for depth, told in (10, "plan bad value units"), (80, "plan bad value units"), (81, "plan not toml"):
         tables.plan(with_value("units", "[" * depth + "]" * depth), [], 4, told)
@@ -828,6 +844,54 @@ def changed_traces(tables):
         tables.call("audit --plan plan.toml trace", [line], 0)
 
 
+# A text with a `;` for each of its line feeds, behind what is answered of it by the plan AUDITED.
+AUDITED = ("version = 1\nunits = 150\nstore = 704\n"
+           'fire = [{ at = 50, handler = "H" }, { at = 53, handler = "H" }, { at = 54, handler = "H" }]\n')
+LINES = """\
+no 1 | ;
+yes | 7 halted;
+no 1 | 7 halted
+no 2 | 7 halted;7 halted;
+no 2 | 7 mission Main;
+no 2 | 7 mission Main;6 halted;
+no 1 | 07 halted;
+no 1 | 150 halted;
+yes | 150 stopped;
+no 1 | 149 stopped;
+no 1 | 7 halted ;
+no 1 | 7  halted;
+no 1 | 7 stop;
+no 1 | 18446744073709551623 halted;
+yes | 7 print  -1;7 halted;
+yes | 7 print a b 2147483647;7 halted;
+no 1 | 7 print a 2147483648;7 halted;
+yes | 7 print a -2147483648;7 halted;
+no 1 | 7 print a -0;7 halted;
+no 1 | 7 print a;7 halted;
+yes | 7 fault BadPort a:b c.java:1;7 halted;
+no 1 | 7 fault BadPort A.java:0;7 halted;
+no 1 | 7 fault BadPort :1;7 halted;
+no 1 | 7 fault Oops A.java:1;7 halted;
+no 1 | 7 register 2 H 5;7 halted;
+no 1 | 7 register 1 H 29;7 halted;
+yes | 7 register 1 H 28;7 halted;
+no 1 | 7 mission 1A;7 halted;
+yes | 50 miss H;50 halted;
+no 1 | 51 miss H;51 halted;
+no 1 | 50 miss G;50 halted;
+no 1 | 7 end 1 1;7 halted;"""
+
+
+def forms_of_lines(tables):
+    """Ends of traces, units, and the forms of lines, each text by hand."""
+    tables.case("audit forms of lines")
+    tables.file("plan.toml", AUDITED)
+    for row in LINES.split("\n"):
+        answer, text = row.split(" | ")
+        tables.file("trace", text.replace(";", "\n"))
+        tables.call("audit --plan plan.toml trace", [answer], 0)
+
+
 def audits_outside(tables):
     """Words, texts that are no plan, limits, and what goes wrong outside."""
     def begin(what):
@@ -875,8 +939,8 @@ def audits_outside(tables):
 def made():
     tables = Tables()
     for part in (hand_made, examples, broken_examples, generated, words, numbers, fires, second_fires, second_refusals,
-                 readings, texts, large, migrations, migrations_outside, outside, order, limits, responses, no_rows, rows_outside, faults,
-                 faults_outside, audits, changed_traces, audits_outside):
+                 readings, texts, large, migrations, migrations_outside, outside, order, limits, responses, no_rows,
+                 rows_outside, faults, faults_outside, audits, changed_traces, forms_of_lines, audits_outside):
         part(tables)
     return tables
 

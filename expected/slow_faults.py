@@ -115,6 +115,9 @@ class Walk:
             self.parts(what.a)
         elif word == "EXECUTEIN":
             self.pop(2)
+        elif word == "SAME":
+            self.pop(2)
+            self.stack.append(UNKNOWN)
         elif word in ("PUT",):
             self.pop(2)
         elif word == "PUTELEM":

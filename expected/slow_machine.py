@@ -309,8 +309,8 @@ class Program:
         method, place = self.meanings[e], e.pos
         if method.builtin and method.static:
             arguments = e.args[1:] if method.name == "print" else e.args
-            words = {"enterPrivateMemory": "ENTER", "executeInAreaOf": "EXECUTEIN", "setCeiling": "SETCEILING",
-                     "print": "PRINT", "read": "READ"}
+            words = {"enterPrivateMemory": "ENTER", "executeInAreaOf": "EXECUTEIN", "allocInSame": "SAME",
+                     "setCeiling": "SETCEILING", "print": "PRINT", "read": "READ"}
             label = e.args[0].text if method.name == "print" else None
             return self.all_of(arguments) + [Operation(words[method.name], place, label)]
         if method.static:
@@ -722,6 +722,10 @@ class Machine:
         self.reference(thing)
         self.reference(runnable)
         self.push_frame(job, Frame(self.of_run(runnable), runnable, thing.area))
+
+    def do_same(self, job, frame, about):
+        second, first = frame.operands.pop(), frame.operands.pop()
+        frame.operands.append(first is not None and second is not None and first.area is second.area)
 
     def do_setceiling(self, job, frame, about):
         priority, thing = frame.operands.pop(), frame.operands.pop()

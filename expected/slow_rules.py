@@ -107,7 +107,7 @@ BUILTIN = {
     "MissionSequencer": rows(Row("MissionSequencer", "getNextMission", "Mission", abstract=True, callable=False)),
     "PeriodicEventHandler": handler("PeriodicEventHandler"),
     "AperiodicEventHandler": handler("AperiodicEventHandler", Row("AperiodicEventHandler", "release", "void", over=False)),
-    "ManagedMemory": rows(Row("ManagedMemory", "enterPrivateMemory", "void", ["int", "Runnable"], static=True), Row("ManagedMemory", "executeInAreaOf", "void", ["Object", "Runnable"], static=True)),
+    "ManagedMemory": rows(Row("ManagedMemory", "enterPrivateMemory", "void", ["int", "Runnable"], static=True), Row("ManagedMemory", "executeInAreaOf", "void", ["Object", "Runnable"], static=True), Row("ManagedMemory", "allocInSame", "boolean", ["Object", "Object"], static=True)),
     "Services": rows(Row("Services", "setCeiling", "void", ["Object", "int"], static=True)),
     "Trace": rows(Row("Trace", "print", "void", ["label", "int"], static=True)),
     "Device": rows(Row("Device", "read", "int", ["int"], static=True)),
@@ -1254,7 +1254,7 @@ class Body:
                 self.enter(n, n.args[1].type_)
             elif m.name == "executeInAreaOf":
                 self.execute(n, ss[0], n.args[1].type_)
-            return self.cur if m.result not in ("int", "void") else None
+            return self.cur if m.result not in ("int", "boolean", "void") else None
         r = p.runs_in(m)
         if r is not None and r != "CALLER":
             if r == "THIS":

@@ -201,6 +201,17 @@ RUNS = {
         files('@Scope("M") class Gate { @RunsIn(CALLER) int big(int a) { int[] z = new int[a]; return z.length; } }\n',
               handler(each('Trace.print("g", g.big(48));', 'Trace.print("g", g.big(49));'), fields=" Gate g;",
                       sets="g = new Gate(); ")), plan(*released(150, 200))),
+    "objects in one area and in several": (
+        files(CELL, handler(each(
+            "Cell a = new Cell(1); Cell b = new Cell(2); tell(1, ManagedMemory.allocInSame(a, b)); "
+            "tell(2, ManagedMemory.allocInSame(b, b)); tell(3, ManagedMemory.allocInSame(this, a));",
+            "tell(4, ManagedMemory.allocInSame(this, k)); tell(5, ManagedMemory.allocInSame(k, m));",
+            "Cell n = null; tell(6, ManagedMemory.allocInSame(n, n)); tell(7, ManagedMemory.allocInSame(this, n)); "
+            "tell(8, ManagedMemory.allocInSame(null, m));"),
+            fields=" Cell k;", sets="k = new Cell(3); ",
+            methods='@RunsIn(CALLER) void tell(int n, boolean is) '
+            '{ if (is) Trace.print("same", n); else Trace.print("other", n); }')),
+        plan(*released(150, 300, 450))),
     "an override that isn't synchronized": (
         files("class Lock { int n; synchronized int add(int a) { n = n + a; return n; } }\n"
               "class Quiet extends Lock { int add(int a) { n = n - a; return n; } }\n"

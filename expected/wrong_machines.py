@@ -175,6 +175,15 @@ def class_name(e):
     return e.npos if e.kind in ("new", "newarray") else None
 
 
+def same(are_same):
+    """SAME with another test of two objects, each of which may be null."""
+    class Wrong(Machine):
+        def do_same(self, job, frame, about):
+            second, first = frame.operands.pop(), frame.operands.pop()
+            frame.operands.append(are_same(first, second))
+    return Wrong
+
+
 class DropsByHandler(Machine):
     def do_terminate(self, job, frame, about):
         self.releases.sort(key=lambda r: r.handler.number)
@@ -257,6 +266,11 @@ WRONG = {
     "CONSTRUCT: no DepthFull": DeepConstruct,
     "SUPER: no DepthFull": DeepSuper,
     "EXECUTEIN: no DepthFull": executing("NullPointer"),
+    # another test
+    "SAME: null lies in one area with null": same(lambda a, b: (a and a.area) is (b and b.area)),
+    "SAME: null lies in each area": same(lambda a, b: a is None or b is None or a.area is b.area),
+    "SAME: an object alone lies in its area": same(lambda a, b: a is not None and a is b),
+    "SAME: all objects lie in one area": same(lambda a, b: a is not None and b is not None),
     # another place
     "ELEM at the array": placing("ELEM", first_lexeme),
     "PUTELEM at the array": placing("PUTELEM", first_lexeme),

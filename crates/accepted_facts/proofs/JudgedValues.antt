@@ -2,7 +2,7 @@
 use Rattle.std.proofs.Common.{◌≡◌, ℕ, ◌<◌, zero, suc, List, [], filter, refl, sym, ap, ◌∙◌, subst, arith, Option, Some, None, Bool, true, false, ◌&&◌, true≢false, inl, inr, option_and_then, option_map, is_some, slice_get, if◌then◌else◌, ◌==◌}
 use Rattle.scj_base.specs.declared.places.Pos.{Pos}
 use Rattle.scj_builtins.specs.declared.kinds.GivesKind.{GivesKind}
-use Rattle.scj_builtins.specs.declared.kinds.GivesKind.TheVariants.{Nothing, Number as GivesNumber, Long, Sequencer, Mission}
+use Rattle.scj_builtins.specs.declared.kinds.GivesKind.TheVariants.{Nothing, Number as GivesNumber, Long, Truth, Sequencer, Mission}
 use Rattle.scj_builtins.specs.declared.methods.FrameworkMethod.{FrameworkMethod}
 use Rattle.scj_builtins.specs.Framework.{framework_methods}
 use Rattle.scj_tree.specs.declared.nodes.Node.{Node}
@@ -90,6 +90,7 @@ unfolding type_written result_written
 result_no_label names Nothing e = (let f : Void ≡ Label = some_inj Void Label e in cc (f))
 result_no_label names GivesNumber e = int_no_label e
 result_no_label names Long e = none_no_label e
+result_no_label names Truth e = boolean_no_label e
 result_no_label names Sequencer e = class_named_no_label _ e
 result_no_label names Mission e = class_named_no_label _ e
 

@@ -6,7 +6,7 @@ use Rattle.scj_base.specs.Bytes.{is_same}
 use Rattle.scj_base.specs.declared.findings.Rule.TheVariants.{T10, T14}
 use Rattle.scj_base.specs.declared.places.Pos.{Pos}
 use Rattle.scj_builtins.specs.declared.kinds.GivesKind.{GivesKind}
-use Rattle.scj_builtins.specs.declared.kinds.GivesKind.TheVariants.{Nothing, Number}
+use Rattle.scj_builtins.specs.declared.kinds.GivesKind.TheVariants.{Nothing, Number, Truth}
 use Rattle.scj_builtins.specs.declared.methods.FrameworkMethod.{FrameworkMethod}
 use Rattle.scj_builtins.specs.Framework.{framework_classes, framework_methods}
 use Rattle.scj_tree.specs.declared.nodes.Node.{Node}
@@ -14,7 +14,7 @@ use Rattle.scj_tree.specs.declared.nodes.Node.TheVariants.{Field, Method}
 use Rattle.scj_tree.specs.Forest.{Forest, IsForest}
 use Rattle.scj_rules.specs.declared.typing.FoundField.{FoundField}
 use Rattle.scj_rules.specs.declared.typing.Ty.{Ty}
-use Rattle.scj_rules.specs.declared.typing.Ty.TheVariants.{Int, Void}
+use Rattle.scj_rules.specs.declared.typing.Ty.TheVariants.{Int, Bool as Boolean, Void}
 use Rattle.scj_rules.specs.declared.views.Declared.{Declared}
 use Rattle.scj_rules.specs.declared.views.WrittenType.TheVariants.{Long as long_type}
 use Rattle.scj_rules.specs.Definitions.{read}
@@ -40,11 +40,12 @@ use Rattle.accepted_laws.proofs.Rows.{IsFrameworkRow, IsUserRow}
 use Rattle.accepted_laws.proofs.Subtypes.{among_in}
 use Rattle.accepted_laws.proofs.Tools.{some_inj}
 
--- ---- the framework's methods that may be called give nothing or an int
+-- ---- the framework's methods that may be called give nothing, an int or a boolean
 
 unfoldable gives_plain : GivesKind → Bool
 gives_plain Nothing = true
 gives_plain Number = true
+gives_plain Truth = true
 gives_plain _ = false
 
 abbrev calls_plain : FrameworkMethod → Bool
@@ -72,6 +73,7 @@ plain_type : (names : List (List ℕ)) (g : GivesKind) → gives_plain g ≡ tru
 unfolding gives_plain type_written result_written is_reference
 plain_type names Nothing e = (Void, refl, refl)
 plain_type names Number e = (Int, refl, refl)
+plain_type names Truth e = (Boolean, refl, refl)
 plain_type names _ e = absurd (true≢false (sym e))
 
 not_false : (t : Bool) → not t ≡ false → t ≡ true

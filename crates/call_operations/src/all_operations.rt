@@ -65,6 +65,7 @@ pub fn operate(
         Op::Cast(id) => value_operations::cast(code, memory, frame, id),
         Op::Enter(id) => Ok(areas::enter(code, memory, frame, id)),
         Op::ExecuteIn(id) => Ok(areas::execute_in(alloc, code, memory, frame, id)),
+        Op::Same(_) => areas::same(memory, frame),
         Op::SetCeiling(_) => Ok(services::set_ceiling(frame)),
         Op::Print(id) => Ok(services::print(code, frame, id)),
         Op::Read(_) => services::read(world.plan, world.unit, frame),

@@ -1,9 +1,10 @@
 //! The calls in other memory areas (JSR 302: ManagedMemory).
 
-ghost use Rattle.std.specs.Prelude.{◌≡◌, ℕ, List};
+ghost use Rattle.std.specs.Prelude.{◌≡◌, ℕ, Bool, List, IfOk, Option, None, Some};
 ghost use Rattle.scj_model.specs.declared.plans.ReadingRow.{ReadingRow as Row};
-ghost use Rattle.scj_model.specs.Code.{code_of};
-ghost use Rattle.scj_model.specs.Operations.{enter_op, execute_in_op};
+ghost use Rattle.scj_model.specs.Code.{Code as CodeOfRun, code_of};
+ghost use Rattle.scj_model.specs.Effects.{Effect as Seen, Stuck};
+ghost use Rattle.scj_model.specs.Operations.{enter_op, execute_in_op, are_one_area, same_op, with_area};
 ghost use Rattle.job_frames.specs.EffectsSeen.{Does, world};
 ghost use Rattle.job_frames.specs.declared.frames.Frame.{Frame as StoredFrame};
 ghost use Rattle.job_frames.specs.Frames.{frame_of};
@@ -12,7 +13,7 @@ ghost use Rattle.call_operations.specs.Continued.{entering, objects_of, running}
 use crate::asked::{private_scope, run_of};
 use job_frames::{Code, Effect, Frame, NewFrame};
 use run_memory::RunMemory;
-use scj_base::{NodeId, Ref, RunFault, Value};
+use scj_base::{AreaId, Memory, NodeId, Ref, RunFault, Value};
 use std::alloc::Global;
 
 /// The call of `run` on an object in a new area of so many bytes, inside the caller's.
@@ -150,4 +151,50 @@ pub fn execute_in(
         },
         _ => Effect::Stuck,
     }
+}
+
+/// The area of the object that a value names, and none where it is null; nothing where it is no reference.
+fn area_of(memory: &RunMemory, value: Value) -> Option<Option<AreaId>>
+    ensures { (rows : List Row) (unit : ℕ) (next : Option ℕ → Seen) → with_area (world memory.now rows unit) value next
+        ≡ (elim result [ None ↦ Stuck | Some area ↦ next area ]) }
+{
+    match value {
+        Value::Null => Some(None),
+        Value::At(r) => Some(Some(memory.object(r)?.area())),
+        _ => None,
+    }
+}
+
+/// Whether the objects that two values name lie in one area, and neither is null; nothing where one is no reference.
+fn lie_in_one_area(memory: &RunMemory, first: Value, second: Value) -> Option<bool>
+    ensures { (rows : List Row) (unit : ℕ) (next : Bool → Seen) → with_area (world memory.now rows unit) first (λ a.
+        with_area (world memory.now rows unit) second (λ b. next (are_one_area a b)))
+        ≡ (elim result [ None ↦ Stuck | Some is_one ↦ next is_one ]) }
+{
+    let first = area_of(memory, first)?;
+    let second = area_of(memory, second)?;
+    Some(match (first, second) {
+        (Some(a), Some(b)) => a == b,
+        _ => false,
+    })
+}
+
+/// `allocInSame`.
+pub fn same(memory: &RunMemory, frame: &mut Frame) -> Result<Effect, Memory>
+    ensures does { (code : CodeOfRun) (rows : List Row) (unit : ℕ) → IfOk result (λ effect.
+        Does code (same_op (world memory.now rows unit) (frame_of code frame.old)) effect frame.new) }
+    ensures works { frame.new.works ≡ frame.old.works }
+    ensures opened { frame.new.opened ≡ frame.old.opened }
+{
+    let Some(second) = frame.pop() else {
+        return Ok(Effect::Stuck);
+    };
+    let Some(first) = frame.pop() else {
+        return Ok(Effect::Stuck);
+    };
+    let Some(is_one) = lie_in_one_area(memory, first, second) else {
+        return Ok(Effect::Stuck);
+    };
+    frame.push(Value::Bool(is_one))?;
+    Ok(Effect::Goes)
 }

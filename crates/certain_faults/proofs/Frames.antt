@@ -19,14 +19,14 @@ use Rattle.scj_rules.specs.ScopeRules.{defined_by_chain}
 use Rattle.scj_rules.specs.Layout.{slot_of, static_place, element_kind, literal_written, kind_of_type}
 use Rattle.scj_rules.specs.Bodies.{body_named, body_of, constructor_body}
 use Rattle.scj_model.specs.declared.operations.Op.{Op}
-use Rattle.scj_model.specs.declared.operations.Op.TheVariants.{Push as PUSH, This as THIS, Load as LOAD, Get as GET, GetStatic as GETSTATIC, Length as LENGTH, Elem as ELEM, Unary as UNARY, Bin as BIN, And as AND, Or as OR, Alloc as ALLOC, Construct as CONSTRUCT, AllocArray as ALLOCARRAY, Call as CALL, CallStatic as CALLSTATIC, Cast as CAST, Enter as ENTER, ExecuteIn as EXECUTEIN, SetCeiling as SETCEILING, Print as PRINT, Read as READ, Register as REGISTER, Release as RELEASE, Terminate as TERMINATE, Zero as ZERO, Store as STORE, Put as PUT, PutStatic as PUTSTATIC, PutElem as PUTELEM, If as IF, Loop as LOOP, LeaveWith as LEAVEWITH, Leave as LEAVE, Drop as DROP, Init as INIT, Super as SUPER, Params as PARAMS}
+use Rattle.scj_model.specs.declared.operations.Op.TheVariants.{Push as PUSH, This as THIS, Load as LOAD, Get as GET, GetStatic as GETSTATIC, Length as LENGTH, Elem as ELEM, Unary as UNARY, Bin as BIN, And as AND, Or as OR, Alloc as ALLOC, Construct as CONSTRUCT, AllocArray as ALLOCARRAY, Call as CALL, CallStatic as CALLSTATIC, Cast as CAST, Enter as ENTER, ExecuteIn as EXECUTEIN, Same as SAME, SetCeiling as SETCEILING, Print as PRINT, Read as READ, Register as REGISTER, Release as RELEASE, Terminate as TERMINATE, Zero as ZERO, Store as STORE, Put as PUT, PutStatic as PUTSTATIC, PutElem as PUTELEM, If as IF, Loop as LOOP, LeaveWith as LEAVEWITH, Leave as LEAVE, Drop as DROP, Init as INIT, Super as SUPER, Params as PARAMS}
 use Rattle.scj_model.specs.Code.{Code, binding, part}
 use Rattle.scj_model.specs.State.{Object, Frame}
 use Rattle.scj_model.specs.Memory.{literal_value, default_value, new_slots, new_elements}
 use Rattle.scj_model.specs.Arithmetic.{binary_value, divides_by_zero, unary_value}
 use Rattle.scj_model.specs.Ops.{ops_of, body_ops, leaves_value, put_in_front, right_operand, if_parts, turn_ops, optional_ops}
 use Rattle.scj_model.specs.Effects.{Effect, Goes, Prints, Makes, Stores, StoresStatic, SetsHidden, SetsCeiling, Calls, Opens, Leaves, AsksRegistration, AsksRelease, AsksTermination, Faults, Stuck, given, pop, pop_from, pop_all, pushes, as_object, new_frame}
-use Rattle.scj_model.specs.Operations.{Environment, effect_of, bound_local, bound_field, bound_static, bound_class, bound_method, bound_static_method, operator_of, assigned, argument_count, first_argument, super_count, with_field, with_run, index_in, is_port, is_priority, periodic_parameters, right_parameters, times_of, constructs}
+use Rattle.scj_model.specs.Operations.{Environment, effect_of, bound_local, bound_field, bound_static, bound_class, bound_method, bound_static_method, operator_of, assigned, argument_count, first_argument, super_count, with_field, with_run, with_area, are_one_area, index_in, is_port, is_priority, periodic_parameters, right_parameters, times_of, constructs}
 use Rattle.priority_laws.proofs.OperationCases.{on_given, on_if, on_int, on_reference, on_object, on_truth}
 use Rattle.certain_faults.specs.declared.known.Known.{Known}
 use Rattle.certain_faults.specs.declared.known.Known.TheVariants.{Unknown, Exactly, Object as AnObject}
@@ -414,6 +414,13 @@ module _ (code : Code) (G : Body → Bool → Type 0) where
             on_given Fine stuck faults (world.object_at r) _
             (λ o e. on_given Fine stuck faults (body_named code.program o.class (codes "run")) _ (λ body k. h o body))
 
+        on_area : (v : Value) (next : Option ℕ → Effect) → ((a : Option ℕ) → Fine (next a)) →
+            Fine (with_area world v next)
+        on_area Null next h = h None
+        on_area (At r) next h = on_given Fine stuck faults (world.object_at r) _ (λ (o : Object) e. h (Some o.area))
+        on_area (Int z) next h = stuck
+        on_area (Truth b) next h = stuck
+
         pushes_literal : (o : Option Value) → Passes code rest (with_left (left_by_literal o) s) →
             Fine (given o (λ value. pushes f value))
         unfolding left_by_literal with_left
@@ -787,6 +794,10 @@ module _ (code : Code) (G : Body → Bool → Type 0) where
             on_given Fine stuck faults (world.object_at place) _ (λ there e.
             on_run r _ (λ o body.
             calls_plain (taken (taken s)) l body (Some id) (Some r) there.area [] z p))))))
+        operation_fine (SAME id) p c =
+            on_pop s f _ x (λ second k h y. on_pop (taken s) k _ y (λ first l i z.
+            on_area first _ (λ a. on_area second _ (λ b.
+            pushed Unknown (taken (taken s)) l (Truth (are_one_area a b)) z tt p))))
         operation_fine (SETCEILING id) p c =
             on_pop s f _ x (λ ceiling k h y. on_pop (taken s) k _ y (λ object l i z.
             on_object Fine stuck faults object _ (λ r. on_int Fine stuck faults ceiling _ (λ n.

@@ -6,7 +6,7 @@ use Rattle.scj_tree.specs.declared.nodes.Node.{Node}
 use Rattle.scj_tree.specs.declared.nodes.Node.TheVariants.{Call as CallNode, NewArray, SuperCall}
 use Rattle.scj_tree.specs.Recursion.{below}
 use Rattle.scj_model.specs.declared.operations.Op.{Op}
-use Rattle.scj_model.specs.declared.operations.Op.TheVariants.{Push as PUSH, This as THIS, Load as LOAD, Get as GET, GetStatic as GETSTATIC, Length as LENGTH, Elem as ELEM, Unary as UNARY, Bin as BIN, And as AND, Or as OR, Alloc as ALLOC, Construct as CONSTRUCT, AllocArray as ALLOCARRAY, Call as CALL, CallStatic as CALLSTATIC, Cast as CAST, Enter as ENTER, SetCeiling as SETCEILING, Read as READ, Params as PARAMS}
+use Rattle.scj_model.specs.declared.operations.Op.TheVariants.{Push as PUSH, This as THIS, Load as LOAD, Get as GET, GetStatic as GETSTATIC, Length as LENGTH, Elem as ELEM, Unary as UNARY, Bin as BIN, And as AND, Or as OR, Alloc as ALLOC, Construct as CONSTRUCT, AllocArray as ALLOCARRAY, Call as CALL, CallStatic as CALLSTATIC, Cast as CAST, Enter as ENTER, Same as SAME, SetCeiling as SETCEILING, Read as READ, Params as PARAMS}
 use Rattle.scj_model.specs.Code.{Code, binding, part}
 use Rattle.scj_model.specs.Memory.{literal_value}
 use Rattle.scj_model.specs.Ops.{leaves_value, right_operand}
@@ -101,6 +101,7 @@ step code (CALL id) s = behind_call (leaves_value (binding code id)) (part code 
 step code (CALLSTATIC id) s = behind_static_call (leaves_value (binding code id)) (part code argument_count id) s
 step code (CAST id) s = put Unknown (taken s)
 step code (READ id) s = put Unknown (taken s)
+step code (SAME id) s = put Unknown (taken (taken s))
 step code _ s = nothing
 
 -- ---- more is known
@@ -168,6 +169,8 @@ module _ (code : Code) where
   step_less (CALLSTATIC id) s t h = static_call_less (leaves_value (binding code id)) (part code argument_count id) s t h
   step_less (CAST id) s t h = less_put Unknown (taken s) (taken t) (less_taken s t h)
   step_less (READ id) s t h = less_put Unknown (taken s) (taken t) (less_taken s t h)
+  step_less (SAME id) s t h =
+      less_put Unknown (taken (taken s)) (taken (taken t)) (less_taken (taken s) (taken t) (less_taken s t h))
   step_less _ s t h = less_nothing nothing
 
   -- ---- operations in a row

@@ -3,7 +3,7 @@ use Rattle.std.specs.Prelude.{Option, Some, None, slice_get, flat_map, map, nat_
 use Rattle.std.proofs.Common.{◌≡◌, ℕ, ◌<◌, zero, suc, List, [], ◌∷◌, ◌++◌, length, Bool, true, false, refl, sym, ap, ◌∙◌, subst, arith, if◌then◌else◌}
 use Rattle.std.proofs.lemmas.Bool.Decides.{nat_tests}
 use Rattle.scj_base.specs.Vocabulary.{sign_and_and, sign_or_or}
-use Rattle.scj_builtins.specs.Framework.{mission_request_termination, periodic_handler_register, aperiodic_handler_register, aperiodic_handler_release, managed_memory_enter_private_memory, managed_memory_execute_in_area_of, services_set_ceiling, trace_print, device_read}
+use Rattle.scj_builtins.specs.Framework.{mission_request_termination, periodic_handler_register, aperiodic_handler_register, aperiodic_handler_release, managed_memory_enter_private_memory, managed_memory_execute_in_area_of, managed_memory_alloc_in_same, services_set_ceiling, trace_print, device_read}
 use Rattle.scj_tree.specs.declared.nodes.Node.{Node}
 use Rattle.scj_tree.specs.declared.nodes.Node.TheVariants.{Class, Method as MethodNode, Constructor, SuperCall, Block, Local as LocalNode, LocalWithValue, Assign, ExpressionStatement, If, While, For, Return, Binary, Unary, Cast, Parenthesized, SimpleName, FieldAccess, Call, Element, New, NewArray, Number, True, False, Null, This}
 use Rattle.scj_tree.specs.Recursion.{below}
@@ -21,7 +21,7 @@ use Rattle.scj_rules.specs.Types.{has_form}
 use Rattle.scj_rules.specs.Layout.{fields_with_literal}
 use Rattle.scj_rules.specs.Bodies.{class_node, class_of_body}
 use Rattle.scj_model.specs.declared.operations.Op.{Op}
-use Rattle.scj_model.specs.declared.operations.Op.TheVariants.{Push as PUSH, This as THIS, Load as LOAD, Get as GET, GetStatic as GETSTATIC, Length as LENGTH, Elem as ELEM, Unary as UNARY, Bin as BIN, And as AND, Or as OR, Alloc as ALLOC, Construct as CONSTRUCT, AllocArray as ALLOCARRAY, Call as CALL, CallStatic as CALLSTATIC, Cast as CAST, Enter as ENTER, ExecuteIn as EXECUTEIN, SetCeiling as SETCEILING, Print as PRINT, Read as READ, Register as REGISTER, Release as RELEASE, Terminate as TERMINATE, Zero as ZERO, Store as STORE, Put as PUT, PutStatic as PUTSTATIC, PutElem as PUTELEM, If as IF, Loop as LOOP, LeaveWith as LEAVEWITH, Leave as LEAVE, Drop as DROP, Init as INIT, Super as SUPER, Params as PARAMS}
+use Rattle.scj_model.specs.declared.operations.Op.TheVariants.{Push as PUSH, This as THIS, Load as LOAD, Get as GET, GetStatic as GETSTATIC, Length as LENGTH, Elem as ELEM, Unary as UNARY, Bin as BIN, And as AND, Or as OR, Alloc as ALLOC, Construct as CONSTRUCT, AllocArray as ALLOCARRAY, Call as CALL, CallStatic as CALLSTATIC, Cast as CAST, Enter as ENTER, ExecuteIn as EXECUTEIN, Same as SAME, SetCeiling as SETCEILING, Print as PRINT, Read as READ, Register as REGISTER, Release as RELEASE, Terminate as TERMINATE, Zero as ZERO, Store as STORE, Put as PUT, PutStatic as PUTSTATIC, PutElem as PUTELEM, If as IF, Loop as LOOP, LeaveWith as LEAVEWITH, Leave as LEAVE, Drop as DROP, Init as INIT, Super as SUPER, Params as PARAMS}
 use Rattle.scj_model.specs.Code.{Code, binding, part}
 use Rattle.scj_model.specs.Ops.{name_ops, access_ops, binary_ops, new_ops, receiver_ops, builtin_ops, call_ops, leaves_value, assign_ops, return_ops, method_ops, super_ops, unwritten_super_ops, literal_ops, constructor_ops, node_ops, next_ops, ops_of, right_operand}
 use Rattle.scj_model.specs.Operations.{operator_of, argument_count}
@@ -29,7 +29,7 @@ use Rattle.certain_faults.specs.declared.known.Known.{Known}
 use Rattle.certain_faults.specs.declared.known.Known.TheVariants.{Unknown, Object}
 use Rattle.certain_faults.specs.declared.known.Left.{Left}
 use Rattle.certain_faults.specs.declared.known.Left.TheVariants.{Forgets, Zero, One, Two, Four}
-use Rattle.certain_faults.specs.Known.{unary_known, binary_known, is_conditional, operator_known, in_place_of, in_place_of_two, left_by_name, left_by_access, leaves_one, all_leave_one, end_to_end, left_by_part, left_by_new, leaves_receiver, left_by_method, left_by_read, left_by_call, left_by_node, next_left, left_by}
+use Rattle.certain_faults.specs.Known.{unary_known, binary_known, is_conditional, operator_known, in_place_of, in_place_of_two, left_by_name, left_by_access, leaves_one, all_leave_one, end_to_end, left_by_part, left_by_new, leaves_receiver, left_by_method, left_by_read, left_by_same, left_by_builtin, left_by_call, left_by_node, next_left, left_by}
 use Rattle.certain_faults.proofs.Stacks.{Stack, nothing, put, taken, dropped, with_left, with_all, Less, less_same, less_nothing, less_left, less_all}
 use Rattle.certain_faults.proofs.Passes.{array_length, arguments_of, left_below, part_left, with_parts, asked, unary_by, binary_by, behind_right, behind_arguments, with_result, behind_call, behind_static_call, step, Runs, runs_none, runs_op, runs_then, runs_less, Any, any_of, any_none, any_then, any_op, any_if}
 
@@ -374,6 +374,8 @@ module _ (code : Code) (bare : ClassesAskNothing code) (id : ℕ) where
           (any_asked (ENTER id) arguments (asks (ENTER id) refl))
           (any_if code (method == managed_memory_execute_in_area_of) _ _
           (any_behind (flat_map ops arguments) (EXECUTEIN id) (any_all arguments) refl)
+          (any_if code (method == managed_memory_alloc_in_same) _ _
+          (any_behind (flat_map ops arguments) (SAME id) (any_all arguments) refl)
           (any_if code (method == services_set_ceiling) _ _
           (any_asked (SETCEILING id) arguments (asks (SETCEILING id) refl))
           (any_if code (method == trace_print) _ _
@@ -385,7 +387,7 @@ module _ (code : Code) (bare : ClassesAskNothing code) (id : ℕ) where
           (any_if code (method == aperiodic_handler_release) _ _
           (any_behind (receiver_ops ops id object) (RELEASE id) (any_receiver object) refl)
           (any_if code (is_among method (periodic_handler_register ∷ aperiodic_handler_register ∷ [])) _ _
-          (any_behind (receiver_ops ops id object) (REGISTER id) (any_receiver object) refl) (any_none code))))))))
+          (any_behind (receiver_ops ops id object) (REGISTER id) (any_receiver object) refl) (any_none code)))))))))
 
       read_less : (xs : List ℕ) (s : Stack) → Less (with_left (left_by_read left xs) s) (put Unknown (taken (with_all left xs s)))
       unfolding left_by_read with_left
@@ -401,20 +403,41 @@ module _ (code : Code) (bare : ClassesAskNothing code) (id : ℕ) where
           (put Unknown (taken (with_all left arguments s))) (read_less arguments s)
           (asked_behind (READ id) arguments (asks (READ id) refl) s)
 
+      same_less : (xs : List ℕ) (s : Stack) →
+          Less (with_left (left_by_same left xs) s) (put Unknown (taken (taken (with_all left xs s))))
+      unfolding left_by_same with_left
+      same_less [] s = less_nothing _
+      same_less (x ∷ []) s = less_nothing _
+      same_less (x ∷ y ∷ []) s = two_less (left x) (left y) (λ a b. Unknown) (λ t. Unknown) s (λ a b. refl)
+      same_less (x ∷ y ∷ z ∷ xs) s = less_nothing _
+
+      same_runs : (s : Stack) →
+          Runs code (flat_map ops arguments ++ SAME id ∷ []) s (with_left (left_by_same left arguments) s)
+      unfolding step asked
+      same_runs s =
+          runs_less code (flat_map ops arguments ++ SAME id ∷ []) s (with_left (left_by_same left arguments) s)
+          (put Unknown (taken (taken (with_all left arguments s)))) (same_less arguments s)
+          (behind (flat_map ops arguments) (SAME id) s (with_all left arguments s) (all_run arguments s)
+          (less_nothing _))
+
       builtin_runs : (method : ℕ) (s : Stack) →
-          Runs code (builtin_ops ops id object arguments method) s
-          (with_left (if method == device_read then left_by_read left arguments else Forgets) s)
-      unfolding builtin_ops with_left
-      builtin_runs method s = go (method == device_read) refl
+          Runs code (builtin_ops ops id object arguments method) s (with_left (left_by_builtin left arguments method) s)
+      unfolding builtin_ops left_by_builtin with_left
+      builtin_runs method s = go (method == device_read) refl (method == managed_memory_alloc_in_same) refl
         where
-          go : (b : Bool) → (method == device_read) ≡ b →
+          go : (b : Bool) → (method == device_read) ≡ b → (c : Bool) → (method == managed_memory_alloc_in_same) ≡ c →
               Runs code (builtin_ops ops id object arguments method) s
-              (with_left (if b then left_by_read left arguments else Forgets) s)
-          go true e =
-              (let same : method ≡ device_read = grind (arith, nat_tests) in
-              subst (λ (m : ℕ). Runs code (builtin_ops ops id object arguments m) s (with_left (left_by_read left arguments) s))
-              (sym same) (read_runs s))
-          go false e = (any_builtin method).is s
+              (with_left
+              (if b then left_by_read left arguments else (if c then left_by_same left arguments else Forgets)) s)
+          go true e c k =
+              (let read : method ≡ device_read = grind (arith, nat_tests) in
+              subst (λ (m : ℕ). Runs code (builtin_ops ops id object arguments m) s
+              (with_left (left_by_read left arguments) s)) (sym read) (read_runs s))
+          go false e true k =
+              (let same : method ≡ managed_memory_alloc_in_same = grind (arith, nat_tests) in
+              subst (λ (m : ℕ). Runs code (builtin_ops ops id object arguments m) s
+              (with_left (left_by_same left arguments) s)) (sym same) (same_runs s))
+          go false e false k = (any_builtin method).is s
 
       -- behind the object of a call, and behind the arguments that come then
       abbrev behind_receiver : Option ℕ → Stack → Stack

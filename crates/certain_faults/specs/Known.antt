@@ -5,7 +5,7 @@ use Rattle.std.specs.Prelude.{ℕ, ◌==◌, ◌&&◌, Bool, true, false, List, 
 use Rattle.std.specs.List.{list_all}
 use Rattle.scj_base.specs.Vocabulary.{sign_and_and, sign_or_or}
 use Rattle.scj_base.specs.declared.values.Value.{Value}
-use Rattle.scj_builtins.specs.Framework.{device_read}
+use Rattle.scj_builtins.specs.Framework.{managed_memory_alloc_in_same, device_read}
 use Rattle.scj_tree.specs.declared.nodes.Node.{Node}
 use Rattle.scj_tree.specs.declared.nodes.Node.TheVariants.{Binary, Unary, Cast, Parenthesized, SimpleName, FieldAccess, Call, Element, New, NewArray, Number, True, False, Null, This}
 use Rattle.scj_tree.specs.Recursion.{by_smaller}
@@ -105,17 +105,25 @@ leaves_receiver left (Some object) = leaves_one (left object)
 unfoldable pub left_by_method : (ℕ → Left) → List ℕ → Bool → Left
 left_by_method left arguments gives = if gives && all_leave_one left arguments then One Unknown else Forgets
 
--- of the calls of the framework that of `Device.read` alone leaves an operand
+-- of the calls of the framework those of `Device.read` and of `allocInSame` alone leave an operand
 unfoldable pub left_by_read : (ℕ → Left) → List ℕ → Left
 left_by_read left (x ∷ []) = in_place_of (left x) (λ a. Unknown)
 left_by_read left _ = Forgets
+
+unfoldable pub left_by_same : (ℕ → Left) → List ℕ → Left
+left_by_same left (x ∷ y ∷ []) = in_place_of_two (left x) (left y) (λ a b. Unknown)
+left_by_same left _ = Forgets
+
+unfoldable pub left_by_builtin : (ℕ → Left) → List ℕ → ℕ → Left
+left_by_builtin left arguments method =
+    if method == device_read then left_by_read left arguments
+    else (if method == managed_memory_alloc_in_same then left_by_same left arguments else Forgets)
 
 unfoldable pub left_by_call : (ℕ → Left) → Option ℕ → List ℕ → Binding → Left
 left_by_call left object arguments (Method t) =
     left_by_method left arguments (t.gives && leaves_receiver left object)
 left_by_call left object arguments (StaticMethod t) = left_by_method left arguments t.gives
-left_by_call left object arguments (Builtin t) =
-    if t.id == device_read then left_by_read left arguments else Forgets
+left_by_call left object arguments (Builtin t) = left_by_builtin left arguments t.id
 left_by_call left object arguments _ = Forgets
 
 -- ---- all nodes

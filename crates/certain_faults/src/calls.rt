@@ -3,12 +3,12 @@
 ghost use Rattle.std.specs.Prelude.{◌≡◌};
 ghost use Rattle.scj_tree.specs.Recursion.{lookup};
 ghost use Rattle.certain_faults.specs.declared.known.Left.TheVariants.{Forgets as forgets};
-ghost use Rattle.certain_faults.specs.Known.{leaves_receiver, left_by_method, left_by_read, left_by_call};
+ghost use Rattle.certain_faults.specs.Known.{leaves_receiver, left_by_method, left_by_read, left_by_same, left_by_builtin, left_by_call};
 
 use crate::known::{Known, Left};
-use crate::nodes::{all_leave_one, in_place_of, leaves_one, left_at};
-use scj_base::NodeId;
-use scj_base::ids::DEVICE_READ;
+use crate::nodes::{all_leave_one, in_place_of, leaves_one, left_at, unknown_in_place_of_two};
+use scj_base::ids::{DEVICE_READ, MANAGED_MEMORY_ALLOC_IN_SAME};
+use scj_base::{MethodId, NodeId};
 use scj_rules::Binding;
 
 /// Whether the object of a call leaves one operand; `this` does where none is written.
@@ -45,6 +45,31 @@ fn read_left(rows: &[Left], arguments: &[NodeId]) -> Left
     }
 }
 
+/// What a call of `allocInSame` leaves.
+#[tactic(auto, unfolding(crate::specs::Known::left_by_same))]
+fn same_left(rows: &[Left], arguments: &[NodeId]) -> Left
+    ensures { result ≡ left_by_same (lookup forgets rows.now) arguments.now }
+{
+    match arguments {
+        [x, y] => unknown_in_place_of_two(left_at(rows, *x), left_at(rows, *y)),
+        _ => Left::Forgets,
+    }
+}
+
+/// What a call of a method of the framework leaves.
+#[tactic(auto, unfolding(crate::specs::Known::left_by_builtin))]
+fn builtin_left(rows: &[Left], arguments: &[NodeId], method: MethodId) -> Left
+    ensures { result ≡ left_by_builtin (lookup forgets rows.now) arguments.now method }
+{
+    if method == DEVICE_READ {
+        read_left(rows, arguments)
+    } else if method == MANAGED_MEMORY_ALLOC_IN_SAME {
+        same_left(rows, arguments)
+    } else {
+        Left::Forgets
+    }
+}
+
 /// What a call leaves.
 #[tactic(auto, unfolding(crate::specs::Known::left_by_call))]
 pub fn call_left(
@@ -61,7 +86,7 @@ pub fn call_left(
             method_left(rows, arguments, gives)
         }
         Binding::StaticMethod(target) => method_left(rows, arguments, target.gives),
-        Binding::Builtin(target) if target.id == DEVICE_READ => read_left(rows, arguments),
+        Binding::Builtin(target) => builtin_left(rows, arguments, target.id),
         _ => Left::Forgets,
     }
 }

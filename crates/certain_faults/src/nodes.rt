@@ -90,10 +90,10 @@ pub fn in_place_of(left: Left, value: Known) -> Left
 
 /// One operand of which nothing is known in the place of two that are left.
 #[tactic(auto, unfolding(crate::specs::Known::in_place_of_two))]
-fn element_of(array: Left, index: Left) -> Left
-    ensures { result ≡ in_place_of_two array index (λ a b. unknown) }
+pub fn unknown_in_place_of_two(first: Left, second: Left) -> Left
+    ensures { result ≡ in_place_of_two first second (λ a b. unknown) }
 {
-    match (array, index) {
+    match (first, second) {
         (Left::One(_), Left::One(_)) => Left::One(Known::Unknown),
         _ => Left::Forgets,
     }
@@ -228,7 +228,7 @@ fn left_by_node(checked: &Checked, rows: &[Left], id: NodeId, node: &Node) -> Le
             access_left(binding(checked, id), left_at(rows, *object))
         }
         Node::Element { array, index, .. } => {
-            element_of(left_at(rows, *array), left_at(rows, *index))
+            unknown_in_place_of_two(left_at(rows, *array), left_at(rows, *index))
         }
         Node::Parenthesized { inner, .. } => left_at(rows, *inner),
         Node::Unary {

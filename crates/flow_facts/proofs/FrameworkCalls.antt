@@ -21,7 +21,7 @@ use Rattle.scj_rules.specs.Bindings.{target, user_method_binding, method_binding
 use Rattle.scj_rules.specs.Phases.{IsAccepted}
 use Rattle.scj_rules.proofs.ChainLemmas.{or_cases, or_left, or_right, among-cases, same_number}
 use Rattle.accepted_laws.specs.Judgements.{type_at_node, binding_at_node, Inside, Judged}
-use Rattle.accepted_laws.specs.Kinds.{Kind, number}
+use Rattle.accepted_laws.specs.Kinds.{Kind, number, truth}
 use Rattle.accepted_laws.specs.Sorts.{IsWellSorted}
 use Rattle.accepted_laws.proofs.Dispatch.{own_declaration}
 use Rattle.accepted_laws.proofs.Fields.{along_in}
@@ -32,7 +32,7 @@ use Rattle.accepted_nodes.proofs.FoundMembers.{own_found}
 use Rattle.accepted_nodes.proofs.ScopesComplete.{call_rules}
 use Rattle.accepted_nodes.proofs.TypeBreaks.{right_call}
 use Rattle.accepted_nodes.proofs.TypesComplete.{unbroken, of_class, method_there}
-use Rattle.accepted_facts.proofs.AccessFacts.{int_judged}
+use Rattle.accepted_facts.proofs.AccessFacts.{int_judged, boolean_judged}
 use Rattle.accepted_facts.proofs.FrameworkCalls.{argument_facts}
 use Rattle.accepted_facts.proofs.NameFacts.{binding_is}
 use Rattle.scj_model.specs.Code.{Code, code_of}
@@ -43,11 +43,11 @@ use Rattle.flow_facts.proofs.CallParts.{call_parts}
 use Rattle.flow_facts.proofs.Calls.{Invoked}
 use Rattle.flow_facts.proofs.EnteringCalls.{enter_fact, execute_fact}
 use Rattle.flow_facts.proofs.FrameworkArguments.{AllTaken, all_taken, two, one, CalledOn, called_on_object}
-use Rattle.flow_facts.proofs.FrameworkMethods.{IsCalled, terminates, registers_periodic, registers_aperiodic, releases, enters, executes, sets_ceiling, prints, reads, callable_is, of_framework}
+use Rattle.flow_facts.proofs.FrameworkMethods.{IsCalled, terminates, registers_periodic, registers_aperiodic, releases, enters, executes, sets_ceiling, prints, reads, compares, callable_is, of_framework}
 use Rattle.flow_facts.proofs.FrameworkRows.{above_is}
 use Rattle.flow_facts.proofs.GivenKinds.{judged_once}
 use Rattle.flow_facts.proofs.InterfaceRows.{no_handler_implemented}
-use Rattle.flow_facts.proofs.CalledMethods.{Called as CalledAt, number_is, plain_is, nothing_judged, ceiling_case, print_case, read_case}
+use Rattle.flow_facts.proofs.CalledMethods.{Called as CalledAt, number_is, plain_is, nothing_judged, same_case, ceiling_case, print_case, read_case}
 
 module _ (forest : Forest) (accepted : IsAccepted forest) (whole : IsForest forest) (sorted : IsWellSorted forest.nodes)
     (is_read : IsReadFromTexts forest) where
@@ -179,12 +179,14 @@ module _ (forest : Forest) (accepted : IsAccepted forest) (whole : IsForest fore
       subst (Cases b c sig id object arguments row)
       (sym (judged_once p id o None j (nothing_judged forest accepted whole sorted is_read id x.given)))
       (inr
-      (inr (inr (inr (inr (inr (inr (inl refl, registered b c id name object arguments f row x refl (inl refl)))))))))
+      (inr (inr (inr (inr (inr (inr
+      (inl (inl refl, registered b c id name object arguments f row x refl (inl refl))))))))))
   by_row b c sig id name object arguments f row o body registers_aperiodic x j =
       subst (Cases b c sig id object arguments row)
       (sym (judged_once p id o None j (nothing_judged forest accepted whole sorted is_read id x.given)))
       (inr
-      (inr (inr (inr (inr (inr (inr (inr refl, registered b c id name object arguments f row x refl (inr refl)))))))))
+      (inr (inr (inr (inr (inr (inr
+      (inl (inr refl, registered b c id name object arguments f row x refl (inr refl))))))))))
   by_row b c sig id name object arguments f row o body enters x j =
       let k = two forest accepted whole sorted arguments _ _ x.taken in
       subst (Cases b c sig id object arguments row)
@@ -222,6 +224,17 @@ module _ (forest : Forest) (accepted : IsAccepted forest) (whole : IsForest fore
       (inr
       (inr
       (inl (read_case forest accepted whole sorted is_read b c id name object arguments _ x.parts refl k))))))
+  by_row b c sig id name object arguments f row o body compares x j =
+      let k = two forest accepted whole sorted arguments _ _ x.taken in
+      subst (Cases b c sig id object arguments row)
+      (sym (judged_once p id o (Some truth) j (boolean_judged forest accepted whole sorted id x.given)))
+      (inr (inr
+      (inr
+      (inr
+      (inr
+      (inr
+      (inr
+      (inr (same_case forest accepted whole sorted is_read b c id name object arguments _ _ x.parts refl refl k)))))))))
 
   builtin_bound : (id n : ℕ) (place : Pos) (name : List ℕ) (object : Option ℕ) (arguments : List ℕ) (f : FoundMethod)
       (r : Receiver) → slice_get forest.nodes id ≡ Some (Call place name object arguments) →

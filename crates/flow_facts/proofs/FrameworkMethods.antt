@@ -1,11 +1,11 @@
 -- The methods of the framework, one by one: those that a program calls, and `run`.
 use Rattle.std.proofs.Common.{◌≡◌, ℕ, List, [], ◌∷◌, filter, refl, sym, ◌∙◌, subst, Some, true, false, true≢false, inl, inr, is_some, ◌==◌, codes}
 use Rattle.scj_base.specs.Bytes.{is_same}
-use Rattle.scj_builtins.specs.declared.kinds.GivesKind.TheVariants.{Nothing, Number}
+use Rattle.scj_builtins.specs.declared.kinds.GivesKind.TheVariants.{Nothing, Number, Truth}
 use Rattle.scj_builtins.specs.declared.kinds.ParameterKind.TheVariants.{Int as int_parameter, Text as text_parameter, Object as object_parameter, Runnable as runnable_parameter}
 use Rattle.scj_builtins.specs.declared.kinds.Parameters.TheVariants.{One as one_parameter, Two as two_parameters}
 use Rattle.scj_builtins.specs.declared.methods.FrameworkMethod.{FrameworkMethod}
-use Rattle.scj_builtins.specs.Framework.{mission, periodic_handler, aperiodic_handler, managed_memory, services, trace, device, mission_request_termination, periodic_handler_register, aperiodic_handler_register, aperiodic_handler_release, managed_memory_enter_private_memory, managed_memory_execute_in_area_of, services_set_ceiling, trace_print, device_read, runnable_run, called_on_object, called_on_class, framework_methods}
+use Rattle.scj_builtins.specs.Framework.{mission, periodic_handler, aperiodic_handler, managed_memory, services, trace, device, mission_request_termination, periodic_handler_register, aperiodic_handler_register, aperiodic_handler_release, managed_memory_enter_private_memory, managed_memory_execute_in_area_of, managed_memory_alloc_in_same, services_set_ceiling, trace_print, device_read, runnable_run, called_on_object, called_on_class, framework_methods}
 use Rattle.scj_tree.specs.Forest.{Forest, IsForest}
 use Rattle.scj_rules.specs.Classes.{FoundMethod, framework_method, framework_methods_on, own_method}
 use Rattle.scj_rules.specs.Contexts.{Declarations, declarations_of}
@@ -50,6 +50,10 @@ print_row = called_on_class trace_print trace (codes "print") (two_parameters te
 abbrev pub read_row : FrameworkMethod
 read_row = called_on_class device_read device (codes "read") (one_parameter int_parameter) Number
 
+abbrev pub same_row : FrameworkMethod
+same_row = called_on_class managed_memory_alloc_in_same managed_memory (codes "allocInSame")
+    (two_parameters object_parameter object_parameter) Truth
+
 -- a method that a program calls is one of these
 pub data IsCalled : FrameworkMethod → Type 0 where
   terminates : IsCalled terminate_row
@@ -61,6 +65,7 @@ pub data IsCalled : FrameworkMethod → Type 0 where
   sets_ceiling : IsCalled ceiling_row
   prints : IsCalled print_row
   reads : IsCalled read_row
+  compares : IsCalled same_row
 
 -- what holds of each element of a list
 abbrev EachOf : (FrameworkMethod → Type 0) → List FrameworkMethod → Type 0
@@ -106,7 +111,13 @@ callable_is m i = each_of (λ m. m.callable ≡ true → IsCalled m) framework_m
                           (λ e. registers_aperiodic),
                           (
                             (λ e. releases),
-                            ((λ e. enters), ((λ e. executes), ((λ e. sets_ceiling), ((λ e. prints), ((λ e. reads), (tt)))))),
+                            (
+                              (λ e. enters),
+                              (
+                                (λ e. executes),
+                                ((λ e. sets_ceiling), ((λ e. prints), ((λ e. reads), ((λ e. compares), (tt))))),
+                              ),
+                            ),
                           ),
                         ),
                       ),
@@ -163,7 +174,10 @@ run_is m i = each_of OfName framework_methods (
                         no_run refl,
                         (
                           no_run refl,
-                          (no_run refl, (no_run refl, (no_run refl, (no_run refl, (no_run refl, (no_run refl, (tt))))))),
+                          (
+                            no_run refl,
+                            (no_run refl, (no_run refl, (no_run refl, (no_run refl, (no_run refl, (no_run refl, (tt))))))),
+                          ),
                         ),
                       ),
                     ),

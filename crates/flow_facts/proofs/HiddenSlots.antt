@@ -115,4 +115,4 @@ module _ (forest : Forest) (accepted : IsAccepted forest) (whole : IsForest fore
         (if is_among periodic_handler (superclasses p.classes under) then 4
         else (if is_among aperiodic_handler (superclasses p.classes under) then 2 else 0)) ≡ true = lt-ltb slot _ more
         in
-        in_object forest accepted whole sorted under slot m ∙ rw test refl
+        (more, in_object forest accepted whole sorted under slot m ∙ rw test refl)

@@ -11,15 +11,15 @@ use Rattle.scj_rules.specs.declared.typing.Ty.{Ty}
 use Rattle.scj_rules.specs.declared.typing.Ty.TheVariants.{Class as ClassTy, IntArray, BoolArray, ClassArray}
 use Rattle.scj_rules.specs.Classes.{is_sub}
 use Rattle.scj_rules.specs.Types.{is_array}
-use Rattle.accepted_laws.specs.Kinds.{Kind, number, reference}
-use Rattle.scj_model.specs.declared.operations.Op.TheVariants.{Cast as CAST, SetCeiling as SETCEILING, Print as PRINT, Read as READ, Register as REGISTER, Release as RELEASE, Terminate as TERMINATE, Params as PARAMS}
+use Rattle.accepted_laws.specs.Kinds.{Kind, number, truth, reference}
+use Rattle.scj_model.specs.declared.operations.Op.TheVariants.{Cast as CAST, Same as SAME, SetCeiling as SETCEILING, Print as PRINT, Read as READ, Register as REGISTER, Release as RELEASE, Terminate as TERMINATE, Params as PARAMS}
 use Rattle.scj_model.specs.State.{Object, Frame}
 use Rattle.scj_model.specs.Effects.{Effect, Goes, SetsHidden, SetsCeiling, Faults, Stuck, given, pushes, pop_all}
-use Rattle.scj_model.specs.Operations.{effect_of, is_priority, is_port, times_of, periodic_parameters, right_parameters}
+use Rattle.scj_model.specs.Operations.{effect_of, with_area, are_one_area, is_priority, is_port, times_of, periodic_parameters, right_parameters}
 use Rattle.scope_flow.specs.Slots.{IsOfType}
 use Rattle.scope_flow.specs.Signatures.{runs_for_object}
 use Rattle.scope_flow.specs.Needs.{numbers, stacked, parameter_count, hidden_count, HasHidden}
-use Rattle.frame_sound.specs.Places.{held, IsObject}
+use Rattle.frame_sound.specs.Places.{held, an_object, IsObject, Has}
 use Rattle.frame_sound.specs.EffectsFine.{AreInts, IsThere}
 use Rattle.frame_sound.proofs.Scenes.{on_list, Scene, memory, den, Holds, HoldAll, FlowsOn, Ok, take, next_taken, pop_fine, given_fine, int_fine, object_fine, arguments_fine, on_with, goes_fine, never_any}
 use Rattle.frame_sound.proofs.ActsOnValues.{Does}
@@ -107,6 +107,33 @@ module _ (m : Scene) where
           ])) (sym o.is) (given_fine m _ _ o.object o.found (tested _ v o refl rest have))
 
   -- ---- calls of the framework
+
+  -- the area in which the object of a value lies
+  area_fine : (t : Ty) (a : Option ℕ) (v : Value) (next : Option ℕ → Effect) →
+      Has m.code.program (memory m) (an_object t a) v → ((area : Option ℕ) → Ok m (next area)) →
+      Ok m (with_area m.world v next)
+  area_fine t a v next (inl e) go = subst (λ x. Ok m (with_area m.world x next)) (sym e) (go None)
+  area_fine t a v next (inr o) go =
+      subst (λ x. Ok m (with_area m.world x next)) (sym o.is)
+      (given_fine m (m.world.object_at o.r) _ o.object o.found (go (Some o.object.area)))
+
+  pub same_fine : (id : ℕ) → Does m (SAME id)
+  unfolding effect_of held
+  same_fine id r =
+      let n = r.needed in
+      let x =
+      take m (reference n.second_type n.second_scope) (reference n.first_type n.first_scope ∷ n.others) n.takes in
+      let y = next_taken m (reference n.first_type n.first_scope) n.others x.rest x.have in
+      pop_fine m m.frame.operands _ x.v x.rest x.is
+      (pop_fine m x.rest _ y.v y.rest y.is
+      (area_fine n.first_type (den m n.first_scope) y.v _ y.has (λ a.
+      area_fine n.second_type (den m n.second_scope) x.v _ x.has (λ b. pushed (are_one_area a b) y.rest y.have))))
+    where
+      pushed : (t : Bool) (rest : List Value) → HoldAll m r.needed.others rest →
+          Ok m (pushes (record m.frame { operands = rest }) (Truth t))
+      pushed t rest have =
+          goes_fine m (Truth t ∷ rest) (truth ∷ r.needed.others) ((t, refl), have)
+          (subst (FlowsOn m m.frame.rest m.known) r.needed.leaves r.goes)
 
   pub set_ceiling_fine : (id : ℕ) → Does m (SETCEILING id)
   unfolding effect_of held

@@ -119,7 +119,7 @@ module _ (p : Declarations) (areas : ℕ → Option MemoryArea) (objects : List 
       hidden : (x : Object) → slice_get objects r ≡ Some x → (i : ℕ) → i < length values →
           kind_of_slot p x.class i ≡ Some number
       hidden x there i l =
-          ap (λ (o : Object). kind_of_slot p o.class i) (sym (is_same x there)) ∙ s.are_hidden i l
+          ap (λ (o : Object). kind_of_slot p o.class i) (sym (is_same x there)) ∙ (s.are_hidden i l).1
 
       full : (x : Object) → slice_get objects r ≡ Some x → ObjectFine p now_ x → array_type p x.class ≡ None →
           length (values ++ drop (length values) x.slots) ≡ length x.slots

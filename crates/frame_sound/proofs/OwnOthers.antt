@@ -33,7 +33,7 @@ hidden_within p w r values heap x o there =
     let same : x.object ≡ o = some_inj x.object o (sym x.found ∙ there) in
     let none : array_type p o.class ≡ None = ap (λ (q : Object). array_type p q.class) (sym same) ∙ x.is_no_array in
     let l : length values ≤ slots p o.class = subst (λ (q : Object). length values ≤ slots p q.class) same
-    (hidden_fit p x.object.class (length values) x.is_no_array x.are_hidden) in
+    (hidden_fit p x.object.class (length values) x.is_no_array (λ i l. (x.are_hidden i l).1)) in
     let n = (heap r o there).is_full none in omega (arith, l, n)
 
 own_first : (f : Frame) (below : List Frame) (a : ℕ) → is_among a (option_to_list f.opened) ≡ true →

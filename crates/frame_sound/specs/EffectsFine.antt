@@ -4,6 +4,7 @@ use Rattle.scj_base.specs.declared.values.Value.{Value}
 use Rattle.scj_base.specs.declared.values.Value.TheVariants.{Int}
 use Rattle.scj_rules.specs.declared.typing.Ty.{Ty}
 use Rattle.scj_rules.specs.declared.typing.Scope.{Scope}
+use Rattle.scj_rules.specs.Classes.{hidden_fields}
 use Rattle.scj_rules.specs.Contexts.{Declarations}
 use Rattle.scj_rules.specs.Layout.{slots}
 use Rattle.scj_rules.specs.ScopeRules.{parent_scope, is_handler}
@@ -67,7 +68,8 @@ pub record HiddenFine (p : Declarations) (w : World) (r : ℕ) (values : List Va
   pub found : w.objects r ≡ Some object
   pub is_no_array : array_type p object.class ≡ None
   pub are_ints : AreInts values
-  pub are_hidden : (slot : ℕ) → slot < length values → kind_of_slot p object.class slot ≡ Some number
+  pub are_hidden : (slot : ℕ) → slot < length values →
+      (slot < hidden_fields p.classes object.class) × (kind_of_slot p object.class slot ≡ Some number)
 
 pub record CallFine (code : Code) (w : World) (list : List ℕ) (c : ℕ) (sig : Signature) (f h g : Frame) : Type 0 where
   pub kind : Option Kind

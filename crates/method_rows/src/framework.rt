@@ -51,6 +51,7 @@ pub fn result_written(gives: GivesKind) -> WrittenType
         GivesKind::Nothing => WrittenType::Void,
         GivesKind::Number => WrittenType::Int,
         GivesKind::Long => WrittenType::Long,
+        GivesKind::Truth => WrittenType::Boolean,
         GivesKind::Sequencer => WrittenType::Class(Name::new(b"MissionSequencer")),
         GivesKind::Mission => WrittenType::Class(Name::new(b"Mission")),
     }

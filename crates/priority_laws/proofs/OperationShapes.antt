@@ -17,11 +17,11 @@ use Rattle.scj_rules.specs.Words.{◌>>=◌}
 use Rattle.scj_model.specs.Memory.{literal_value, new_elements}
 use Rattle.scj_model.specs.Arithmetic.{binary_value, divides_by_zero, unary_value}
 use Rattle.scj_model.specs.declared.operations.Op.{Op}
-use Rattle.scj_model.specs.declared.operations.Op.TheVariants.{Push as PUSH, This as THIS, Load as LOAD, Get as GET, GetStatic as GETSTATIC, Length as LENGTH, Elem as ELEM, Unary as UNARY, Bin as BIN, And as AND, Or as OR, Alloc as ALLOC, Construct as CONSTRUCT, AllocArray as ALLOCARRAY, Call as CALL, CallStatic as CALLSTATIC, Cast as CAST, Enter as ENTER, ExecuteIn as EXECUTEIN, SetCeiling as SETCEILING, Print as PRINT, Read as READ, Register as REGISTER, Release as RELEASE, Terminate as TERMINATE, Zero as ZERO, Store as STORE, Put as PUT, PutStatic as PUTSTATIC, PutElem as PUTELEM, If as IF, Loop as LOOP, LeaveWith as LEAVEWITH, Leave as LEAVE, Drop as DROP, Init as INIT, Super as SUPER, Params as PARAMS}
+use Rattle.scj_model.specs.declared.operations.Op.TheVariants.{Push as PUSH, This as THIS, Load as LOAD, Get as GET, GetStatic as GETSTATIC, Length as LENGTH, Elem as ELEM, Unary as UNARY, Bin as BIN, And as AND, Or as OR, Alloc as ALLOC, Construct as CONSTRUCT, AllocArray as ALLOCARRAY, Call as CALL, CallStatic as CALLSTATIC, Cast as CAST, Enter as ENTER, ExecuteIn as EXECUTEIN, Same as SAME, SetCeiling as SETCEILING, Print as PRINT, Read as READ, Register as REGISTER, Release as RELEASE, Terminate as TERMINATE, Zero as ZERO, Store as STORE, Put as PUT, PutStatic as PUTSTATIC, PutElem as PUTELEM, If as IF, Loop as LOOP, LeaveWith as LEAVEWITH, Leave as LEAVE, Drop as DROP, Init as INIT, Super as SUPER, Params as PARAMS}
 use Rattle.scj_model.specs.Code.{Code, binding, part}
 use Rattle.scj_model.specs.State.{Object, Frame}
 use Rattle.scj_model.specs.Effects.{Effect, Goes, Prints, Makes, Stores, StoresStatic, SetsHidden, SetsCeiling, Calls, Opens, Leaves, AsksRegistration, AsksRelease, AsksTermination, Faults, Stuck, pushes, given}
-use Rattle.scj_model.specs.Operations.{bound_local, bound_field, bound_static, bound_class, bound_method, bound_static_method, operator_of, assigned, argument_count, first_argument, is_port, super_count, with_field, with_run, Environment, effect_of, periodic_parameters, right_parameters, times_of, is_priority, index_in}
+use Rattle.scj_model.specs.Operations.{bound_local, bound_field, bound_static, bound_class, bound_method, bound_static_method, operator_of, assigned, argument_count, first_argument, is_port, super_count, with_field, with_run, with_area, are_one_area, Environment, effect_of, periodic_parameters, right_parameters, times_of, is_priority, index_in}
 use Rattle.priority_laws.proofs.ReleaseMoves.{StandsAs}
 use Rattle.priority_laws.proofs.Shapes.{Shaped, Scene, Formed, SparesPriority, is_put_element, formed_shape}
 use Rattle.priority_laws.specs.Handlers.{BeginWithPriority}
@@ -66,6 +66,13 @@ module _ (m : Scene) where
       (shaped_fault m ClassCast))
   shaped_cast class g s (Int z) = shaped_stuck m
   shaped_cast class g s (Truth b) = shaped_stuck m
+
+  shaped_area : (v : Value) (next : Option ℕ → Effect) → ((a : Option ℕ) → Formed m (next a)) →
+      Formed m (with_area m.world v next)
+  shaped_area Null next h = h None
+  shaped_area (At r) next h = shaped_given m (m.world.object_at r) _ (λ (o : Object). h (Some o.area))
+  shaped_area (Int z) next h = shaped_stuck m
+  shaped_area (Truth b) next h = shaped_stuck m
 
   shaped_hidden : (r : ℕ) (g : Frame) → StandsAs m.frame g → (vs : List Value) → BeginWithPriority vs →
       Formed m (SetsHidden g r vs)
@@ -185,6 +192,10 @@ module _ (m : Scene) where
       (λ r. shaped_given m (m.world.object_at place) _ (λ there. shaped_run r _ (λ o body found is_run.
       shaped_calls m h t body (Some id) (Some r) there.area []
       (calls_there m.code m.world.object_at body (Some id) there.area [] r o found)))))))
+  shaped (SAME id) e =
+      shaped_pop m m.frame (here m) _
+      (λ second g s. shaped_pop m g s _ (λ first h t. shaped_area first _ (λ a. shaped_area second _ (λ b.
+      shaped_pushes m h t (Truth (are_one_area a b))))))
   shaped (SETCEILING id) e =
       shaped_pop m m.frame (here m) _
       (λ ceiling g s. shaped_pop m g s _ (λ object h t. shaped_object m object _ (λ r. shaped_int m ceiling _ (λ c.

@@ -1,12 +1,12 @@
 -- Calls, statements and parameters: what the locals of the frames refer to after them, the locals and the operands of
 -- the frame referred to before them.
-use Rattle.std.specs.Prelude.{Option, ℤ, pos, unsigned_abs, codes, ◌==◌}
+use Rattle.std.specs.Prelude.{Option, Some, None, ℤ, pos, unsigned_abs, codes, ◌==◌}
 use Rattle.std.specs.Int.{is_negative}
 use Rattle.std.proofs.Common.{ℕ, List, [], ◌∷◌, true, false}
 use Rattle.std.proofs.lemmas.List.Elements.{All-nil, All-set, All-from_recursion}
 use Rattle.scj_base.specs.declared.faults.RunFault.TheVariants.{NegativeSize, BadPriority, BadPeriod, BadPort}
 use Rattle.scj_base.specs.declared.values.Value.{Value}
-use Rattle.scj_base.specs.declared.values.Value.TheVariants.{Int}
+use Rattle.scj_base.specs.declared.values.Value.TheVariants.{Int, Bool as Truth, Null, At}
 use Rattle.scj_builtins.specs.Framework.{mission_sequencer, periodic_handler}
 use Rattle.scj_rules.specs.Layout.{kind_of_type}
 use Rattle.scj_rules.specs.Bodies.{body_named, body_of, constructor_body}
@@ -14,12 +14,12 @@ use Rattle.scj_rules.specs.ScopeRules.{defined_by_chain}
 use Rattle.scj_rules.specs.Views.{variable_at}
 use Rattle.scj_rules.specs.Words.{◌>>=◌}
 use Rattle.scj_model.specs.declared.operations.Op.{Op}
-use Rattle.scj_model.specs.declared.operations.Op.TheVariants.{Construct as CONSTRUCT, Call as CALL, CallStatic as CALLSTATIC, Enter as ENTER, ExecuteIn as EXECUTEIN, SetCeiling as SETCEILING, Print as PRINT, Read as READ, Register as REGISTER, Release as RELEASE, Terminate as TERMINATE, Zero as ZERO, Store as STORE, If as IF, Loop as LOOP, LeaveWith as LEAVEWITH, Leave as LEAVE, Drop as DROP, Super as SUPER, Params as PARAMS}
+use Rattle.scj_model.specs.declared.operations.Op.TheVariants.{Construct as CONSTRUCT, Call as CALL, CallStatic as CALLSTATIC, Enter as ENTER, ExecuteIn as EXECUTEIN, Same as SAME, SetCeiling as SETCEILING, Print as PRINT, Read as READ, Register as REGISTER, Release as RELEASE, Terminate as TERMINATE, Zero as ZERO, Store as STORE, If as IF, Loop as LOOP, LeaveWith as LEAVEWITH, Leave as LEAVE, Drop as DROP, Super as SUPER, Params as PARAMS}
 use Rattle.scj_model.specs.Code.{Code, binding, part}
 use Rattle.scj_model.specs.Ops.{put_in_front}
-use Rattle.scj_model.specs.State.{MemoryArea, Frame}
+use Rattle.scj_model.specs.State.{MemoryArea, Object, Frame}
 use Rattle.scj_model.specs.Effects.{Effect, Goes, SetsHidden, SetsCeiling, Faults, pop_all}
-use Rattle.scj_model.specs.Operations.{Environment, effect_of, constructs, periodic_parameters, right_parameters, is_priority, times_of, bound_local, bound_class, bound_method, bound_static_method, assigned, argument_count, first_argument}
+use Rattle.scj_model.specs.Operations.{Environment, effect_of, with_area, constructs, periodic_parameters, right_parameters, is_priority, times_of, bound_local, bound_class, bound_method, bound_static_method, assigned, argument_count, first_argument}
 use Rattle.frame_sound.specs.Places.{World}
 use Rattle.reference_sound.specs.References.{IfReference, EachReference, NoReference}
 use Rattle.reference_sound.proofs.Plain.{default_plain, arguments_first}
@@ -110,6 +110,19 @@ module _ (code : Code) (areas : ℕ → Option MemoryArea) (world : Environment)
       (λ body e. record { is = (locals, arguments_first Q code body _ _ _ [] empty) })))))))
 
   -- ---- the other calls of the framework
+
+  any_area : (v : Value) (next : Option ℕ → Effect) → ((a : Option ℕ) → Holding w Q (next a)) →
+      Holding w Q (with_area world v next)
+  any_area Null next h = h None
+  any_area (At r) next h = any_given w Q (world.object_at r) _ (λ (o : Object) e. h (Some o.area))
+  any_area (Int z) next h = stops w Q
+  any_area (Truth b) next h = stops w Q
+
+  pub same_holds : (id : ℕ) → Does (SAME id)
+  unfolding effect_of
+  same_holds id =
+      any_pop w Q f.operands _ operands (λ v below hv hb.
+      any_pop w Q below _ hb (λ u lower hu hl. any_area u _ (λ a. any_area v _ (λ b. goes w Q _ locals))))
 
   pub set_ceiling_holds : (id : ℕ) → Does (SETCEILING id)
   unfolding effect_of

@@ -2,7 +2,7 @@
 use Rattle.std.specs.Prelude.{Option, None}
 use Rattle.std.proofs.Common.{ℕ, List, ◌∷◌}
 use Rattle.scj_model.specs.declared.operations.Op.{Op}
-use Rattle.scj_model.specs.declared.operations.Op.TheVariants.{Push as PUSH, This as THIS, Load as LOAD, Get as GET, GetStatic as GETSTATIC, Length as LENGTH, Elem as ELEM, Unary as UNARY, Bin as BIN, And as AND, Or as OR, Alloc as ALLOC, Construct as CONSTRUCT, AllocArray as ALLOCARRAY, Call as CALL, CallStatic as CALLSTATIC, Cast as CAST, Enter as ENTER, ExecuteIn as EXECUTEIN, SetCeiling as SETCEILING, Print as PRINT, Read as READ, Register as REGISTER, Release as RELEASE, Terminate as TERMINATE, Zero as ZERO, Store as STORE, Put as PUT, PutStatic as PUTSTATIC, PutElem as PUTELEM, If as IF, Loop as LOOP, LeaveWith as LEAVEWITH, Leave as LEAVE, Drop as DROP, Init as INIT, Super as SUPER, Params as PARAMS}
+use Rattle.scj_model.specs.declared.operations.Op.TheVariants.{Push as PUSH, This as THIS, Load as LOAD, Get as GET, GetStatic as GETSTATIC, Length as LENGTH, Elem as ELEM, Unary as UNARY, Bin as BIN, And as AND, Or as OR, Alloc as ALLOC, Construct as CONSTRUCT, AllocArray as ALLOCARRAY, Call as CALL, CallStatic as CALLSTATIC, Cast as CAST, Enter as ENTER, ExecuteIn as EXECUTEIN, Same as SAME, SetCeiling as SETCEILING, Print as PRINT, Read as READ, Register as REGISTER, Release as RELEASE, Terminate as TERMINATE, Zero as ZERO, Store as STORE, Put as PUT, PutStatic as PUTSTATIC, PutElem as PUTELEM, If as IF, Loop as LOOP, LeaveWith as LEAVEWITH, Leave as LEAVE, Drop as DROP, Init as INIT, Super as SUPER, Params as PARAMS}
 use Rattle.scj_model.specs.Code.{Code}
 use Rattle.scj_model.specs.Operations.{Environment, effect_of}
 use Rattle.scj_model.specs.State.{MemoryArea, Frame}
@@ -17,7 +17,7 @@ use Rattle.reference_sound.specs.References.{EachReference}
 use Rattle.reference_sound.proofs.Around.{all_on_list}
 use Rattle.reference_sound.proofs.Plain.{each_weaker}
 use Rattle.reference_sound.proofs.HeldValues.{push_holds, this_holds, load_holds, get_holds, get_static_holds, length_holds, elem_holds, unary_holds, bin_holds, and_holds, or_holds, cast_holds, alloc_holds, alloc_array_holds, init_holds}
-use Rattle.reference_sound.proofs.HeldCalls.{construct_holds, super_holds, call_holds, call_static_holds, enter_holds, execute_in_holds, set_ceiling_holds, print_holds, read_holds, register_holds, release_holds, terminate_holds, zero_holds, store_holds, if_holds, loop_holds, drop_holds, leave_with_holds, leave_holds, params_holds}
+use Rattle.reference_sound.proofs.HeldCalls.{construct_holds, super_holds, call_holds, call_static_holds, enter_holds, execute_in_holds, same_holds, set_ceiling_holds, print_holds, read_holds, register_holds, release_holds, terminate_holds, zero_holds, store_holds, if_holds, loop_holds, drop_holds, leave_with_holds, leave_holds, params_holds}
 use Rattle.reference_sound.proofs.HeldStores.{Does, put_holds, put_elem_holds, put_static_holds}
 use Rattle.reference_sound.specs.EffectsHold.{Holding}
 
@@ -42,6 +42,7 @@ module _ (m : Scene) (Q : ℕ → Type 0) (l : EachReference Q m.frame.locals) (
   effect_holds (CAST id) r = cast_holds m.code m.areas m.world Q m.frame l o id
   effect_holds (ENTER id) r = enter_holds m.code m.areas m.world Q m.frame l o id
   effect_holds (EXECUTEIN id) r = execute_in_holds m.code m.areas m.world Q m.frame l o id
+  effect_holds (SAME id) r = same_holds m.code m.areas m.world Q m.frame l o id
   effect_holds (SETCEILING id) r = set_ceiling_holds m.code m.areas m.world Q m.frame l o id
   effect_holds (PRINT id) r = print_holds m.code m.areas m.world Q m.frame l o id
   effect_holds (READ id) r = read_holds m.code m.areas m.world Q m.frame l o id

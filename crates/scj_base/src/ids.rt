@@ -305,3 +305,6 @@ pub const TRACE_PRINT: MethodId = MethodId { number: 17 };
 
 /// The method `read` of `Device`.
 pub const DEVICE_READ: MethodId = MethodId { number: 18 };
+
+/// The method `allocInSame` of `ManagedMemory`.
+pub const MANAGED_MEMORY_ALLOC_IN_SAME: MethodId = MethodId { number: 19 };

@@ -53,7 +53,7 @@ all_there = (
                   refl,
                   (
                     refl,
-                    (refl, (refl, (refl, (refl, (refl, (refl, (refl, (refl, (refl, tt))))))))),
+                    (refl, (refl, (refl, (refl, (refl, (refl, (refl, (refl, (refl, (refl, tt)))))))))),
                   ),
                 ),
               ),

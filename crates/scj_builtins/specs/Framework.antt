@@ -12,7 +12,7 @@ use Rattle.scj_builtins.specs.declared.kinds.ParameterKind.TheVariants.{Int as i
 use Rattle.scj_builtins.specs.declared.kinds.Parameters.{Parameters}
 use Rattle.scj_builtins.specs.declared.kinds.Parameters.TheVariants.{Empty as no_parameters, One as one_parameter, Two as two_parameters}
 use Rattle.scj_builtins.specs.declared.kinds.GivesKind.{GivesKind}
-use Rattle.scj_builtins.specs.declared.kinds.GivesKind.TheVariants.{Nothing, Number, Long, Sequencer, Mission}
+use Rattle.scj_builtins.specs.declared.kinds.GivesKind.TheVariants.{Nothing, Number, Long, Truth, Sequencer, Mission}
 use Rattle.scj_builtins.specs.declared.kinds.RunsInKind.{RunsInKind}
 use Rattle.scj_builtins.specs.declared.kinds.RunsInKind.TheVariants.{Immortal as in_immortal, DefinedOrCaller as in_defined_or_caller, DefinedOrDeclared as in_defined_or_declared, Caller as in_caller}
 
@@ -168,9 +168,12 @@ trace_print = 17
 abbrev pub device_read : ℕ
 device_read = 18
 
+abbrev pub managed_memory_alloc_in_same : ℕ
+managed_memory_alloc_in_same = 19
+
 -- how many they are: the number of the first declared method
 abbrev pub framework_method_count : ℕ
-framework_method_count = 19
+framework_method_count = 20
 
 -- the parameters as a list
 unfoldable pub parameter_list : Parameters → List ParameterKind
@@ -272,6 +275,8 @@ framework_methods =
     Nothing
     ∷ called_on_class trace_print trace (codes "print") (two_parameters text_parameter int_parameter) Nothing
     ∷ called_on_class device_read device (codes "read") (one_parameter int_parameter) Number
+    ∷ called_on_class managed_memory_alloc_in_same managed_memory (codes "allocInSame")
+    (two_parameters object_parameter object_parameter) Truth
     ∷ []
 
 -- the method of a name that a framework class has itself, and its number

@@ -48,6 +48,8 @@ pub enum GivesKind {
     Number,
     /// A `long`.
     Long,
+    /// A `boolean`.
+    Truth,
     /// A mission sequencer.
     Sequencer,
     /// A mission.

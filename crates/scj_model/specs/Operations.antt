@@ -12,14 +12,14 @@ use Rattle.scj_rules.specs.declared.typing.Binding.{Binding}
 use Rattle.scj_rules.specs.declared.typing.Binding.TheVariants.{Local, Field, Static, Class as ClassNamed, Method, StaticMethod}
 use Rattle.scj_rules.specs.declared.views.Body.{Body}
 use Rattle.scj_rules.specs.declared.views.Declared.{Declared}
-use Rattle.scj_rules.specs.Words.{◌>>=◌}
+use Rattle.scj_rules.specs.Words.{holds, ◌>>=◌}
 use Rattle.scj_rules.specs.Views.{variable_at}
 use Rattle.scj_rules.specs.Classes.{is_sub}
 use Rattle.scj_rules.specs.ScopeRules.{defined_by_chain}
 use Rattle.scj_rules.specs.Layout.{kind_of_type, slot_of, static_place, element_kind, literal_written}
 use Rattle.scj_rules.specs.Bodies.{body_named, body_of, constructor_body}
 use Rattle.scj_model.specs.declared.operations.Op.{Op}
-use Rattle.scj_model.specs.declared.operations.Op.TheVariants.{Push as PUSH, This as THIS, Load as LOAD, Get as GET, GetStatic as GETSTATIC, Length as LENGTH, Elem as ELEM, Unary as UNARY, Bin as BIN, And as AND, Or as OR, Alloc as ALLOC, Construct as CONSTRUCT, AllocArray as ALLOCARRAY, Call as CALL, CallStatic as CALLSTATIC, Cast as CAST, Enter as ENTER, ExecuteIn as EXECUTEIN, SetCeiling as SETCEILING, Print as PRINT, Read as READ, Register as REGISTER, Release as RELEASE, Terminate as TERMINATE, Zero as ZERO, Store as STORE, Put as PUT, PutStatic as PUTSTATIC, PutElem as PUTELEM, If as IF, Loop as LOOP, LeaveWith as LEAVEWITH, Leave as LEAVE, Drop as DROP, Init as INIT, Super as SUPER, Params as PARAMS}
+use Rattle.scj_model.specs.declared.operations.Op.TheVariants.{Push as PUSH, This as THIS, Load as LOAD, Get as GET, GetStatic as GETSTATIC, Length as LENGTH, Elem as ELEM, Unary as UNARY, Bin as BIN, And as AND, Or as OR, Alloc as ALLOC, Construct as CONSTRUCT, AllocArray as ALLOCARRAY, Call as CALL, CallStatic as CALLSTATIC, Cast as CAST, Enter as ENTER, ExecuteIn as EXECUTEIN, Same as SAME, SetCeiling as SETCEILING, Print as PRINT, Read as READ, Register as REGISTER, Release as RELEASE, Terminate as TERMINATE, Zero as ZERO, Store as STORE, Put as PUT, PutStatic as PUTSTATIC, PutElem as PUTELEM, If as IF, Loop as LOOP, LeaveWith as LEAVEWITH, Leave as LEAVE, Drop as DROP, Init as INIT, Super as SUPER, Params as PARAMS}
 use Rattle.scj_model.specs.Code.{Code, binding, part}
 use Rattle.scj_model.specs.State.{Object, Frame}
 use Rattle.scj_model.specs.Memory.{literal_value, default_value, new_slots, new_elements, highest_priority}
@@ -286,6 +286,22 @@ execute_in_op code world f id =
     given (world.object_at place) (λ there. with_run code world r (λ o body.
     Calls f (new_frame code body (Some id) (Some r) there.area [])))))))
 
+-- with the area of the object that a value names, and none where it is null
+abbrev pub with_area : Environment → Value → (Option ℕ → Effect) → Effect
+with_area world Null next = next None
+with_area world (At r) next = given (world.object_at r) (λ o. next (Some o.area))
+with_area world _ next = Stuck
+
+-- the two are there and are one
+abbrev pub are_one_area : Option ℕ → Option ℕ → Bool
+are_one_area first second = holds first (λ a. holds second (λ b. a == b))
+
+-- whether two objects lie in one area, and neither is null
+abbrev pub same_op : Environment → Frame → Effect
+same_op world f =
+    pop f (λ second f. pop f (λ first f.
+    with_area world first (λ a. with_area world second (λ b. pushes f (Truth (are_one_area a b))))))
+
 -- ---- the other calls of the framework
 
 -- whether the job may set a ceiling is asked when the effect is done, after the faults of the operands
@@ -378,6 +394,7 @@ effect_of code world f (CALLSTATIC id) = call_static_op code f id
 effect_of code world f (CAST id) = cast_op code world f id
 effect_of code world f (ENTER id) = enter_op code world f id
 effect_of code world f (EXECUTEIN id) = execute_in_op code world f id
+effect_of code world f (SAME id) = same_op world f
 effect_of code world f (SETCEILING id) = set_ceiling_op f
 effect_of code world f (PRINT id) = print_op code f id
 effect_of code world f (READ id) = read_op world f

@@ -2,7 +2,7 @@
 -- calls and constructors: JLS 15.9.4, 15.12.4, 8.8.7, 12.5). One line a kind of node.
 use Rattle.std.specs.Prelude.{ℕ, Bool, true, false, List, [], ◌∷◌, ◌++◌, map, flat_map, slice_get, Option, Some, None, ◌==◌, if◌then◌else◌, option_map}
 use Rattle.scj_base.specs.Vocabulary.{sign_and_and, sign_or_or}
-use Rattle.scj_builtins.specs.Framework.{mission_request_termination, periodic_handler_register, aperiodic_handler_register, aperiodic_handler_release, managed_memory_enter_private_memory, managed_memory_execute_in_area_of, services_set_ceiling, trace_print, device_read}
+use Rattle.scj_builtins.specs.Framework.{mission_request_termination, periodic_handler_register, aperiodic_handler_register, aperiodic_handler_release, managed_memory_enter_private_memory, managed_memory_execute_in_area_of, managed_memory_alloc_in_same, services_set_ceiling, trace_print, device_read}
 use Rattle.scj_tree.specs.declared.nodes.Node.{Node}
 use Rattle.scj_tree.specs.declared.nodes.Node.TheVariants.{Class, Method as MethodNode, Constructor, SuperCall, Block, Local as LocalNode, LocalWithValue, Assign, ExpressionStatement, If, While, For, Return, Binary, Unary, Cast, Parenthesized, SimpleName, FieldAccess, Call, Element, New, NewArray, Number, True, False, Null, This}
 use Rattle.scj_tree.specs.Recursion.{by_smaller}
@@ -20,7 +20,7 @@ use Rattle.scj_rules.specs.Types.{has_form}
 use Rattle.scj_rules.specs.Layout.{fields_with_literal}
 use Rattle.scj_rules.specs.Bodies.{class_node, class_of_body}
 use Rattle.scj_model.specs.declared.operations.Op.{Op}
-use Rattle.scj_model.specs.declared.operations.Op.TheVariants.{Push as PUSH, This as THIS, Load as LOAD, Get as GET, GetStatic as GETSTATIC, Length as LENGTH, Elem as ELEM, Unary as UNARY, Bin as BIN, And as AND, Or as OR, Alloc as ALLOC, Construct as CONSTRUCT, AllocArray as ALLOCARRAY, Call as CALL, CallStatic as CALLSTATIC, Cast as CAST, Enter as ENTER, ExecuteIn as EXECUTEIN, SetCeiling as SETCEILING, Print as PRINT, Read as READ, Register as REGISTER, Release as RELEASE, Terminate as TERMINATE, Zero as ZERO, Store as STORE, Put as PUT, PutStatic as PUTSTATIC, PutElem as PUTELEM, If as IF, Loop as LOOP, LeaveWith as LEAVEWITH, Leave as LEAVE, Drop as DROP, Init as INIT, Super as SUPER, Params as PARAMS}
+use Rattle.scj_model.specs.declared.operations.Op.TheVariants.{Push as PUSH, This as THIS, Load as LOAD, Get as GET, GetStatic as GETSTATIC, Length as LENGTH, Elem as ELEM, Unary as UNARY, Bin as BIN, And as AND, Or as OR, Alloc as ALLOC, Construct as CONSTRUCT, AllocArray as ALLOCARRAY, Call as CALL, CallStatic as CALLSTATIC, Cast as CAST, Enter as ENTER, ExecuteIn as EXECUTEIN, Same as SAME, SetCeiling as SETCEILING, Print as PRINT, Read as READ, Register as REGISTER, Release as RELEASE, Terminate as TERMINATE, Zero as ZERO, Store as STORE, Put as PUT, PutStatic as PUTSTATIC, PutElem as PUTELEM, If as IF, Loop as LOOP, LeaveWith as LEAVEWITH, Leave as LEAVE, Drop as DROP, Init as INIT, Super as SUPER, Params as PARAMS}
 use Rattle.scj_model.specs.Code.{Code, binding, part}
 
 -- in all of this `ops` are the operations of the node's parts
@@ -65,13 +65,14 @@ unfoldable pub builtin_ops : (ℕ → List Op) → ℕ → Option ℕ → List �
 builtin_ops ops id object arguments method =
     if method == managed_memory_enter_private_memory then flat_map ops arguments ++ ENTER id ∷ []
     else (if method == managed_memory_execute_in_area_of then flat_map ops arguments ++ EXECUTEIN id ∷ []
+    else (if method == managed_memory_alloc_in_same then flat_map ops arguments ++ SAME id ∷ []
     else (if method == services_set_ceiling then flat_map ops arguments ++ SETCEILING id ∷ []
     else (if method == trace_print then flat_map ops arguments ++ PRINT id ∷ []
     else (if method == device_read then flat_map ops arguments ++ READ id ∷ []
     else (if method == mission_request_termination then receiver_ops ops id object ++ TERMINATE id ∷ []
     else (if method == aperiodic_handler_release then receiver_ops ops id object ++ RELEASE id ∷ []
     else (if is_among method (periodic_handler_register ∷ aperiodic_handler_register ∷ [])
-    then receiver_ops ops id object ++ REGISTER id ∷ [] else [])))))))
+    then receiver_ops ops id object ++ REGISTER id ∷ [] else []))))))))
 
 unfoldable pub call_ops : (ℕ → List Op) → ℕ → Option ℕ → List ℕ → Binding → List Op
 call_ops ops id object arguments (Method t) = receiver_ops ops id object ++ (flat_map ops arguments ++ CALL id ∷ [])
@@ -246,6 +247,7 @@ node_of (CALLSTATIC id) = Some id
 node_of (CAST id) = Some id
 node_of (ENTER id) = Some id
 node_of (EXECUTEIN id) = Some id
+node_of (SAME id) = Some id
 node_of (SETCEILING id) = Some id
 node_of (PRINT id) = Some id
 node_of (READ id) = Some id

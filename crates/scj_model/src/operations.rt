@@ -43,6 +43,8 @@ pub enum Op {
     Enter(NodeId),
     /// `executeInAreaOf`.
     ExecuteIn(NodeId),
+    /// `allocInSame`.
+    Same(NodeId),
     /// `setCeiling`.
     SetCeiling(NodeId),
     /// `print`.

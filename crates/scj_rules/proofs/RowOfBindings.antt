@@ -105,8 +105,8 @@ small_program_bindings :
     Plain ∷ InstanceField 0 ∷ Plain ∷ Plain ∷ Static 1 ∷ Plain ∷ InstanceField 2 ∷ Plain ∷ Plain ∷ LocalVariable 0
     ∷ Plain ∷ Plain ∷ LocalVariable 0 ∷ LocalVariable 1 ∷ LocalVariable 1 ∷ Plain ∷ InstanceField 0 ∷ Plain
     ∷ Static 1 ∷ Plain ∷ InstanceField 2 ∷ InstanceField 0 ∷ Plain ∷ Plain ∷ Plain ∷ Plain ∷ Plain ∷ Plain ∷ Plain
-    ∷ LocalVariable 0 ∷ Plain ∷ LocalVariable 0 ∷ Plain ∷ Method (on 19 16 true) ∷ LocalVariable 0
-    ∷ StaticMethod (on 20 16 true) ∷ Plain ∷ Plain ∷ Plain ∷ Plain ∷ ClassNamed 0 ∷ Plain ∷ Plain ∷ Plain
+    ∷ LocalVariable 0 ∷ Plain ∷ LocalVariable 0 ∷ Plain ∷ Method (on 20 16 true) ∷ LocalVariable 0
+    ∷ StaticMethod (on 21 16 true) ∷ Plain ∷ Plain ∷ Plain ∷ Plain ∷ ClassNamed 0 ∷ Plain ∷ Plain ∷ Plain
     ∷ InstanceField 3 ∷ Plain ∷ InstanceField 4 ∷ ClassNamed 16 ∷ InstanceField 3 ∷ Plain ∷ Plain ∷ ClassNamed 18
     ∷ Plain ∷ InstanceField 4 ∷ Plain ∷ Plain ∷ ClassNamed 36 ∷ Plain ∷ InstanceField 0 ∷ InstanceField 3 ∷ Length
     ∷ Plain ∷ Plain ∷ InstanceField 4 ∷ Plain ∷ Plain ∷ ClassNamed 16 ∷ LocalVariable 0 ∷ ClassNamed 9 ∷ Plain

@@ -60,8 +60,8 @@ bodies_of_controller :
     body_of p 16 safelet_get_sequencer
     ∷ body_of p 22 periodic_handler_handle_async_event
     ∷ body_of p 21 aperiodic_handler_handle_async_event
-    ∷ body_of p 19 27
-    ∷ body_of p 20 27
+    ∷ body_of p 19 28
+    ∷ body_of p 20 28
     ∷ body_of p 18 mission_clean_up
     ∷ body_of p mission mission_initialize
     ∷ []
@@ -69,14 +69,14 @@ bodies_of_controller :
 unfolding computing_layout
 bodies_of_controller = refl
 
--- Tank's get has the node 112 and the number 27, the framework's methods have no node
+-- Tank's get has the node 112 and the number 28, the framework's methods have no node
 numbers_of_methods :
-    method_node p 27
+    method_node p 28
     ∷ method_node p safelet_get_sequencer
-    ∷ (invoked_method p 19 27 >>= number_of_method p)
+    ∷ (invoked_method p 19 28 >>= number_of_method p)
     ∷ (invoked_method p mission mission_initialize >>= number_of_method p)
     ∷ []
-    ≡ Some 112 ∷ None ∷ Some 27 ∷ Some mission_initialize ∷ []
+    ≡ Some 112 ∷ None ∷ Some 28 ∷ Some mission_initialize ∷ []
 unfolding computing_layout
 numbers_of_methods = refl
 
@@ -138,8 +138,8 @@ classes_of_elements : map (class_of_elements q) (18 ∷ 19 ∷ 36 ∷ 38 ∷ [])
 unfolding computing_layout
 classes_of_elements = refl
 
--- A inherits Q's method g (number 19)
-inherited_body : body_of q 17 19 ≡ Some (written 25)
+-- A inherits Q's method g (number 20)
+inherited_body : body_of q 17 20 ≡ Some (written 25)
 unfolding computing_layout
 inherited_body = refl
 

@@ -3,7 +3,7 @@
 use Rattle.std.specs.Prelude.{ℕ, ◌+◌, nat_lt, Bool, true, false, not, ◌&&◌, ◌||◌, ◌==◌, List, [], ◌∷◌, ◌++◌, length, map, reverse, filter, filter_map, flat_map, find, position, slice_get, Option, Some, None, if◌then◌else◌, is_some, option_map}
 use Rattle.std.specs.List.{list_any}
 use Rattle.scj_builtins.specs.declared.kinds.GivesKind.{GivesKind}
-use Rattle.scj_builtins.specs.declared.kinds.GivesKind.TheVariants.{Nothing, Number, Long, Sequencer, Mission}
+use Rattle.scj_builtins.specs.declared.kinds.GivesKind.TheVariants.{Nothing, Number, Long, Truth, Sequencer, Mission}
 use Rattle.scj_builtins.specs.declared.classes.FrameworkClass.{FrameworkClass}
 use Rattle.scj_builtins.specs.declared.methods.FrameworkMethod.{FrameworkMethod}
 use Rattle.scj_builtins.specs.Framework.{framework_class_count, framework_classes, framework_methods, parameter_list, object_name, runnable_name, mission_name, mission_sequencer_name, object, runnable, safelet, mission, mission_sequencer, periodic_handler, aperiodic_handler}
@@ -19,7 +19,7 @@ use Rattle.scj_builtins.specs.declared.kinds.ParameterKind.{ParameterKind}
 use Rattle.scj_builtins.specs.declared.kinds.ParameterKind.TheVariants.{Int as int_parameter, Object as object_parameter, Runnable as runnable_parameter, Text as text_parameter}
 use Rattle.scj_rules.specs.declared.views.Declared.{Declared}
 use Rattle.scj_rules.specs.declared.views.WrittenType.{WrittenType}
-use Rattle.scj_rules.specs.declared.views.WrittenType.TheVariants.{Class as class_type, Int as int_type, Long as long_type, Text as text_type, Void as void_type}
+use Rattle.scj_rules.specs.declared.views.WrittenType.TheVariants.{Boolean as boolean_type, Class as class_type, Int as int_type, Long as long_type, Text as text_type, Void as void_type}
 use Rattle.scj_rules.specs.declared.typing.FoundField.{FoundField}
 
 -- ---- the numbers of classes: the framework's classes in their order, then the user's in the order of the sources,
@@ -64,6 +64,7 @@ unfoldable pub result_written : GivesKind → WrittenType
 result_written Nothing = void_type
 result_written Number = int_type
 result_written Long = long_type
+result_written Truth = boolean_type
 result_written Sequencer = class_type mission_sequencer_name
 result_written Mission = class_type mission_name
 

@@ -4,7 +4,7 @@ use Rattle.scj_rules.specs.declared.views.Body.{Body}
 use Rattle.scj_rules.specs.declared.views.Body.TheVariants.{Written, Empty}
 use Rattle.accepted_laws.specs.Kinds.{Kind}
 use Rattle.scj_model.specs.declared.operations.Op.{Op}
-use Rattle.scj_model.specs.declared.operations.Op.TheVariants.{Push as PUSH, This as THIS, Load as LOAD, Get as GET, GetStatic as GETSTATIC, Length as LENGTH, Elem as ELEM, Unary as UNARY, Bin as BIN, And as AND, Or as OR, Alloc as ALLOC, Construct as CONSTRUCT, AllocArray as ALLOCARRAY, Call as CALL, CallStatic as CALLSTATIC, Cast as CAST, Enter as ENTER, ExecuteIn as EXECUTEIN, SetCeiling as SETCEILING, Print as PRINT, Read as READ, Register as REGISTER, Release as RELEASE, Terminate as TERMINATE, Zero as ZERO, Store as STORE, Put as PUT, PutStatic as PUTSTATIC, PutElem as PUTELEM, If as IF, Loop as LOOP, LeaveWith as LEAVEWITH, Leave as LEAVE, Drop as DROP, Init as INIT, Super as SUPER, Params as PARAMS}
+use Rattle.scj_model.specs.declared.operations.Op.TheVariants.{Push as PUSH, This as THIS, Load as LOAD, Get as GET, GetStatic as GETSTATIC, Length as LENGTH, Elem as ELEM, Unary as UNARY, Bin as BIN, And as AND, Or as OR, Alloc as ALLOC, Construct as CONSTRUCT, AllocArray as ALLOCARRAY, Call as CALL, CallStatic as CALLSTATIC, Cast as CAST, Enter as ENTER, ExecuteIn as EXECUTEIN, Same as SAME, SetCeiling as SETCEILING, Print as PRINT, Read as READ, Register as REGISTER, Release as RELEASE, Terminate as TERMINATE, Zero as ZERO, Store as STORE, Put as PUT, PutStatic as PUTSTATIC, PutElem as PUTELEM, If as IF, Loop as LOOP, LeaveWith as LEAVEWITH, Leave as LEAVE, Drop as DROP, Init as INIT, Super as SUPER, Params as PARAMS}
 use Rattle.scj_model.specs.Code.{Code}
 use Rattle.scope_flow.specs.Signatures.{Signature}
 use Rattle.scope_flow.specs.Flow.{Goals, Steps, InNode, IfNeeds, LoopNeeds, Needs}
@@ -67,6 +67,7 @@ module _ (next more : Goals) (h : (ks : List ℕ) (s : List Kind) → next ks s 
   needs_more code body c sig (CAST id) ks s r = steps_more _ ks r
   needs_more code body c sig (ENTER id) ks s r = steps_more _ ks r
   needs_more code body c sig (EXECUTEIN id) ks s r = steps_more _ ks r
+  needs_more code body c sig (SAME id) ks s r = steps_more _ ks r
   needs_more code body c sig (SETCEILING id) ks s r = steps_more _ ks r
   needs_more code body c sig (PRINT id) ks s r = steps_more _ ks r
   needs_more code body c sig (READ id) ks s r = steps_more _ ks r

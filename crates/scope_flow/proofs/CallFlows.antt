@@ -9,10 +9,10 @@ use Rattle.scj_rules.specs.declared.typing.Scope.TheVariants.{Any, In}
 use Rattle.scj_rules.specs.declared.typing.Ty.TheVariants.{Class as ClassTy}
 use Rattle.scj_rules.specs.declared.views.Body.TheVariants.{Written}
 use Rattle.scj_rules.specs.Contexts.{known_variables}
-use Rattle.accepted_laws.specs.Kinds.{Kind, number, reference, seen_option}
+use Rattle.accepted_laws.specs.Kinds.{Kind, number, truth, reference, seen_option}
 use Rattle.accepted_laws.specs.Judgements.{Among, Judged}
 use Rattle.scj_model.specs.declared.operations.Op.{Op}
-use Rattle.scj_model.specs.declared.operations.Op.TheVariants.{Call as CALL, CallStatic as CALLSTATIC, Enter as ENTER, ExecuteIn as EXECUTEIN, SetCeiling as SETCEILING, Print as PRINT, Read as READ, Register as REGISTER, Release as RELEASE, Terminate as TERMINATE}
+use Rattle.scj_model.specs.declared.operations.Op.TheVariants.{Call as CALL, CallStatic as CALLSTATIC, Enter as ENTER, ExecuteIn as EXECUTEIN, Same as SAME, SetCeiling as SETCEILING, Print as PRINT, Read as READ, Register as REGISTER, Release as RELEASE, Terminate as TERMINATE}
 use Rattle.scj_model.specs.Code.{Code, binding}
 use Rattle.scj_model.specs.Ops.{receiver_ops, builtin_ops, call_ops}
 use Rattle.scj_model.specs.Operations.{bound_method, bound_static_method, argument_count, first_argument}
@@ -22,7 +22,7 @@ use Rattle.scope_flow.specs.Pushers.{IsGivenBy}
 use Rattle.scope_flow.specs.Needs.{pushed, stacked}
 use Rattle.scope_flow.specs.CallNeeds.{receiver_of}
 use Rattle.scope_flow.specs.ValueFacts.{HaveValues}
-use Rattle.scope_flow.specs.CallFacts.{ReceiverIs, CallFact, StaticCallFact, EnterFact, ExecuteInFact, SetCeilingFact, PrintFact, ReadFact, ReceiverFact, RegisterFact, BuiltinCases, BuiltinFact}
+use Rattle.scope_flow.specs.CallFacts.{ReceiverIs, CallFact, StaticCallFact, EnterFact, ExecuteInFact, SameFact, SetCeilingFact, PrintFact, ReadFact, ReceiverFact, RegisterFact, BuiltinCases, BuiltinFact}
 use Rattle.scope_flow.proofs.Known.{among_self, among_trans}
 use Rattle.scope_flow.proofs.FlowTools.{After, FlowsBelow, value, join2, join3, arguments, as_many, behind_option, own_reference, scope_of_receiver}
 
@@ -196,6 +196,26 @@ module _ (code : Code) (b c : ℕ) (sig : Signature) (id : ℕ) (sub : ℕ → L
         goes = next None r.is_given ms m;
       })
 
+  same_flow : (xs : List ℕ) (method : ℕ) → SameFact code b c id method xs o →
+      F ((flat_map sub xs ++ SAME id ∷ []) ++ os) ls s
+  unfolding pushed
+  same_flow xs method r =
+      with_arguments xs _ r.are (reference r.first_type r.first_scope ∷ (reference r.second_type r.second_scope ∷ []))
+      (r.first_is, (r.second_is, tt)) (SAME id)
+      (λ ms m. record {
+        out = truth ∷ s;
+        needed = record {
+          first_type = r.first_type;
+          first_scope = r.first_scope;
+          second_type = r.second_type;
+          second_scope = r.second_scope;
+          others = s;
+          takes = refl;
+          leaves = refl;
+        };
+        goes = next (Some truth) r.is_given ms m;
+      })
+
   -- a text has no operation
   print_flow : (place : _) (name : List ℕ) (object : Option ℕ) (xs : List ℕ) (method : ℕ) →
       slice_get code.program.nodes id ≡ Some (Call place name object xs) → PrintFact code b c id method xs o →
@@ -291,10 +311,12 @@ module _ (code : Code) (b c : ℕ) (sig : Signature) (id : ℕ) (sub : ℕ → L
       by_method object xs method _ r.0 (terminate_flow object r.1)
   builtin_cases place name object xs method there (inr (inr (inr (inr (inr (inr (inl r))))))) =
       by_method object xs method _ r.0 (release_flow object r.1)
-  builtin_cases place name object xs method there (inr (inr (inr (inr (inr (inr (inr (inl e, r)))))))) =
+  builtin_cases place name object xs method there (inr (inr (inr (inr (inr (inr (inr (inl (inl e, r))))))))) =
       by_method object xs method _ e (register_flow object r)
-  builtin_cases place name object xs method there (inr (inr (inr (inr (inr (inr (inr (inr e, r)))))))) =
+  builtin_cases place name object xs method there (inr (inr (inr (inr (inr (inr (inr (inl (inr e, r))))))))) =
       by_method object xs method _ e (register_flow object r)
+  builtin_cases place name object xs method there (inr (inr (inr (inr (inr (inr (inr (inr r)))))))) =
+      by_method object xs method _ r.is_method (same_flow xs method r)
 
   pub call_flow : (place : _) (name : List ℕ) (object : Option ℕ) (xs : List ℕ) →
       slice_get code.program.nodes id ≡ Some (Call place name object xs) →

@@ -10,7 +10,7 @@ use Rattle.scj_rules.specs.TypeRules.{always_returns}
 use Rattle.accepted_laws.specs.Kinds.{Kind, number, truth, yes, reference, fresh}
 use Rattle.accepted_laws.proofs.Tools.{some_inj}
 use Rattle.scj_model.specs.declared.operations.Op.{Op}
-use Rattle.scj_model.specs.declared.operations.Op.TheVariants.{Push as PUSH, This as THIS, Load as LOAD, Get as GET, GetStatic as GETSTATIC, Length as LENGTH, Elem as ELEM, Unary as UNARY, Bin as BIN, And as AND, Or as OR, Alloc as ALLOC, Construct as CONSTRUCT, AllocArray as ALLOCARRAY, Call as CALL, CallStatic as CALLSTATIC, Cast as CAST, Enter as ENTER, ExecuteIn as EXECUTEIN, SetCeiling as SETCEILING, Print as PRINT, Read as READ, Register as REGISTER, Release as RELEASE, Terminate as TERMINATE, Zero as ZERO, Store as STORE, Put as PUT, PutStatic as PUTSTATIC, PutElem as PUTELEM, If as IF, Loop as LOOP, LeaveWith as LEAVEWITH, Leave as LEAVE, Drop as DROP, Init as INIT, Super as SUPER, Params as PARAMS}
+use Rattle.scj_model.specs.declared.operations.Op.TheVariants.{Push as PUSH, This as THIS, Load as LOAD, Get as GET, GetStatic as GETSTATIC, Length as LENGTH, Elem as ELEM, Unary as UNARY, Bin as BIN, And as AND, Or as OR, Alloc as ALLOC, Construct as CONSTRUCT, AllocArray as ALLOCARRAY, Call as CALL, CallStatic as CALLSTATIC, Cast as CAST, Enter as ENTER, ExecuteIn as EXECUTEIN, Same as SAME, SetCeiling as SETCEILING, Print as PRINT, Read as READ, Register as REGISTER, Release as RELEASE, Terminate as TERMINATE, Zero as ZERO, Store as STORE, Put as PUT, PutStatic as PUTSTATIC, PutElem as PUTELEM, If as IF, Loop as LOOP, LeaveWith as LEAVEWITH, Leave as LEAVE, Drop as DROP, Init as INIT, Super as SUPER, Params as PARAMS}
 use Rattle.scj_model.specs.Code.{Code, part}
 use Rattle.scj_model.specs.Operations.{argument_count, super_count}
 use Rattle.scope_flow.specs.Signatures.{Signature}
@@ -240,6 +240,9 @@ module _ (code : Code) (body : Body) (c : ℕ) (sig : Signature) (ops : List Op)
       steps_stood _ ks r (λ out n. leaves (ENTER id) out 2 (after_two (ENTER id) s st _ _ out n.takes) refl refl)
   needs_stood (EXECUTEIN id) ks s st r =
       steps_stood _ ks r (λ out n. leaves (EXECUTEIN id) out 2 (after_two (EXECUTEIN id) s st _ _ out n.takes) refl refl)
+  needs_stood (SAME id) ks s st r =
+      steps_stood _ ks r (λ out n. puts (SAME id) out n.others 2 truth (expression id) n.leaves
+      (after_two (SAME id) s st _ _ n.others n.takes) refl refl (truth_pushed code body c (SAME id) ops (expression id)))
   needs_stood (SETCEILING id) ks s st r =
       steps_stood _ ks r
       (λ out n. leaves (SETCEILING id) out 2 (after_two (SETCEILING id) s st _ _ out n.takes) refl refl)

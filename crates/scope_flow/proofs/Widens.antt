@@ -9,7 +9,7 @@ use Rattle.scj_rules.specs.Contexts.{Declarations}
 use Rattle.accepted_laws.specs.Kinds.{Kind, truth}
 use Rattle.accepted_laws.specs.Judgements.{Among}
 use Rattle.scj_model.specs.declared.operations.Op.{Op}
-use Rattle.scj_model.specs.declared.operations.Op.TheVariants.{Push as PUSH, This as THIS, Load as LOAD, Get as GET, GetStatic as GETSTATIC, Length as LENGTH, Elem as ELEM, Unary as UNARY, Bin as BIN, And as AND, Or as OR, Alloc as ALLOC, Construct as CONSTRUCT, AllocArray as ALLOCARRAY, Call as CALL, CallStatic as CALLSTATIC, Cast as CAST, Enter as ENTER, ExecuteIn as EXECUTEIN, SetCeiling as SETCEILING, Print as PRINT, Read as READ, Register as REGISTER, Release as RELEASE, Terminate as TERMINATE, Zero as ZERO, Store as STORE, Put as PUT, PutStatic as PUTSTATIC, PutElem as PUTELEM, If as IF, Loop as LOOP, LeaveWith as LEAVEWITH, Leave as LEAVE, Drop as DROP, Init as INIT, Super as SUPER, Params as PARAMS}
+use Rattle.scj_model.specs.declared.operations.Op.TheVariants.{Push as PUSH, This as THIS, Load as LOAD, Get as GET, GetStatic as GETSTATIC, Length as LENGTH, Elem as ELEM, Unary as UNARY, Bin as BIN, And as AND, Or as OR, Alloc as ALLOC, Construct as CONSTRUCT, AllocArray as ALLOCARRAY, Call as CALL, CallStatic as CALLSTATIC, Cast as CAST, Enter as ENTER, ExecuteIn as EXECUTEIN, Same as SAME, SetCeiling as SETCEILING, Print as PRINT, Read as READ, Register as REGISTER, Release as RELEASE, Terminate as TERMINATE, Zero as ZERO, Store as STORE, Put as PUT, PutStatic as PUTSTATIC, PutElem as PUTELEM, If as IF, Loop as LOOP, LeaveWith as LEAVEWITH, Leave as LEAVE, Drop as DROP, Init as INIT, Super as SUPER, Params as PARAMS}
 use Rattle.scj_model.specs.Code.{Code}
 use Rattle.scope_flow.specs.Signatures.{Signature}
 use Rattle.scope_flow.specs.Flow.{Goals, Steps, IfNeeds, LoopNeeds, AreLoopParts, InNode, Needs, Flow}
@@ -133,6 +133,7 @@ needs_widen code body c sig (CALLSTATIC id) next w ks ls s a r = steps_widen _ n
 needs_widen code body c sig (CAST id) next w ks ls s a r = steps_widen _ next w ks ls a r
 needs_widen code body c sig (ENTER id) next w ks ls s a r = steps_widen _ next w ks ls a r
 needs_widen code body c sig (EXECUTEIN id) next w ks ls s a r = steps_widen _ next w ks ls a r
+needs_widen code body c sig (SAME id) next w ks ls s a r = steps_widen _ next w ks ls a r
 needs_widen code body c sig (SETCEILING id) next w ks ls s a r = steps_widen _ next w ks ls a r
 needs_widen code body c sig (PRINT id) next w ks ls s a r = steps_widen _ next w ks ls a r
 needs_widen code body c sig (READ id) next w ks ls s a r = steps_widen _ next w ks ls a r

@@ -1,7 +1,7 @@
 -- What each call of an accepted program has; and all expressions.
 use Rattle.std.specs.Prelude.{◌≡◌, ℕ, ◌<◌, true, false, ◌⊎◌, List, [], ◌∷◌, Option, Some, None, is_some, slice_get}
 use Rattle.scj_base.specs.declared.places.Pos.{Pos}
-use Rattle.scj_builtins.specs.Framework.{mission_request_termination, periodic_handler_register, aperiodic_handler_register, aperiodic_handler_release, managed_memory_enter_private_memory, managed_memory_execute_in_area_of, services_set_ceiling, trace_print, device_read}
+use Rattle.scj_builtins.specs.Framework.{mission_request_termination, periodic_handler_register, aperiodic_handler_register, aperiodic_handler_release, managed_memory_enter_private_memory, managed_memory_execute_in_area_of, managed_memory_alloc_in_same, services_set_ceiling, trace_print, device_read}
 use Rattle.scj_tree.specs.declared.nodes.Node.{Node}
 use Rattle.scj_tree.specs.declared.nodes.Node.TheVariants.{Binary, Unary, Cast, Parenthesized, SimpleName, FieldAccess, Call, Element, New, NewArray, Text, Number, True, False, Null, This as ThisNode}
 use Rattle.scj_rules.specs.declared.typing.Binding.TheVariants.{Method, StaticMethod, Builtin}
@@ -129,6 +129,19 @@ pub record ReadFact (code : Code) (b c id method : ℕ) (arguments : List ℕ) (
   pub port_is : HasValue code.program b c id port (Some number)
   pub is_given : gives ≡ Some number
 
+pub record SameFact (code : Code) (b c id method : ℕ) (arguments : List ℕ) (gives : Option Kind) : Type 0 where
+  pub is_method : method ≡ managed_memory_alloc_in_same
+  pub first : ℕ
+  pub second : ℕ
+  pub are : arguments ≡ first ∷ (second ∷ [])
+  pub first_type : Ty
+  pub first_scope : Scope
+  pub first_is : HasValue code.program b c id first (Some (reference first_type first_scope))
+  pub second_type : Ty
+  pub second_scope : Scope
+  pub second_is : HasValue code.program b c id second (Some (reference second_type second_scope))
+  pub is_given : gives ≡ Some truth
+
 -- on a handler or a mission
 pub record ReceiverFact (code : Code) (b c id : ℕ) (object : Option ℕ) (gives : Option Kind) : Type 0 where
   pub class : ℕ
@@ -154,8 +167,9 @@ BuiltinCases code b c sig id object arguments method gives =
     ⊎ (ReadFact code b c id method arguments gives
     ⊎ (((method ≡ mission_request_termination) × ReceiverFact code b c id object gives)
     ⊎ (((method ≡ aperiodic_handler_release) × ReceiverFact code b c id object gives)
-    ⊎ (((method ≡ periodic_handler_register) ⊎ (method ≡ aperiodic_handler_register))
-    × RegisterFact code b c id object gives)))))))
+    ⊎ ((((method ≡ periodic_handler_register) ⊎ (method ≡ aperiodic_handler_register))
+    × RegisterFact code b c id object gives)
+    ⊎ SameFact code b c id method arguments gives)))))))
 
 pub record BuiltinFact (code : Code) (b c : ℕ) (sig : Signature) (id : ℕ) (object : Option ℕ) (arguments : List ℕ) (gives : Option Kind) : Type 0 where
   pub target : Target

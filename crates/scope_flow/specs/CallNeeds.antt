@@ -13,7 +13,7 @@ use Rattle.scj_rules.specs.Contexts.{Declarations}
 use Rattle.scj_rules.specs.ScopeRules.{parent_scope, is_handler}
 use Rattle.scj_rules.specs.Types.{is_array}
 use Rattle.scj_rules.specs.Bodies.{body_of}
-use Rattle.accepted_laws.specs.Kinds.{Kind, number, reference, seen_option, Fits, AllFit, RunsHere}
+use Rattle.accepted_laws.specs.Kinds.{Kind, number, truth, reference, seen_option, Fits, AllFit, RunsHere}
 use Rattle.scj_model.specs.Code.{Code, binding, part}
 use Rattle.scj_model.specs.Ops.{leaves_value}
 use Rattle.scj_model.specs.Operations.{bound_field, bound_static, bound_class, bound_method, bound_static_method, assigned, argument_count, first_argument}
@@ -123,6 +123,15 @@ pub record ReadNeeds (s out : List Kind) : Type 0 where
   pub others : List Kind
   pub takes : s ≡ number ∷ others
   pub leaves : out ≡ number ∷ others
+
+pub record SameNeeds (s out : List Kind) : Type 0 where
+  pub first_type : Ty
+  pub first_scope : Scope
+  pub second_type : Ty
+  pub second_scope : Scope
+  pub others : List Kind
+  pub takes : s ≡ reference second_type second_scope ∷ (reference first_type first_scope ∷ others)
+  pub leaves : out ≡ truth ∷ others
 
 -- an object of a class is the receiver: of a handler's where it is registered
 pub record ReceiverNeeds (s out : List Kind) : Type 0 where

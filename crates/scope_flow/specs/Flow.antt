@@ -10,13 +10,13 @@ use Rattle.scj_rules.specs.Contexts.{Declarations}
 use Rattle.scj_rules.specs.TypeRules.{always_returns}
 use Rattle.accepted_laws.specs.Kinds.{Kind, truth, yes, Fits}
 use Rattle.scj_model.specs.declared.operations.Op.{Op}
-use Rattle.scj_model.specs.declared.operations.Op.TheVariants.{Push as PUSH, This as THIS, Load as LOAD, Get as GET, GetStatic as GETSTATIC, Length as LENGTH, Elem as ELEM, Unary as UNARY, Bin as BIN, And as AND, Or as OR, Alloc as ALLOC, Construct as CONSTRUCT, AllocArray as ALLOCARRAY, Call as CALL, CallStatic as CALLSTATIC, Cast as CAST, Enter as ENTER, ExecuteIn as EXECUTEIN, SetCeiling as SETCEILING, Print as PRINT, Read as READ, Register as REGISTER, Release as RELEASE, Terminate as TERMINATE, Zero as ZERO, Store as STORE, Put as PUT, PutStatic as PUTSTATIC, PutElem as PUTELEM, If as IF, Loop as LOOP, LeaveWith as LEAVEWITH, Leave as LEAVE, Drop as DROP, Init as INIT, Super as SUPER, Params as PARAMS}
+use Rattle.scj_model.specs.declared.operations.Op.TheVariants.{Push as PUSH, This as THIS, Load as LOAD, Get as GET, GetStatic as GETSTATIC, Length as LENGTH, Elem as ELEM, Unary as UNARY, Bin as BIN, And as AND, Or as OR, Alloc as ALLOC, Construct as CONSTRUCT, AllocArray as ALLOCARRAY, Call as CALL, CallStatic as CALLSTATIC, Cast as CAST, Enter as ENTER, ExecuteIn as EXECUTEIN, Same as SAME, SetCeiling as SETCEILING, Print as PRINT, Read as READ, Register as REGISTER, Release as RELEASE, Terminate as TERMINATE, Zero as ZERO, Store as STORE, Put as PUT, PutStatic as PUTSTATIC, PutElem as PUTELEM, If as IF, Loop as LOOP, LeaveWith as LEAVEWITH, Leave as LEAVE, Drop as DROP, Init as INIT, Super as SUPER, Params as PARAMS}
 use Rattle.scj_model.specs.Code.{Code, binding, part}
 use Rattle.scj_model.specs.Ops.{if_parts}
 use Rattle.scj_model.specs.Operations.{bound_local, assigned}
 use Rattle.scope_flow.specs.Signatures.{Signature}
 use Rattle.scope_flow.specs.Needs.{PushNeeds, ThisNeeds, IsVariable, LoadNeeds, GetNeeds, GetStaticNeeds, LengthNeeds, ElemNeeds, UnaryNeeds, BinNeeds, TakesTruth, IsValuePart, IsStatementPart, IsOptionPart, ShortNeeds, AllocNeeds, ConstructNeeds, SuperNeeds, AllocArrayNeeds, InitNeeds, ParamsNeeds}
-use Rattle.scope_flow.specs.CallNeeds.{CallNeeds, CallStaticNeeds, CastNeeds, EnterNeeds, ExecuteInNeeds, SetCeilingNeeds, PrintNeeds, ReadNeeds, ReceiverNeeds, RegisterNeeds, PutNeeds, PutStaticNeeds, PutElemNeeds, DropNeeds}
+use Rattle.scope_flow.specs.CallNeeds.{CallNeeds, CallStaticNeeds, CastNeeds, EnterNeeds, ExecuteInNeeds, SameNeeds, SetCeilingNeeds, PrintNeeds, ReadNeeds, ReceiverNeeds, RegisterNeeds, PutNeeds, PutStaticNeeds, PutElemNeeds, DropNeeds}
 
 -- ---- the rest of a frame
 
@@ -113,6 +113,7 @@ Needs code body c sig (CALLSTATIC id) ks s next = Steps (CallStaticNeeds code si
 Needs code body c sig (CAST id) ks s next = Steps (CastNeeds code id s) ks next
 Needs code body c sig (ENTER id) ks s next = Steps (EnterNeeds code sig s) ks next
 Needs code body c sig (EXECUTEIN id) ks s next = Steps (ExecuteInNeeds code s) ks next
+Needs code body c sig (SAME id) ks s next = Steps (SameNeeds s) ks next
 Needs code body c sig (SETCEILING id) ks s next = Steps (SetCeilingNeeds s) ks next
 Needs code body c sig (PRINT id) ks s next = Steps (PrintNeeds code id s) ks next
 Needs code body c sig (READ id) ks s next = Steps (ReadNeeds s) ks next

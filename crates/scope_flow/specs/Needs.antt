@@ -11,7 +11,7 @@ use Rattle.scj_rules.specs.declared.typing.Scope.TheVariants.{This, Caller}
 use Rattle.scj_rules.specs.declared.views.Body.{Body}
 use Rattle.scj_rules.specs.declared.views.SlotKind.{SlotKind}
 use Rattle.scj_rules.specs.Words.{is_among, ◌>>=◌}
-use Rattle.scj_rules.specs.Classes.{is_sub}
+use Rattle.scj_rules.specs.Classes.{is_sub, hidden_fields}
 use Rattle.scj_rules.specs.Contexts.{Declarations, known_variables}
 use Rattle.scj_rules.specs.StaticScopes.{this_in}
 use Rattle.scj_rules.specs.Layout.{element_kind, literal_written}
@@ -279,7 +279,7 @@ hidden_count superclass =
 abbrev pub HasHidden : Declarations → ℕ → ℕ → Type 0
 HasHidden p class count =
     (c slot : ℕ) → c < length p.classes → is_sub p.classes c class ≡ true → slot < count →
-    kind_of_slot p c slot ≡ Some number
+    (slot < hidden_fields p.classes c) × (kind_of_slot p c slot ≡ Some number)
 
 pub record ParamsNeeds (code : Code) (body : Body) (class : ℕ) (id : ℕ) (s out : List Kind) : Type 0 where
   pub for_object : runs_for_object code.program body ≡ true

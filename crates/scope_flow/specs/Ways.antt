@@ -4,7 +4,7 @@ use Rattle.std.specs.Prelude.{◌≡◌, ℕ, suc, Bool, true, false, ◌⊎◌,
 use Rattle.scj_rules.specs.declared.views.Body.{Body}
 use Rattle.accepted_laws.specs.Kinds.{Kind}
 use Rattle.scj_model.specs.declared.operations.Op.{Op}
-use Rattle.scj_model.specs.declared.operations.Op.TheVariants.{Push as PUSH, This as THIS, Load as LOAD, Get as GET, GetStatic as GETSTATIC, Length as LENGTH, Elem as ELEM, Unary as UNARY, Bin as BIN, And as AND, Or as OR, Alloc as ALLOC, Construct as CONSTRUCT, AllocArray as ALLOCARRAY, Call as CALL, CallStatic as CALLSTATIC, Cast as CAST, Enter as ENTER, ExecuteIn as EXECUTEIN, SetCeiling as SETCEILING, Print as PRINT, Read as READ, Register as REGISTER, Release as RELEASE, Terminate as TERMINATE, Zero as ZERO, Store as STORE, Put as PUT, PutStatic as PUTSTATIC, PutElem as PUTELEM, If as IF, Loop as LOOP, LeaveWith as LEAVEWITH, Leave as LEAVE, Drop as DROP, Init as INIT, Super as SUPER, Params as PARAMS}
+use Rattle.scj_model.specs.declared.operations.Op.TheVariants.{Push as PUSH, This as THIS, Load as LOAD, Get as GET, GetStatic as GETSTATIC, Length as LENGTH, Elem as ELEM, Unary as UNARY, Bin as BIN, And as AND, Or as OR, Alloc as ALLOC, Construct as CONSTRUCT, AllocArray as ALLOCARRAY, Call as CALL, CallStatic as CALLSTATIC, Cast as CAST, Enter as ENTER, ExecuteIn as EXECUTEIN, Same as SAME, SetCeiling as SETCEILING, Print as PRINT, Read as READ, Register as REGISTER, Release as RELEASE, Terminate as TERMINATE, Zero as ZERO, Store as STORE, Put as PUT, PutStatic as PUTSTATIC, PutElem as PUTELEM, If as IF, Loop as LOOP, LeaveWith as LEAVEWITH, Leave as LEAVE, Drop as DROP, Init as INIT, Super as SUPER, Params as PARAMS}
 use Rattle.scj_model.specs.Code.{Code, binding}
 use Rattle.scj_model.specs.Ops.{body_ops, put_in_front}
 use Rattle.scj_model.specs.Operations.{bound_class, super_count}
@@ -40,6 +40,7 @@ taken_by code (CALLSTATIC id) = super_count code id
 taken_by code (CAST id) = 1
 taken_by code (ENTER id) = 2
 taken_by code (EXECUTEIN id) = 2
+taken_by code (SAME id) = 2
 taken_by code (SETCEILING id) = 2
 taken_by code (PRINT id) = 1
 taken_by code (READ id) = 1
@@ -81,6 +82,7 @@ Pushes (CALL id) given = (given ≡ expression id ∷ []) ⊎ (given ≡ [])
 Pushes (CALLSTATIC id) given = (given ≡ expression id ∷ []) ⊎ (given ≡ [])
 Pushes (CAST id) given = given ≡ expression id ∷ []
 Pushes (READ id) given = given ≡ expression id ∷ []
+Pushes (SAME id) given = given ≡ expression id ∷ []
 Pushes _ given = given ≡ []
 
 -- ---- ways

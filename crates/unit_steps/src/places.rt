@@ -35,6 +35,7 @@ fn node_of(op: Op) -> Option<NodeId>
         Op::Cast(id) => Some(id),
         Op::Enter(id) => Some(id),
         Op::ExecuteIn(id) => Some(id),
+        Op::Same(id) => Some(id),
         Op::SetCeiling(id) => Some(id),
         Op::Print(id) => Some(id),
         Op::Read(id) => Some(id),
