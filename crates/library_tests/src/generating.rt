@@ -1,6 +1,6 @@
-//! The texts of the smallest and of the greatest size, and the sizes that are refused.
+//! The texts of the smallest and of the greatest size.
 
-use source_gen::{GenAnswer, generate};
+use source_gen::generate;
 use std::test::Fail;
 
 /// The FNV-1a hash of a text, by which `expected/make_generated.py` tells it too.
@@ -58,19 +58,6 @@ fn the_greatest_program_has_250_classes(rt: HostRuntime) -> Result<(), Fail> {
     assert_eq!(rt;
         plan.as_slice(),
         b"version = 1\nunits = 50000\nstore = 6448\n".as_slice()
-    );
-    Ok(())
-}
-
-#[test]
-fn other_sizes_are_refused(rt: HostRuntime) -> Result<(), Fail> {
-    assert_eq!(rt;
-        generate(rt.alloc(), 0).err(),
-        Some(GenAnswer::Size { n: 0 })
-    );
-    assert_eq!(rt;
-        generate(rt.alloc(), 251).err(),
-        Some(GenAnswer::Size { n: 251 })
     );
     Ok(())
 }

@@ -1,7 +1,7 @@
-//! What the outside gives and takes, and that each call that takes memory can succeed.
+//! What the outside gives and takes.
 
 use scj_base::Failed;
-use scj_io::{FileShelf, LoadAnswer, MemShelf, MemSink, Shelf, StdSink, put_all};
+use scj_io::{FileShelf, LoadAnswer, Shelf, StdSink, put_all};
 use std::alloc::Global;
 use std::test::Fail;
 use std::{env, fs, process};
@@ -48,39 +48,4 @@ fn a_writer_that_takes_no_more_fails_the_put(rt: HostRuntime) {
     assert_eq!(rt; put_all(&mut sink, b"abc"), Ok(()));
     assert_eq!(rt; put_all(&mut sink, b"defg"), Err(Failed));
     assert_eq!(rt; room, *b"abcde");
-}
-
-#[test]
-fn a_shelf_in_memory_loads_what_was_added_last(rt: HostRuntime) -> Result<(), Fail> {
-    let mut shelf = MemShelf::new(rt.alloc());
-    shelf.add("A", b"first").ok().ok_or("memory")?;
-    shelf.add("B", b"other").ok().ok_or("memory")?;
-    shelf.add("A", b"abc").ok().ok_or("memory")?;
-    shelf.fail_at(2).ok().ok_or("memory")?;
-    let alloc = rt.alloc();
-    assert_eq!(rt; loaded(&mut shelf, alloc, "A", 3), Ok((3, 0x61_62_63)));
-    assert_eq!(rt; loaded(&mut shelf, alloc, "A", 3), Err(LoadAnswer::Failed));
-    assert_eq!(rt;
-        loaded(&mut shelf, alloc, "A", 2),
-        Err(LoadAnswer::TooLong { taken: 3 })
-    );
-    assert_eq!(rt; loaded(&mut shelf, alloc, "C", 3), Err(LoadAnswer::Failed));
-    assert_eq!(rt;
-        loaded(&mut shelf, alloc, "B", 5).map(|found| found.0),
-        Ok(5)
-    );
-    Ok(())
-}
-
-#[test]
-fn a_sink_in_memory_takes_what_fits(rt: HostRuntime) -> Result<(), Fail> {
-    let mut sink = MemSink::with_capacity(rt.alloc(), 5).ok().ok_or("memory")?;
-    sink.fail_at(2).ok().ok_or("memory")?;
-    assert_eq!(rt; put_all(&mut sink, b"abc"), Ok(()));
-    assert_eq!(rt; put_all(&mut sink, b"x"), Err(Failed));
-    assert_eq!(rt; put_all(&mut sink, b"xyz"), Err(Failed));
-    assert_eq!(rt; put_all(&mut sink, b""), Ok(()));
-    assert_eq!(rt; put_all(&mut sink, b"de"), Ok(()));
-    assert!(rt; sink.taken() == b"abcde".as_slice());
-    Ok(())
 }
