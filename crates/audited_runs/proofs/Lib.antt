@@ -11,6 +11,7 @@ pub mod Executing
 pub mod Fitting
 pub mod Following
 pub mod Forms
+pub mod Ints
 pub mod InUnit
 pub mod Leaving
 pub mod Named

@@ -1,5 +1,6 @@
 -- The parts of an event that an audit doesn't look at fit: those that the program and its states bound, and the others.
-use Rattle.std.proofs.Common.{◌≡◌, ◌≤◌, ◌<◌, ◌+◌, ◌^◌, ℕ, zero, suc, true, All, List, [], ◌∷◌, length, sym, subst, arith}
+use Rattle.std.proofs.Common.{◌≡◌, ◌≤◌, ◌<◌, ◌+◌, ◌^◌, ℕ, zero, suc, true, All, FitsSigned, List, [], ◌∷◌, length, ℤ, pos, negsuc, sym, subst, arith}
+use Rattle.std.specs.Int.{w32}
 use Rattle.std.proofs.lemmas.List.Elements.{All-head, All-tail}
 use Rattle.source_nodes.specs.Nodes.{IsPlace}
 use Rattle.std.specs.List.{list_all}
@@ -9,7 +10,7 @@ use Rattle.scj_model.specs.declared.events.Event.{Event}
 use Rattle.scj_model.specs.declared.events.Event.TheVariants as event
 use Rattle.scj_model.specs.TraceText.{file_name, label}
 use Rattle.trace_audit.specs.Parts.{is_file_name}
-use Rattle.audited_runs.specs.Alone.{FitsAlone}
+use Rattle.int_values.specs.Ints.{PrintsInt}
 use Rattle.audited_runs.proofs.proper.Steps.{IsProper}
 use Rattle.trace_audit.specs.Printed.{Has32Bits, Has64Bits, IsHandlerNumber, IsPriorityNumber}
 
@@ -34,15 +35,20 @@ named_file (name ∷ names) zero l h = All-head (λ x. is_file_name x ≡ true) 
 named_file (name ∷ names) (suc n) l h =
     named_file names n (omega (arith, l)) (All-tail (λ x. is_file_name x ≡ true) name names h)
 
+-- a number of 32 bits, as a line has it
+bits_fit : (z : ℤ) → FitsSigned w32 z → Has32Bits z
+bits_fit (pos n) h = let l = h.sfits in omega (arith, l)
+bits_fit (negsuc n) h = let l = h.sfits in omega (arith, l)
+
 -- those that the program and its states bound, and the others, together
 pub parts_fit : (nodes : List Node) (names : List (List ℕ)) (files longest : ℕ) → length names ≡ files →
     All (λ name. is_file_name name ≡ true) names → longest + 1 < 2 ^ 64 → (e : Event) →
-    IsProper nodes (IsPlace files longest) e → FitsAlone e → PartsFit nodes names e
+    IsProper nodes (IsPlace files longest) e → PrintsInt e → PartsFit nodes names e
 parts_fit nodes names files longest many named short (event.Mission unit class) h k = h
 parts_fit nodes names files longest many named short (event.Register unit handler class priority) h k = h
 parts_fit nodes names files longest many named short (event.Lost unit handler) h k = h
 parts_fit nodes names files longest many named short (event.Prio unit handler priority) h k = h
-parts_fit nodes names files longest many named short (event.Print unit text value) h k = (h, k)
+parts_fit nodes names files longest many named short (event.Print unit text value) h k = (h, bits_fit value k)
 parts_fit nodes names files longest many named short (event.Fault unit fault place) h k = (
   named_file names place.file (subst (λ n. place.file < n) (sym many) h.file) named,
   h.first,

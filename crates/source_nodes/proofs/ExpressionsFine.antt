@@ -8,7 +8,8 @@ use Rattle.scj_tree.specs.Expressions.{Level, UnaryRead, Unary1Read, PostRead, A
 use Rattle.scj_tree.specs.Shape.{place_of}
 use Rattle.scj_tree.specs.Nodes.{put}
 use Rattle.source_nodes.specs.Nodes.{HasWords}
-use Rattle.source_nodes.proofs.Fits.{Fine, NodeFits, behind, behind2, behind3, fine_put}
+use Rattle.value_operators.specs.Literals.{HasInt}
+use Rattle.source_nodes.proofs.Fits.{Fine, NodeFits, behind, behind2, behind3, below, fine_put}
 
 -- what is read, and where it stands
 pub record FineAt (Q : Pos → Type 0) (p : Pos) (N : List Node) (o : List Lexeme) : Type 0 where
@@ -20,7 +21,7 @@ at : {Q : Pos → Type 0} {N : List Node} {o : List Lexeme} (p : Pos) (node : No
 at p node h k f = record { fine = fine_put node k f; place = h }
 
 mutual
-  unfolding place_of HasWords
+  unfolding place_of HasWords HasInt
 
   pub level_fine : {Q : Pos → Type 0} {n : ℕ} {N N1 : List Node} {i o : List Lexeme} {id : ℕ} → Level n N i N1 o id →
       Fine Q N i → Fine Q N1 o
@@ -56,8 +57,10 @@ mutual
   post_fine (element_of h d e) f =
       let g = (post_fine d f).fine in
       at _ _ g.lexemes.0 (record { place = g.lexemes.0; words = tt }) (behind (level_fine e (behind g)))
-  post_fine (number h) f = at _ _ f.lexemes.0 (record { place = f.lexemes.0; words = tt }) (behind f)
-  post_fine minimum_number f = at _ _ f.lexemes.0 (record { place = f.lexemes.0; words = tt }) (behind2 f)
+  post_fine (number h) f =
+      at _ _ f.lexemes.0.0 (record { place = f.lexemes.0.0; words = below _ h f.lexemes.0.1 }) (behind f)
+  post_fine minimum_number f =
+      at _ _ f.lexemes.0 (record { place = f.lexemes.0; words = (behind f).lexemes.0.1 }) (behind2 f)
   post_fine true_value f = at _ _ f.lexemes.0 (record { place = f.lexemes.0; words = tt }) (behind f)
   post_fine false_value f = at _ _ f.lexemes.0 (record { place = f.lexemes.0; words = tt }) (behind f)
   post_fine null_value f = at _ _ f.lexemes.0 (record { place = f.lexemes.0; words = tt }) (behind f)

@@ -7,7 +7,8 @@ use Rattle.scj_tree.specs.Lexemes.{Lexeme}
 use Rattle.scj_tree.specs.Grammar.{LiteralRead, number_literal, negative_literal, true_literal, false_literal, null_literal, MemberRead, field, field_with_value, bare_method, method, constructor, constructor_with_super, MembersRead, no_member, one_member_more, ClassRead, class, ClassesRead, no_class, one_class_more}
 use Rattle.scj_tree.specs.Shape.{place_of}
 use Rattle.source_nodes.specs.Nodes.{HasWords}
-use Rattle.source_nodes.proofs.Fits.{Fine, behind, behind2, behind3, fine_flags, fine_put}
+use Rattle.value_operators.specs.Literals.{HasInt}
+use Rattle.source_nodes.proofs.Fits.{Fine, behind, behind2, behind3, below, fine_flags, fine_put}
 use Rattle.scj_tree.specs.Grammar.{Tree, file, file_of_package}
 use Rattle.source_nodes.proofs.HeadersFine.{header_fine, imports_fine, package_fine, parameters_fine, result_fine, row_fine, type_fine}
 use Rattle.source_nodes.proofs.ExpressionsFine.{arguments_fine}
@@ -15,9 +16,11 @@ use Rattle.source_nodes.proofs.StatementsFine.{statements_fine}
 
 literal_fine : {Q : Pos → Type 0} {N N1 : List Node} {i o : List Lexeme} {id : ℕ} → LiteralRead N i N1 o id →
     Fine Q N i → Fine Q N1 o
-unfolding place_of HasWords
-literal_fine (number_literal h) f = fine_put _ (record { place = f.lexemes.0; words = tt }) (behind f)
-literal_fine negative_literal f = fine_put _ (record { place = f.lexemes.0; words = tt }) (behind2 f)
+unfolding place_of HasWords HasInt
+literal_fine (number_literal h) f =
+    fine_put _ (record { place = f.lexemes.0.0; words = below _ h f.lexemes.0.1 }) (behind f)
+literal_fine negative_literal f =
+    fine_put _ (record { place = f.lexemes.0; words = (behind f).lexemes.0.1 }) (behind2 f)
 literal_fine true_literal f = fine_put _ (record { place = f.lexemes.0; words = tt }) (behind f)
 literal_fine false_literal f = fine_put _ (record { place = f.lexemes.0; words = tt }) (behind f)
 literal_fine null_literal f = fine_put _ (record { place = f.lexemes.0; words = tt }) (behind f)

@@ -1,21 +1,22 @@
 -- Nodes and lexemes whose words and places fit.
-use Rattle.std.proofs.Common.{◌≡◌, ℕ, true, List, [], ◌∷◌, ◌⊎◌, inl, inr, Option, Some, None, if◌then◌else◌, Bool, false, refl, subst}
+use Rattle.std.proofs.Common.{◌≡◌, ℕ, ◌≤◌, ◌<◌, true, List, [], ◌∷◌, ◌⊎◌, inl, inr, Option, Some, None, if◌then◌else◌, Bool, false, refl, subst, arith}
 use Rattle.std.specs.Prelude.{slice_get}
+use Rattle.std.proofs.lemmas.Bool.Decides.{nat_tests}
 use Rattle.accepted_laws.proofs.Lists.{get_either}
 use Rattle.scj_base.specs.declared.places.Pos.{Pos}
-use Rattle.scj_base.specs.Lexeme.{AllOf, is_name, is_text_byte}
+use Rattle.scj_base.specs.Lexeme.{AllOf, greatest_number, is_name, is_text_byte}
 use Rattle.scj_tree.specs.declared.nodes.Node.{Node}
 use Rattle.scj_tree.specs.declared.readings.FlagSet.{FlagSet}
 use Rattle.scj_tree.specs.Lexemes.{Lexeme, a_name, a_word, a_number, a_text, a_sign, the_end}
 use Rattle.scj_tree.specs.Nodes.{put}
 use Rattle.scj_tree.specs.Shape.{place_of}
-use Rattle.scj_tree.specs.Terminals.{flags_node, flags_at, has_effect, placed, with_flags}
+use Rattle.scj_tree.specs.Terminals.{flags_node, flags_at, has_effect, is_minimum, placed, with_flags}
 use Rattle.source_nodes.specs.Nodes.{HasWords}
 
 abbrev pub LexemeFits : (Pos → Type 0) → Lexeme → Type 0
 LexemeFits Q (a_name w p) = Q p × (is_name w ≡ true)
 LexemeFits Q (a_word w p) = Q p
-LexemeFits Q (a_number n p) = Q p
+LexemeFits Q (a_number n p) = Q p × (n ≤ greatest_number)
 LexemeFits Q (a_text w p) = Q p × AllOf is_text_byte w
 LexemeFits Q (a_sign n p) = Q p
 LexemeFits Q (the_end p) = Q p
@@ -51,6 +52,10 @@ fine_put {Q} {N} node h f =
     by : (id : ℕ) (x : Node) → (slice_get N id ≡ Some x) ⊎ (node ≡ x) → NodeFits Q x
     by id x (inl e) = f.nodes id x e
     by id x (inr e) = subst (λ y. NodeFits Q y) e h
+
+-- a number without a `-` is smaller than the greatest
+pub below : (n : ℕ) → is_minimum n ≡ false → n ≤ greatest_number → n < greatest_number
+below n e h = grind (arith, nat_tests)
 
 -- ---- flags
 

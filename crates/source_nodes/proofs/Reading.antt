@@ -8,11 +8,13 @@ use Rattle.scj_base.specs.declared.lexemes.TokenKind.{TokenKind}
 use Rattle.scj_base.specs.declared.lexemes.TokenKind.TheVariants.{Name, Word, Number, Text, Sign, End}
 use Rattle.scj_base.specs.Lex.{Lexes, ends, place_at, place_behind, place_behind_byte, skips, takes}
 use Rattle.scj_tree.specs.declared.nodes.Node.{Node}
+use Rattle.scj_tree.specs.declared.nodes.Node.TheVariants as node
 use Rattle.scj_tree.specs.Forest.{Forest, forest_of}
 use Rattle.scj_tree.specs.Lexemes.{Lexeme, lexeme_of, lexemes_of}
 use Rattle.scj_rules.specs.Syntax.{FilesRead, HaveLexemes, Reads, next_file, next_text, no_file, no_text}
 use Rattle.scj_show.proofs.Sources.{AreOfSource, IsOfSource, lexed_of_source, one_more}
-use Rattle.source_nodes.specs.Nodes.{AreShort, IsPlace, NodesFit}
+use Rattle.value_operators.specs.Literals.{HasInt}
+use Rattle.source_nodes.specs.Nodes.{AreShort, HasWords, IsPlace, NodesFit}
 use Rattle.source_nodes.proofs.Fits.{Fine, LexemeFits, LexemesFit, NodeFits}
 use Rattle.source_nodes.proofs.FilesFine.{tree_fine}
 
@@ -85,7 +87,7 @@ one_fits : (Q : Pos → Type 0) (bytes : List ℕ) (t : Token) (kind : TokenKind
 unfolding IsOfSource lexeme_of
 one_fits Q bytes t Name h w = (h, w)
 one_fits Q bytes t (Word n) h w = h
-one_fits Q bytes t (Number n) h w = h
+one_fits Q bytes t (Number n) h w = (h, w)
 one_fits Q bytes t Text h w = (h, w)
 one_fits Q bytes t (Sign n) h w = h
 one_fits Q bytes t End h w = h
@@ -143,3 +145,27 @@ nodes_fit texts forest longest reads short =
       words = λ id node e. (all.are id node e).words;
       places = λ id node e. (all.are id node e).place;
     }
+
+-- ---- the numbers of literals, whatever the texts are
+
+longer : (less more : ℕ) (texts : List (List ℕ)) → less ≤ more → AreShort less texts → AreShort more texts
+longer less more [] l h = tt
+longer less more (text ∷ texts) l h = let s = h.0 in (omega (arith, s, l), longer less more texts l h.1)
+
+some_length : (texts : List (List ℕ)) → (longest : ℕ) × AreShort longest texts
+some_length [] = (0, tt)
+some_length (text ∷ texts) =
+    let rest = some_length texts in
+    (length text + rest.0, (omega arith, longer rest.0 (length text + rest.0) texts (omega arith) rest.1))
+
+an_int : (node : Node) → HasWords node → HasInt node
+unfolding HasWords HasInt
+an_int (node.Number place value true) h = h
+an_int (node.Number place value false) h = h
+an_int _ h = tt
+
+pub numbers_are_ints : (texts : List (List ℕ)) (forest : Forest) → Reads texts forest → (id : ℕ) (node : Node) →
+    slice_get forest.nodes id ≡ Some node → HasInt node
+numbers_are_ints texts forest reads id node e =
+    let some = some_length texts in
+    an_int node ((nodes_fit texts forest some.0 reads some.1).words id node e)

@@ -3,13 +3,15 @@ use Rattle.std.specs.Prelude.{◌≡◌, ◌≤◌, ◌<◌, ℕ, ◌+◌, true,
 use Rattle.scj_base.specs.declared.places.Pos.{Pos}
 use Rattle.scj_base.specs.Lexeme.{AllOf, is_name, is_text_byte}
 use Rattle.scj_tree.specs.declared.nodes.Node.{Node}
-use Rattle.scj_tree.specs.declared.nodes.Node.TheVariants.{Class, Text}
+use Rattle.scj_tree.specs.declared.nodes.Node.TheVariants.{Class, Number, Text}
 use Rattle.scj_tree.specs.Shape.{place_of}
+use Rattle.value_operators.specs.Literals.{HasInt}
 
--- the name of a class is a name, and the bytes of a text may stand between quotes
+-- the name of a class is a name, the bytes of a text may stand between quotes, and a number is an int
 unfoldable pub HasWords : Node → Type 0
 HasWords (Class place name flags header members) = is_name name ≡ true
 HasWords (Text place bytes) = AllOf is_text_byte bytes
+HasWords (Number place value is_negative) = HasInt (Number place value is_negative)
 HasWords _ = Unit {0}
 
 -- a place in one of so many files, of which none has more bytes than this

@@ -11,7 +11,8 @@ ghost use Rattle.scj_model.specs.TraceText.{label};
 ghost use Rattle.source_nodes.specs.Nodes.{AreShort, NodesFit};
 
 /// Of the nodes of a program that was read from texts, each class has a name of the language, each text between quotes
-/// bytes that may stand there, and each node a place in one of the files, on a line from 1 that isn't behind the last.
+/// bytes that may stand there, each number 32 bits, and each node a place in one of the files, on a line from 1 that
+/// isn't behind the last.
 pub fn nodes_have_words_and_places()
     ensures { (texts : List (List ℕ)) (forest : Forest) (longest : ℕ) → Reads texts forest → AreShort longest texts →
         NodesFit forest.nodes (length texts) longest }

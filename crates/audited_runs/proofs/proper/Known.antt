@@ -33,7 +33,7 @@ use Rattle.source_nodes.proofs.ClassNames.{classes_are_named, labels_fit}
 use Rattle.audited_runs.proofs.Accepted.{sound_at, traces_are_audited}
 use Rattle.audited_runs.proofs.Forms.{forms_of}
 use Rattle.audited_runs.proofs.PartsFit.{parts_fit}
-use Rattle.audited_runs.specs.Alone.{FitsAlone}
+use Rattle.audited_runs.proofs.Ints.{trace_fits}
 use Rattle.audited_runs.proofs.proper.Alone.{Placed, few_rows, trace_proper}
 use Rattle.audited_runs.proofs.proper.Lengths.{trace_short}
 use Rattle.audited_runs.proofs.proper.Steps.{IsProper}
@@ -107,13 +107,13 @@ module _ (forest : Forest) (accepted : IsAcceptedProgram forest) (files longest 
         few_rows forest.nodes (IsPlace files longest) code plan spares names (labels_fit forest.nodes files longest fit)
         placed reached
 
-    -- the events have the forms of lines where what is printed has 32 bits
+    -- the events have the forms of lines
     pub all_forms : (file_names : List (List ℕ)) → length file_names ≡ files →
         All (λ name. is_file_name name ≡ true) file_names → longest + 1 < 2 ^ 64 → KeepsLimits plan →
-        All FitsAlone (trace code plan plan.units) → HaveForms forest.nodes file_names (trace code plan plan.units)
-    all_forms file_names many named short keeps alone =
+        HaveForms forest.nodes file_names (trace code plan plan.units)
+    all_forms file_names many named short keeps =
         forms_of forest.nodes file_names plan (trace code plan plan.units) keeps
         (traces_are_audited forest accepted plan)
         (λ k d l. parts_fit forest.nodes file_names files longest many named short (get_or (trace code plan plan.units) k d)
-        (all_proper plan.units k d l) (alone k d l))
+        (all_proper plan.units k d l) (trace_fits forest accepted plan keeps plan.units k d l))
         (trace_short code plan keeps.fires.few few_there keeps.units)

@@ -3,7 +3,7 @@ use Rattle.std.proofs.Common.{◌≡◌, ℕ, ◌==◌, Bool, true, false, List,
 use Rattle.std.specs.Prelude.{flat_map, is_some, slice_get}
 use Rattle.accepted_laws.proofs.Tools.{some_inj}
 use Rattle.scj_base.specs.Vocabulary.{sign_and_and, sign_or_or}
-use Rattle.scj_builtins.specs.Framework.{aperiodic_handler_register, aperiodic_handler_release, device_read, managed_memory_enter_private_memory, managed_memory_execute_in_area_of, mission_request_termination, periodic_handler_register, services_set_ceiling, trace_print}
+use Rattle.scj_builtins.specs.Framework.{aperiodic_handler_register, aperiodic_handler_release, device_read, managed_memory_enter_private_memory, managed_memory_execute_in_area_of, managed_memory_alloc_in_same, mission_request_termination, periodic_handler_register, services_set_ceiling, trace_print}
 use Rattle.scj_tree.specs.declared.nodes.Node.{Node}
 use Rattle.scj_tree.specs.declared.nodes.Node.TheVariants.{SimpleName, FieldAccess, Element}
 use Rattle.scj_rules.specs.declared.typing.Binding.{Binding}
@@ -13,7 +13,7 @@ use Rattle.scj_rules.specs.Classes.{is_user_class}
 use Rattle.scj_rules.specs.Types.{has_form}
 use Rattle.scj_rules.specs.Words.{is_among}
 use Rattle.scj_model.specs.declared.operations.Op.{Op}
-use Rattle.scj_model.specs.declared.operations.Op.TheVariants.{This as THIS, Load as LOAD, Get as GET, GetStatic as GETSTATIC, Length as LENGTH, Bin as BIN, And as AND, Or as OR, Alloc as ALLOC, Construct as CONSTRUCT, Call as CALL, CallStatic as CALLSTATIC, Enter as ENTER, ExecuteIn as EXECUTEIN, SetCeiling as SETCEILING, Print as PRINT, Read as READ, Register as REGISTER, Release as RELEASE, Terminate as TERMINATE, Store as STORE, Put as PUT, PutStatic as PUTSTATIC, PutElem as PUTELEM, LeaveWith as LEAVEWITH, Leave as LEAVE, Super as SUPER, Params as PARAMS}
+use Rattle.scj_model.specs.declared.operations.Op.TheVariants.{This as THIS, Load as LOAD, Get as GET, GetStatic as GETSTATIC, Length as LENGTH, Bin as BIN, And as AND, Or as OR, Alloc as ALLOC, Construct as CONSTRUCT, Call as CALL, CallStatic as CALLSTATIC, Enter as ENTER, ExecuteIn as EXECUTEIN, Same as SAME, SetCeiling as SETCEILING, Print as PRINT, Read as READ, Register as REGISTER, Release as RELEASE, Terminate as TERMINATE, Store as STORE, Put as PUT, PutStatic as PUTSTATIC, PutElem as PUTELEM, LeaveWith as LEAVEWITH, Leave as LEAVE, Super as SUPER, Params as PARAMS}
 use Rattle.scj_model.specs.Code.{Code}
 use Rattle.scj_model.specs.Ops.{access_ops, assign_ops, binary_ops, builtin_ops, call_ops, name_ops, new_ops, node_of, receiver_ops, return_ops, super_ops}
 
@@ -104,13 +104,14 @@ module _ (code : Code) where
     of_builtin object arguments method =
         either (method == managed_memory_enter_private_memory) _ _ (behind_all arguments (ENTER id) refl)
         (either (method == managed_memory_execute_in_area_of) _ _ (behind_all arguments (EXECUTEIN id) refl)
+        (either (method == managed_memory_alloc_in_same) _ _ (behind_all arguments (SAME id) refl)
         (either (method == services_set_ceiling) _ _ (behind_all arguments (SETCEILING id) refl)
         (either (method == trace_print) _ _ (behind_all arguments (PRINT id) refl)
         (either (method == device_read) _ _ (behind_all arguments (READ id) refl)
         (either (method == mission_request_termination) _ _ (on_receiver object (TERMINATE id) refl)
         (either (method == aperiodic_handler_release) _ _ (on_receiver object (RELEASE id) refl)
         (either (is_among method (periodic_handler_register ∷ aperiodic_handler_register ∷ [])) _ _
-        (on_receiver object (REGISTER id) refl) tt)))))))
+        (on_receiver object (REGISTER id) refl) tt))))))))
 
     pub of_call : (object : Option ℕ) (arguments : List ℕ) (b : Binding) → AllStand (call_ops ops id object arguments b)
     unfolding call_ops node_of

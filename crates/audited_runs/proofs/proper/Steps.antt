@@ -1,13 +1,11 @@
 -- Steps whose events have proper parts, as far as the program and its states say, and whose registry is as small as it
 -- may be.
-use Rattle.std.proofs.Common.{◌≡◌, ◌≤◌, Bool, true, false, All, List, [], ◌∷◌, ◌++◌, length, Option, Some, None, if◌then◌else◌, refl, subst}
+use Rattle.std.proofs.Common.{◌≡◌, ◌≤◌, Bool, true, false, All, List, [], ◌∷◌, ◌++◌, length, Option, Some, None, if◌then◌else◌, refl}
 use Rattle.std.specs.Prelude.{option_map}
 use Rattle.std.specs.List.{list_all}
 use Rattle.std.proofs.lemmas.List.Elements.{All-append, All-cons, All-nil}
-use Rattle.accepted_laws.proofs.Tools.{some_inj}
 use Rattle.scj_base.specs.declared.places.Pos.{Pos}
 use Rattle.scj_base.specs.Lexeme.{is_name, is_text_byte}
-use Rattle.scj_rules.specs.Words.{◌>>=◌}
 use Rattle.scj_tree.specs.declared.nodes.Node.{Node}
 use Rattle.scj_model.specs.declared.events.Event.{Event}
 use Rattle.scj_model.specs.declared.events.Event.TheVariants as event
@@ -15,6 +13,7 @@ use Rattle.scj_model.specs.State.{State}
 use Rattle.scj_model.specs.Steps.{Step, silently, telling, then_do, then_try}
 use Rattle.scj_model.specs.TraceText.{label}
 use Rattle.trace_audit.specs.Printed.{IsHandlerNumber, IsPriorityNumber}
+pub use Rattle.int_values.proofs.Steps.{GoodIf, bind_good, either_good, good_if, good_option, mapped_good, nothing_good, some_good}
 
 -- names are names, texts texts, and the numbers of handlers and priorities as large as they may be; F is asked of the
 -- places of faults
@@ -27,41 +26,6 @@ IsProper nodes F (event.Prio unit handler priority) = IsPriorityNumber priority
 IsProper nodes F (event.Print unit text value) = list_all is_text_byte (label nodes text) ≡ true
 IsProper nodes F (event.Fault unit fault place) = F place
 IsProper nodes F e = Unit {0}
-
--- what holds of steps, by the cases in which they are made
-module _ (Q : Step → Type 0) where
-  pub record GoodIf (o : Option Step) : Type 0 where
-    pub is : (x : Step) → o ≡ Some x → Q x
-
-  pub good_if : (b : Bool) (x y : Step) → (b ≡ true → Q x) → (b ≡ false → Q y) → Q (if b then x else y)
-  good_if true x y h k = h refl
-  good_if false x y h k = k refl
-
-  pub good_option : {A : Type 0} (o : Option A) (x : Step) (f : A → Step) → (o ≡ None → Q x) →
-      ((a : A) → o ≡ Some a → Q (f a)) → Q (elim o as (λ _. Step) [ None ↦ x | Some a ↦ f a ])
-  good_option None x f h k = h refl
-  good_option (Some a) x f h k = k a refl
-
-  pub some_good : (x : Step) → Q x → GoodIf (Some x)
-  some_good x h = record { is = λ y e. subst (λ (z : Step). Q z) (some_inj x y e) h }
-
-  pub nothing_good : GoodIf None
-  nothing_good = record { is = λ y e. absurd (cc (e)) }
-
-  pub either_good : (b : Bool) (o p : Option Step) → (b ≡ true → GoodIf o) → (b ≡ false → GoodIf p) →
-      GoodIf (if b then o else p)
-  either_good true o p h k = h refl
-  either_good false o p h k = k refl
-
-  pub bind_good : {A : Type 0} (o : Option A) (f : A → Option Step) → ((a : A) → o ≡ Some a → GoodIf (f a)) →
-      GoodIf (o >>= f)
-  bind_good None f h = nothing_good
-  bind_good (Some a) f h = h a refl
-
-  pub mapped_good : {A : Type 0} (o : Option A) (f : A → Step) → ((a : A) → o ≡ Some a → Q (f a)) →
-      GoodIf (option_map f o)
-  mapped_good None f h = nothing_good
-  mapped_good (Some a) f h = some_good (f a) (h a refl)
 
 module _ (nodes : List Node) (F : Pos → Type 0) where
   pub record Good (x : Step) : Type 0 where

@@ -12,8 +12,8 @@ returns-clause-events c = λ forest accepted plan. traces_are_audited forest acc
 
 pub returns-clause-texts : goal.returns-clause-texts
 returns-clause-texts c =
-    λ texts forest files read accepted plan keeps alone.
+    λ texts forest files read accepted plan keeps.
     audit_of_text forest.nodes files plan (trace (code_of forest) plan plan.units)
     (all_forms forest accepted (length texts) read.longest (nodes_fit texts forest read.longest read.reads read.are_short)
-    plan files read.as_many read.named read.is_small keeps alone)
+    plan files read.as_many read.named read.is_small keeps)
     ∙ traces_are_audited forest accepted plan

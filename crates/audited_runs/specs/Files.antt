@@ -2,11 +2,8 @@
 use Rattle.std.specs.Prelude.{◌≡◌, ◌<◌, ◌+◌, ◌^◌, ℕ, true, All, List, length}
 use Rattle.scj_tree.specs.Forest.{Forest}
 use Rattle.scj_rules.specs.Syntax.{Reads}
-use Rattle.scj_model.specs.declared.events.Event.{Event}
-use Rattle.scj_model.specs.declared.events.Event.TheVariants as event
 use Rattle.source_nodes.specs.Nodes.{AreShort}
 use Rattle.trace_audit.specs.Parts.{is_file_name}
-use Rattle.trace_audit.specs.Printed.{Has32Bits}
 
 -- the program was read from these texts, none of which is so long that the number of a line has more than 64 bits, and
 -- each text has the name of a file
@@ -17,8 +14,3 @@ pub record IsReadFromFiles (texts : List (List ℕ)) (forest : Forest) (files : 
   pub is_small : longest + 1 < 2 ^ 64
   pub as_many : length files ≡ length texts
   pub named : All (λ name. is_file_name name ≡ true) files
-
--- a value that is printed has 32 bits: of all parts of events, neither the audit nor the program's states bound this one
-abbrev pub FitsAlone : Event → Type 0
-FitsAlone (event.Print unit text value) = Has32Bits value
-FitsAlone e = Unit {0}

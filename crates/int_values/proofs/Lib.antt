@@ -1,0 +1,17 @@
+pub mod Applied
+pub mod Begins
+pub mod Changes
+pub mod Effects
+pub mod Kept
+pub mod Known
+pub mod OnCalls
+pub mod OnStores
+pub mod OnValues
+pub mod Operations
+pub mod Operators
+pub mod Phases
+pub mod Readings
+pub mod SmallSteps
+pub mod Steps
+pub mod Taken
+pub mod Turns
