@@ -1,0 +1,6 @@
+pub mod ClosingOrder
+pub mod CountOpen
+pub mod FewOpen
+pub mod NamedObjects
+pub mod OpenLists
+pub mod Operands

@@ -1,0 +1,4 @@
+pub mod Agreeing
+pub mod LiveObjects
+pub mod Looks
+pub mod Reached
