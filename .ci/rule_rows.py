@@ -5,8 +5,7 @@ EDITS = {
     "L2": "scj_lexer/number_one_larger",
     "L3": "scj_lexer/open_comment_as_bad_byte scj_lexer/overlapping_close",
     "L4": "scj_lexer/name_one_shorter",
-    "P1": "parser_steps/place_one_token_late parser_steps/token_skipped scj_parser/stops_are_too_deep "
-    "scj_check/grammar_break_dropped",
+    "P1": "parser_steps/place_one_token_late scj_parser/stops_are_too_deep scj_check/grammar_break_dropped",
     "P2": "scj_parser/deep_at_64 scj_parser/first_node_named "
     "scj_parser/super_call_under_no_block",
     "C1": "class_rules/later_class_has_the_name",
@@ -20,9 +19,8 @@ EDITS = {
     "class_rows/open_names_stay_open",
     "C8": "class_table/safelets_left_out "
     "scj_tree/first_file_left_out",
-    "C9": "node_rules/cast_of_any_class node_rules/mission_argument_noted",
-    "C10": "class_headers/too_many_either_way "
-    "class_rules/forbidden_super_by_another_rule class_headers/interfaces_are_forgotten",
+    "C9": "node_rules/cast_of_any_class",
+    "C10": "class_headers/too_many_either_way class_rules/forbidden_super_by_another_rule",
     "C11": "node_rules/local_at_its_value node_rules/static_class "
     "class_rows/another_name_is_told class_table/runs_are_not_told",
     "K1": "class_rules/last_allowed_class_is_too_many",
@@ -43,7 +41,7 @@ EDITS = {
     "T11": "type_rules/static_class_made",
     "T12": "type_rules/cast_of_any_reference",
     "T13": "program_facts/object_in_static_members",
-    "T14": "type_rules/form_twice_for_storage type_words/largest_size_refused",
+    "T14": "type_words/largest_size_refused",
     "S1": "scope_tree/entered_under_the_parent",
     "S2": "scope_tree/place_of_the_scope",
     "S3": "scope_tree/every_scope_is_on_a_cycle",
@@ -52,7 +50,7 @@ EDITS = {
     "S6": "scope_tree/scope_written_is_missing",
     "A1": "annotation_rules/annotated_variables_passed_over "
     "annotation_rules/contradiction_as_unknown",
-    "A2": "annotation_rules/other_scope_in_a_subclass scope_tree/implied_scope_is_unknown",
+    "A2": "annotation_rules/other_scope_in_a_subclass",
     "A3": "static_scopes/field_may_lie_inside",
     "A4": "static_scopes/field_may_lie_inside",
     "A5": "static_scopes/field_may_lie_inside",

@@ -1,9 +1,9 @@
 #!/usr/bin/env python3
-"""Compares tools/plan and tools/next_step with the tables of calls and of plans.
+"""Compares tools/plan and tools/next_step with the table of calls.
 
-Of each call in the table `reports` of crates/scj_tables that runs a program by a plan, and of each plan in the tests of
-crates/library_tests, the verdict of tools/plan is what the table tells. Of each call of `reports`, and of those below,
-tools/next_step finds words wrong exactly where the status is 2.
+Of each call in the table `reports` of crates/scj_tables that runs a program by a plan the verdict of tools/plan is what
+the table shows. Of each call of `reports`, and of those below, tools/next_step finds words wrong exactly where the status
+is 2.
 """
 import importlib.machinery
 import importlib.util
@@ -123,27 +123,10 @@ def calls():
     return [(*it, *answer) for it, answer in zip(questions, answers)]
 
 
-def library_plans():
-    """The plans of the tests of the library, with what is told of them."""
-    with open(f"{TOP}/crates/library_tests/src/plans.rt", encoding="utf-8") as it:
-        text = it.read()
-    quiet = "version = 1\nunits = 5\nstore = 8\n"
-    fronts = {"WHOLE": "", "VERSIONS": "units = 5\nstore = 8\nversion = ", "UNITS": "version = 1\nstore = 8\nunits = "}
-    fronts |= {"STORES": "version = 1\nunits = 5\nstore = ", "FIRES": quiet + "fire = ", "READINGS": quiet + "reading = "}
-    fronts |= {"SECOND_FIRES": quiet.replace("1", "2", 1) + "fire = "}
-    for name, front in fronts.items():
-        rows = re.search(rf'static {name}: &str = "\\\n(.*?[^\\])";', text, re.S)[1]
-        rows = re.sub(r"\\u\{([0-9a-f]+)\}", lambda it: chr(int(it[1], 16)), rows)
-        rows = rows.replace('\\"', '"').replace("\\r", "\r")
-        for row in rows.split("\n"):
-            wanted, plan = row.split(" | ", 1)
-            yield wanted, (front + plan.replace(";", "\n")).encode()
-
-
 def main():
     plan, next_step = script("plan"), script("next_step")
     wrong, plans, words = [], 0, 0
-    cases = [("plan " + wanted if wanted != "plan" else None, data) for wanted, data in library_plans()]
+    cases = []
     for files, call, is_failing, status, said in calls():
         if is_failing:
             continue

@@ -80,6 +80,10 @@ class ManagedMemory {
     static void enterPrivateMemory(long size, Runnable logic) {}
 
     static void executeInAreaOf(Object object, Runnable logic) {}
+
+    static boolean allocInSame(Object first, Object second) {
+        return false;
+    }
 }
 
 class Services {

@@ -15,7 +15,8 @@ from mending.lexemes import RESERVED
 
 HERE = os.path.dirname(os.path.realpath(__file__))
 NAME = r"[A-Za-z_$][\w$]*"
-AROUND = 60
+# How many lexemes around a place are looked at, how many bytes behind it, and how many digits of a number.
+AROUND, BEHIND, DIGITS = 60, 400, 100
 STATIC = ("Trace", "Device", "Services", "ManagedMemory")
 KNOWN = """Object Runnable Safelet Mission MissionSequencer PeriodicEventHandler AperiodicEventHandler Trace Device Services
 ManagedMemory int boolean void long PriorityParameters PeriodicParameters AperiodicParameters StorageParameters
@@ -42,7 +43,7 @@ def facts_of(finding, source, classes):
     member = here.member if here else None
     facts = {
         "at": here.text if here else "",
-        "rest": source.text[here.at : source.text.find("\n", here.at) if "\n" in source.text[here.at :] else None] if here else "",
+        "rest": source.rest(here.at, BEHIND) if here else "",
         "class": owner.name if owner else "",
         "super": owner.above if owner else "",
         "kind": classes.kind(owner.name) if owner else "",
@@ -94,7 +95,7 @@ def number_facts(text, rest):
     digits = re.sub(r"[_lLfFdD]+$", "", text) if not text.lower().startswith("0x") else text.rstrip("lL")
     digits = digits.replace("_", "")
     for base, form in ((16, r"0[xX][0-9a-fA-F]+"), (2, r"0[bB][01]+"), (8, r"0[0-7]+"), (10, r"[0-9]+")):
-        if re.fullmatch(form, digits):
+        if len(digits) <= DIGITS and re.fullmatch(form, digits):
             found["decimal"] = str(int(digits, base))
             break
     letter = re.match(r"'(\\?.)'", rest)

@@ -2,6 +2,7 @@
 
 A source is read byte by byte as Latin-1, so that a column counts bytes as the checker's does.
 """
+import bisect
 import re
 
 SIGNS = r"\.\.\.|->|::|>>>=|<<=|>>=|>>>|\+\+|--|&&|\|\||<<|>>|[-+*/%&|^=!<>]=|."
@@ -105,6 +106,7 @@ class Source:
     def __init__(self, data):
         self.text = data.decode("latin-1")
         self.lexemes = [Lexeme(it[0], it.start(), it.lastgroup) for it in LEXEME.finditer(self.text) if it.lastgroup != "blank"]
+        self.ends = [it.at + len(it.text) for it in self.lexemes]
         self.begins = [0] + [it.end() for it in re.finditer("\n", self.text)]
         line = 0
         for it in self.lexemes:
@@ -173,11 +175,11 @@ class Source:
         """The number of the lexeme at a place, or of the one behind it; or how many there are."""
         if line > len(self.begins):
             return len(self.lexemes)
-        at = self.begins[line - 1] + column - 1
-        for number, it in enumerate(self.lexemes):
-            if it.at + len(it.text) > at:
-                return number
-        return len(self.lexemes)
+        return bisect.bisect_right(self.ends, self.begins[line - 1] + column - 1)
+
+    def rest(self, at, most):
+        """The bytes of the line from a lexeme on, and no more than so many."""
+        return self.text[at : at + most].partition("\n")[0]
 
     def line(self, line):
         """The bytes of a line, or None where there is none."""

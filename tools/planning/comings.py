@@ -5,6 +5,9 @@ from mending.lexemes import RESERVED, Classes, Source
 from planning.texts import NAME, listed, nearest
 
 
+STEPS = ("++", "--")
+
+
 class Sources:
     """What the lexemes of sources show of classes, registrations and readings of ports."""
 
@@ -81,10 +84,20 @@ class Sources:
     def port(self, words):
         if len(words) == 1 and words[0].isdigit():
             return int(words[0])
-        name = words[-1] if words else ""
-        values = {self.next(at, 2) for at, it in enumerate(self.words) if it == name and self.next(at, 1) == "="}
-        value = values.pop() if len(values) == 1 else ""
-        return int(value) if value.isdigit() and len(words) in (1, 3) else None
+        is_name = len(words) == 1 or len(words) == 3 and words[1] == "."
+        value = self.constant(words[-1]) if is_name else ""
+        return int(value) if value.isdigit() else None
+
+    def constant(self, name):
+        """What a name is given where it is declared, if it is declared once and given nothing else."""
+        declared = [at for at, it in enumerate(self.words) if it == name and self.next(at, -1) in ("int", "long")]
+        given = [at for at, it in enumerate(self.words) if it == name and (self.is_given(at, 1) or self.next(at, -1) in STEPS)]
+        is_constant = len(declared) == 1 and given == declared and self.next(declared[0], 3) in (";", ",")
+        return self.next(declared[0], 2) if is_constant else ""
+
+    def is_given(self, at, step):
+        word = self.next(at, step)
+        return word in STEPS or word.endswith("=") and word not in ("==", "!=", "<=", ">=")
 
     def fire_fault(self, name):
         """Why a fire of a class never releases a handler."""

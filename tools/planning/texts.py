@@ -250,8 +250,11 @@ def rows_fault(key, value, version):
 def verdict(data):
     """What scj says of a text, or None where it is a plan; the number of the row that is wrong, or None; and why."""
     table, why = read_toml(data)
-    if table is None:
-        return "not toml", None, why
+    return ("not toml", None, why) if table is None else verdict_of(table)
+
+
+def verdict_of(table):
+    """The same of the table that a text is."""
     for key in sorted(table, key=str.encode):
         if key in BOUNDS:
             row, why = None, number_fault(table[key], BOUNDS[key])

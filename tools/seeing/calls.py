@@ -26,7 +26,7 @@ def words_of(name, text, sources="*"):
     parser = argparse.ArgumentParser(prog=name, description=text, formatter_class=Help, allow_abbrev=False)
     parser.add_argument("plan", metavar="PLAN", help="the plan of the run, a file of docs/PLAN.md")
     parser.add_argument("trace", metavar="TRACE", help="what `./scj run` printed; - is the standard input")
-    parser.add_argument("sources", metavar="SOURCE", nargs=sources, help="the program's sources, for places and lines")
+    parser.add_argument("sources", metavar="SOURCE", nargs=sources, default=[], help="the program's sources, for places and lines")
     return parser
 
 
