@@ -17,7 +17,7 @@ use scj_builtins::FRAMEWORK_CLASS_COUNT;
 use scj_rules::{Scope, report_if};
 use static_scopes::{
     are_same_scope, has_other_runs_in, has_unknown_runs_in, is_plain, parameter_scope,
-    result_scope, runs_in, scoped_variable, this_in,
+    result_scope, runs_in, scoped_in_member, this_in,
 };
 
 /// Whether a scope and the one above are there and aren't the same, as a class sees them.
@@ -129,7 +129,7 @@ fn note_written(found: &mut Vec<Found>, facts: &Facts, method: &MethodRef) -> Re
     let declared = declared(facts.program(), method);
     let modifiers = declared.modifiers;
     let current = runs_in(facts, method);
-    let thing = scoped_variable(method.on, &current, modifiers.is_static, &declared);
+    let thing = scoped_in_member(false, method.on, &current, modifiers.is_static, &declared);
     note_unknown(found, facts, &thing)?;
     note_override(found, facts, method)?;
     if let Some(written) = &modifiers.runs_in {

@@ -13,8 +13,8 @@ use Rattle.scj_rules.specs.declared.typing.Receiver.{Receiver}
 use Rattle.scj_rules.specs.Words.{broken, found_at, ◌>>=◌}
 use Rattle.scj_rules.specs.Classes.{FoundMethod}
 use Rattle.scj_rules.specs.Contexts.{declarations_of}
-use Rattle.scj_rules.specs.Types.{call_receiver, called_method}
-use Rattle.scj_rules.specs.UseRules.{current_at, receiver_scope, scope_of, scope_of_call, method_called, misfit_arguments, misfits_call, e3_of_call, e3_of_constructor, e1, e2, e3, e4_and_e5, e6, e7, e8, e9, e10, use_breaks}
+use Rattle.scj_rules.specs.Types.{call_receiver, called_method, method_called}
+use Rattle.scj_rules.specs.UseRules.{current_at, receiver_scope, scope_of, scope_of_call, misfit_arguments, misfits_call, e3_of_call, e3_of_constructor, e1, e2, e3, e4_and_e5, e6, e7, e8, e9, e10, use_breaks}
 use Rattle.runs_in_check.specs.declared.calls.Callee.{Callee}
 use Rattle.runs_in_check.specs.declared.calls.Callee.TheVariants.{Method, Constructor}
 use Rattle.program_facts.specs.declared.told.At.{At}

@@ -1,3 +1,5 @@
 pub mod CallLemmas
 pub mod NodeLemmas
+pub mod ParentRows
 pub mod UsesBelow
+pub mod Walks

@@ -5,7 +5,8 @@ ghost use Rattle.scj_tree.specs.declared.nodes.Node.TheVariants.{Call};
 ghost use Rattle.scj_base.specs.declared.findings.Rule.TheVariants.{E2};
 ghost use Rattle.scj_rules.specs.Words.{broken, holds};
 ghost use Rattle.scj_rules.specs.Contexts.{declarations_of};
-ghost use Rattle.scj_rules.specs.UseRules.{current_at, receiver_scope, method_called, misfits_call, e3_of_call, run_of, isnt_in_parent, misfits_enter, misfits_execute, scope_of, use_breaks};
+ghost use Rattle.scj_rules.specs.Types.{called_builtin, method_called};
+ghost use Rattle.scj_rules.specs.UseRules.{current_at, receiver_scope, misfits_call, e3_of_call, run_of, isnt_in_parent, misfits_enter, misfits_execute, scope_of, use_breaks};
 ghost use Rattle.method_rows.specs.Methods.{found_method};
 ghost use Rattle.program_facts.specs.Told.{declared, types, scopes};
 ghost use Rattle.runs_in_check.specs.Phase.{parameters_of, seen_scope, argument_breaks, e3_of, entry_breaks};
@@ -119,7 +120,10 @@ fn misfits_call(at: &At<'_>, object: &Option<NodeId>, method: &MethodRef) -> boo
         Some(scope) => match scope {
             Scope::Caller => false,
             Scope::This => misfit_scope(&receiver_scope(at, object), &current_at(facts, at.id)),
-            Scope::Any | Scope::In(_) => is_other(&current_at(facts, at.id), scope),
+            Scope::Any | Scope::In(_) | Scope::Unknown | Scope::Lost => is_other(
+                &current_at(facts, at.id),
+                scope,
+            ),
         },
         None => false,
     }
@@ -250,6 +254,16 @@ fn method_called(at: &At<'_>, name: &Name, object: &Option<NodeId>) -> Option<Me
     let _types: &[Option<Ty>] = at.types;
     let receiver = names::call_receiver(at, object)?;
     names::method_called(at, &receiver, name)
+}
+
+/// The number of the framework's method that a call invokes, if it invokes one.
+pub fn called_builtin(at: &At<'_>, name: &Name, object: &Option<NodeId>) -> Option<MethodId>
+    ensures { result ≡ called_builtin (declared at.now) (types at.now) at.now.id object.now name.now }
+{
+    let Some(method) = method_called(at, name, object) else {
+        return None;
+    };
+    builtin(&method)
 }
 
 /// Notes what is broken at a call, E2 and E3 of a user's method and E7 and E8 of one of the framework's, and tells the

@@ -11,9 +11,11 @@ ghost use Rattle.scj_rules.specs.TypeRules.{types_in};
 ghost use Rattle.scj_rules.specs.AnnotationRules.{annotation_breaks};
 ghost use Rattle.scj_rules.specs.UseRules.{scope_of, scope_of_next, use_breaks};
 ghost use Rattle.program_facts.specs.Told.{declared, types, scopes};
+ghost use Rattle.runs_in_check.specs.Guards.{AreGuards};
 ghost use Rattle.runs_in_check.specs.Phase.{is_plain, is_asked, breaks_at};
 
 use crate::calls::note_call;
+use crate::guards::{Guards, guards_of};
 use crate::nodes::{
     misfits_array, misfits_local, misfits_result, note_assign, note_cast, note_new, note_super_call,
 };
@@ -33,8 +35,14 @@ use type_words::is_reference;
 
 /// Notes what is broken at a node, and tells its scope.
 #[tactic(auto, unfolding(program_facts::specs::Meanings::simply_named, scj_rules::specs::AnnotationRules::annotation_breaks, scj_rules::specs::AnnotationRules::a1, scj_rules::specs::AnnotationRules::a2, scj_rules::specs::AnnotationRules::a3_to_a5, scj_rules::specs::AnnotationRules::a6_to_a8, scj_rules::specs::AnnotationRules::a9, scj_rules::specs::AnnotationRules::scoped_declaration_at, scj_rules::specs::UseRules::scope_of, scj_rules::specs::UseRules::use_breaks, scj_rules::specs::UseRules::e1, scj_rules::specs::UseRules::e2, scj_rules::specs::UseRules::e3, scj_rules::specs::UseRules::e4_and_e5, scj_rules::specs::UseRules::e6, scj_rules::specs::UseRules::e7, scj_rules::specs::UseRules::e8, scj_rules::specs::UseRules::e9, scj_rules::specs::UseRules::e10))]
-fn judge(found: &mut Vec<Found>, at: &At<'_>, node: &Node) -> Result<Option<Scope>, Memory>
-    requires { slice_get at.now.facts.now.nodes at.now.id ≡ Some node.now }
+fn judge(
+    found: &mut Vec<Found>,
+    at: &At<'_>,
+    guards: &Guards,
+    node: &Node,
+) -> Result<Option<Scope>, Memory>
+    requires guards { AreGuards (declared at.now) (types at.now) guards.now }
+    requires there { slice_get at.now.facts.now.nodes at.now.id ≡ Some node.now }
     ensures scope { IfOk result (λ scope. scope
         ≡ scope_of (declared at.now) (types at.now) (scopes at.now) at.now.id node.now) }
     ensures found { OnOk result (found.new.items ≡ found.old.items
@@ -49,7 +57,7 @@ fn judge(found: &mut Vec<Found>, at: &At<'_>, node: &Node) -> Result<Option<Scop
             target,
             value,
         } => {
-            note_assign(found, at, *place, *target, *value)?;
+            note_assign(found, at, guards, *place, *target, *value)?;
             Ok(None)
         }
         Node::Class { .. }
@@ -141,9 +149,11 @@ fn next_scope<'a>(
     facts: &'a Facts<'a>,
     types: &'a [Option<Ty>],
     scopes: &'a [Option<Scope>],
+    guards: &Guards,
     id: NodeId,
 ) -> Result<Option<Scope>, Memory>
-    requires { types.now ≡ types_in (declarations_of facts.now) }
+    requires types { types.now ≡ types_in (declarations_of facts.now) }
+    requires guards { AreGuards (declarations_of facts.now) (lookup None types.now) guards.now }
     ensures scope { IfOk result (λ scope. scope
         ≡ scope_of_next (declarations_of facts.now) (lookup None types.now) id (lookup None scopes.now)) }
     ensures found { OnOk result (found.new.items ≡ found.old.items
@@ -162,7 +172,7 @@ fn next_scope<'a>(
         scopes,
         id,
     };
-    let scope = judge(found, &at, node)?;
+    let scope = judge(found, &at, guards, node)?;
     Ok(scope)
 }
 
@@ -178,11 +188,12 @@ pub fn check_uses<'a>(
     ensures { IfOk result (λ found. IsReport (BreaksUseRules facts.now) found.items) }
 {
     let program = facts.program();
+    let guards = guards_of(alloc, facts, types)?;
     let mut scopes = Vec::with_capacity(alloc, program.len())?;
     let mut found = Vec::new(alloc);
     for place in 0..program.len() {
         let id = NodeId::at(place as u32);
-        let scope = next_scope(&mut found, &*facts, &*types, &scopes, id)?;
+        let scope = next_scope(&mut found, &*facts, &*types, &scopes, &guards, id)?;
         scopes.push(scope)?;
     }
     put_in_order(&mut found);

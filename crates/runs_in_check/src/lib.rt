@@ -3,7 +3,11 @@
 
 mod calls;
 mod checks;
+mod guards;
 mod nodes;
+mod parents;
 mod scopes;
+mod stores;
+mod subjects;
 
 pub use checks::check_uses;

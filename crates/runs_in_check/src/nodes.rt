@@ -1,6 +1,6 @@
 //! What breaks the rules on uses at a node that is no call: E1, E3 to E6, E9 and E10.
 
-ghost use Rattle.std.specs.Prelude.{◌≡◌, ◌++◌, IfOk, OnOk, option_and_then};
+ghost use Rattle.std.specs.Prelude.{◌≡◌, ◌++◌, ◌&&◌, not, IfOk, OnOk, option_and_then};
 ghost use Rattle.scj_base.specs.declared.findings.Rule.TheVariants.{E1, E9};
 ghost use Rattle.scj_rules.specs.Definitions.{read};
 ghost use Rattle.scj_rules.specs.Words.{broken, found_at, holds};
@@ -8,10 +8,14 @@ ghost use Rattle.scj_rules.specs.Classes.{class_number};
 ghost use Rattle.scj_rules.specs.Contexts.{declarations_of};
 ghost use Rattle.scj_rules.specs.TypeRules.{written_type, superclass_at};
 ghost use Rattle.scj_rules.specs.UseRules.{this_at, scope_in_class, scope_of_new, misfits_new, lies_elsewhere, e3_of_constructor, misfit_scope, variable_scope_at, target_rule, result_scope_at, misfits_cast, lies_outside, isnt_around_current, misfits_element};
-ghost use Rattle.program_facts.specs.Told.{declared, scopes};
+ghost use Rattle.scj_rules.specs.Guards.{is_guarded_store};
+ghost use Rattle.program_facts.specs.Told.{declared, types, scopes};
+ghost use Rattle.runs_in_check.specs.Guards.{AreGuards};
 
 use crate::calls::{Callee, note_arguments};
+use crate::guards::Guards;
 use crate::scopes::{is_other, misfit_scope, scope_in_class, scope_of_new};
+use crate::stores::is_guarded_store;
 use program_facts::{At, Facts, NameMeaning};
 use scj_base::{ClassId, Found, Memory, Name, NodeId, Pos, Rule, ScopeId};
 use scj_rules::{ClassScope, Scope, Ty, report_if};
@@ -26,7 +30,7 @@ fn lies_elsewhere(facts: &Facts<'_>, id: NodeId, class: ClassId) -> bool
 {
     match class_scope(facts, class) {
         ClassScope::Annotated(scope) => is_other(&current_at(facts, id), &Scope::In(scope)),
-        ClassScope::Unannotated | ClassScope::Unknown => false,
+        ClassScope::Unannotated | ClassScope::Missing => false,
     }
 }
 
@@ -97,20 +101,32 @@ fn misfits_target(at: &At<'_>, value: NodeId, target: NodeId) -> bool
     value.is_some() && misfit_scope(&value, &at.scope_of(target))
 }
 
-/// Notes E4 or E5 at an assignment.
+/// Whether a value's scope doesn't fit that of what it is assigned to, and no guard allows the store.
+fn misfits_assign(at: &At<'_>, guards: &Guards, target: NodeId, value: NodeId) -> bool
+    requires { AreGuards (declared at.now) (types at.now) guards.now }
+    ensures { result ≡ (misfit_scope (scopes at.now value) (scopes at.now target)
+        && not (is_guarded_store (declared at.now) (types at.now) at.now.id target value)) }
+{
+    misfits_target(at, value, target) && !is_guarded_store(at, guards, target, value)
+}
+
+/// Notes E4 or E5 at an assignment, unless it is a store that a guard allows.
 #[tactic(auto, using(crate::proofs::CallLemmas::right_assign))]
 pub fn note_assign(
     found: &mut Vec<Found>,
     at: &At<'_>,
+    guards: &Guards,
     place: Pos,
     target: NodeId,
     value: NodeId,
 ) -> Result<(), Memory>
+    requires { AreGuards (declared at.now) (types at.now) guards.now }
     ensures { let p = declared at.now in OnOk result (found.new.items ≡ found.old.items
         ++ found_at (read p.nodes (target_rule p target) target)
-        (λ rule. broken (misfit_scope (scopes at.now value) (scopes at.now target)) rule place)) }
+        (λ rule. broken (misfit_scope (scopes at.now value) (scopes at.now target)
+        && not (is_guarded_store p (types at.now) at.now.id target value)) rule place)) }
 {
-    if !misfits_target(at, value, target) {
+    if !misfits_assign(at, guards, target, value) {
         return Ok(());
     }
     match target_rule(at.facts, target) {
@@ -154,7 +170,7 @@ fn lies_outside(facts: &Facts<'_>, operand: &Option<Scope>, class: ClassId) -> b
 {
     match class_scope(facts, class) {
         ClassScope::Annotated(scope) => misfit_scope(operand, &Some(Scope::In(scope))),
-        ClassScope::Unannotated | ClassScope::Unknown => false,
+        ClassScope::Unannotated | ClassScope::Missing => false,
     }
 }
 
@@ -201,7 +217,7 @@ pub fn misfits_array(at: &At<'_>, element: NodeId) -> bool
     match &names::written_type(facts, element) {
         Some(Ty::Class(class)) => match class_scope(facts, *class) {
             ClassScope::Annotated(scope) => isnt_around_current(facts, at.id, scope),
-            ClassScope::Unannotated | ClassScope::Unknown => false,
+            ClassScope::Unannotated | ClassScope::Missing => false,
         },
         _ => false,
     }

@@ -19,8 +19,8 @@ use scj_base::{ClassId, Name, NodeId};
 use scj_rules::{Scope, Ty};
 use scope_tree::scopes::class_scope;
 use static_scopes::{
-    are_same_scope, current_at, field_scope, fits, result_scope, scope_or, substitute, this_at,
-    variable_scope,
+    are_same_scope, beside, current_at, field_scope, fits, result_scope, scope_or, substitute,
+    this_at, variable_scope,
 };
 use type_rules::names;
 
@@ -121,7 +121,11 @@ pub fn scope_of_element(at: &At<'_>, array: NodeId) -> Option<Scope>
     ensures { result ≡ option_and_then (scope_of_element (declared at.now) (scopes at.now array)) (types at.now array) }
 {
     match &at.type_of(array) {
-        Some(Ty::ClassArray(class)) => scope_in_class(at.facts, *class, &at.scope_of(array)),
+        Some(Ty::ClassArray(class)) => scope_in_class(
+            at.facts,
+            *class,
+            &beside(&at.scope_of(array)),
+        ),
         _ => None,
     }
 }

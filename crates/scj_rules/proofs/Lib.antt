@@ -12,6 +12,7 @@ pub mod ReportsLemmas
 pub mod RowOfBindings
 pub mod RowOfUse
 pub mod RowsOfClasses
+pub mod RowsOfGuards
 pub mod RowsOfLayout
 pub mod RowsOfScopes
 pub mod RuleNumbers

@@ -1,7 +1,7 @@
 -- Layout and bodies of small programs: a whole controller, a class under another with arrays and a static field, and
 -- fields with literals.
 use Rattle.std.proofs.Common.{◌≡◌, ℕ, [], ◌∷◌, refl, Some, None, codes, true, false}
-use Rattle.std.specs.Prelude.{length, map}
+use Rattle.std.specs.Prelude.{map}
 use Rattle.scj_base.specs.declared.places.Pos.{Pos}
 use Rattle.scj_tree.specs.declared.nodes.Node.TheVariants.{Class, Field, Flags, IntType, BooleanType, Number as NumberNode, True}
 use Rattle.scj_tree.specs.Forest.{Forest}
@@ -12,7 +12,7 @@ use Rattle.scj_rules.specs.Words.{◌>>=◌}
 use Rattle.scj_rules.specs.Contexts.{Declarations, declarations_of}
 use Rattle.scj_rules.specs.Layout.{kind_of_type, declared_fields, field_kind, literal_written, field_literal, slots, slot_of, fields_with_literal, declaring_class, size_with_slots, element_kind, class_of_elements, static_fields, static_place, place_of_field}
 use Rattle.scj_rules.specs.declared.views.Body.TheVariants.{Written as written, Empty as empty}
-use Rattle.scj_rules.specs.Bodies.{method_node, method_name, number_of_method, body_of_method, body_named, invoked_method, body_of, class_node, class_of_body, constructor_body, locals, is_synchronized_body, number_literal, number_returned, size_constant, declared_size, size_of, safelet_class, class_place}
+use Rattle.scj_rules.specs.Bodies.{method_node, method_name, number_of_method, body_of_method, body_named, invoked_method, body_of, class_of_body, constructor_body, locals, is_synchronized_body, number_literal, number_returned, size_constant, declared_size, size_of, safelet_class, class_place}
 use Rattle.scj_rules.proofs.Computing.{computing}
 use Rattle.scj_rules.proofs.RowOfUse.{controller}
 use Rattle.scj_rules.proofs.RowOfBindings.{small_program}

@@ -1,6 +1,6 @@
 -- What each node of a well-typed program stands for: what its name, access, call, `new` or cast means where it is
 -- typed.
-use Rattle.std.specs.Prelude.{ℕ, ◌+◌, not, ◌&&◌, ◌==◌, List, [], ◌∷◌, length, position, slice_get, Option, Some, None, if◌then◌else◌, option_map, option_and_then, unwrap_or}
+use Rattle.std.specs.Prelude.{ℕ, ◌+◌, not, ◌==◌, List, [], ◌∷◌, length, position, slice_get, Option, Some, None, if◌then◌else◌, option_map, unwrap_or}
 use Rattle.scj_builtins.specs.Framework.{managed_memory}
 use Rattle.scj_tree.specs.declared.nodes.Node.{Node}
 use Rattle.scj_tree.specs.declared.nodes.Node.TheVariants.{Class, Field, Constructor, Parameter, SuperCall, Local, LocalWithValue, Cast, SimpleName, FieldAccess, Call, New, NewArray}

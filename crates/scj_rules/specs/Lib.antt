@@ -7,6 +7,7 @@ pub mod ClassRules
 pub mod Classes
 pub mod Contexts
 pub mod Definitions
+pub mod Guards
 pub mod Layout
 pub mod LimitRules
 pub mod Phases

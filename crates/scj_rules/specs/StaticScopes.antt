@@ -1,6 +1,6 @@
 -- Static scopes: of classes, of methods, and of variables, fields and results, each in normal form (JSR 302: @Scope,
 -- @RunsIn; the rules are this project's profile). What breaks a rule on annotations has no scope.
-use Rattle.std.specs.Prelude.{ℕ, Bool, true, false, not, ◌&&◌, ◌||◌, ◌==◌, List, [], ◌∷◌, slice_get, Option, Some, None, if◌then◌else◌, is_some, option_map, option_and_then, codes}
+use Rattle.std.specs.Prelude.{ℕ, Bool, true, false, not, ◌&&◌, ◌||◌, ◌==◌, List, [], ◌∷◌, slice_get, Option, Some, None, if◌then◌else◌, is_some, option_map, codes}
 use Rattle.std.specs.List.{list_any}
 use Rattle.scj_builtins.specs.declared.kinds.RunsInKind.{RunsInKind}
 use Rattle.scj_builtins.specs.declared.kinds.RunsInKind.TheVariants.{Immortal as in_immortal, DefinedOrCaller as in_defined_or_caller, DefinedOrDeclared as in_defined_or_declared, Caller as in_caller}
@@ -8,7 +8,7 @@ use Rattle.scj_builtins.specs.declared.methods.FrameworkMethod.{FrameworkMethod}
 use Rattle.scj_builtins.specs.Framework.{framework_methods, mission, mission_sequencer, safelet}
 use Rattle.scj_rules.specs.declared.scopes.Written.{Written}
 use Rattle.scj_rules.specs.declared.typing.Scope.{Scope}
-use Rattle.scj_rules.specs.declared.typing.Scope.TheVariants.{Any, This, Caller, In}
+use Rattle.scj_rules.specs.declared.typing.Scope.TheVariants.{Any, This, Caller, In, Unknown, Lost}
 use Rattle.scj_base.specs.Bytes.{is_same}
 use Rattle.scj_rules.specs.Words.{is_among, holds, ◌>>=◌}
 use Rattle.scj_rules.specs.Views.{DeclaredMethod, method_at}
@@ -20,7 +20,7 @@ use Rattle.scj_rules.specs.declared.views.Declared.{Declared}
 use Rattle.scj_rules.specs.declared.views.WrittenType.{WrittenType}
 use Rattle.scj_rules.specs.declared.views.WrittenType.TheVariants.{Boolean as boolean_type, Int as int_type, Long as long_type, Text as text_type, Void as void_type}
 use Rattle.scj_rules.specs.declared.scopes.ClassScope.{ClassScope}
-use Rattle.scj_rules.specs.declared.scopes.ClassScope.TheVariants.{Unannotated as unannotated, Annotated as annotated, Unknown as unknown}
+use Rattle.scj_rules.specs.declared.scopes.ClassScope.TheVariants.{Unannotated as unannotated, Annotated as annotated, Missing as scopeless}
 use Rattle.scj_rules.specs.declared.scopes.Resolution.{Resolution}
 use Rattle.scj_rules.specs.declared.scopes.Resolution.TheVariants.{Resolved as resolved, Missing as missing, Unresolved as unresolved}
 use Rattle.scj_rules.specs.declared.scopes.ScopedDeclaration.{ScopedDeclaration}
@@ -30,17 +30,28 @@ are_same_scope Any Any = true
 are_same_scope This This = true
 are_same_scope Caller Caller = true
 are_same_scope (In a) (In b) = a == b
+are_same_scope Unknown Unknown = true
+are_same_scope Lost Lost = true
 are_same_scope _ _ = false
 
--- a reference to an object in scope s may be stored where one to an object in scope t is expected. `null` fits anywhere
+-- a reference to an object in scope s may be stored where one to an object in scope t is expected. `null` fits anywhere,
+-- and where nothing is asked of the scope each one fits. Two objects of a lost scope needn't lie in one area, so such a
+-- scope is fitted by `null` alone
 unfoldable pub fits : Scope → Scope → Bool
 fits Any t = true
 fits s Any = true
+fits s Unknown = true
+fits s Lost = false
 fits s t = are_same_scope s t
 
--- a callee's scope as its caller sees it: `receiver` for THIS, and `current` for CALLER
+-- the scope of what lies where an object of this scope does: it is lost where nothing is known of the object
+unfoldable pub beside : Scope → Scope
+beside Unknown = Lost
+beside s = s
+
+-- a callee's scope as its caller sees it: that of the receiver's area for THIS, and `current` for CALLER
 unfoldable pub substitute : Option Scope → Option Scope → Scope → Option Scope
-substitute receiver current This = receiver
+substitute receiver current This = option_map beside receiver
 substitute receiver current Caller = current
 substitute receiver current s = Some s
 
@@ -49,6 +60,9 @@ this_name = codes "THIS"
 
 abbrev pub caller_name : List ℕ
 caller_name = codes "CALLER"
+
+abbrev pub unknown_name : List ℕ
+unknown_name = codes "UNKNOWN"
 
 -- ---- scopes of classes
 
@@ -84,7 +98,7 @@ differs_from_above p None _ implied = false
 -- the scope of a class that breaks neither A1 nor A2: the one that it names, else the superclass's, else the implied
 -- one
 unfoldable pub scope_of_right_class : Declarations → Option Written → ClassScope → Bool → ClassScope
-scope_of_right_class p (Some w) above implied = elim (scope_number p w.name) [ None ↦ unknown | Some s ↦ annotated s ]
+scope_of_right_class p (Some w) above implied = elim (scope_number p w.name) [ None ↦ scopeless | Some s ↦ annotated s ]
 scope_of_right_class p None unannotated implied = if implied then annotated immortal_scope else unannotated
 scope_of_right_class p None above implied = above
 
@@ -92,7 +106,7 @@ scope_of_right_class p None above implied = above
 unfoldable pub class_scope_under : Declarations → ClassScope → ℕ → ClassScope
 class_scope_under p above class =
     if has_unknown_scope p (scope_written_in p class)
-    || differs_from_above p (scope_written_in p class) above (is_implied_immortal p class) then unknown
+    || differs_from_above p (scope_written_in p class) above (is_implied_immortal p class) then scopeless
     else scope_of_right_class p (scope_written_in p class) above (is_implied_immortal p class)
 
 -- the scope of the first class of a chain of superclasses
@@ -105,11 +119,11 @@ class_scope p class = class_scope_on p (superclasses p.classes class)
 
 -- the scope of an object of a class: the class's, or this one where the class is unannotated
 abbrev pub scope_or : ClassScope → Option Scope → Option Scope
-scope_or scope other = elim scope [ unannotated ↦ other | annotated s ↦ Some (In s) | unknown ↦ None ]
+scope_or scope other = elim scope [ unannotated ↦ other | annotated s ↦ Some (In s) | scopeless ↦ None ]
 
 -- a test of the scope of a class, where it is annotated
 abbrev pub is_annotated_and : ClassScope → (ℕ → Bool) → Bool
-is_annotated_and scope test = elim scope [ unannotated ↦ false | annotated s ↦ test s | unknown ↦ false ]
+is_annotated_and scope test = elim scope [ unannotated ↦ false | annotated s ↦ test s | scopeless ↦ false ]
 
 -- ---- names of scopes
 
@@ -251,9 +265,11 @@ denotes_nothing p t name =
     if is_same name this_name then t.is_static && is_unannotated (class_scope p t.class)
     else is_same name caller_name && t.is_field
 
--- what the name in the annotation of a declaration denotes
+-- what the name in the annotation of a declaration denotes; UNKNOWN is a scope of locals and parameters alone
 unfoldable pub resolve_at : Declarations → ScopedDeclaration → List ℕ → Resolution
-resolve_at p t name = if denotes_nothing p t name then unresolved else resolve_name p t.class t.current name
+resolve_at p t name =
+    if is_same name unknown_name then (if t.is_variable then resolved Unknown else unresolved)
+    else (if denotes_nothing p t name then unresolved else resolve_name p t.class t.current name)
 
 -- A1 off a class: the annotation names no scope
 unfoldable pub is_unknown_scope : Declarations → ScopedDeclaration → Written → Bool
@@ -271,7 +287,7 @@ is_rightly_scoped p t = not (holds t.scope (λ w. is_unknown_scope p t w || cont
 -- the scope of a declaration that breaks neither, where its type is unannotated: the one that it names, else the
 -- default
 unfoldable pub scope_as_written : Declarations → ScopedDeclaration → Option Scope
-scope_as_written p t = elim t.scope [ None ↦ t.default | Some w ↦ written_scope p t.class t.current w.name ]
+scope_as_written p t = elim t.scope [ None ↦ t.default | Some w ↦ resolved_scope (resolve_at p t w.name) ]
 
 -- the scope of a declaration: that of its type's class, or else its own
 unfoldable pub declaration_scope : Declarations → ScopedDeclaration → Option Scope
@@ -279,21 +295,25 @@ declaration_scope p t =
     if has_no_scope t.declared_type then None
     else (if is_rightly_scoped p t then scope_or (type_scope p t.declared_type) (scope_as_written p t) else None)
 
--- a parameter or local of a member: by default it lies in the current scope. A method's result likewise
-abbrev pub scoped_variable : ℕ → Option Scope → Bool → Declared → ScopedDeclaration
-scoped_variable class current is_static d =
+-- a parameter or local of a member, or else its result: by default it lies in the current scope
+abbrev pub scoped_in_member : Bool → ℕ → Option Scope → Bool → Declared → ScopedDeclaration
+scoped_in_member is_variable class current is_static d =
     record {
       class = class;
       current = current;
       default = current;
       is_field = false;
+      is_variable = is_variable;
       is_static = is_static;
       declared_type = d.declared_type;
       scope = d.modifiers.scope;
     }
 
+abbrev pub scoped_variable : ℕ → Option Scope → Bool → Declared → ScopedDeclaration
+scoped_variable class current is_static d = scoped_in_member true class current is_static d
+
 abbrev pub scoped_result : Declarations → ℕ → DeclaredMethod → ScopedDeclaration
-scoped_result p class m = scoped_variable class (runs_in p class m) m.declared.modifiers.is_static m.declared
+scoped_result p class m = scoped_in_member false class (runs_in p class m) m.declared.modifiers.is_static m.declared
 
 abbrev pub parameter_scope : Declarations → ℕ → DeclaredMethod → Declared → Option Scope
 parameter_scope p class m d =
@@ -310,6 +330,7 @@ scoped_field p class f =
       current = None;
       default = if f.modifiers.is_static then Some (In immortal_scope) else this_in p class;
       is_field = true;
+      is_variable = false;
       is_static = f.modifiers.is_static;
       declared_type = f.declared_type;
       scope = f.modifiers.scope;
@@ -325,7 +346,7 @@ unfoldable pub suits_field : Declarations → ClassScope → Bool → Scope → 
 suits_field p class true s = are_same_scope s (In immortal_scope)
 suits_field p unannotated false s = are_same_scope s This || are_same_scope s (In immortal_scope)
 suits_field p (annotated class) false s = is_outer_of p class s
-suits_field p unknown false s = true
+suits_field p scopeless false s = true
 
 -- A3 to A5: the field has none of these
 unfoldable pub misfits_field : Declarations → ℕ → Declared → Bool

@@ -2,7 +2,7 @@
 -- resolves to. Each node is judged by itself, from the types of its children: a node with an ill-typed child has no
 -- type and breaks nothing. One rule is asked whatever the children are: T14 of a `new` or a new array of a form class
 -- outside a form.
-use Rattle.std.specs.Prelude.{ℕ, Bool, true, false, not, ◌&&◌, ◌||◌, ◌==◌, List, [], ◌∷◌, length, slice_get, Option, Some, None, if◌then◌else◌, is_some, option_map, option_and_then, codes}
+use Rattle.std.specs.Prelude.{ℕ, Bool, true, false, not, ◌&&◌, ◌||◌, ◌==◌, List, [], ◌∷◌, length, slice_get, Option, Some, None, if◌then◌else◌, is_some, option_map, codes}
 use Rattle.std.specs.List.{list_any}
 use Rattle.scj_builtins.specs.Framework.{object, periodic_handler, aperiodic_handler, mission_sequencer, priority_parameters, periodic_parameters, aperiodic_parameters, storage_parameters, relative_time}
 use Rattle.scj_base.specs.Vocabulary.{sign_equal, sign_not_equal, sign_less, sign_greater, sign_less_equal, sign_greater_equal, sign_and_and, sign_or_or, sign_not}
@@ -193,6 +193,14 @@ accessed_field p r name = class_of_receiver r >>= λ class. field_named p.classe
 
 abbrev pub called_method : Declarations → Receiver → List ℕ → Option FoundMethod
 called_method p r name = class_of_receiver r >>= λ class. method_named p.classes class name
+
+-- the method that a call invokes, and its number where it is the framework's
+abbrev pub method_called : Declarations → (ℕ → Option Ty) → ℕ → Option ℕ → List ℕ → Option FoundMethod
+method_called p types id object name = call_receiver p types id object >>= (λ r. called_method p r name)
+
+abbrev pub called_builtin : Declarations → (ℕ → Option Ty) → ℕ → Option ℕ → List ℕ → Option ℕ
+called_builtin p types id object name =
+    method_called p types id object name >>= (λ (f : FoundMethod). f.method.builtin)
 
 abbrev pub is_length : List ℕ → Bool
 is_length name = is_same name (codes "length")

@@ -1,6 +1,6 @@
 -- The static scope of each expression, and E1 to E10: what breaks the rules on uses, and where (this project's profile
 -- of JSR 302). An expression whose scope depends on a missing one has none, and no rule is broken for it.
-use Rattle.std.specs.Prelude.{ℕ, Bool, true, false, not, ◌&&◌, ◌||◌, ◌==◌, List, [], ◌∷◌, ◌++◌, length, slice_get, Option, Some, None, if◌then◌else◌, is_some, codes}
+use Rattle.std.specs.Prelude.{ℕ, Bool, true, false, not, ◌&&◌, ◌||◌, ◌==◌, List, [], ◌∷◌, ◌++◌, length, slice_get, Option, Some, None, if◌then◌else◌, is_some, option_map, codes}
 use Rattle.scj_base.specs.declared.findings.Found.{Found}
 use Rattle.scj_base.specs.declared.findings.Rule.{Rule}
 use Rattle.scj_base.specs.declared.findings.Rule.TheVariants.{E1, E2, E3, E4, E5, E6, E7, E8, E9, E10}
@@ -17,11 +17,12 @@ use Rattle.scj_rules.specs.Words.{broken, found_at, holds, ◌>>=◌}
 use Rattle.scj_rules.specs.Views.{place_at, DeclaredMethod, method_at}
 use Rattle.scj_rules.specs.Classes.{FoundMethod, is_user_class, class_number, method_named}
 use Rattle.scj_rules.specs.Contexts.{Declarations, context, in_class, in_member}
-use Rattle.scj_rules.specs.Types.{meaning, receiver, call_receiver, accessed_field, called_method, constructor_parameters}
+use Rattle.scj_rules.specs.Types.{meaning, receiver, call_receiver, accessed_field, called_method, method_called, called_builtin, constructor_parameters}
 use Rattle.scj_rules.specs.TypeRules.{Types, written_type, superclass_at}
 use Rattle.scj_rules.specs.ScopeRules.{defined_by_chain, parent_scope, is_outer}
-use Rattle.scj_rules.specs.StaticScopes.{are_same_scope, fits, substitute, class_scope, scope_or, is_annotated_and, this_in, runs_in, current_in, declaration_scope, parameter_scope, constructor_parameter_scope, field_scope}
+use Rattle.scj_rules.specs.StaticScopes.{are_same_scope, beside, fits, substitute, class_scope, scope_or, is_annotated_and, this_in, runs_in, current_in, declaration_scope, parameter_scope, constructor_parameter_scope, field_scope}
 use Rattle.scj_rules.specs.AnnotationRules.{scoped_variable_at, result_scope}
+use Rattle.scj_rules.specs.Guards.{is_guarded_store}
 use Rattle.scj_rules.specs.declared.typing.FoundField.{FoundField}
 use Rattle.scj_rules.specs.declared.typing.Meaning.{Meaning}
 use Rattle.scj_rules.specs.declared.typing.Meaning.TheVariants.{Class as a_class, Field as a_field, Nothing as nothing, Variable as a_variable}
@@ -73,12 +74,8 @@ scope_of_call p object current f = result_scope p f.on f.method >>= substitute o
 
 -- the scope of an array's elements
 unfoldable pub scope_of_element : Declarations → Option Scope → Ty → Option Scope
-scope_of_element p array (ClassArray class) = scope_in_class p class array
+scope_of_element p array (ClassArray class) = scope_in_class p class (option_map beside array)
 scope_of_element p array _ = None
-
--- the method that a call invokes
-abbrev pub method_called : Declarations → Types → ℕ → Option ℕ → List ℕ → Option FoundMethod
-method_called p types id object name = call_receiver p types id object >>= (λ r. called_method p r name)
 
 unfoldable pub scope_of : Declarations → Types → Scopes → ℕ → Node → Option Scope
 scope_of p types scopes id (ThisNode place) = this_at p id
@@ -183,11 +180,12 @@ unfoldable pub target_rule : Declarations → ℕ → Node → Option Rule
 target_rule p id (SimpleName place name) = Some (target_of_meaning (meaning p id name))
 target_rule p id _ = Some E5
 
--- E4 to E5: the value's scope doesn't fit the target's
+-- E4 to E5: the value's scope doesn't fit the target's, and no guard allows the store
 unfoldable pub e4_and_e5 : Declarations → Types → Scopes → ℕ → Node → List Found
 e4_and_e5 p types scopes id (Assign place target value) =
     found_at (read p.nodes (target_rule p target) target)
-    (λ rule. broken (misfit_scope (scopes value) (scopes target)) rule place)
+    (λ rule.
+    broken (misfit_scope (scopes value) (scopes target) && not (is_guarded_store p types id target value)) rule place)
 e4_and_e5 p types scopes id (LocalWithValue place name_place name flags declared_type value) =
     broken (misfit_scope (scopes value) (variable_scope_at p id)) E4 place
 e4_and_e5 p types scopes id _ = []
@@ -202,11 +200,6 @@ unfoldable pub e6 : Declarations → Types → Scopes → ℕ → Node → List 
 e6 p types scopes id (Return place (Some value)) =
     broken (misfit_scope (scopes value) (result_scope_at p id)) E6 place
 e6 p types scopes id _ = []
-
--- the framework's method that a call invokes, by its number
-abbrev pub called_builtin : Declarations → Types → ℕ → Option ℕ → List ℕ → Option ℕ
-called_builtin p types id object name =
-    method_called p types id object name >>= (λ (f : FoundMethod). f.method.builtin)
 
 -- the user's `run` of a class
 abbrev pub run_of : Declarations → ℕ → Option FoundMethod

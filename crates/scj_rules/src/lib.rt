@@ -15,5 +15,5 @@ pub use checked::Checked;
 pub use contexts::Context;
 pub use reports::{put_in_order, report_if};
 pub use scopes::{ClassScope, Definition, Resolution, ScopedDeclaration, Written};
-pub use typing::{Binding, FoundField, Meaning, Receiver, Scope, Target, Ty};
+pub use typing::{Binding, FoundField, Guard, Meaning, Receiver, Scope, Subject, Target, Ty};
 pub use views::{Body, Declared, Modifiers, SlotKind, WrittenType};

@@ -31,8 +31,8 @@ pub enum ClassScope {
     Unannotated,
     /// In this scope.
     Annotated(ScopeId),
-    /// Nobody knows, since the declaration breaks a rule on annotations.
-    Unknown,
+    /// Nowhere, since the declaration breaks a rule on annotations.
+    Missing,
 }
 
 /// What the name in `@Scope` or `@RunsIn` denotes.
@@ -57,6 +57,8 @@ pub struct ScopedDeclaration {
     pub default: Option<Scope>,
     /// Whether it is a field.
     pub is_field: bool,
+    /// Whether it is a local or a parameter.
+    pub is_variable: bool,
     /// Whether it is static, or stands in a static member.
     pub is_static: bool,
     /// Its type.

@@ -31,8 +31,8 @@ pub enum Ty {
 pub struct Target {
     /// The method.
     pub id: MethodId,
-    /// The static type of the receiver; of the second argument where memory is entered, unless that is the type of
-    /// `null`; and otherwise the class that declares the method.
+    /// The static type of the receiver; of the second argument of a method of `ManagedMemory`, unless that is the type
+    /// of `null`; and otherwise the class that declares the method.
     pub on: ClassId,
     /// Whether the call leaves a value.
     pub gives: bool,
@@ -72,6 +72,10 @@ pub enum Scope {
     Caller,
     /// In a named scope, or in `IMMORTAL`.
     In(ScopeId),
+    /// Somewhere: `UNKNOWN` is written.
+    Unknown,
+    /// Where the object lies of which it was read, and of that nothing is known.
+    Lost,
 }
 
 /// A field that a class has, its own or one of a class above (JLS 8.3).
@@ -105,4 +109,22 @@ pub enum Receiver {
     Value(Ty),
     /// The object of this class in which a call without an object stands.
     Own(ClassId),
+}
+
+/// A subject of a guard: a local, a parameter or `this`, each by itself.
+#[derive(Clone, Copy, Debug)]
+pub enum Subject {
+    /// The object whose method runs.
+    This,
+    /// The local or parameter that this node declares.
+    Variable(NodeId),
+}
+
+/// The subjects of `ManagedMemory.allocInSame(first, second)`, where that is the condition of an `if`.
+#[derive(Clone, Copy, Debug)]
+pub struct Guard {
+    /// The first.
+    pub first: Subject,
+    /// The second.
+    pub second: Subject,
 }

@@ -210,7 +210,7 @@ fn scope_of_right_class(
     match (written, above) {
         (Some(written), _) => match facts.scope_number(&written.name) {
             Some(scope) => ClassScope::Annotated(scope),
-            None => ClassScope::Unknown,
+            None => ClassScope::Missing,
         },
         (None, ClassScope::Unannotated) => {
             if implied {
@@ -231,10 +231,10 @@ fn class_scope_under(facts: &Facts, above: &ClassScope, class: ClassId) -> Class
     let written = scope_written_in(facts, class);
     let implied = is_implied_immortal(facts, class);
     if has_unknown_scope(facts, &written) {
-        return ClassScope::Unknown;
+        return ClassScope::Missing;
     }
     if differs_from_above(facts, &written, above, implied) {
-        return ClassScope::Unknown;
+        return ClassScope::Missing;
     }
     scope_of_right_class(facts, &written, above, implied)
 }

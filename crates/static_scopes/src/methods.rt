@@ -7,7 +7,7 @@ ghost use Rattle.scj_rules.specs.StaticScopes.{fixed_for, has_unknown_runs_in, h
 ghost use Rattle.method_rows.specs.declared.refs.MethodRef.{MethodRef as Row};
 ghost use Rattle.method_rows.specs.Methods.{found_method};
 
-use crate::things::{is_other_scope, resolve_name, scope_or, written_scope};
+use crate::scopes::{is_other_scope, resolve_name, scope_or, written_scope};
 use method_rows::{MethodRef, MethodSource, builtin, declared};
 use node_views::is_method;
 use program_facts::Facts;

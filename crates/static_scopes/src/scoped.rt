@@ -5,13 +5,14 @@ ghost use Rattle.std.specs.Prelude.{◌≡◌, IfOk};
 ghost use Rattle.class_rows.specs.Fields.{found_field};
 ghost use Rattle.method_rows.specs.Methods.{found_method};
 ghost use Rattle.scj_rules.specs.Contexts.{declarations_of};
-ghost use Rattle.scj_rules.specs.StaticScopes.{runs_in, current_in, declaration_scope, scoped_variable, parameter_scope, field_scope};
+ghost use Rattle.scj_rules.specs.StaticScopes.{runs_in, current_in, declaration_scope, scoped_variable, scoped_in_member, parameter_scope, field_scope};
 ghost use Rattle.scj_rules.specs.AnnotationRules.{scoped_variable_at, result_scope};
 ghost use Rattle.scj_rules.specs.UseRules.{this_at, current_at, variable_scope_at};
 ghost use Rattle.program_facts.specs.Tables.{run_at, AreRunRows, AreRuns, AreVariables};
 
 use crate::methods::{find_runs_in, method_at};
-use crate::things::{declaration_scope, find_field_scope, has_no_scope, scoped_variable, this_in};
+use crate::scopes::this_in;
+use crate::things::{declaration_scope, find_field_scope, has_no_scope, scoped_in_member};
 use class_rows::FieldRef;
 use class_rows::fields::found_field;
 use method_rows::{MethodRef, MethodSource, declared, result_type};
@@ -79,7 +80,8 @@ pub fn result_scope(facts: &Facts, method: &MethodRef) -> Option<Scope>
     let declared = declared(facts.program(), method);
     let is_static = declared.modifiers.is_static;
     let current = runs_in(facts, method);
-    scope_in(facts, method.on, &current, is_static, &declared)
+    let thing = scoped_in_member(false, method.on, &current, is_static, &declared);
+    declaration_scope(facts, &thing)
 }
 
 /// The scope of a parameter of a member of a class, where this scope is current.
@@ -93,7 +95,7 @@ pub fn scope_in(
     ensures { result ≡ declaration_scope (declarations_of facts.now)
         (scoped_variable class current.now is_static parameter.now) }
 {
-    let thing = scoped_variable(class, current, is_static, parameter);
+    let thing = scoped_in_member(true, class, current, is_static, parameter);
     declaration_scope(facts, &thing)
 }
 
@@ -137,7 +139,7 @@ pub fn scoped_variable_at(facts: &Facts, id: NodeId) -> Option<ScopedDeclaration
     let is_static = is_static_member(facts.program(), member);
     let current = current_in(facts, class, member);
     match &variable_at(facts.program(), id) {
-        Some(declared) => Some(scoped_variable(class, &current, is_static, declared)),
+        Some(declared) => Some(scoped_in_member(true, class, &current, is_static, declared)),
         None => None,
     }
 }

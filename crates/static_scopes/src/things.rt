@@ -1,125 +1,17 @@
-//! Static scopes in normal form, one beside another; those that are written by name; and those of variables, fields and
-//! results.
+//! The static scopes of variables, fields and results.
 
 ghost use Rattle.std.specs.Prelude.{◌≡◌, not};
 ghost use Rattle.scj_rules.specs.Words.{holds};
 ghost use Rattle.scj_rules.specs.Contexts.{declarations_of};
-ghost use Rattle.scj_rules.specs.StaticScopes.{are_same_scope, fits, substitute, scope_or, this_in, resolve_name, is_other_scope, written_scope, class_scope, has_no_scope, type_scope, resolve_at, is_unknown_scope, contradicts, declaration_scope, scoped_variable, scoped_field, suits_field, field_scope};
+ghost use Rattle.scj_rules.specs.StaticScopes.{class_scope, has_no_scope, type_scope, resolve_at, is_unknown_scope, contradicts, declaration_scope, scoped_in_member, scoped_field, suits_field, field_scope};
 
+use crate::scopes::{
+    are_same_scope, is_other_scope, resolve_name, resolved_scope, scope_or, this_in,
+};
 use program_facts::Facts;
 use scj_base::{ClassId, Name, ScopeId};
 use scj_rules::{ClassScope, Declared, Resolution, Scope, ScopedDeclaration, Written, WrittenType};
 use scope_tree::scopes::{class_scope, is_outer};
-
-/// Whether two scopes are the same.
-#[tactic(auto, unfolding(scj_rules::specs::StaticScopes::are_same_scope))]
-pub fn are_same_scope(s: &Scope, t: &Scope) -> bool
-    ensures { result ≡ are_same_scope s.now t.now }
-{
-    match (s, t) {
-        (Scope::Any, Scope::Any) => true,
-        (Scope::This, Scope::This) => true,
-        (Scope::Caller, Scope::Caller) => true,
-        (Scope::In(a), Scope::In(b)) => a == b,
-        _ => false,
-    }
-}
-
-/// Whether a reference of the first scope may go where the second is asked.
-#[tactic(auto, unfolding(scj_rules::specs::StaticScopes::fits))]
-pub fn fits(s: &Scope, t: &Scope) -> bool
-    ensures { result ≡ fits s.now t.now }
-{
-    match (s, t) {
-        (Scope::Any, _) => true,
-        (_, Scope::Any) => true,
-        _ => are_same_scope(s, t),
-    }
-}
-
-/// A callee's scope as its caller sees it, who calls it on an object of one scope and where another is current.
-#[tactic(auto, unfolding(scj_rules::specs::StaticScopes::substitute))]
-pub fn substitute(receiver: &Option<Scope>, current: &Option<Scope>, scope: &Scope) -> Option<Scope>
-    ensures { result ≡ substitute receiver.now current.now scope.now }
-{
-    match scope {
-        Scope::This => *receiver,
-        Scope::Caller => *current,
-        _ => Some(*scope),
-    }
-}
-
-/// Where an object of a class lies: in the class's scope, or in this one where the class is unannotated.
-pub fn scope_or(scope: &ClassScope, other: &Option<Scope>) -> Option<Scope>
-    ensures { result ≡ scope_or scope.now other.now }
-{
-    match scope {
-        ClassScope::Unannotated => *other,
-        ClassScope::Annotated(scope) => Some(Scope::In(*scope)),
-        ClassScope::Unknown => None,
-    }
-}
-
-/// Where the objects of a class lie, as their own methods say it.
-#[tactic(auto, unfolding(scj_rules::specs::StaticScopes::this_in))]
-pub fn this_in(facts: &Facts, class: ClassId) -> Option<Scope>
-    ensures { result ≡ this_in (declarations_of facts.now) class }
-{
-    scope_or(&class_scope(facts, class), &Some(Scope::This))
-}
-
-/// What a name in an annotation denotes, in a class and where a scope is current.
-#[tactic(auto, unfolding(scj_rules::specs::StaticScopes::resolve_name))]
-pub fn resolve_name(
-    facts: &Facts,
-    class: ClassId,
-    current: &Option<Scope>,
-    name: &Name,
-) -> Resolution
-    ensures { result ≡ resolve_name (declarations_of facts.now) class current.now name.now }
-{
-    let scope = if name.bytes() == b"THIS".as_slice() {
-        this_in(facts, class)
-    } else if name.bytes() == b"CALLER".as_slice() {
-        *current
-    } else {
-        return match facts.scope_number(name) {
-            Some(scope) => Resolution::Resolved(Scope::In(scope)),
-            None => Resolution::Unresolved,
-        };
-    };
-    match &scope {
-        Some(scope) => Resolution::Resolved(*scope),
-        None => Resolution::Missing,
-    }
-}
-
-/// The scope that a name denotes, in a class and where a scope is current.
-#[tactic(auto, unfolding(scj_rules::specs::StaticScopes::written_scope))]
-pub fn written_scope(
-    facts: &Facts,
-    class: ClassId,
-    current: &Option<Scope>,
-    name: &Name,
-) -> Option<Scope>
-    ensures { result ≡ written_scope (declarations_of facts.now) class current.now name.now }
-{
-    match &resolve_name(facts, class, current, name) {
-        Resolution::Resolved(scope) => Some(*scope),
-        Resolution::Missing | Resolution::Unresolved => None,
-    }
-}
-
-/// Whether a name denotes another scope than this one, or nothing; a missing scope differs from none.
-pub fn is_other_scope(resolution: &Resolution, scope: &Scope) -> bool
-    ensures { result ≡ is_other_scope resolution.now scope.now }
-{
-    match resolution {
-        Resolution::Resolved(resolved) => !are_same_scope(resolved, scope),
-        Resolution::Missing => false,
-        Resolution::Unresolved => true,
-    }
-}
 
 /// Whether the values of a type are no references.
 #[tactic(auto, unfolding(scj_rules::specs::StaticScopes::has_no_scope))]
@@ -150,12 +42,19 @@ fn type_scope(facts: &Facts, declared_type: &WrittenType) -> ClassScope
     }
 }
 
-/// What a name denotes in the annotation of a declaration: nothing, though it does elsewhere, where it is `THIS` in a
-/// static member of an unannotated class, or `CALLER` on a field.
+/// What a name denotes in the annotation of a declaration. Some names denote nothing here, though they do elsewhere:
+/// `UNKNOWN` off a local or parameter, `THIS` in a static member of an unannotated class, and `CALLER` on a field.
 #[tactic(auto, unfolding(scj_rules::specs::StaticScopes::resolve_at, scj_rules::specs::StaticScopes::denotes_nothing, scj_rules::specs::StaticScopes::is_unannotated))]
 fn resolve_at(facts: &Facts, thing: &ScopedDeclaration, name: &Name) -> Resolution
     ensures { result ≡ resolve_at (declarations_of facts.now) thing.now name.now }
 {
+    if name.bytes() == b"UNKNOWN".as_slice() {
+        return if thing.is_variable {
+            Resolution::Resolved(Scope::Unknown)
+        } else {
+            Resolution::Unresolved
+        };
+    }
     let denotes_nothing = if name.bytes() == b"THIS".as_slice() {
         thing.is_static && matches!(&class_scope(facts, thing.class), ClassScope::Unannotated)
     } else {
@@ -213,18 +112,19 @@ pub fn declaration_scope(facts: &Facts, thing: &ScopedDeclaration) -> Option<Sco
     if contradicts(facts, thing, written) {
         return None;
     }
-    let other = written_scope(facts, thing.class, &thing.current, &written.name);
+    let other = resolved_scope(&resolve_at(facts, thing, &written.name));
     scope_or(&scope, &other)
 }
 
-/// A parameter, a local or a result as a thing.
-pub fn scoped_variable(
+/// A parameter or a local as a thing, or else a result.
+pub fn scoped_in_member(
+    is_variable: bool,
     class: ClassId,
     current: &Option<Scope>,
     is_static: bool,
     declared: &Declared,
 ) -> ScopedDeclaration
-    ensures { result ≡ scoped_variable class current.now is_static declared.now }
+    ensures { result ≡ scoped_in_member is_variable class current.now is_static declared.now }
 {
     let modifiers = declared.modifiers;
     ScopedDeclaration {
@@ -232,6 +132,7 @@ pub fn scoped_variable(
         current: *current,
         default: *current,
         is_field: false,
+        is_variable,
         is_static,
         declared_type: declared.declared_type,
         scope: modifiers.scope,
@@ -253,6 +154,7 @@ pub fn scoped_field(facts: &Facts, class: ClassId, field: &Declared) -> ScopedDe
         current: None,
         default,
         is_field: true,
+        is_variable: false,
         is_static: modifiers.is_static,
         declared_type: field.declared_type,
         scope: modifiers.scope,
@@ -274,7 +176,7 @@ fn suits_field(facts: &Facts, class: &ClassScope, is_static: bool, scope: &Scope
             Scope::In(outer) => is_outer(facts, *outer, *inner),
             _ => false,
         },
-        ClassScope::Unknown => true,
+        ClassScope::Missing => true,
     }
 }
 
