@@ -168,10 +168,10 @@ module _ (forest : Forest) (accepted : IsAccepted forest) (whole : IsForest fore
         field = subst (StaticFieldOf p class name q.n) same (static_of forest accepted whole sorted class name f.0 f.1 s q);
       }
 
-  value_access : (b c id object class : ℕ) (name : List ℕ) (k : Kind) (u : Ty) (f : FoundField) (s : Scope) → types object ≡ Some u → scope_at_node p object ≡ Some s → ByReceiver id object name (the_value u) → is_length_of_array (the_value u) name ≡ false → accessed_field p (the_value u) name ≡ Some f
+  value_access : (b c id object class : ℕ) (name : List ℕ) (k : Kind) (u : Ty) (f : FoundField) (s : Scope) → receiver p types object ≡ Some (the_value u) → types object ≡ Some u → scope_at_node p object ≡ Some s → ByReceiver id object name (the_value u) → is_length_of_array (the_value u) name ≡ false → accessed_field p (the_value u) name ≡ Some f
       → (is_value (the_value u) && f.field.modifiers.is_static) ≡ false → u ≡ ClassTy class → field_named p.classes class name ≡ Some f → Operand p b c id object (reference (ClassTy class) s) → Judged p id (Some k) → IsFieldOf p b c id object name k
-  unfolding is_value
-  value_access b c id object class name k u f s tu so y l a plain same named operand judged =
+  unfolding is_value instance_of
+  value_access b c id object class name k u f s ru tu so y l a plain same named operand judged =
       let q = field_kind forest accepted whole sorted class name f named in
       let seen = sym (ap (λ (o : Option Scope). kind_of (declared_type_of p f.field) (scope_of_field p o f)) so) ∙ field_kind_is id object name (the_value u) f k y l a judged in
       record {
@@ -182,6 +182,7 @@ module _ (forest : Forest) (accepted : IsAccepted forest) (whole : IsForest fore
         binding = y.bound ∙ access_bound (the_value u) name f l a ∙ instance_binding forest accepted whole sorted class f plain q;
         declared = q.kind;
         field = instance_of forest accepted whole sorted class name f named plain q;
+        accessed = ap (option_and_then (λ r. accessed_field p r name)) ru ∙ a;
         gives = instance_seen forest accepted whole sorted class name f s k q seen;
       }
 
@@ -212,18 +213,18 @@ module _ (forest : Forest) (accepted : IsAccepted forest) (whole : IsForest fore
       operand : (k : Kind) → At b c id object → Judged p object (Some k) → Operand p b c id object k
       operand k v j = operand_at b c id object (FieldAccess place name object) k there (same_first forest accepted whole sorted object []) refl v j
 
-      of_value : (u : Ty) → types object ≡ Some u → At b c id object → ByReceiver id object name (the_value u) → (l : Bool) → is_length_of_array (the_value u) name ≡ l → AccessFacts p b c id object name k
-      of_value u tu v y true l =
+      of_value : (u : Ty) → receiver p types object ≡ Some (the_value u) → types object ≡ Some u → At b c id object → ByReceiver id object name (the_value u) → (l : Bool) → is_length_of_array (the_value u) name ≡ l → AccessFacts p b c id object name k
+      of_value u ru tu v y true l =
           let array = array_of_length u name l in
           let s = scope_of_value b c id object u v tu (array_is_reference u array) in
           inr (inl (length_access b c id object name k u s.0 y l array (operand (reference u s.0) v (array_judged object u s.0 tu array s.1)) judged))
-      of_value u tu v y false l =
+      of_value u ru tu v y false l =
           let f = field_there (the_value u) name y.of_reference y.has_field l in
           let q = of_class (class_of_receiver (the_value u)) (λ class. field_named p.classes class name) f.0 f.1 in
           let same = class_value forest accepted whole sorted u q.0 q.1 in
           let s = scope_of_value b c id object u v tu (class_is_reference forest accepted whole sorted u q.0 same) in
-          inl (value_access b c id object q.0 name k u f.0 s.0 tu s.1 y l f.1 f.2 same q.2 (operand (reference (ClassTy q.0) s.0) v (class_judged object q.0 s.0 (tu ∙ ap (λ t. Some t) same) s.1)) judged)
+          inl (value_access b c id object q.0 name k u f.0 s.0 ru tu s.1 y l f.1 f.2 same q.2 (operand (reference (ClassTy q.0) s.0) v (class_judged object q.0 s.0 (tu ∙ ap (λ t. Some t) same) s.1)) judged)
 
       by_cases : (n : Node) → (class_at_name p object n ≡ None → At b c id object) → ClassOrValue forest accepted whole sorted object n → AccessFacts p b c id object name k
       by_cases n at (inl q) = inr (inr (q.0, class_access id object q.0 name k (by_receiver id object place name (the_class q.0) there q.2) judged))
-      by_cases n at (inr q) = of_value q.0 q.2 (at q.1) (by_receiver id object place name (the_value q.0) there q.3) (is_length_of_array (the_value q.0) name) refl
+      by_cases n at (inr q) = of_value q.0 q.3 q.2 (at q.1) (by_receiver id object place name (the_value q.0) there q.3) (is_length_of_array (the_value q.0) name) refl

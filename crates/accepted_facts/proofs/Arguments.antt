@@ -6,7 +6,7 @@ use Rattle.scj_tree.specs.declared.nodes.Node.{Node}
 use Rattle.scj_tree.specs.declared.nodes.Node.TheVariants.{Text, Binary, Unary, Cast, Parenthesized, SimpleName, FieldAccess, Call, Element, New, NewArray, Number, True, False, Null, This as ThisNode}
 use Rattle.scj_tree.specs.Forest.{Forest, IsForest}
 use Rattle.scj_rules.specs.declared.typing.Scope.{Scope}
-use Rattle.scj_rules.specs.declared.typing.Scope.TheVariants.{Any, This, Caller, In}
+use Rattle.scj_rules.specs.declared.typing.Scope.TheVariants.{Any, This, Caller, In, Unknown, Lost}
 use Rattle.scj_rules.specs.declared.typing.Ty.{Ty}
 use Rattle.scj_rules.specs.declared.typing.Ty.TheVariants.{Int, Bool as Boolean, Void, NullTy, Label, Class as ClassTy, IntArray, BoolArray, ClassArray}
 use Rattle.scj_rules.specs.declared.views.Declared.{Declared}
@@ -42,6 +42,8 @@ substituted home now This = refl
 substituted home now Any = refl
 substituted home now Caller = refl
 substituted home now (In n) = refl
+substituted home now Unknown = refl
+substituted home now Lost = refl
 
 seen_kind_of : (home now : Scope) (t : Option Ty) (s : Scope) → kind_of t (Some (seen_as home now s)) ≡ seen_option home now (kind_of t (Some s))
 unfolding kind_of seen_option seen_kind seen_as

@@ -24,13 +24,13 @@ use Rattle.scj_rules.specs.ClassRules.{is_same_type}
 use Rattle.scj_rules.specs.Contexts.{Declarations, declarations_of, context, object_of, declared_before, has_object}
 use Rattle.scj_rules.specs.StaticScopes.{this_in, current_in, substitute, parameter_scope}
 use Rattle.scj_rules.specs.AnnotationRules.{result_scope}
-use Rattle.scj_rules.specs.Types.{class_at_name, call_receiver, class_of_receiver, called_method, names_class, is_value, all_types, accepts_arguments}
+use Rattle.scj_rules.specs.Types.{class_at_name, call_receiver, class_of_receiver, called_method, names_class, is_value, all_types, accepts_arguments, method_called}
 use Rattle.scj_rules.specs.TypeRules.{Types, type_of, declared_type_of, lacks_method, misfits_method, lacks_object_of_method}
-use Rattle.scj_rules.specs.UseRules.{Scopes, scope_of, receiver_scope, scope_of_call, current_at, method_called, of_user, called_user_method, misfits_call, misfits_runs_in, misfit_arguments, e3_of_call, use_breaks, e1, e2, e3, e4_and_e5, e6, e7, e8, e9, e10}
+use Rattle.scj_rules.specs.UseRules.{Scopes, scope_of, receiver_scope, scope_of_call, current_at, of_user, called_user_method, misfits_call, misfits_runs_in, misfit_arguments, e3_of_call, use_breaks, e1, e2, e3, e4_and_e5, e6, e7, e8, e9, e10}
 use Rattle.scj_rules.specs.Bindings.{second_class, called_on, target, user_method_binding, method_binding, plain_or, binding_of}
 use Rattle.scj_rules.specs.Phases.{IsAccepted}
 use Rattle.accepted_laws.specs.Judgements.{type_at_node, scope_at_node, binding_at_node, HasType, Inside, Judged}
-use Rattle.accepted_laws.specs.Kinds.{Kind, reference, kind_of, seen_option, IsReal}
+use Rattle.accepted_laws.specs.Kinds.{Kind, reference, kind_of, seen_option}
 use Rattle.accepted_laws.specs.Overriding.{IsUserMethod}
 use Rattle.accepted_laws.specs.Sorts.{HasRightChildren, IsWellSorted, is_argument, is_expression}
 use Rattle.accepted_laws.proofs.Breaks.{both_empty, right}
@@ -41,7 +41,7 @@ use Rattle.accepted_laws.proofs.Fields.{In as Element, in_flat, in_filter}
 use Rattle.accepted_laws.proofs.Interfaces.{row_is, mapped_in, own_of_framework}
 use Rattle.accepted_laws.proofs.Judged.{has_object_static}
 use Rattle.accepted_laws.proofs.MemberContexts.{member_is}
-use Rattle.accepted_laws.proofs.RealScopes.{runs_in_not_any, current_not_any}
+use Rattle.accepted_laws.proofs.RealScopes.{runs_in_named, current_named}
 use Rattle.accepted_laws.proofs.Rows.{IsUserRow}
 use Rattle.accepted_laws.proofs.Tools.{some_inj}
 use Rattle.scj_rules.proofs.ChainLemmas.{or_left, or_right, same_number}
@@ -62,12 +62,6 @@ use Rattle.accepted_facts.proofs.Arguments.{pass, seen_there}
 use Rattle.accepted_facts.proofs.NameFacts.{binding_is}
 use Rattle.accepted_facts.proofs.Parameters.{parameter_has_kind}
 use Rattle.accepted_facts.proofs.StatementFacts.{not_false, use_unbroken}
-
-real : (s : Scope) → (Some s ≡ Some Any → ⊥) → IsReal s
-real Any h = h refl
-real This h = tt
-real Caller h = tt
-real (In n) h = tt
 
 void_kind : (s : Option Scope) → kind_of (Some Void) s ≡ None
 unfolding kind_of
@@ -268,7 +262,7 @@ module _ (forest : Forest) (accepted : IsAccepted forest) (whole : IsForest fore
         binding = call_bound id x.place name object arguments f x.r n.0 x.class x.stands x.is_receiver x.is_method x.not_builtin x.plain n.1 x.of_receiver (user_not_memory f.on user.on_user_class);
         runs = runs.0;
         is_runs = runs.1;
-        runs_here = runs_where_called p id x.scope now.0 runs.0 (real runs.0 (λ e. runs_in_not_any p f.on f.method (runs.1 ∙ e))) (real now.0 (λ e. current_not_any p c b (now.1 ∙ e))) here e2_at;
+        runs_here = runs_where_called p id x.scope now.0 runs.0 (runs_in_named p runs.0 f.on f.method runs.1) (current_named p now.0 c b now.1) here e2_at;
         taken = passed.0;
         takes = record { are = kinds_are f passed.0 passed.1 };
         passes = passed.2;

@@ -18,9 +18,9 @@ use Rattle.scj_rules.specs.Classes.{FoundMethod, is_user_class, method_named}
 use Rattle.scj_rules.specs.Contexts.{Declarations, declarations_of, context, object_of, declared_before}
 use Rattle.scj_rules.specs.ScopeRules.{defined_by_chain, parent_scope}
 use Rattle.scj_rules.specs.StaticScopes.{are_same_scope, runs_in}
-use Rattle.scj_rules.specs.Types.{call_receiver, called_method, all_types, is_reference}
+use Rattle.scj_rules.specs.Types.{call_receiver, called_method, all_types, is_reference, method_called, called_builtin}
 use Rattle.scj_rules.specs.TypeRules.{Types}
-use Rattle.scj_rules.specs.UseRules.{Scopes, method_called, called_user_method, called_builtin, misfits_call, receiver_scope, current_at, e3_of_call, run_of, is_missing_or, isnt_current, isnt_in_parent, runs_outside, misfits_entered, misfits_enter, enters_wrong, is_named_scope, misfits_area, misfits_execute, executes_wrong, use_breaks, e1, e2, e3, e4_and_e5, e6, e7, e8, e9, e10}
+use Rattle.scj_rules.specs.UseRules.{Scopes, called_user_method, misfits_call, receiver_scope, current_at, e3_of_call, run_of, is_missing_or, isnt_current, isnt_in_parent, runs_outside, misfits_entered, misfits_enter, enters_wrong, is_named_scope, misfits_area, misfits_execute, executes_wrong, use_breaks, e1, e2, e3, e4_and_e5, e6, e7, e8, e9, e10}
 use Rattle.scj_rules.specs.Phases.{IsAccepted}
 use Rattle.accepted_laws.specs.Judgements.{type_at_node, scope_at_node, HasScope, Inside, Judged}
 use Rattle.accepted_laws.specs.Kinds.{Kind, reference}

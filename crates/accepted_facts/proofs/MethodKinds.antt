@@ -4,7 +4,7 @@ use Rattle.std.proofs.Common.{◌≡◌, ℕ, ◌<◌, List, length, map, refl, 
 use Rattle.std.proofs.lemmas.Option.{slice_get_within}
 use Rattle.scj_tree.specs.Forest.{Forest, IsForest}
 use Rattle.scj_rules.specs.declared.scopes.ClassScope.{ClassScope}
-use Rattle.scj_rules.specs.declared.scopes.ClassScope.TheVariants.{Unannotated as unannotated, Annotated as annotated, Unknown as unknown}
+use Rattle.scj_rules.specs.declared.scopes.ClassScope.TheVariants.{Unannotated as unannotated, Annotated as annotated, Missing as scopeless}
 use Rattle.scj_rules.specs.declared.typing.Scope.{Scope}
 use Rattle.scj_rules.specs.declared.typing.Scope.TheVariants.{This, Caller}
 use Rattle.scj_rules.specs.declared.typing.Ty.{Ty}
@@ -139,7 +139,7 @@ module _ (forest : Forest) (accepted : IsAccepted forest) (whole : IsForest fore
       go (annotated n) k f = inr (
           let a : class_scope p class ≡ annotated n = scope_of_above forest accepted whole sorted class above n l h k in
           some_inj g home (sym f ∙ sym (ap (λ s. scope_or s (Some This)) a) ∙ e))
-      go unknown k f = absurd (let z : None ≡ Some g = f in cc (z))
+      go scopeless k f = absurd (let z : None ≡ Some g = f in cc (z))
 
   plain_too : (g h : FoundMethod) → both_static g.method h.method ≡ true → h.method.declared.modifiers.is_static ≡ false → g.method.declared.modifiers.is_static ≡ false
   plain_too g h b e = go g.method.declared.modifiers.is_static refl b

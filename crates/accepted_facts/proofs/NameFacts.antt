@@ -9,7 +9,7 @@ use Rattle.scj_rules.specs.declared.typing.FoundField.{FoundField}
 use Rattle.scj_rules.specs.declared.typing.Meaning.{Meaning}
 use Rattle.scj_rules.specs.declared.typing.Meaning.TheVariants.{Class as a_class, Field as a_field, Nothing as nothing, Variable as a_variable}
 use Rattle.scj_rules.specs.declared.typing.Scope.{Scope}
-use Rattle.scj_rules.specs.declared.typing.Scope.TheVariants.{Any, This, Caller, In}
+use Rattle.scj_rules.specs.declared.typing.Scope.TheVariants.{Any, This, Caller, In, Unknown, Lost}
 use Rattle.scj_rules.specs.declared.typing.Ty.{Ty}
 use Rattle.scj_rules.specs.declared.typing.Ty.TheVariants.{Int, Bool as Boolean, NullTy, Class as ClassTy, IntArray, BoolArray, ClassArray}
 use Rattle.scj_rules.specs.Views.{variable_at}
@@ -50,15 +50,23 @@ seen_field t (Some Caller) s j k a b n = absurd (n refl)
 seen_field (ClassTy c) (Some This) s j k a b n = sym (some_inj _ _ b) ∙ ap (seen_kind s Caller) (some_inj _ _ a)
 seen_field (ClassTy c) (Some Any) s j k a b n = sym (some_inj _ _ b) ∙ ap (seen_kind s Caller) (some_inj _ _ a)
 seen_field (ClassTy c) (Some (In m)) s j k a b n = sym (some_inj _ _ b) ∙ ap (seen_kind s Caller) (some_inj _ _ a)
+seen_field (ClassTy c) (Some Unknown) s j k a b n = sym (some_inj _ _ b) ∙ ap (seen_kind s Caller) (some_inj _ _ a)
+seen_field (ClassTy c) (Some Lost) s j k a b n = sym (some_inj _ _ b) ∙ ap (seen_kind s Caller) (some_inj _ _ a)
 seen_field IntArray (Some This) s j k a b n = sym (some_inj _ _ b) ∙ ap (seen_kind s Caller) (some_inj _ _ a)
 seen_field IntArray (Some Any) s j k a b n = sym (some_inj _ _ b) ∙ ap (seen_kind s Caller) (some_inj _ _ a)
 seen_field IntArray (Some (In m)) s j k a b n = sym (some_inj _ _ b) ∙ ap (seen_kind s Caller) (some_inj _ _ a)
+seen_field IntArray (Some Unknown) s j k a b n = sym (some_inj _ _ b) ∙ ap (seen_kind s Caller) (some_inj _ _ a)
+seen_field IntArray (Some Lost) s j k a b n = sym (some_inj _ _ b) ∙ ap (seen_kind s Caller) (some_inj _ _ a)
 seen_field BoolArray (Some This) s j k a b n = sym (some_inj _ _ b) ∙ ap (seen_kind s Caller) (some_inj _ _ a)
 seen_field BoolArray (Some Any) s j k a b n = sym (some_inj _ _ b) ∙ ap (seen_kind s Caller) (some_inj _ _ a)
 seen_field BoolArray (Some (In m)) s j k a b n = sym (some_inj _ _ b) ∙ ap (seen_kind s Caller) (some_inj _ _ a)
+seen_field BoolArray (Some Unknown) s j k a b n = sym (some_inj _ _ b) ∙ ap (seen_kind s Caller) (some_inj _ _ a)
+seen_field BoolArray (Some Lost) s j k a b n = sym (some_inj _ _ b) ∙ ap (seen_kind s Caller) (some_inj _ _ a)
 seen_field (ClassArray c) (Some This) s j k a b n = sym (some_inj _ _ b) ∙ ap (seen_kind s Caller) (some_inj _ _ a)
 seen_field (ClassArray c) (Some Any) s j k a b n = sym (some_inj _ _ b) ∙ ap (seen_kind s Caller) (some_inj _ _ a)
 seen_field (ClassArray c) (Some (In m)) s j k a b n = sym (some_inj _ _ b) ∙ ap (seen_kind s Caller) (some_inj _ _ a)
+seen_field (ClassArray c) (Some Unknown) s j k a b n = sym (some_inj _ _ b) ∙ ap (seen_kind s Caller) (some_inj _ _ a)
+seen_field (ClassArray c) (Some Lost) s j k a b n = sym (some_inj _ _ b) ∙ ap (seen_kind s Caller) (some_inj _ _ a)
 seen_field NullTy f s j k a b n = sym (some_inj _ _ b) ∙ ap (seen_kind s Caller) (some_inj _ _ a)
 seen_field _ _ s j k a b n = absurd (cc (a))
 
@@ -128,7 +136,7 @@ module _ (forest : Forest) (accepted : IsAccepted forest) (whole : IsForest fore
   not_caller : (f : FoundField) → field_scope p f.on f.field ≡ Some Caller → ⊥
   not_caller f e = field_not_caller p f.on f.field (all_known forest accepted whole sorted f.on) e
 
-  pub instance_of : (class : ℕ) (name : List ℕ) (f : FoundField) → field_named p.classes class name ≡ Some f → f.field.modifiers.is_static ≡ false → (q : FieldKind class f) → InstanceFieldOf p class name q.n q.kind
+  unfoldable pub instance_of : (class : ℕ) (name : List ℕ) (f : FoundField) → field_named p.classes class name ≡ Some f → f.field.modifiers.is_static ≡ false → (q : FieldKind class f) → InstanceFieldOf p class name q.n q.kind
   instance_of class name f e plain q = record { field = f; named = e; plain = plain; numbered = q.numbered; kind = q.as_field }
 
   pub static_of : (class : ℕ) (name : List ℕ) (f : FoundField) → field_named p.classes class name ≡ Some f → f.field.modifiers.is_static ≡ true → (q : FieldKind class f) → StaticFieldOf p class name q.n q.kind
@@ -195,9 +203,10 @@ module _ (forest : Forest) (accepted : IsAccepted forest) (whole : IsForest fore
         kind = kind;
       }
 
-  field_facts : (b c id : ℕ) (name : List ℕ) (f : FoundField) (k : Kind) → Inside p b c id → field_named p.classes c name ≡ Some f → (not f.field.modifiers.is_static && not (has_object p id)) ≡ false → binding_at_node p id ≡ field_binding p f.field → kind_of (declared_type_of p f.field) (scope_of_field p (this_at p id) f) ≡ Some k
+  field_facts : (b c id : ℕ) (name : List ℕ) (f : FoundField) (k : Kind) → Inside p b c id → field_named p.classes c name ≡ Some f → (not f.field.modifiers.is_static && not (has_object p id)) ≡ false → binding_at_node p id ≡ field_binding p f.field → meaning p id name ≡ a_field f → kind_of (declared_type_of p f.field) (scope_of_field p (this_at p id) f) ≡ Some k
       → IsOwnField p b c id name k ⊎ IsStaticField p c id name k
-  field_facts b c id name f k inside e object bound kind = go f.field.modifiers.is_static refl
+  unfolding instance_of
+  field_facts b c id name f k inside e object bound meant kind = go f.field.modifiers.is_static refl
     where
       q : FieldKind c f
       q = field_kind c name f e
@@ -219,6 +228,7 @@ module _ (forest : Forest) (accepted : IsAccepted forest) (whole : IsForest fore
             binding = bound ∙ instance_binding c f s q;
             declared = q.kind;
             field = instance_of c name f e s q;
+            meant = meant;
             gives = instance_seen c name f h.0 k q (sym (ap (λ (o : Option Scope). kind_of (declared_type_of p f.field) (scope_of_field p o f)) here) ∙ kind);
           })
 
@@ -239,7 +249,9 @@ module _ (forest : Forest) (accepted : IsAccepted forest) (whole : IsForest fore
       go (Some v) a f g t o object class bound kind = inl (local_facts b c id v name k inside a bound kind)
       go None a (Some f) g t o object class bound kind =
           let e : field_named p.classes c name ≡ Some f = sym (ap (option_and_then (λ class. field_named p.classes class name)) inside.class) ∙ g in
-          inr (field_facts b c id name f k inside e object bound kind)
+          let meant : meaning p id name ≡ a_field f = ap (λ v. of v (option_and_then (λ class. field_named p.classes class name) (context p id).class) (context p id).before_dot (class_number p.names name)) a
+          ∙ ap (λ f. of None f (context p id).before_dot (class_number p.names name)) g in
+          inr (field_facts b c id name f k inside e object bound meant kind)
       go None a None g true (Some x) object class bound kind = absurd (cc (class))
       go None a None g true None object class bound kind = absurd (cc (kind))
       go None a None g false o object class bound kind = absurd (cc (kind))

@@ -9,7 +9,7 @@ use Rattle.scj_tree.specs.declared.nodes.Node.TheVariants.{Constructor, New}
 use Rattle.scj_tree.specs.Forest.{Forest, IsForest}
 use Rattle.scj_tree.specs.Shape.{children, optional}
 use Rattle.scj_rules.specs.declared.scopes.ClassScope.{ClassScope}
-use Rattle.scj_rules.specs.declared.scopes.ClassScope.TheVariants.{Unannotated as unannotated, Annotated as annotated, Unknown as unknown}
+use Rattle.scj_rules.specs.declared.scopes.ClassScope.TheVariants.{Unannotated as unannotated, Annotated as annotated, Missing as scopeless}
 use Rattle.scj_rules.specs.declared.typing.Binding.TheVariants.{Plain, Class as ClassNamed}
 use Rattle.scj_rules.specs.declared.typing.Scope.{Scope}
 use Rattle.scj_rules.specs.declared.typing.Scope.TheVariants.{This, In}
@@ -213,7 +213,7 @@ module _ (forest : Forest) (accepted : IsAccepted forest) (whole : IsForest fore
       go (annotated n) k e =
           let same : now ≡ In n = same_scope now (In n) (not_false _ (sym (ap (λ (o : Option Scope). holds o (λ current. not (are_same_scope current (In n)))) h) ∙ e)) in
           (inr (ap (λ s. Some s) (sym same)), ap (λ s. Some s) (sym same))
-      go unknown k e = absurd (all_known forest accepted whole sorted class k)
+      go scopeless k e = absurd (all_known forest accepted whole sorted class k)
 
   is_concrete_class : (id : ℕ) (name arguments : List ℕ) (class : ℕ) (ts : List Ty) → class_number p.names name ≡ Some class → all_types types arguments ≡ Some ts → is_form_part p id ≡ false → makes_no_object p types name arguments ≡ false → is_misplaced_form p id name ≡ false → class < length p.classes → kind_is is_concrete p class ≡ true
   is_concrete_class id name arguments class ts n k part made form l =

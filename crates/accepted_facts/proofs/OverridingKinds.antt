@@ -3,9 +3,9 @@
 use Rattle.std.proofs.Common.{◌≡◌, ℕ, List, [], ◌∷◌, map, refl, sym, ap, ◌∙◌, Option, Some, None, Bool, true, false, ◌||◌, ◌&&◌, true≢false, ◌⊎◌, if◌then◌else◌}
 use Rattle.scj_base.specs.Bytes.{is_same}
 use Rattle.scj_rules.specs.declared.scopes.ClassScope.{ClassScope}
-use Rattle.scj_rules.specs.declared.scopes.ClassScope.TheVariants.{Unannotated as unannotated, Annotated as annotated, Unknown as unknown}
+use Rattle.scj_rules.specs.declared.scopes.ClassScope.TheVariants.{Unannotated as unannotated, Annotated as annotated, Missing as scopeless}
 use Rattle.scj_rules.specs.declared.typing.Scope.{Scope}
-use Rattle.scj_rules.specs.declared.typing.Scope.TheVariants.{Any, This, Caller, In}
+use Rattle.scj_rules.specs.declared.typing.Scope.TheVariants.{Any, This, Caller, In, Unknown, Lost}
 use Rattle.scj_rules.specs.declared.typing.Ty.{Ty}
 use Rattle.scj_rules.specs.declared.typing.Ty.TheVariants.{Int, Bool as Boolean, Void, NullTy, Label, Class as ClassTy, IntArray, BoolArray, ClassArray}
 use Rattle.scj_rules.specs.declared.views.Declared.{Declared}
@@ -20,7 +20,7 @@ use Rattle.scj_rules.specs.declared.scopes.Resolution.{Resolution}
 use Rattle.scj_rules.specs.declared.scopes.Resolution.TheVariants.{Resolved as resolved, Unresolved as unresolved}
 use Rattle.scj_rules.specs.declared.scopes.ScopedDeclaration.{ScopedDeclaration}
 use Rattle.scj_rules.specs.declared.scopes.Written.{Written}
-use Rattle.scj_rules.specs.StaticScopes.{scope_or, this_in, this_name, caller_name, resolved_or_missing, resolved_scope, resolve_name, written_scope, runs_in, has_no_scope, type_scope, is_rightly_scoped, scope_as_written, declaration_scope, scoped_variable, scoped_result, parameter_scope}
+use Rattle.scj_rules.specs.StaticScopes.{beside, scope_or, this_in, this_name, caller_name, unknown_name, resolved_or_missing, resolved_scope, resolve_name, resolve_at, denotes_nothing, written_scope, runs_in, has_no_scope, type_scope, is_rightly_scoped, scope_as_written, declaration_scope, scoped_variable, scoped_result, parameter_scope}
 use Rattle.scj_rules.specs.AnnotationRules.{seen_in, differ, parameters_differ, result_scope}
 use Rattle.scj_rules.specs.Types.{type_written, is_reference}
 use Rattle.scj_rules.specs.TypeRules.{declared_type_of}
@@ -29,6 +29,7 @@ use Rattle.accepted_laws.specs.Kinds.{Kind, number, truth, yes, fresh, reference
 use Rattle.accepted_laws.proofs.ClassScopes.{override_same, seen_in_as, seen_twice}
 use Rattle.accepted_laws.proofs.MethodNodes.{same_bytes}
 use Rattle.accepted_laws.proofs.DispatchScopes.{runs_in_normal}
+use Rattle.accepted_laws.proofs.RealScopes.{this_beside}
 use Rattle.accepted_laws.proofs.Fields.{In as Element, here, there}
 use Rattle.accepted_laws.proofs.Tools.{some_inj}
 use Rattle.accepted_facts.specs.Methods.{kind_of_parameter, kind_given}
@@ -108,12 +109,14 @@ map_twice home above h (o ∷ os) = ap (λ k. k ∷ map (seen_option home Caller
 
 -- a kind in a scope that its own class sees as it is
 own_kind : (home : Scope) (t : Option Ty) (s : Option Scope) → (s ≡ Some This → home ≡ This) → kind_of t s ≡ seen_option home Caller (kind_of t s)
-unfolding seen_as
+unfolding seen_as beside
 own_kind home t None h = plain_kind home t
-own_kind home t (Some This) h = ap (λ x. kind_of t (Some x)) (sym (h refl)) ∙ seen_kind_of home t This
+own_kind home t (Some This) h = ap (λ x. kind_of t (Some (beside x))) (sym (h refl)) ∙ seen_kind_of home t This
 own_kind home t (Some Any) h = seen_kind_of home t Any
 own_kind home t (Some Caller) h = seen_kind_of home t Caller
 own_kind home t (Some (In n)) h = seen_kind_of home t (In n)
+own_kind home t (Some Unknown) h = seen_kind_of home t Unknown
+own_kind home t (Some Lost) h = seen_kind_of home t Lost
 
 caller_not_this : Some Caller ≡ Some This → ⊥
 caller_not_this e = (let f : Caller ≡ This = some_inj Caller This e in cc (f))
@@ -177,30 +180,43 @@ module _ (p : Declarations) where
       go false true e = c (sym (resolved_is current) ∙ e)
       go false false e = absurd (number (scope_number p name) e)
 
+  resolved_this : (t : ScopedDeclaration) (home : Scope) (name : List ℕ) → this_in p t.class ≡ Some home → (t.current ≡ Some This → home ≡ This) → resolved_scope (resolve_at p t name) ≡ Some This → home ≡ This
+  unfolding resolve_at written_scope
+  resolved_this t home name h c e = by_unknown (is_same name unknown_name) t.is_variable e
+    where
+      by_name : (nothing : Bool) → resolved_scope (if nothing then unresolved else resolve_name p t.class t.current name) ≡ Some This → home ≡ This
+      by_name true e = absurd (none_not_this e)
+      by_name false e = written_this t.class home t.current name h c e
+
+      by_unknown : (u v : Bool) → resolved_scope (if u then (if v then resolved Unknown else unresolved) else (if denotes_nothing p t name then unresolved else resolve_name p t.class t.current name)) ≡ Some This → home ≡ This
+      by_unknown true true e = absurd (let f : Unknown ≡ This = some_inj Unknown This e in cc (f))
+      by_unknown true false e = absurd (none_not_this e)
+      by_unknown false v e = by_name (denotes_nothing p t name) e
+
   declared_this : (t : ScopedDeclaration) (home : Scope) → this_in p t.class ≡ Some home → (t.default ≡ Some This → home ≡ This) → (t.current ≡ Some This → home ≡ This) → declaration_scope p t ≡ Some This → home ≡ This
   unfolding declaration_scope scope_as_written
   declared_this t home h d c e = by_kind (has_no_scope t.declared_type) e
     where
-      as_written : (o : Option Written) → (elim o as (λ _. Option Scope) [ None ↦ t.default | Some w ↦ written_scope p t.class t.current w.name ]) ≡ Some This → home ≡ This
+      as_written : (o : Option Written) → (elim o as (λ _. Option Scope) [ None ↦ t.default | Some w ↦ resolved_scope (resolve_at p t w.name) ]) ≡ Some This → home ≡ This
       as_written None e = d e
-      as_written (Some w) e = written_this t.class home t.current w.name h c e
+      as_written (Some w) e = resolved_this t home w.name h c e
 
-      by_class : (s : ClassScope) → scope_or s (elim t.scope as (λ _. Option Scope) [ None ↦ t.default | Some w ↦ written_scope p t.class t.current w.name ]) ≡ Some This → home ≡ This
+      by_class : (s : ClassScope) → scope_or s (elim t.scope as (λ _. Option Scope) [ None ↦ t.default | Some w ↦ resolved_scope (resolve_at p t w.name) ]) ≡ Some This → home ≡ This
       by_class unannotated e = as_written t.scope e
       by_class (annotated n) e = absurd (in_not_this n e)
-      by_class unknown e = absurd (none_not_this e)
+      by_class scopeless e = absurd (none_not_this e)
 
-      by_right : (b : Bool) → (if b then scope_or (type_scope p t.declared_type) (elim t.scope as (λ _. Option Scope) [ None ↦ t.default | Some w ↦ written_scope p t.class t.current w.name ]) else None) ≡ Some This → home ≡ This
+      by_right : (b : Bool) → (if b then scope_or (type_scope p t.declared_type) (elim t.scope as (λ _. Option Scope) [ None ↦ t.default | Some w ↦ resolved_scope (resolve_at p t w.name) ]) else None) ≡ Some This → home ≡ This
       by_right true e = by_class (type_scope p t.declared_type) e
       by_right false e = absurd (none_not_this e)
 
-      by_kind : (b : Bool) → (if b then None else (if is_rightly_scoped p t then scope_or (type_scope p t.declared_type) (elim t.scope as (λ _. Option Scope) [ None ↦ t.default | Some w ↦ written_scope p t.class t.current w.name ]) else None)) ≡ Some This → home ≡ This
+      by_kind : (b : Bool) → (if b then None else (if is_rightly_scoped p t then scope_or (type_scope p t.declared_type) (elim t.scope as (λ _. Option Scope) [ None ↦ t.default | Some w ↦ resolved_scope (resolve_at p t w.name) ]) else None)) ≡ Some This → home ≡ This
       by_kind true e = absurd (none_not_this e)
       by_kind false e = by_right (is_rightly_scoped p t) e
 
   runs_this : (class : ℕ) (m : DeclaredMethod) (home : Scope) → this_in p class ≡ Some home → runs_in p class m ≡ Some This → home ≡ This
   unfolding seen_as
-  runs_this class m home h e = runs_in_normal p class m home This h e
+  runs_this class m home h e = sym (this_beside p class home h) ∙ runs_in_normal p class m home This h e
 
   own_parameter : (f : FoundMethod) (home : Scope) → this_in p f.on ≡ Some home → (d : Declared) → kind_of_parameter p f d ≡ seen_option home Caller (kind_of_parameter p f d)
   unfolding kind_of_parameter

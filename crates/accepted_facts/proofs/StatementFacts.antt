@@ -1,5 +1,5 @@
 -- What assignments, declarations with a value, returns and conditions of an accepted program have.
-use Rattle.std.proofs.Common.{◌≡◌, ℕ, List, [], ◌∷◌, ◌++◌, refl, sym, ap, ◌∙◌, subst, Option, Some, None, Bool, true, false, not, ◌||◌, ◌&&◌, true≢false, option_and_then, is_some, slice_get, if◌then◌else◌, ◌==◌}
+use Rattle.std.proofs.Common.{◌≡◌, ℕ, List, [], ◌∷◌, ◌++◌, refl, sym, ap, ◌∙◌, subst, Option, Some, None, Bool, true, false, not, ◌||◌, ◌&&◌, true≢false, ◌⊎◌, inl, inr, option_and_then, is_some, slice_get, if◌then◌else◌, ◌==◌}
 use Rattle.scj_base.specs.declared.findings.Rule.{Rule}
 use Rattle.scj_base.specs.declared.findings.Rule.TheVariants.{T8, E5}
 use Rattle.scj_base.specs.declared.places.Pos.{Pos}
@@ -12,7 +12,7 @@ use Rattle.scj_rules.specs.declared.typing.Meaning.{Meaning}
 use Rattle.scj_rules.specs.declared.typing.Meaning.TheVariants.{Class as a_class, Field as a_field, Nothing as nothing, Variable as a_variable}
 use Rattle.scj_rules.specs.declared.typing.Receiver.{Receiver}
 use Rattle.scj_rules.specs.declared.typing.Scope.{Scope}
-use Rattle.scj_rules.specs.declared.typing.Scope.TheVariants.{Any, This, Caller, In}
+use Rattle.scj_rules.specs.declared.typing.Scope.TheVariants.{Any, This, Caller, In, Unknown, Lost}
 use Rattle.scj_rules.specs.declared.typing.Ty.{Ty}
 use Rattle.scj_rules.specs.declared.typing.Ty.TheVariants.{Int, Bool as Boolean, Void, NullTy, Class as ClassTy, IntArray, BoolArray, ClassArray}
 use Rattle.scj_rules.specs.Definitions.{read}
@@ -20,13 +20,14 @@ use Rattle.scj_rules.specs.Words.{is_among, holds, broken, found_at}
 use Rattle.scj_rules.specs.Views.{place_at}
 use Rattle.scj_rules.specs.Classes.{ClassRow, class_number, field_named}
 use Rattle.scj_rules.specs.Contexts.{Declarations, declarations_of, context, variable_named, object_of, declared_before}
+use Rattle.scj_rules.specs.Guards.{is_guarded_store}
 use Rattle.scj_rules.specs.StaticScopes.{fits, substitute}
 use Rattle.scj_rules.specs.Types.{assigns, are_same, is_boolean, is_reference, element_type, meaning, class_meaning, receiver, accessed_field, class_of_receiver, is_length_of_array}
 use Rattle.scj_rules.specs.TypeRules.{Types, type_of, type_of_meaning, access_type, misfits_assignment, misfits_value, is_length_target, declared_type_of, type_breaks, t1, t2, t3, t4, t5, t6, t7, t8, t9, t10, t11, t12, t13, t14}
 use Rattle.scj_rules.specs.UseRules.{Scopes, misfit_scope, target_rule, use_breaks, e1, e2, e3, e4_and_e5, e6, e7, e8, e9, e10}
 use Rattle.scj_rules.specs.Phases.{IsAccepted}
 use Rattle.accepted_laws.specs.Judgements.{type_at_node, scope_at_node, Inside, Judged}
-use Rattle.accepted_laws.specs.Kinds.{Kind, number, truth, reference, kind_of, seen_as, seen_kind, GoesTo, Fits, IsReal, IsRealKind}
+use Rattle.accepted_laws.specs.Kinds.{Kind, number, truth, reference, kind_of, seen_as, seen_kind, GoesTo, Fits, IsReal, IsRealKind, NamesArea, unscoped}
 use Rattle.accepted_laws.specs.Sorts.{Of, HasRightChildren, IsWellSorted, is_argument, is_expression, is_target}
 use Rattle.accepted_laws.proofs.Breaks.{both_empty, right, no_break_at_node}
 use Rattle.accepted_laws.proofs.InnerNodes.{is_inner}
@@ -41,7 +42,7 @@ use Rattle.accepted_nodes.proofs.Uses.{goes_where_fits}
 use Rattle.accepted_nodes.proofs.ValueChildren.{inside_child, value_child}
 use Rattle.accepted_nodes.proofs.ValueFacts.{boolean_is}
 use Rattle.accepted_facts.specs.Expressions.{Operand}
-use Rattle.accepted_facts.specs.Statements.{FitsAsSeen, ForFacts, AssignFacts}
+use Rattle.accepted_facts.specs.Statements.{FitsAsSeen, ForFacts, IsAllowedByGuard, AssignFacts}
 use Rattle.accepted_facts.proofs.AccessFacts.{operand_at, type_of_value, scope_of_value, boolean_judged}
 use Rattle.accepted_facts.proofs.DeclaredKinds.{holds_values, has_kind, variable_holds, field_holds}
 use Rattle.accepted_facts.proofs.JudgedValues.{judged}
@@ -77,20 +78,43 @@ fits_as_seen p BoolArray BoolArray (Some s) (Some r) j k e f a m = as_fits p (re
 fits_as_seen p (ClassArray c) (ClassArray d) (Some s) (Some r) j k e f a m = as_fits p (reference (ClassArray c) s) (reference (ClassArray d) r) j k (some_inj _ _ e) (some_inj _ _ f) (a, not_false (fits s r) m)
 fits_as_seen p t u s r j k e f a m = absurd (cc (e, f, a))
 
-seen_fits : (home now s r : Scope) → IsReal r → IsReal now → fits s (seen_as home now r) ≡ true → GoesTo home now s r
+seen_fits : (home now s r : Scope) → IsReal r → NamesArea now → fits s (seen_as home now r) ≡ true → GoesTo home now s r
 unfolding seen_as substitute
 seen_fits home now s This real here e = goes_where_fits home now s This real here (ap not e)
 seen_fits home now s Caller real here e = goes_where_fits home now s Caller real here (ap not e)
 seen_fits home now s (In n) real here e = goes_where_fits home now s (In n) real here (ap not e)
+seen_fits home now s Unknown real here e = goes_where_fits home now s Unknown real here (ap not e)
+seen_fits home now s Lost real here e = goes_where_fits home now s Lost real here (ap not e)
 seen_fits home now s Any real here e = absurd real
 
 -- what fits a kind as it is seen goes to the kind
-pub fits_go : (p : Declarations) (home now : Scope) (j k : Kind) → IsRealKind k → IsReal now → FitsAsSeen p j (seen_kind home now k) → Fits p home now j k
+pub fits_go : (p : Declarations) (home now : Scope) (j k : Kind) → IsRealKind k → NamesArea now → FitsAsSeen p j (seen_kind home now k) → Fits p home now j k
 unfolding seen_kind
 fits_go p home now number number real here h = tt
 fits_go p home now truth truth real here h = tt
 fits_go p home now (reference t s) (reference u r) real here h = (h.0, seen_fits home now s r real here h.1)
 fits_go p home now _ _ real here h = absurd h
+
+-- a place of the same type of which no scope is asked, and what goes there
+unscoped_kind : (u : Ty) (r : Option Scope) (k : Kind) → holds_values u ≡ true → kind_of (Some u) r ≡ Some k → kind_of (Some u) (Some Unknown) ≡ Some (unscoped k)
+unfolding kind_of holds_values unscoped
+unscoped_kind Int r k h e = ap (λ k. Some (unscoped k)) (some_inj _ _ e)
+unscoped_kind Boolean r k h e = ap (λ k. Some (unscoped k)) (some_inj _ _ e)
+unscoped_kind (ClassTy c) (Some s) k h e = ap (λ k. Some (unscoped k)) (some_inj _ _ e)
+unscoped_kind IntArray (Some s) k h e = ap (λ k. Some (unscoped k)) (some_inj _ _ e)
+unscoped_kind BoolArray (Some s) k h e = ap (λ k. Some (unscoped k)) (some_inj _ _ e)
+unscoped_kind (ClassArray c) (Some s) k h e = ap (λ k. Some (unscoped k)) (some_inj _ _ e)
+unscoped_kind u r k h e = absurd (cc (h, e))
+
+unknown_taken : (s : Option Scope) → misfit_scope s (Some Unknown) ≡ false
+unfolding fits
+unknown_taken None = refl
+unknown_taken (Some Any) = refl
+unknown_taken (Some This) = refl
+unknown_taken (Some Caller) = refl
+unknown_taken (Some (In n)) = refl
+unknown_taken (Some Unknown) = refl
+unknown_taken (Some Lost) = refl
 
 typed_kind : (o : Option Ty) (s : Option Scope) (k : Kind) → kind_of o s ≡ Some k → (t : Ty) × (o ≡ Some t) × (kind_of (Some t) s ≡ Some k)
 unfolding kind_of
@@ -256,15 +280,27 @@ module _ (forest : Forest) (accepted : IsAccepted forest) (whole : IsForest fore
   target_has_rule id (SimpleName place name) = (_, refl)
   target_has_rule id _ = (E5, refl)
 
-  scopes_pass : (target value : ℕ) (place : Pos) (node : Node) → slice_get forest.nodes target ≡ Some node → found_at (read p.nodes (target_rule p target) target) (λ rule. broken (misfit_scope (scopes value) (scopes target)) rule place) ≡ [] → misfit_scope (scopes value) (scopes target) ≡ false
-  scopes_pass target value place node there e =
+  abbrev Stores : ℕ → ℕ → ℕ → Bool
+  Stores id target value = misfit_scope (scopes value) (scopes target) && not (is_guarded_store p types id target value)
+
+  -- E4 and E5 at an assignment: the scope fits, or a guard allows the store
+  scopes_pass : (id target value : ℕ) (place : Pos) (node : Node) → slice_get forest.nodes target ≡ Some node →
+      found_at (read p.nodes (target_rule p target) target) (λ rule. broken (Stores id target value) rule place) ≡ [] →
+      (misfit_scope (scopes value) (scopes target) ≡ false) ⊎ (is_guarded_store p types id target value ≡ true)
+  scopes_pass id target value place node there e =
       let r = target_has_rule target node in
       let s : read p.nodes (target_rule p target) target ≡ Some r.0 = ap (option_and_then (target_rule p target)) (at_p forest accepted whole sorted target node there) ∙ r.1 in
-      right (misfit_scope (scopes value) (scopes target)) r.0 place (sym (ap (λ (o : Option Rule). found_at o (λ rule. broken (misfit_scope (scopes value) (scopes target)) rule place)) s) ∙ e)
+      either (misfit_scope (scopes value) (scopes target)) (is_guarded_store p types id target value)
+      (right (Stores id target value) r.0 place (sym (ap (λ (o : Option Rule). found_at o (λ rule. broken (Stores id target value) rule place)) s) ∙ e))
+    where
+      either : (a b : Bool) → (a && not b) ≡ false → (a ≡ false) ⊎ (b ≡ true)
+      either false b e = inl refl
+      either true true e = inr refl
+      either true false e = absurd (true≢false e)
 
-  use_of_assign : (id target value : ℕ) (place : Pos) → use_breaks p types scopes id (Assign place target value) ≡ [] → found_at (read p.nodes (target_rule p target) target) (λ rule. broken (misfit_scope (scopes value) (scopes target)) rule place) ≡ []
+  use_of_assign : (id target value : ℕ) (place : Pos) → use_breaks p types scopes id (Assign place target value) ≡ [] → found_at (read p.nodes (target_rule p target) target) (λ rule. broken (Stores id target value) rule place) ≡ []
   unfolding use_breaks e1 e2 e3 e4_and_e5 e6 e7 e8 e9 e10
-  use_of_assign id target value place e = (both_empty (found_at (read p.nodes (target_rule p target) target) (λ rule. broken (misfit_scope (scopes value) (scopes target)) rule place)) [] e).0
+  use_of_assign id target value place e = (both_empty (found_at (read p.nodes (target_rule p target) target) (λ rule. broken (Stores id target value) rule place)) [] e).0
 
   -- T7 at typed sides
   assigned : (target value : ℕ) (u t : Ty) → types target ≡ Some u → types value ≡ Some t → misfits_assignment p types target value ≡ false → (assigns p.classes t u ≡ true) × (holds (read p.nodes (is_length_target p types) target) (λ b. b) ≡ false)
@@ -273,6 +309,15 @@ module _ (forest : Forest) (accepted : IsAccepted forest) (whole : IsForest fore
       (sym (ap (λ (o : Option Ty). is_some o && (is_some (types value) && (misfits_value p (types target) (types value) || holds (read p.nodes (is_length_target p types) target) (λ b. b)))) e
       ∙ ap (λ (o : Option Ty). is_some o && (misfits_value p (types target) (types value) || holds (read p.nodes (is_length_target p types) target) (λ b. b))) f) ∙ m) in
       (not_false (assigns p.classes t u) (sym (ap (λ (o : Option Ty). holds o (λ t. holds (types value) (λ v. not (assigns p.classes v t)))) e ∙ ap (λ (o : Option Ty). holds o (λ v. not (assigns p.classes v u))) f) ∙ both.0), both.1)
+
+  -- what is stored fits the target, or a guard allows the store
+  stored_fits : (b c id target value : ℕ) (u : Ty) (k : Kind) → holds_values u ≡ true → At b c id value → (node : Node) → slice_get forest.nodes value ≡ Some node → is_expression node ≡ true → kind_of (Some u) (scopes target) ≡ Some k → ((t : Ty) → types value ≡ Some t → assigns p.classes t u ≡ true)
+      → (misfit_scope (scopes value) (scopes target) ≡ false) ⊎ (is_guarded_store p types id target value ≡ true) → (j : Kind) × Judged p value (Some j) × (FitsAsSeen p j k ⊎ IsAllowedByGuard p id target value j k)
+  stored_fits b c id target value u k h v node there expression kind fit (inl s) =
+      let j = value_fits b c id value u (scopes target) k v node there expression kind fit s in (j.0, j.1, inl j.2)
+  stored_fits b c id target value u k h v node there expression kind fit (inr guarded) =
+      let j = value_fits b c id value u (Some Unknown) (unscoped k) v node there expression (unscoped_kind u (scopes target) k h kind) fit (unknown_taken (scopes value)) in
+      (j.0, j.1, inr (j.2, guarded))
 
   pub assign_facts : (b c id target value : ℕ) (place : Pos) → slice_get forest.nodes id ≡ Some (Assign place target value) → Inside p b c id → AssignFacts p b c id target value
   unfolding children is_inner object_of takes_parts HasRightChildren declared_before Judged
@@ -290,8 +335,9 @@ module _ (forest : Forest) (accepted : IsAccepted forest) (whole : IsForest fore
       let value_type = target_holds target o.node u.0 o.is_there o.passes (sym (type_is forest accepted whole sorted target o.node o.is_there) ∙ u.1) in
       let k = has_kind u.0 (scopes target) value_type (λ r. scope_of_value forest accepted whole sorted b c id target u.0 x u.1 r) in
       let types_fit = assigned target value u.0 t.0 u.1 t.1 (right_assign p types id place target value (unbroken forest accepted whole sorted id node there)) in
-      let scopes_fit = scopes_pass target value place o.node o.is_there (use_of_assign id target value place (use_unbroken id node there)) in
-      let j = value_fits b c id value u.0 (scopes target) k.0 y w.node w.is_there w.passes k.1 (λ t2 e. ap (λ t. assigns p.classes t u.0) (some_inj t2 t.0 (sym e ∙ t.1)) ∙ types_fit.0) scopes_fit in
+      let scopes_fit = scopes_pass id target value place o.node o.is_there (use_of_assign id target value place (use_unbroken id node there)) in
+      let fit : (t2 : Ty) → types value ≡ Some t2 → assigns p.classes t2 u.0 ≡ true = λ t2 e. ap (λ t. assigns p.classes t u.0) (some_inj t2 t.0 (sym e ∙ t.1)) ∙ types_fit.0 in
+      let j = stored_fits b c id target value u.0 k.0 value_type y w.node w.is_there w.passes k.1 fit scopes_fit in
       record {
         expected = k.0;
         target_is = operand_at forest accepted whole sorted b c id target node k.0 there first refl x (ap (λ (o : Option Ty). kind_of o (scopes target)) u.1 ∙ k.1);

@@ -5,20 +5,21 @@ use Rattle.scj_base.specs.Vocabulary.{sign_not}
 use Rattle.scj_rules.specs.declared.typing.Binding.TheVariants.{Local as LocalVariable, Field as InstanceField, Static, Length, Class as ClassNamed}
 use Rattle.scj_rules.specs.declared.scopes.ClassScope.TheVariants.{Annotated as annotated}
 use Rattle.scj_rules.specs.declared.typing.FoundField.{FoundField}
+use Rattle.scj_rules.specs.declared.typing.Meaning.TheVariants.{Field as MeansField}
 use Rattle.scj_rules.specs.declared.typing.Scope.{Scope}
 use Rattle.scj_rules.specs.declared.typing.Scope.TheVariants.{Caller, In}
 use Rattle.scj_rules.specs.declared.typing.Ty.{Ty}
 use Rattle.scj_rules.specs.declared.typing.Ty.TheVariants.{NullTy, Class as ClassTy}
-use Rattle.scj_rules.specs.Words.{is_among}
+use Rattle.scj_rules.specs.Words.{is_among, ◌>>=◌}
 use Rattle.scj_rules.specs.Classes.{class_number, field_named, field_number}
 use Rattle.scj_rules.specs.Contexts.{Declarations, known_variables}
 use Rattle.scj_rules.specs.LimitRules.{variables_of}
 use Rattle.scj_rules.specs.ScopeRules.{immortal_scope, is_outer}
 use Rattle.scj_rules.specs.StaticScopes.{class_scope, current_in, fits}
-use Rattle.scj_rules.specs.Types.{is_array, assigns, element_type, array_of, conditional_operators, relational_operators, equality_operators}
+use Rattle.scj_rules.specs.Types.{is_array, meaning, receiver, accessed_field, assigns, element_type, array_of, conditional_operators, relational_operators, equality_operators}
 use Rattle.scj_rules.specs.TypeRules.{written_type}
 use Rattle.scj_rules.specs.UseRules.{scope_of_element, scope_in_class}
-use Rattle.accepted_laws.specs.Judgements.{scope_at_node, binding_at_node, Judged, Child, OwnObject}
+use Rattle.accepted_laws.specs.Judgements.{type_at_node, scope_at_node, binding_at_node, Judged, Child, OwnObject}
 use Rattle.accepted_laws.specs.Kinds.{Kind, number, truth, reference, kind_of, kind_of_variable, kind_of_field, seen_kind}
 
 -- ---- operands
@@ -79,6 +80,7 @@ pub record IsOwnField (p : Declarations) (b c id : ℕ) (name : List ℕ) (k : K
   pub binding : binding_at_node p id ≡ InstanceField n
   pub declared : Kind
   pub field : InstanceFieldOf p c name n declared
+  pub meant : meaning p id name ≡ MeansField field.field
   pub gives : k ≡ seen_kind own.home Caller declared
 
 -- a name, or an access through the name of a class, stands for a static field of a class
@@ -102,6 +104,7 @@ pub record IsFieldOf (p : Declarations) (b c id object : ℕ) (name : List ℕ) 
   pub binding : binding_at_node p id ≡ InstanceField n
   pub declared : Kind
   pub field : InstanceFieldOf p class name n declared
+  pub accessed : receiver p (type_at_node p) object >>= (λ r. accessed_field p r name) ≡ Some field.field
   pub gives : k ≡ seen_kind scope Caller declared
 
 -- the length of an array

@@ -7,9 +7,8 @@ ghost use Rattle.scj_tree.specs.declared.nodes.Node.TheVariants.{Call as CallNod
 ghost use Rattle.scj_tree.specs.Forest.{Forest};
 ghost use Rattle.scj_rules.specs.Classes.{FoundMethod};
 ghost use Rattle.scj_rules.specs.Contexts.{Declarations, declarations_of};
-ghost use Rattle.scj_rules.specs.Types.{is_form_part};
+ghost use Rattle.scj_rules.specs.Types.{is_form_part, method_called};
 ghost use Rattle.scj_rules.specs.TypeRules.{superclass_at};
-ghost use Rattle.scj_rules.specs.UseRules.{method_called};
 ghost use Rattle.accepted_laws.specs.Judgements.{type_at_node, Judged, Inside};
 ghost use Rattle.accepted_laws.specs.Kinds.{Kind};
 ghost use Rattle.accepted_laws.specs.Programs.{IsAcceptedProgram};

@@ -9,7 +9,7 @@ ghost use Rattle.scj_rules.specs.declared.views.WrittenType.TheVariants.{Void as
 ghost use Rattle.scj_rules.specs.Views.{DeclaredMethod, method_at};
 ghost use Rattle.scj_rules.specs.Contexts.{Declarations, declarations_of};
 ghost use Rattle.accepted_laws.specs.Judgements.{Inside};
-ghost use Rattle.accepted_laws.specs.Kinds.{Kind, truth, seen_kind, Fits, IsReal, IsRealKind};
+ghost use Rattle.accepted_laws.specs.Kinds.{Kind, truth, seen_kind, Fits, IsRealKind, NamesArea};
 ghost use Rattle.accepted_laws.specs.Programs.{IsAcceptedProgram};
 ghost use Rattle.accepted_facts.specs.Expressions.{Operand};
 ghost use Rattle.accepted_facts.specs.Statements.{FitsAsSeen, ForFacts, AssignFacts, InitialValueFacts, ReturnFacts};
@@ -29,14 +29,14 @@ pub fn conditions_of_for_have_facts()
     ensures { (forest : Forest) → IsAcceptedProgram forest → (member class id first condition step body : ℕ) (place : Place) → slice_get (declarations_of forest).nodes id ≡ Some (For place first condition step body) → Inside (declarations_of forest) member class id → ForFacts (declarations_of forest) member class id condition }
 {}
 
-/// The value of an assignment fits its target.
+/// The value of an assignment fits its target, or a guard allows the store.
 pub fn assignments_have_facts()
     ensures { (forest : Forest) → IsAcceptedProgram forest → (member class id target value : ℕ) (place : Place) → slice_get (declarations_of forest).nodes id ≡ Some (Assign place target value) → Inside (declarations_of forest) member class id → AssignFacts (declarations_of forest) member class id target value }
 {}
 
 /// What fits a kind as it is seen from where THIS and CALLER are these scopes goes to the kind there.
 pub fn fitting_values_go()
-    ensures { (forest : Forest) (home now : StaticScope) (j k : Kind) → IsRealKind k → IsReal now → FitsAsSeen (declarations_of forest) j (seen_kind home now k) → Fits (declarations_of forest) home now j k }
+    ensures { (forest : Forest) (home now : StaticScope) (j k : Kind) → IsRealKind k → NamesArea now → FitsAsSeen (declarations_of forest) j (seen_kind home now k) → Fits (declarations_of forest) home now j k }
 {}
 
 /// The value with which a local is declared fits it (JLS 14.4).

@@ -2,18 +2,19 @@
 use Rattle.std.proofs.Common.{◌≡◌, ℕ, ◌<◌, [], length, refl, sym, ap, ◌∙◌, subst, arith, Option, Some, None, Bool, true, false, not, ◌||◌, true≢false, ◌⊎◌, inl, inr, ◌==◌, if◌then◌else◌}
 use Rattle.std.proofs.lemmas.Bool.Decides.{nat_tests}
 use Rattle.scj_rules.specs.declared.typing.Scope.{Scope}
-use Rattle.scj_rules.specs.declared.typing.Scope.TheVariants.{Any, This, Caller, In}
-use Rattle.scj_rules.specs.declared.scopes.ClassScope.TheVariants.{Unannotated as unannotated, Annotated as annotated, Unknown as unknown}
+use Rattle.scj_rules.specs.declared.typing.Scope.TheVariants.{Any, This, Caller, In, Unknown, Lost}
+use Rattle.scj_rules.specs.declared.scopes.ClassScope.TheVariants.{Unannotated as unannotated, Annotated as annotated, Missing as scopeless}
 use Rattle.scj_rules.specs.declared.scopes.Written.{Written}
 use Rattle.scj_rules.specs.Chains.{ComesBack}
 use Rattle.scj_rules.specs.Words.{chain, holds, StaysBelow}
 use Rattle.scj_rules.specs.Classes.{superclass_in, superclasses}
 use Rattle.scj_rules.specs.Contexts.{Declarations}
 use Rattle.scj_rules.specs.ScopeRules.{scope_number, scope_written_in}
-use Rattle.scj_rules.specs.StaticScopes.{are_same_scope, has_unknown_scope, differs_from_above, is_not_scope, is_implied_immortal, scope_of_right_class, class_scope_under, class_scope_on, class_scope, this_in}
+use Rattle.scj_rules.specs.StaticScopes.{are_same_scope, beside, has_unknown_scope, differs_from_above, is_not_scope, is_implied_immortal, scope_of_right_class, class_scope_under, class_scope_on, class_scope, this_in}
 use Rattle.scj_rules.specs.AnnotationRules.{scope_above, seen_in, differ}
 use Rattle.accepted_laws.specs.Kinds.{seen_as}
 use Rattle.accepted_laws.proofs.ChainSteps.{unroll}
+use Rattle.accepted_laws.proofs.RealScopes.{this_beside}
 
 module _ (p : Declarations) (stays : StaysBelow (superclass_in p.classes) (length p.classes)) (acyclic : (a : ℕ) → ComesBack (superclass_in p.classes) a → ⊥) where
   above_is : (class : ℕ) → class < length p.classes → class_scope p class ≡ class_scope_under p (scope_above p class) class
@@ -36,7 +37,7 @@ module _ (p : Declarations) (stays : StaysBelow (superclass_in p.classes) (lengt
       up_is : scope_above p class ≡ annotated n
       up_is = ap (λ o. elim o [ None ↦ unannotated | Some a ↦ class_scope p a ]) up ∙ has
 
-      named : (o : Option ℕ) → not (holds o (λ s. s == n)) ≡ false → (elim o [ None ↦ unknown | Some s ↦ annotated s ]) ≡ annotated n
+      named : (o : Option ℕ) → not (holds o (λ s. s == n)) ≡ false → (elim o [ None ↦ scopeless | Some s ↦ annotated s ]) ≡ annotated n
       named None e = absurd (true≢false e)
       named (Some s) e = ap (λ x. annotated x) (number s (s == n) refl e)
         where
@@ -49,10 +50,10 @@ module _ (p : Declarations) (stays : StaysBelow (superclass_in p.classes) (lengt
       or_first false b e = refl
 
       under : (implied : Bool) (w : Option Written) → has_unknown_scope p w ≡ false → differs_from_above p w (annotated n) implied ≡ false
-          → (if has_unknown_scope p w || differs_from_above p w (annotated n) implied then unknown else scope_of_right_class p w (annotated n) implied) ≡ annotated n
-      under implied None k d = ap (λ t. if t then unknown else annotated n) d
+          → (if has_unknown_scope p w || differs_from_above p w (annotated n) implied then scopeless else scope_of_right_class p w (annotated n) implied) ≡ annotated n
+      under implied None k d = ap (λ t. if t then scopeless else annotated n) d
       under implied (Some w) k d =
-          ap (λ t. if t then unknown else scope_of_right_class p (Some w) (annotated n) implied) (ap (λ t. t || differs_from_above p (Some w) (annotated n) implied) k ∙ d)
+          ap (λ t. if t then scopeless else scope_of_right_class p (Some w) (annotated n) implied) (ap (λ t. t || differs_from_above p (Some w) (annotated n) implied) k ∙ d)
           ∙ named (scope_number p w.name) (or_first (is_not_scope p w n) _ d)
 
 -- ---- overrides
@@ -63,6 +64,8 @@ same_scope Any Any e = refl
 same_scope This This e = refl
 same_scope Caller Caller e = refl
 same_scope (In a) (In b) e = let x : a ≡ b = grind (arith, nat_tests) in ap (λ n. In n) x
+same_scope Unknown Unknown e = refl
+same_scope Lost Lost e = refl
 same_scope _ _ e = absurd (cc (e))
 
 -- A6 isn't broken: what the override has is what the method above has, as the class sees it
@@ -76,22 +79,28 @@ override_same a b s t es et e = go (are_same_scope a b) refl (sym (ap (λ x. hol
 -- as the class sees it, in the words of the machine's proofs
 pub seen_in_as : (p : Declarations) (class : ℕ) (home : Scope) → this_in p class ≡ Some home → (s : Scope) → seen_in p class (Some s) ≡ Some (seen_as home Caller s)
 unfolding seen_in are_same_scope seen_as
-seen_in_as p class home e This = e
+seen_in_as p class home e This = e ∙ ap (λ s. Some s) (sym (this_beside p class home e))
 seen_in_as p class home e Any = refl
 seen_in_as p class home e Caller = refl
 seen_in_as p class home e (In n) = refl
+seen_in_as p class home e Unknown = refl
+seen_in_as p class home e Lost = refl
 
 -- two overrides one above the other: what the lower class sees of what the upper one sees is what it sees itself
 pub seen_twice : (home above : Scope) → (above ≡ This) ⊎ (above ≡ home) → (s : Scope) → seen_as home Caller (seen_as above Caller s) ≡ seen_as home Caller s
-unfolding seen_as
-seen_twice home above (inl e) This = ap (seen_as home Caller) e
+unfolding seen_as beside
+seen_twice home above (inl e) This = ap (λ a. seen_as home Caller (beside a)) e
 seen_twice home above (inr e) This = go above e
   where
-    go : (h : Scope) → h ≡ home → seen_as home Caller h ≡ home
+    go : (h : Scope) → h ≡ home → seen_as home Caller (beside h) ≡ beside home
     go This e = refl
-    go Any e = e
-    go Caller e = e
-    go (In n) e = e
+    go Any e = ap beside e
+    go Caller e = ap beside e
+    go (In n) e = ap beside e
+    go Unknown e = ap beside e
+    go Lost e = ap beside e
 seen_twice home above e Any = refl
 seen_twice home above e Caller = refl
 seen_twice home above e (In n) = refl
+seen_twice home above e Unknown = refl
+seen_twice home above e Lost = refl

@@ -8,7 +8,7 @@ use Rattle.scj_base.specs.declared.places.Pos.{Pos}
 use Rattle.scj_tree.specs.declared.nodes.Node.{Node}
 use Rattle.scj_tree.specs.declared.nodes.Node.TheVariants.{Class, Field, Method, Parameter, Local, LocalWithValue}
 use Rattle.scj_tree.specs.Forest.{Forest, IsForest}
-use Rattle.scj_rules.specs.declared.scopes.ClassScope.TheVariants.{Unannotated as unannotated, Annotated as annotated, Unknown as unknown}
+use Rattle.scj_rules.specs.declared.scopes.ClassScope.TheVariants.{Unannotated as unannotated, Annotated as annotated, Missing as scopeless}
 use Rattle.scj_rules.specs.declared.scopes.ScopedDeclaration.{ScopedDeclaration}
 use Rattle.scj_rules.specs.declared.scopes.Written.{Written}
 use Rattle.scj_rules.specs.declared.typing.Scope.{Scope}
@@ -74,7 +74,7 @@ module _ (forest : Forest) (accepted : IsAccepted forest) (whole : IsForest fore
   p = declarations_of forest
 
   -- what is no class is unannotated, or lies in IMMORTAL
-  no_class_known : (class : ℕ) → length p.classes ≤ class → class_scope p class ≡ unknown → ⊥
+  no_class_known : (class : ℕ) → length p.classes ≤ class → class_scope p class ≡ scopeless → ⊥
   unfolding class_scope superclasses class_scope_on class_scope_under scope_written_in differs_from_above scope_of_right_class
   no_class_known class l e =
       let none : slice_get p.classes class ≡ None = get_none p.classes class l in
@@ -82,13 +82,13 @@ module _ (forest : Forest) (accepted : IsAccepted forest) (whole : IsForest fore
       let w : scope_written_in p class ≡ None = ap (λ (o : Option ClassRow). option_and_then (λ (c : WrittenClass). c.modifiers.scope) (option_and_then (λ (row : ClassRow). row.written) o)) none in
       not_unknown (is_implied_immortal p class)
       (sym (ap (class_scope_on p) (chain_alone (superclass_in p.classes) (length p.classes) class (some_classes forest accepted) next)
-      ∙ ap (λ w. if has_unknown_scope p w || differs_from_above p w unannotated (is_implied_immortal p class) then unknown else scope_of_right_class p w unannotated (is_implied_immortal p class)) w) ∙ e)
+      ∙ ap (λ w. if has_unknown_scope p w || differs_from_above p w unannotated (is_implied_immortal p class) then scopeless else scope_of_right_class p w unannotated (is_implied_immortal p class)) w) ∙ e)
     where
-      not_unknown : (t : Bool) → (if t then annotated immortal_scope else unannotated) ≡ unknown → ⊥
+      not_unknown : (t : Bool) → (if t then annotated immortal_scope else unannotated) ≡ scopeless → ⊥
       not_unknown true e = cc (e)
       not_unknown false e = cc (e)
 
-  -- no scope of a class is unknown
+  -- no scope of a class is missing
   pub all_known : Known p
   all_known class e = go (nat_lt class (length p.classes)) refl
     where

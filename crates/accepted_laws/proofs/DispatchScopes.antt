@@ -8,12 +8,12 @@ use Rattle.scj_builtins.specs.declared.methods.FrameworkMethod.{FrameworkMethod}
 use Rattle.scj_builtins.specs.Framework.{framework_methods}
 use Rattle.scj_tree.specs.Forest.{Forest, IsForest}
 use Rattle.scj_rules.specs.declared.scopes.ClassScope.{ClassScope}
-use Rattle.scj_rules.specs.declared.scopes.ClassScope.TheVariants.{Unannotated as unannotated, Annotated as annotated, Unknown as unknown}
+use Rattle.scj_rules.specs.declared.scopes.ClassScope.TheVariants.{Unannotated as unannotated, Annotated as annotated, Missing as scopeless}
 use Rattle.scj_rules.specs.declared.scopes.Resolution.{Resolution}
 use Rattle.scj_rules.specs.declared.scopes.Resolution.TheVariants.{Resolved as resolved, Unresolved as unresolved}
 use Rattle.scj_rules.specs.declared.scopes.Written.{Written}
 use Rattle.scj_rules.specs.declared.typing.Scope.{Scope}
-use Rattle.scj_rules.specs.declared.typing.Scope.TheVariants.{Any, This, Caller, In}
+use Rattle.scj_rules.specs.declared.typing.Scope.TheVariants.{Any, This, Caller, In, Unknown, Lost}
 use Rattle.scj_rules.specs.Words.{is_among}
 use Rattle.scj_rules.specs.Views.{DeclaredMethod}
 use Rattle.scj_rules.specs.Classes.{FoundMethod, framework_row_named, superclasses}
@@ -30,6 +30,7 @@ use Rattle.accepted_laws.proofs.DeclarationScopes.{this_has_scope, runs_in_has_s
 use Rattle.accepted_laws.proofs.Interfaces.{interfaces_give_framework_methods}
 use Rattle.accepted_laws.proofs.Overrides.{Runs, runs_next}
 use Rattle.accepted_laws.proofs.ClassChains.{acyclic}
+use Rattle.accepted_laws.proofs.RealScopes.{this_beside}
 use Rattle.accepted_laws.proofs.ScopesOfClasses.{scope_of_above}
 use Rattle.accepted_laws.proofs.Tools.{some_inj}
 
@@ -96,7 +97,7 @@ module _ (p : Declarations) where
       go : (s : ClassScope) → scope_or s (Some Caller) ≡ Some This → ⊥
       go unannotated e = caller_not_this e
       go (annotated n) e = in_not_this n e
-      go unknown e = none_not_this e
+      go scopeless e = none_not_this e
   free_this class (Some w) e = written_this class w.name e
 
   runs_in_this : (class : ℕ) (m : DeclaredMethod) → runs_in p class m ≡ Some This → this_in p class ≡ Some This
@@ -118,10 +119,13 @@ module _ (p : Declarations) where
   -- a method's own class sees its scope as it is
   pub runs_in_normal : (class : ℕ) (m : DeclaredMethod) (home r : Scope) → this_in p class ≡ Some home → runs_in p class m ≡ Some r → seen_as home Caller r ≡ r
   unfolding seen_as
-  runs_in_normal class m home This h e = some_inj home This (sym h ∙ runs_in_this class m e)
+  runs_in_normal class m home This h e =
+      this_beside p class home h ∙ some_inj home This (sym h ∙ runs_in_this class m e)
   runs_in_normal class m home Any h e = refl
   runs_in_normal class m home Caller h e = refl
   runs_in_normal class m home (In n) h e = refl
+  runs_in_normal class m home Unknown h e = refl
+  runs_in_normal class m home Lost h e = refl
 
 module _ (forest : Forest) (accepted : IsAccepted forest) (whole : IsForest forest) (sorted : IsWellSorted forest.nodes) where
   abbrev q : Declarations
@@ -137,7 +141,7 @@ module _ (forest : Forest) (accepted : IsAccepted forest) (whole : IsForest fore
       go (annotated n) k f = inr (
           let a : class_scope q class ≡ annotated n = scope_of_above forest accepted whole sorted class above n l h k in
           some_inj g home (sym f ∙ sym (ap (λ s. scope_or s (Some This)) a) ∙ e))
-      go unknown k f = absurd (let z : None ≡ Some g = f in cc (z))
+      go scopeless k f = absurd (let z : None ≡ Some g = f in cc (z))
 
   plain_too : (g h : FoundMethod) → both_static g.method h.method ≡ true → h.method.declared.modifiers.is_static ≡ false → g.method.declared.modifiers.is_static ≡ false
   plain_too g h b e = go g.method.declared.modifiers.is_static refl b

@@ -1,5 +1,5 @@
 -- In an accepted program each class has a scope or none, as its annotation and its superclass say: no scope of a class is
--- unknown, and a class has the scope of an annotated class above it.
+-- missing, and a class has the scope of an annotated class above it.
 use Rattle.std.proofs.Common.{◌≡◌, ℕ, ◌<◌, ◌≤◌, zero, suc, List, [], ◌∷◌, ◌++◌, length, refl, sym, ap, ◌∙◌, arith, Option, Some, None, Bool, true, false, not, ◌||◌, true≢false, slice_get, ◌==◌, option_and_then, is_some, if◌then◌else◌, ◌⊎◌, inl, inr}
 use Rattle.std.proofs.lemmas.Option.{slice_get_within}
 use Rattle.scj_base.specs.declared.findings.Rule.TheVariants.{A1, A2}
@@ -7,7 +7,7 @@ use Rattle.scj_builtins.specs.Framework.{object}
 use Rattle.scj_tree.specs.declared.nodes.Node.{Node}
 use Rattle.scj_tree.specs.Forest.{Forest, IsForest}
 use Rattle.scj_rules.specs.declared.scopes.ClassScope.{ClassScope}
-use Rattle.scj_rules.specs.declared.scopes.ClassScope.TheVariants.{Unannotated as unannotated, Annotated as annotated, Unknown as unknown}
+use Rattle.scj_rules.specs.declared.scopes.ClassScope.TheVariants.{Unannotated as unannotated, Annotated as annotated, Missing as scopeless}
 use Rattle.scj_rules.specs.declared.scopes.Written.{Written}
 use Rattle.scj_rules.specs.Words.{is_among, broken, found_at}
 use Rattle.scj_rules.specs.Views.{WrittenClass}
@@ -73,7 +73,7 @@ module _ (forest : Forest) (accepted : IsAccepted forest) where
       let r = top_row forest accepted in
       let w = none_written object r.0 r.1 r.4 in
       ap (class_scope_on p) (chain_is object (slice_get_within p.classes object r.0 r.1) ∙ ap (λ (o : Option ℕ). object ∷ (elim o as (λ _. List ℕ) [ None ↦ [] | Some b ↦ superclasses p.classes b ])) (next_is object r.0 r.1 ∙ r.2))
-      ∙ ap (λ w. if has_unknown_scope p w || differs_from_above p w unannotated (is_implied_immortal p object) then unknown else scope_of_right_class p w unannotated (is_implied_immortal p object)) w
+      ∙ ap (λ w. if has_unknown_scope p w || differs_from_above p w unannotated (is_implied_immortal p object) then scopeless else scope_of_right_class p w unannotated (is_implied_immortal p object)) w
 
   above_of_framework : (class : ℕ) (row : ClassRow) → slice_get p.classes class ≡ Some row → IsFrameworkRow class row → scope_above p class ≡ unannotated
   above_of_framework class row e k = elim k.extends_object as (λ z. scope_above p class ≡ unannotated) [
@@ -134,33 +134,33 @@ module _ (forest : Forest) (accepted : IsAccepted forest) where
     under_is class l =
         let r = right_class class l in
         above_is class l
-        ∙ ap (λ t. if t || differs_from_above p (scope_written_in p class) (scope_above p class) (is_implied_immortal p class) then unknown else scope_of_right_class p (scope_written_in p class) (scope_above p class) (is_implied_immortal p class)) r.known
-        ∙ ap (λ t. if t then unknown else scope_of_right_class p (scope_written_in p class) (scope_above p class) (is_implied_immortal p class)) r.same
+        ∙ ap (λ t. if t || differs_from_above p (scope_written_in p class) (scope_above p class) (is_implied_immortal p class) then scopeless else scope_of_right_class p (scope_written_in p class) (scope_above p class) (is_implied_immortal p class)) r.known
+        ∙ ap (λ t. if t then scopeless else scope_of_right_class p (scope_written_in p class) (scope_above p class) (is_implied_immortal p class)) r.same
 
-    known_under : (w : Option Written) (above : ClassScope) (implied : Bool) → has_unknown_scope p w ≡ false → scope_of_right_class p w above implied ≡ unknown → above ≡ unknown
+    known_under : (w : Option Written) (above : ClassScope) (implied : Bool) → has_unknown_scope p w ≡ false → scope_of_right_class p w above implied ≡ scopeless → above ≡ scopeless
     unfolding scope_of_right_class
     known_under (Some w) above implied k e = named (scope_number p w.name) k e
       where
-        named : (o : Option ℕ) → not (is_some o) ≡ false → (elim o as (λ _. ClassScope) [ None ↦ unknown | Some s ↦ annotated s ]) ≡ unknown → above ≡ unknown
+        named : (o : Option ℕ) → not (is_some o) ≡ false → (elim o as (λ _. ClassScope) [ None ↦ scopeless | Some s ↦ annotated s ]) ≡ scopeless → above ≡ scopeless
         named None k e = absurd (true≢false k)
         named (Some s) k e = absurd (cc (e))
     known_under None unannotated true k e = absurd (cc (e))
     known_under None unannotated false k e = e
     known_under None (annotated s) implied k e = e
-    known_under None unknown implied k e = refl
+    known_under None scopeless implied k e = refl
 
-    known_down : (d class : ℕ) → class < length p.classes → length (superclasses p.classes class) ≤ d → class_scope p class ≡ unknown → ⊥
+    known_down : (d class : ℕ) → class < length p.classes → length (superclasses p.classes class) ≤ d → class_scope p class ≡ scopeless → ⊥
     known_down zero class l m e = (let c : length (superclasses p.classes class) ≡ suc (length (elim (next class) as (λ _. List ℕ) [ None ↦ [] | Some b ↦ superclasses p.classes b ])) = ap length (chain_is class l) in omega (arith, c, m))
     known_down (suc d) class l m e = go (next class) refl (known_under (scope_written_in p class) (scope_above p class) (is_implied_immortal p class) (right_class class l).known (sym (under_is class l) ∙ e)) (known_down d)
       where
-        go : (o : Option ℕ) → next class ≡ o → (elim (next class) as (λ _. ClassScope) [ None ↦ unannotated | Some a ↦ class_scope p a ]) ≡ unknown → ((class : ℕ) → class < length p.classes → length (superclasses p.classes class) ≤ d → class_scope p class ≡ unknown → ⊥) → ⊥
-        go None s h ih = (let z : unannotated ≡ unknown = sym (ap (λ (o : Option ℕ). elim o as (λ _. ClassScope) [ None ↦ unannotated | Some a ↦ class_scope p a ]) s) ∙ h in cc (z))
+        go : (o : Option ℕ) → next class ≡ o → (elim (next class) as (λ _. ClassScope) [ None ↦ unannotated | Some a ↦ class_scope p a ]) ≡ scopeless → ((class : ℕ) → class < length p.classes → length (superclasses p.classes class) ≤ d → class_scope p class ≡ scopeless → ⊥) → ⊥
+        go None s h ih = (let z : unannotated ≡ scopeless = sym (ap (λ (o : Option ℕ). elim o as (λ _. ClassScope) [ None ↦ unannotated | Some a ↦ class_scope p a ]) s) ∙ h in cc (z))
         go (Some b) s h ih =
             let c : length (superclasses p.classes class) ≡ suc (length (superclasses p.classes b)) = ap length (chain_is class l) ∙ ap (λ (o : Option ℕ). suc (length (elim o as (λ _. List ℕ) [ None ↦ [] | Some b ↦ superclasses p.classes b ]))) s in
             ih b (counted-stays forest class b s) (omega (arith, c, m)) (sym (ap (λ (o : Option ℕ). elim o as (λ _. ClassScope) [ None ↦ unannotated | Some a ↦ class_scope p a ]) s) ∙ h)
 
-    -- no scope of a class is unknown
-    pub class_scope_known : (class : ℕ) → class < length p.classes → class_scope p class ≡ unknown → ⊥
+    -- no scope of a class is missing
+    pub class_scope_known : (class : ℕ) → class < length p.classes → class_scope p class ≡ scopeless → ⊥
     class_scope_known class l e = known_down (length (superclasses p.classes class)) class l (omega arith) e
 
     scope_down : (d a b n : ℕ) → a < length p.classes → length (superclasses p.classes a) ≤ d → is_among b (superclasses p.classes a) ≡ true → class_scope p b ≡ annotated n → class_scope p a ≡ annotated n

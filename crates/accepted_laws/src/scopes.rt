@@ -3,7 +3,7 @@
 ghost use Rattle.std.specs.Prelude.{◌≡◌, ◌<◌, ℕ, Some, false, true, length, slice_get};
 ghost use Rattle.scj_tree.specs.declared.nodes.Node.{Node as SyntaxNode};
 ghost use Rattle.scj_tree.specs.Forest.{Forest};
-ghost use Rattle.scj_rules.specs.declared.scopes.ClassScope.TheVariants.{Annotated as annotated, Unknown as unknown};
+ghost use Rattle.scj_rules.specs.declared.scopes.ClassScope.TheVariants.{Annotated as annotated, Missing as scopeless};
 ghost use Rattle.scj_rules.specs.declared.scopes.ScopedDeclaration.{ScopedDeclaration};
 ghost use Rattle.scj_rules.specs.Words.{is_among};
 ghost use Rattle.scj_rules.specs.declared.views.Declared.{Declared as Declaration};
@@ -15,9 +15,9 @@ ghost use Rattle.scj_rules.specs.AnnotationRules.{scoped_declaration_at, result_
 ghost use Rattle.accepted_laws.specs.Judgements.{HasScope};
 ghost use Rattle.accepted_laws.specs.Programs.{IsAcceptedProgram};
 
-/// No scope of a class is unknown.
+/// No scope of a class is missing.
 pub fn class_scopes_are_known()
-    ensures { (forest : Forest) → IsAcceptedProgram forest → (class : ℕ) → ¬ (class_scope (declarations_of forest) class ≡ unknown) }
+    ensures { (forest : Forest) → IsAcceptedProgram forest → (class : ℕ) → ¬ (class_scope (declarations_of forest) class ≡ scopeless) }
 {}
 
 /// A class has the scope of an annotated class above it.

@@ -5,13 +5,13 @@ use Rattle.scj_tree.specs.declared.nodes.Node.{Node}
 use Rattle.scj_tree.specs.declared.nodes.Node.TheVariants.{Parameter, Local, LocalWithValue}
 use Rattle.scj_tree.specs.Forest.{Forest, IsForest}
 use Rattle.scj_rules.specs.declared.scopes.ClassScope.{ClassScope}
-use Rattle.scj_rules.specs.declared.scopes.ClassScope.TheVariants.{Unannotated as unannotated, Annotated as annotated, Unknown as unknown}
+use Rattle.scj_rules.specs.declared.scopes.ClassScope.TheVariants.{Unannotated as unannotated, Annotated as annotated, Missing as scopeless}
 use Rattle.scj_rules.specs.declared.scopes.Resolution.{Resolution}
 use Rattle.scj_rules.specs.declared.scopes.Resolution.TheVariants.{Resolved as resolved, Unresolved as unresolved}
 use Rattle.scj_rules.specs.declared.scopes.ScopedDeclaration.{ScopedDeclaration}
 use Rattle.scj_rules.specs.declared.scopes.Written.{Written}
 use Rattle.scj_rules.specs.declared.typing.Scope.{Scope}
-use Rattle.scj_rules.specs.declared.typing.Scope.TheVariants.{This, Caller, In}
+use Rattle.scj_rules.specs.declared.typing.Scope.TheVariants.{This, Caller, In, Unknown}
 use Rattle.scj_rules.specs.declared.typing.Ty.{Ty}
 use Rattle.scj_rules.specs.declared.typing.Ty.TheVariants.{Int, Bool as Boolean, Void, Label}
 use Rattle.scj_rules.specs.declared.views.Declared.{Declared}
@@ -21,7 +21,7 @@ use Rattle.scj_rules.specs.Words.{holds}
 use Rattle.scj_rules.specs.Views.{DeclaredMethod, variable_at, variable_of}
 use Rattle.scj_rules.specs.Contexts.{Declarations, declarations_of, context, is_static_member}
 use Rattle.scj_rules.specs.ScopeRules.{immortal_scope, scope_number}
-use Rattle.scj_rules.specs.StaticScopes.{are_same_scope, class_scope, scope_or, this_in, this_name, caller_name, resolved_or_missing, resolved_scope, resolve_name, is_unresolved, written_scope, runs_in, free_runs_in, fixed_for, has_wrong_runs_in, current_in, has_no_scope, type_scope, is_unannotated, denotes_nothing, is_unknown_scope, contradicts, scope_as_written, declaration_scope, scoped_variable, scoped_result, scoped_field, suits_field, misfits_field, field_scope, is_outer_of, resolve_at}
+use Rattle.scj_rules.specs.StaticScopes.{are_same_scope, class_scope, scope_or, this_in, this_name, caller_name, unknown_name, resolved_or_missing, resolved_scope, resolve_name, runs_in, free_runs_in, fixed_for, has_wrong_runs_in, current_in, has_no_scope, type_scope, is_unannotated, denotes_nothing, is_unknown_scope, contradicts, scope_as_written, declaration_scope, scoped_in_member, scoped_variable, scoped_result, scoped_field, suits_field, misfits_field, field_scope, is_outer_of, resolve_at}
 use Rattle.scj_rules.specs.AnnotationRules.{scoped_variable_at, scoped_declaration_at, result_scope}
 use Rattle.scj_rules.specs.Types.{type_written, is_reference}
 use Rattle.scj_rules.specs.UseRules.{variable_scope_at}
@@ -46,10 +46,10 @@ and_true : (a b : Bool) → (a && b) ≡ true → (a ≡ true) × (b ≡ true)
 and_true true b e = (refl, e)
 and_true false b e = absurd (true≢false (sym e))
 
-pub scope_or_has : (s : ClassScope) (o : Option Scope) → (s ≡ unknown → ⊥) → HasScope o → HasScope (scope_or s o)
+pub scope_or_has : (s : ClassScope) (o : Option Scope) → (s ≡ scopeless → ⊥) → HasScope o → HasScope (scope_or s o)
 scope_or_has unannotated o k h = h
 scope_or_has (annotated n) o k h = (In n, refl)
-scope_or_has unknown o k h = absurd (k refl)
+scope_or_has scopeless o k h = absurd (k refl)
 
 module _ (p : Declarations) where
   -- ---- fields
@@ -76,15 +76,15 @@ module _ (p : Declarations) where
   unfolding suits_field
   static_field_scope class f s k e = same_scope s (In immortal_scope) (sym (ap (λ t. suits_field p (class_scope p class) t s) k) ∙ e)
 
-  suits_not_caller : (class : ℕ) (k : ClassScope) (t : Bool) → (k ≡ unknown → ⊥) → suits_field p k t Caller ≡ true → ⊥
+  suits_not_caller : (class : ℕ) (k : ClassScope) (t : Bool) → (k ≡ scopeless → ⊥) → suits_field p k t Caller ≡ true → ⊥
   unfolding suits_field are_same_scope is_outer_of
   suits_not_caller class k true n e = true≢false (sym e)
   suits_not_caller class unannotated false n e = true≢false (sym e)
   suits_not_caller class (annotated m) false n e = true≢false (sym e)
-  suits_not_caller class unknown false n e = n refl
+  suits_not_caller class scopeless false n e = n refl
 
   -- a field never lies in CALLER
-  pub field_not_caller : (class : ℕ) (f : Declared) → (class_scope p class ≡ unknown → ⊥) → field_scope p class f ≡ Some Caller → ⊥
+  pub field_not_caller : (class : ℕ) (f : Declared) → (class_scope p class ≡ scopeless → ⊥) → field_scope p class f ≡ Some Caller → ⊥
   field_not_caller class f k e = suits_not_caller class (class_scope p class) f.modifiers.is_static k (field_suits class f Caller e)
 
   -- ---- results of static methods
@@ -116,16 +116,16 @@ module _ (p : Declarations) where
       go : (s : ClassScope) → scope_or s (Some This) ≡ Some This → is_unannotated s ≡ true
       go unannotated e = refl
       go (annotated n) e = absurd (in_not_this n e)
-      go unknown e = absurd (none_not_this e)
+      go scopeless e = absurd (none_not_this e)
 
   resolved_is : (o : Option Scope) → resolved_scope (resolved_or_missing o) ≡ o
   resolved_is None = refl
   resolved_is (Some s) = refl
 
-  -- THIS that is written on the declaration of a static member of an unannotated class names nothing
-  written_this : (t : ScopedDeclaration) (w : Written) → t.is_static ≡ true → (t.current ≡ Some This → ⊥) → written_scope p t.class t.current w.name ≡ Some This → is_unknown_scope p t w ≡ true
-  unfolding written_scope resolve_name is_unknown_scope resolve_at denotes_nothing
-  written_this t w k c e = go (is_same w.name this_name) (is_same w.name caller_name) e
+  -- no annotation of a declaration of a static member denotes THIS
+  written_this : (t : ScopedDeclaration) (w : Written) → t.is_static ≡ true → (t.current ≡ Some This → ⊥) → resolved_scope (resolve_at p t w.name) ≡ Some This → ⊥
+  unfolding resolve_at resolve_name denotes_nothing
+  written_this t w k c e = by_unknown (is_same w.name unknown_name) t.is_variable e
     where
       number : (o : Option ℕ) → resolved_scope (elim o as (λ _. Resolution) [ None ↦ unresolved | Some s ↦ resolved (In s) ]) ≡ Some This → ⊥
       number None e = none_not_this e
@@ -134,36 +134,53 @@ module _ (p : Declarations) where
       name : Bool → Bool → Resolution
       name a b = if a then resolved_or_missing (this_in p t.class) else (if b then resolved_or_missing t.current else (elim (scope_number p w.name) as (λ _. Resolution) [ None ↦ unresolved | Some s ↦ resolved (In s) ]))
 
-      go : (a b : Bool) → resolved_scope (name a b) ≡ Some This → is_unresolved (if (if a then t.is_static && is_unannotated (class_scope p t.class) else (b && t.is_field)) then unresolved else name a b) ≡ true
-      go true b e = ap (λ x. is_unresolved (if x && is_unannotated (class_scope p t.class) then unresolved else name true b)) k
-          ∙ ap (λ x. is_unresolved (if x then unresolved else name true b)) (this_unannotated t.class (sym (resolved_is (this_in p t.class)) ∙ e))
-      go false true e = absurd (c (sym (resolved_is t.current) ∙ e))
-      go false false e = absurd (number (scope_number p w.name) e)
+      by_this : (nothing static_ unannotated_ : Bool) → static_ ≡ true → (static_ && unannotated_) ≡ nothing →
+          (this_in p t.class ≡ Some This → unannotated_ ≡ true) →
+          resolved_scope (if nothing then unresolved else resolved_or_missing (this_in p t.class)) ≡ Some This → ⊥
+      by_this true static_ unannotated_ k s u e = none_not_this e
+      by_this false static_ unannotated_ k s u e =
+          let a : this_in p t.class ≡ Some This = sym (resolved_is (this_in p t.class)) ∙ e in
+          true≢false (sym (ap (λ x. x && unannotated_) k ∙ u a) ∙ s)
 
-  -- the result of a static method never lies in THIS
-  pub static_result_not_this : (class : ℕ) (m : DeclaredMethod) → m.declared.modifiers.is_static ≡ true → result_scope p class m ≡ Some This → ⊥
+      by_name : (a b nothing : Bool) → (if a then t.is_static && is_unannotated (class_scope p t.class) else (b && t.is_field)) ≡ nothing →
+          resolved_scope (if nothing then unresolved else name a b) ≡ Some This → ⊥
+      by_name true b nothing h e = by_this nothing t.is_static (is_unannotated (class_scope p t.class)) k h (this_unannotated t.class) e
+      by_name a b true h e = none_not_this e
+      by_name false true false h e = c (sym (resolved_is t.current) ∙ e)
+      by_name false false false h e = number (scope_number p w.name) e
+
+      by_unknown : (u v : Bool) → resolved_scope (if u then (if v then resolved Unknown else unresolved) else (if (if is_same w.name this_name then t.is_static && is_unannotated (class_scope p t.class) else (is_same w.name caller_name && t.is_field)) then unresolved else name (is_same w.name this_name) (is_same w.name caller_name))) ≡ Some This → ⊥
+      by_unknown true true e = (let f : Unknown ≡ This = some_inj Unknown This e in cc (f))
+      by_unknown true false e = none_not_this e
+      by_unknown false v e = by_name (is_same w.name this_name) (is_same w.name caller_name) _ refl e
+
+  -- what a static method takes and gives never lies in THIS
+  pub static_not_this : (is_variable : Bool) (class : ℕ) (m : DeclaredMethod) (d : Declared) → m.declared.modifiers.is_static ≡ true → declaration_scope p (scoped_in_member is_variable class (runs_in p class m) m.declared.modifiers.is_static d) ≡ Some This → ⊥
   unfolding declaration_scope scope_as_written
-  static_result_not_this class m k e = by_kind (has_no_scope t.declared_type) e
+  static_not_this is_variable class m d k e = by_kind (has_no_scope t.declared_type) e
     where
       t : ScopedDeclaration
-      t = scoped_result p class m
+      t = scoped_in_member is_variable class (runs_in p class m) m.declared.modifiers.is_static d
 
-      as_written : (o : Option Written) → holds o (λ w. is_unknown_scope p t w || contradicts p t w) ≡ false → (elim o as (λ _. Option Scope) [ None ↦ t.default | Some w ↦ written_scope p t.class t.current w.name ]) ≡ Some This → ⊥
+      as_written : (o : Option Written) → holds o (λ w. is_unknown_scope p t w || contradicts p t w) ≡ false → (elim o as (λ _. Option Scope) [ None ↦ t.default | Some w ↦ resolved_scope (resolve_at p t w.name) ]) ≡ Some This → ⊥
       as_written None h e = static_runs_in class m k e
-      as_written (Some w) h e = true≢false (sym (ap (λ x. x || contradicts p t w) (written_this t w k (static_runs_in class m k) e)) ∙ h)
+      as_written (Some w) h e = written_this t w k (static_runs_in class m k) e
 
-      by_class : (s : ClassScope) → holds t.scope (λ w. is_unknown_scope p t w || contradicts p t w) ≡ false → scope_or s (elim t.scope as (λ _. Option Scope) [ None ↦ t.default | Some w ↦ written_scope p t.class t.current w.name ]) ≡ Some This → ⊥
+      by_class : (s : ClassScope) → holds t.scope (λ w. is_unknown_scope p t w || contradicts p t w) ≡ false → scope_or s (elim t.scope as (λ _. Option Scope) [ None ↦ t.default | Some w ↦ resolved_scope (resolve_at p t w.name) ]) ≡ Some This → ⊥
       by_class unannotated h e = as_written t.scope h e
       by_class (annotated n) h e = in_not_this n e
-      by_class unknown h e = none_not_this e
+      by_class scopeless h e = none_not_this e
 
-      by_right : (b : Bool) → holds t.scope (λ w. is_unknown_scope p t w || contradicts p t w) ≡ b → (if not b then scope_or (type_scope p t.declared_type) (elim t.scope as (λ _. Option Scope) [ None ↦ t.default | Some w ↦ written_scope p t.class t.current w.name ]) else None) ≡ Some This → ⊥
+      by_right : (b : Bool) → holds t.scope (λ w. is_unknown_scope p t w || contradicts p t w) ≡ b → (if not b then scope_or (type_scope p t.declared_type) (elim t.scope as (λ _. Option Scope) [ None ↦ t.default | Some w ↦ resolved_scope (resolve_at p t w.name) ]) else None) ≡ Some This → ⊥
       by_right true h e = none_not_this e
       by_right false h e = by_class (type_scope p t.declared_type) h e
 
-      by_kind : (b : Bool) → (if b then None else (if not (holds t.scope (λ w. is_unknown_scope p t w || contradicts p t w)) then scope_or (type_scope p t.declared_type) (elim t.scope as (λ _. Option Scope) [ None ↦ t.default | Some w ↦ written_scope p t.class t.current w.name ]) else None)) ≡ Some This → ⊥
+      by_kind : (b : Bool) → (if b then None else (if not (holds t.scope (λ w. is_unknown_scope p t w || contradicts p t w)) then scope_or (type_scope p t.declared_type) (elim t.scope as (λ _. Option Scope) [ None ↦ t.default | Some w ↦ resolved_scope (resolve_at p t w.name) ]) else None)) ≡ Some This → ⊥
       by_kind true e = none_not_this e
       by_kind false e = by_right (holds t.scope (λ w. is_unknown_scope p t w || contradicts p t w)) refl e
+
+  pub static_result_not_this : (class : ℕ) (m : DeclaredMethod) → m.declared.modifiers.is_static ≡ true → result_scope p class m ≡ Some This → ⊥
+  static_result_not_this class m k e = static_not_this false class m m.declared k e
 
 module _ (forest : Forest) (accepted : IsAccepted forest) (whole : IsForest forest) (sorted : IsWellSorted forest.nodes) where
   abbrev q : Declarations

@@ -5,14 +5,14 @@ use Rattle.scj_tree.specs.declared.nodes.Node.{Node}
 use Rattle.scj_tree.specs.declared.nodes.Node.TheVariants.{Binary, Unary, Cast, Parenthesized, SimpleName, FieldAccess, Call, Element, New, NewArray, Text, Number, True, False, Null, This as ThisNode}
 use Rattle.scj_tree.specs.Forest.{Forest, IsForest}
 use Rattle.scj_tree.specs.Shape.{children}
-use Rattle.scj_rules.specs.declared.scopes.ClassScope.TheVariants.{Unknown as unknown}
+use Rattle.scj_rules.specs.declared.scopes.ClassScope.TheVariants.{Missing as scopeless}
 use Rattle.scj_rules.specs.declared.typing.FoundField.{FoundField}
 use Rattle.scj_rules.specs.declared.typing.Meaning.{Meaning}
 use Rattle.scj_rules.specs.declared.typing.Meaning.TheVariants.{Class as a_class, Field as a_field, Nothing as nothing, Variable as a_variable}
 use Rattle.scj_rules.specs.declared.typing.Receiver.{Receiver}
 use Rattle.scj_rules.specs.declared.typing.Receiver.TheVariants.{Class as the_class, Value as the_value, Own as own_object}
 use Rattle.scj_rules.specs.declared.typing.Scope.{Scope}
-use Rattle.scj_rules.specs.declared.typing.Scope.TheVariants.{Any, This, Caller, In}
+use Rattle.scj_rules.specs.declared.typing.Scope.TheVariants.{Any, This, Caller, In, Unknown, Lost}
 use Rattle.scj_rules.specs.declared.typing.Ty.{Ty}
 use Rattle.scj_rules.specs.declared.typing.Ty.TheVariants.{Int, Bool as Boolean, Label, Class as ClassTy, IntArray, BoolArray, ClassArray}
 use Rattle.scj_rules.specs.Words.{is_among, holds}
@@ -20,7 +20,7 @@ use Rattle.scj_rules.specs.Views.{variable_at, field_of}
 use Rattle.scj_rules.specs.Classes.{ClassRow, FoundMethod, class_number, field_named, method_named}
 use Rattle.scj_rules.specs.Contexts.{Declarations, declarations_of, context, object_of, variable_named}
 use Rattle.scj_rules.specs.ScopeRules.{immortal_scope}
-use Rattle.scj_rules.specs.StaticScopes.{class_scope, this_in, substitute, field_scope, current_in}
+use Rattle.scj_rules.specs.StaticScopes.{beside, class_scope, this_in, substitute, field_scope, current_in}
 use Rattle.scj_rules.specs.AnnotationRules.{result_scope}
 use Rattle.scj_rules.specs.Types.{is_int, is_boolean, is_reference, element_type, binary_type, unary_type, are_comparable, meaning, class_meaning, class_at_name, receiver, call_receiver, class_of_receiver, accessed_field, called_method, names_class, is_no_reference, is_length_of_array, all_types, assigns}
 use Rattle.scj_rules.specs.TypeRules.{Types, type_of, type_of_meaning, access_type, call_type, declared_type_of, lacks_object_of_field, lacks_object_of_method, lacks_method, are_related}
@@ -82,13 +82,19 @@ pub of_option : {A B : Type 0} (o : Option A) (f : A → Option B) (y : B) → o
 of_option None f y e = absurd (cc (e))
 of_option (Some x) f y e = (x, refl, e)
 
+-- what lies beside an object that has a scope has one
+has_beside : (o : Option Scope) → HasScope o → HasScope (option_map beside o)
+has_beside o h = (beside h.0, ap (option_map beside) h.1)
+
 -- a scope as a use sees it
 pub seen_has : (object current : Option Scope) (s : Scope) → (s ≡ This → HasScope object) → (s ≡ Caller → HasScope current) → HasScope (substitute object current s)
 unfolding substitute
-seen_has object current This h k = h refl
+seen_has object current This h k = has_beside object (h refl)
 seen_has object current Caller h k = k refl
 seen_has object current Any h k = (Any, refl)
 seen_has object current (In n) h k = (In n, refl)
+seen_has object current Unknown h k = (Unknown, refl)
+seen_has object current Lost h k = (Lost, refl)
 
 module _ (forest : Forest) (accepted : IsAccepted forest) (whole : IsForest forest) (sorted : IsWellSorted forest.nodes) where
   abbrev p : Declarations
@@ -100,7 +106,7 @@ module _ (forest : Forest) (accepted : IsAccepted forest) (whole : IsForest fore
   abbrev scopes : Scopes
   scopes = scope_at_node p
 
-  pub known : (class : ℕ) → class_scope p class ≡ unknown → ⊥
+  pub known : (class : ℕ) → class_scope p class ≡ scopeless → ⊥
   known class = all_known forest accepted whole sorted class
 
   -- ---- THIS and the current scope in a body
@@ -218,7 +224,7 @@ module _ (forest : Forest) (accepted : IsAccepted forest) (whole : IsForest fore
   unfolding element_type is_reference scope_of_element scope_in_class
   element_of_array IntArray t scope e r h = absurd (true≢false (sym (ap is_reference (some_inj Int t e) ∙ r)))
   element_of_array BoolArray t scope e r h = absurd (true≢false (sym (ap is_reference (some_inj Boolean t e) ∙ r)))
-  element_of_array (ClassArray class) t scope e r h = scope_or_has (class_scope p class) scope (known class) (h refl)
+  element_of_array (ClassArray class) t scope e r h = scope_or_has (class_scope p class) (option_map beside scope) (known class) (has_beside scope (h refl))
   element_of_array _ t scope e r h = absurd (cc (e))
 
   element_scoped : (id : ℕ) (place : Pos) (array index : ℕ) → Scoped id (Element place array index)

@@ -9,14 +9,14 @@ use Rattle.scj_tree.specs.Forest.{Forest, IsForest}
 use Rattle.scj_rules.specs.declared.typing.Ty.{Ty}
 use Rattle.scj_rules.specs.declared.typing.Ty.TheVariants.{Int, Bool as Boolean, Void, NullTy, Label, Class as ClassTy, IntArray, BoolArray, ClassArray}
 use Rattle.scj_rules.specs.declared.typing.Scope.{Scope}
-use Rattle.scj_rules.specs.declared.typing.Scope.TheVariants.{Any, This, Caller, In}
+use Rattle.scj_rules.specs.declared.typing.Scope.TheVariants.{Any, This, Caller, In, Unknown, Lost}
 use Rattle.scj_rules.specs.Words.{broken, holds}
 use Rattle.scj_rules.specs.Views.{place_at, variable_at, variable_of}
 use Rattle.scj_rules.specs.Contexts.{Declarations, declarations_of, has_object}
 use Rattle.scj_rules.specs.Types.{assigns, are_same, is_boolean}
 use Rattle.scj_rules.specs.TypeRules.{t1, t2, t3, t4, t5, t6, t7, t8, t9, t10, t11, t12, t13, t14, type_breaks, type_of, misfits_initial_value, written_type, declared_type_of, is_declared_already}
 use Rattle.scj_rules.specs.UseRules.{e1, e2, e3, e4_and_e5, e6, e7, e8, e9, e10, use_breaks, scope_of, misfit_scope, variable_scope_at}
-use Rattle.scj_rules.specs.StaticScopes.{substitute, this_in}
+use Rattle.scj_rules.specs.StaticScopes.{beside, substitute, this_in}
 use Rattle.scj_rules.specs.Phases.{IsAccepted}
 use Rattle.accepted_laws.specs.Judgements.{type_at_node, scope_at_node, Judged, Inside, OwnObject}
 use Rattle.accepted_laws.specs.Kinds.{Kind, reference, kind_of, kind_of_variable, Fits, IsRealKind}
@@ -41,12 +41,14 @@ boolean_is (ClassArray c) e = absurd (true≢false e)
 
 -- seen from inside, a scope is as it is
 pub own_view : (r : Option Scope) → option_and_then (substitute (Some This) (Some Caller)) r ≡ r
-unfolding substitute
+unfolding substitute beside
 own_view None = refl
 own_view (Some This) = refl
 own_view (Some Any) = refl
 own_view (Some Caller) = refl
 own_view (Some (In n)) = refl
+own_view (Some Unknown) = refl
+own_view (Some Lost) = refl
 
 -- what has a kind has a type
 pub typed_of : (o : Option Ty) (s : Option Scope) (k : Kind) → kind_of o s ≡ Some k → (t : Ty) × (o ≡ Some t)

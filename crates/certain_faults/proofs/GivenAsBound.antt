@@ -22,7 +22,7 @@ use Rattle.scope_flow.specs.Facts.{Facts}
 use Rattle.scope_flow.specs.Needs.{pushed, stacked}
 use Rattle.scope_flow.specs.Signatures.{Signature, Runs, Gives, IsConcrete}
 use Rattle.scope_flow.specs.Slots.{IsOfType}
-use Rattle.frame_sound.specs.Places.{World, denote, held, IsObject, Has, AllHave}
+use Rattle.frame_sound.specs.Places.{World, Place, denote, held, IsObject, Has, AllHave}
 use Rattle.frame_sound.specs.Fine.{Ready, HeapFine, IsInstance}
 use Rattle.frame_sound.proofs.GivenValues.{one_signature}
 use Rattle.certain_faults.proofs.Frames.{GivesAsBound}
@@ -46,7 +46,7 @@ module _ (code : Code) where
 
   -- ---- the object of a call
 
-  module _ (w : World) (den : Scope → Option ℕ) where
+  module _ (w : World) (den : Scope → Place) where
     operand_has : (ks : List Kind) (vs : List Value) (n : ℕ) (k : Kind) (v : Value) → AllHave code.program w den ks vs →
         slice_get ks n ≡ Some k → slice_get vs n ≡ Some v → Has code.program w (held den k) v
     operand_has [] vs n k v h e u = absurd (cc (e))

@@ -31,7 +31,7 @@ use Rattle.scj_model.specs.Reached.{Moment, Between, Arrived, Operated, Reached,
 use Rattle.scj_model.proofs.Reaching.{reached_keeps}
 use Rattle.scope_flow.specs.Facts.{Facts}
 use Rattle.scope_flow.specs.Signatures.{Signature, Runs}
-use Rattle.frame_sound.specs.Places.{World, world_of, denote}
+use Rattle.frame_sound.specs.Places.{World, Place, world_of, denote}
 use Rattle.frame_sound.specs.Fine.{Ready, FramesFine, list_of, MemoryFine, JobFine}
 use Rattle.frame_sound.specs.EffectsFine.{Fine as EffectIsFine, ReturnFine}
 use Rattle.frame_sound.proofs.NextOperation.{next_fine}
@@ -80,7 +80,7 @@ module _ (code : Code) where
   All = Frames code (GivesSo code)
 
   -- a value is given exactly where the signature has one
-  returned_so : (w : World) (den : Scope → Option ℕ) (gives : Option Kind) (value : Option Value) →
+  returned_so : (w : World) (den : Scope → Place) (gives : Option Kind) (value : Option Value) →
       ReturnFine code.program w den gives value → is_some value ≡ is_some gives
   returned_so w den None None h = refl
   returned_so w den (Some k) (Some v) h = refl

@@ -5,7 +5,7 @@ use Rattle.scj_builtins.specs.declared.classes.FrameworkClass.{FrameworkClass}
 use Rattle.scj_builtins.specs.Framework.{framework_class_count, framework_classes, safelet, mission, mission_sequencer}
 use Rattle.scj_tree.specs.Forest.{Forest}
 use Rattle.scj_rules.specs.declared.scopes.ClassScope.{ClassScope}
-use Rattle.scj_rules.specs.declared.scopes.ClassScope.TheVariants.{Unannotated as unannotated, Annotated as annotated, Unknown as unknown}
+use Rattle.scj_rules.specs.declared.scopes.ClassScope.TheVariants.{Unannotated as unannotated, Annotated as annotated, Missing as scopeless}
 use Rattle.scj_rules.specs.declared.typing.Scope.{Scope}
 use Rattle.scj_rules.specs.declared.typing.Scope.TheVariants.{This, In}
 use Rattle.scj_rules.specs.declared.typing.Ty.{Ty}
@@ -218,7 +218,7 @@ module _ (forest : Forest) (accepted : IsAccepted forest) where
       (option_and_then (λ (row : ClassRow). row.written) o)) (get_none q.classes class l) in
       ap (class_scope_on q) (alone class l)
       ∙ ap (λ w. if has_unknown_scope q w
-      || differs_from_above q w unannotated (is_implied_immortal q class) then unknown else scope_of_right_class q w
+      || differs_from_above q w unannotated (is_implied_immortal q class) then scopeless else scope_of_right_class q w
       unannotated (is_implied_immortal q class)) w
       ∙ ap (λ t. if t then annotated immortal_scope else unannotated) (not_implied class l)
 
@@ -248,7 +248,7 @@ module _ (forest : Forest) (accepted : IsAccepted forest) where
           let f : reference (ClassTy c) (In m) ≡ reference t (In n) = some_inj _ _ e in
           let g : In m ≡ In n = cc (f) in
           let same : m ≡ n = cc (g) in inr (h c n refl (k ∙ ap (λ m. annotated m) same))
-      go unknown k e = absurd (cc (e))
+      go scopeless k e = absurd (cc (e))
   slots_of_type _ now h t n e = absurd (cc (e))
 
   pub array_reaches : (class : ℕ) (array : Ty) (now : Scope) → array_type q class ≡ Some array →

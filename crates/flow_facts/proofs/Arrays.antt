@@ -4,17 +4,17 @@ use Rattle.scj_base.specs.declared.places.Pos.{Pos}
 use Rattle.scj_tree.specs.declared.nodes.Node.TheVariants.{Element, NewArray, Cast}
 use Rattle.scj_tree.specs.Forest.{Forest, IsForest}
 use Rattle.scj_rules.specs.declared.scopes.ClassScope.{ClassScope}
-use Rattle.scj_rules.specs.declared.scopes.ClassScope.TheVariants.{Unannotated as unannotated, Annotated as annotated, Unknown as unknown}
+use Rattle.scj_rules.specs.declared.scopes.ClassScope.TheVariants.{Unannotated as unannotated, Annotated as annotated, Missing as scopeless}
 use Rattle.scj_rules.specs.declared.typing.Binding.TheVariants.{Class as ClassNamed}
 use Rattle.scj_rules.specs.declared.typing.Scope.{Scope}
-use Rattle.scj_rules.specs.declared.typing.Scope.TheVariants.{Any, This, Caller, In}
+use Rattle.scj_rules.specs.declared.typing.Scope.TheVariants.{Any, This, Caller, In, Unknown, Lost}
 use Rattle.scj_rules.specs.declared.typing.Ty.{Ty}
 use Rattle.scj_rules.specs.declared.typing.Ty.TheVariants.{Int, Bool as Boolean, Void, NullTy, Label, Class as ClassTy, IntArray, BoolArray, ClassArray}
 use Rattle.scj_rules.specs.Views.{type_at}
 use Rattle.scj_rules.specs.Bindings.{array_class, class_binding, binding_of}
 use Rattle.scj_rules.specs.Classes.{ClassRow}
 use Rattle.scj_rules.specs.Contexts.{Declarations, declarations_of}
-use Rattle.scj_rules.specs.StaticScopes.{fits, class_scope, scope_or, this_in, current_in}
+use Rattle.scj_rules.specs.StaticScopes.{are_same_scope, beside, fits, class_scope, scope_or, this_in, current_in}
 use Rattle.scj_rules.specs.Types.{assigns, are_same, is_array, element_type, array_of}
 use Rattle.scj_rules.specs.TypeRules.{written_type}
 use Rattle.scj_rules.specs.UseRules.{scope_of_element, scope_in_class}
@@ -58,10 +58,10 @@ element_of p (ClassArray c) scope k e = of (go (class_scope p c) e)
     of : Found (class_scope p c) → ElementKind p (ClassArray c) scope k
     of q = record { kind = reference (ClassTy c) q.0; are = q.1; seen = q.2 }
 
-    go : (s : ClassScope) → kind_of (Some (ClassTy c)) (scope_or s (Some scope)) ≡ Some k → Found s
-    go unannotated e = (This, refl, sym (some_inj (reference (ClassTy c) scope) k e))
+    go : (s : ClassScope) → kind_of (Some (ClassTy c)) (scope_or s (Some (beside scope))) ≡ Some k → Found s
+    go unannotated e = (This, refl, sym (some_inj (reference (ClassTy c) (beside scope)) k e))
     go (annotated n) e = (In n, refl, sym (some_inj (reference (ClassTy c) (In n)) k e))
-    go unknown e = absurd (cc (e))
+    go scopeless e = absurd (cc (e))
 element_of p _ scope k e = absurd (cc (e))
 
 -- ---- casts
@@ -97,11 +97,13 @@ null_any (Some (ClassArray c)) (Some s) r e =
 
 -- what fits a named scope is null, or lies there
 named_fit : (s : Scope) (n : ℕ) → fits s (In n) ≡ true → (s ≡ Any) ⊎ (In n ≡ s)
-unfolding fits
+unfolding fits are_same_scope
 named_fit Any n e = inl refl
 named_fit This n e = inr (sym (same_scope This (In n) e))
 named_fit Caller n e = inr (sym (same_scope Caller (In n) e))
 named_fit (In m) n e = inr (sym (same_scope (In m) (In n) e))
+named_fit Unknown n e = absurd (true≢false (sym e))
+named_fit Lost n e = absurd (true≢false (sym e))
 
 record CastScope (class : ℕ) (scope : Scope) (k : Kind) : Type 0 where
   seen : Scope
@@ -131,7 +133,7 @@ cast_scope p class type scope other k fit there e = go (class_scope p class) ref
           is = sym
               (some_inj (reference (ClassTy class) (In n)) k e);
         }
-    go unknown c e = absurd (cc (e))
+    go scopeless c e = absurd (cc (e))
 
 module _ (forest : Forest) (accepted : IsAccepted forest) (whole : IsForest forest) (sorted : IsWellSorted forest.nodes)
   where

@@ -13,9 +13,9 @@ use Rattle.scj_rules.specs.declared.typing.Ty.{Ty}
 use Rattle.scj_rules.specs.Words.{is_among, holds, broken, found_at}
 use Rattle.scj_rules.specs.Classes.{FoundMethod, is_user_class}
 use Rattle.scj_rules.specs.Contexts.{Declarations, declarations_of, object_of, declared_before}
-use Rattle.scj_rules.specs.Types.{call_receiver, all_types}
+use Rattle.scj_rules.specs.Types.{call_receiver, all_types, method_called}
 use Rattle.scj_rules.specs.TypeRules.{Types}
-use Rattle.scj_rules.specs.UseRules.{Scopes, receiver_scope, current_at, method_called, of_user, called_user_method, misfits_call, e3_of_call, use_breaks, e1, e2, e3, e4_and_e5, e6, e7, e8, e9, e10}
+use Rattle.scj_rules.specs.UseRules.{Scopes, receiver_scope, current_at, of_user, called_user_method, misfits_call, e3_of_call, use_breaks, e1, e2, e3, e4_and_e5, e6, e7, e8, e9, e10}
 use Rattle.scj_rules.specs.Phases.{IsAccepted}
 use Rattle.scj_rules.proofs.ChainLemmas.{or_right, same_number}
 use Rattle.accepted_laws.specs.Judgements.{type_at_node, scope_at_node, Inside, Judged}

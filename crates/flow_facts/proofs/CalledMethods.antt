@@ -14,9 +14,8 @@ use Rattle.scj_rules.specs.Views.{DeclaredMethod}
 use Rattle.scj_rules.specs.CheckedProgram.{IsReadFromTexts}
 use Rattle.scj_rules.specs.Classes.{FoundMethod, framework_method}
 use Rattle.scj_rules.specs.Contexts.{Declarations, declarations_of}
-use Rattle.scj_rules.specs.Types.{type_written, assigns}
+use Rattle.scj_rules.specs.Types.{type_written, assigns, method_called}
 use Rattle.scj_rules.specs.TypeRules.{Types, declared_type_of}
-use Rattle.scj_rules.specs.UseRules.{method_called}
 use Rattle.scj_rules.specs.Phases.{IsAccepted}
 use Rattle.accepted_laws.specs.Judgements.{type_at_node, Inside, Judged}
 use Rattle.accepted_laws.specs.Kinds.{number, truth}

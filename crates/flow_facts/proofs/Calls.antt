@@ -10,9 +10,8 @@ use Rattle.scj_rules.specs.declared.views.WrittenType.TheVariants.{Long as long_
 use Rattle.scj_rules.specs.CheckedProgram.{IsReadFromTexts}
 use Rattle.scj_rules.specs.Classes.{FoundMethod}
 use Rattle.scj_rules.specs.Contexts.{Declarations, declarations_of}
-use Rattle.scj_rules.specs.Types.{call_receiver, called_method, all_types, type_written}
+use Rattle.scj_rules.specs.Types.{call_receiver, called_method, all_types, type_written, method_called}
 use Rattle.scj_rules.specs.TypeRules.{Types, type_of, call_type, declared_type_of}
-use Rattle.scj_rules.specs.UseRules.{method_called}
 use Rattle.scj_rules.specs.Phases.{IsAccepted}
 use Rattle.accepted_laws.specs.Judgements.{type_at_node, scope_at_node, HasType, Inside, Judged}
 use Rattle.accepted_laws.specs.Kinds.{Kind, reference, seen_option, AllFit, RunsHere}
@@ -31,7 +30,7 @@ use Rattle.flow_facts.proofs.Bodies.{signature, taken_real, method_takes}
 use Rattle.flow_facts.proofs.Dispatched.{each_dispatched}
 use Rattle.flow_facts.proofs.Invocations.{call_value}
 use Rattle.flow_facts.proofs.Literals.{value_of, values_of, object_of_own}
-use Rattle.flow_facts.proofs.NewObjects.{all_go, real_now}
+use Rattle.flow_facts.proofs.NewObjects.{all_go, names_now}
 
 module _ (forest : Forest) (accepted : IsAccepted forest) (whole : IsForest forest) (sorted : IsWellSorted forest.nodes)
     (is_read : IsReadFromTexts forest) where
@@ -122,7 +121,7 @@ module _ (forest : Forest) (accepted : IsAccepted forest) (whole : IsForest fore
         arguments_are = values_of p b c id arguments q.given q.operands;
         fit =
             subst (λ s. AllFit p x.scope s q.given x.taken) now
-            (all_go p x.scope x.now q.given x.taken real (real_now p b c x.now x.is_now) q.fit);
+            (all_go p x.scope x.now q.given x.taken real (names_now p b c x.now x.is_now) q.fit);
         runs = subst (λ s. RunsHere x.scope s x.runs) now x.runs_here;
         each = each_dispatched forest accepted whole sorted is_read x.class x.n f x.taken x.runs x.named x.is_user plain
             x.is_runs x.takes x.numbered (not_long f m.type m.typed);

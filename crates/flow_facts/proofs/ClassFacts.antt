@@ -6,7 +6,7 @@ use Rattle.std.proofs.lemmas.Option.{slice_get_within}
 use Rattle.scj_builtins.specs.Framework.{framework_classes, object, mission, mission_sequencer, safelet}
 use Rattle.scj_tree.specs.Forest.{Forest, IsForest}
 use Rattle.scj_rules.specs.declared.scopes.ClassScope.{ClassScope}
-use Rattle.scj_rules.specs.declared.scopes.ClassScope.TheVariants.{Unannotated as unannotated, Annotated as annotated, Unknown as unknown}
+use Rattle.scj_rules.specs.declared.scopes.ClassScope.TheVariants.{Unannotated as unannotated, Annotated as annotated, Missing as scopeless}
 use Rattle.scj_rules.specs.declared.typing.Scope.TheVariants.{This, In}
 use Rattle.scj_rules.specs.declared.typing.Ty.{Ty}
 use Rattle.scj_rules.specs.declared.typing.Ty.TheVariants.{Int, Bool as Boolean, Void, NullTy, Label, Class as ClassTy, IntArray, BoolArray, ClassArray}
@@ -57,7 +57,7 @@ annotated_is : (s : ClassScope) (n : ℕ) → scope_or s (Some This) ≡ Some (I
 annotated_is unannotated n e = absurd (let f : This ≡ In n = some_inj This (In n) e in cc (f))
 annotated_is (annotated m) n e =
     (let f : In m ≡ In n = some_inj (In m) (In n) e in let g : m ≡ n = cc (f) in ap (λ k. annotated k) g)
-annotated_is unknown n e = absurd (cc (e))
+annotated_is scopeless n e = absurd (cc (e))
 
 module _ (forest : Forest) (accepted : IsAccepted forest) where
   abbrev p : Declarations
@@ -137,13 +137,13 @@ module _ (forest : Forest) (accepted : IsAccepted forest) where
         go (has_unknown_scope p None || differs_from_above p None unannotated (is_implied_immortal p i))
         (sym (ap (class_scope_on p) chain
         ∙ ap (λ w. if has_unknown_scope p w || differs_from_above p w (class_scope_on p above)
-        (is_implied_immortal p i) then unknown else scope_of_right_class p w (class_scope_on p above)
+        (is_implied_immortal p i) then scopeless else scope_of_right_class p w (class_scope_on p above)
         (is_implied_immortal p i)) (none_written i row e w)
         ∙ ap (λ s. if has_unknown_scope p None
-        || differs_from_above p None s (is_implied_immortal p i) then unknown else scope_of_right_class p None s
+        || differs_from_above p None s (is_implied_immortal p i) then scopeless else scope_of_right_class p None s
         (is_implied_immortal p i)) s
         ∙ ap (λ t. if has_unknown_scope p None
-        || differs_from_above p None unannotated (is_implied_immortal p i) then unknown else scope_of_right_class p
+        || differs_from_above p None unannotated (is_implied_immortal p i) then scopeless else scope_of_right_class p
         None unannotated t) implied) ∙ h)
       where
         implied : is_implied_immortal p i ≡ false
@@ -154,7 +154,7 @@ module _ (forest : Forest) (accepted : IsAccepted forest) where
             || (is_among mission_sequencer (superclasses p.classes i)
             || is_among safelet (all_interfaces p.classes i)))) (framework_number i row e w)
 
-        go : (t : Bool) → (if t then unknown else unannotated) ≡ annotated n → ⊥
+        go : (t : Bool) → (if t then scopeless else unannotated) ≡ annotated n → ⊥
         go true h = cc (h)
         go false h = cc (h)
 
@@ -177,7 +177,7 @@ module _ (forest : Forest) (accepted : IsAccepted forest) where
         go (annotated n) e =
             (let r = top_row forest accepted in
             absurd (isnt_annotated object n r.0 [] r.1 r.4 (chain_of object r.0 None r.1 r.2) top_scope e))
-        go unknown e =
+        go scopeless e =
             (let r = top_row forest accepted in
             absurd
             (class_scope_known forest accepted whole sorted object (slice_get_within p.classes object r.0 r.1) e))

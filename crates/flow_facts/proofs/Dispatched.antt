@@ -9,7 +9,7 @@ use Rattle.scj_tree.specs.declared.nodes.Node.TheVariants.{Method as MethodNode}
 use Rattle.scj_tree.specs.Forest.{Forest, IsForest}
 use Rattle.scj_rules.specs.declared.scopes.Written.{Written as WrittenName}
 use Rattle.scj_rules.specs.declared.typing.Scope.{Scope}
-use Rattle.scj_rules.specs.declared.typing.Scope.TheVariants.{Any, Caller}
+use Rattle.scj_rules.specs.declared.typing.Scope.TheVariants.{Any, This, Caller, In, Unknown, Lost}
 use Rattle.scj_rules.specs.declared.typing.Ty.{Ty}
 use Rattle.scj_rules.specs.declared.typing.Ty.TheVariants.{Int, Bool as Boolean, Void, NullTy, Label, Class as ClassTy, IntArray, BoolArray, ClassArray}
 use Rattle.scj_rules.specs.declared.views.Body.{Body}
@@ -30,7 +30,7 @@ use Rattle.scj_rules.specs.Types.{assigns, are_same, is_reference}
 use Rattle.scj_rules.specs.TypeRules.{declared_type_of}
 use Rattle.scj_rules.specs.Phases.{IsAccepted}
 use Rattle.scj_rules.proofs.ChainLemmas.{or_left, is_same_number}
-use Rattle.accepted_laws.specs.Kinds.{Kind, number, truth, reference, kind_of, seen_as, seen_kind, seen_kinds, seen_option}
+use Rattle.accepted_laws.specs.Kinds.{Kind, number, truth, reference, kind_of, seen_as, seen_kind, seen_kinds, seen_option, GoesTo, NamesArea}
 use Rattle.accepted_laws.specs.Overriding.{IsUserMethod, OverridesInSteps, itself, by_step}
 use Rattle.accepted_laws.specs.Sorts.{IsWellSorted}
 use Rattle.accepted_laws.proofs.Bodies.{concrete_has_body}
@@ -38,6 +38,7 @@ use Rattle.accepted_laws.proofs.DeclarationScopes.{this_has_scope}
 use Rattle.accepted_laws.proofs.Dispatch.{dispatches, on_superclass, own_declaration}
 use Rattle.accepted_laws.proofs.DispatchScopes.{runs_as}
 use Rattle.accepted_laws.proofs.MethodNodes.{method_node as method_at_node}
+use Rattle.accepted_laws.proofs.RealScopes.{named_beside, result_named, this_named}
 use Rattle.accepted_laws.proofs.Subtypes.{among_in, assigns_itself}
 use Rattle.accepted_laws.proofs.Tools.{some_inj}
 use Rattle.accepted_nodes.proofs.FormParts.{held}
@@ -46,6 +47,7 @@ use Rattle.accepted_facts.specs.Methods.{Takes, IsNarrower, kinds_taken, kind_gi
 use Rattle.accepted_facts.proofs.MethodKinds.{takes_as, gives_as}
 use Rattle.accepted_facts.proofs.OverridingKinds.{same_type}
 use Rattle.scope_flow.specs.Signatures.{Gives, IsConcrete, IsDispatched}
+use Rattle.flow_facts.proofs.RealKinds.{known_result}
 use Rattle.flow_facts.proofs.Bodies.{signature, method_body}
 use Rattle.flow_facts.proofs.ConcreteClasses.{IsWritten, concrete_is}
 use Rattle.flow_facts.proofs.FrameworkRows.{object_of_framework, above_framework, no_user_method, method_reached}
@@ -124,68 +126,94 @@ module _ (forest : Forest) (accepted : IsAccepted forest) (whole : IsForest fore
 
   -- ---- what an override gives
 
-  own_fits : (home : Scope) (t : Option Ty) (s : Option Scope) → Gives p home (seen_option home Caller (kind_of t s))
-      (kind_of t s)
-  unfolding kind_of seen_option seen_kind seen_as assigns are_same is_reference
-  own_fits home (Some Int) s = tt
-  own_fits home (Some Boolean) s = tt
-  own_fits home (Some NullTy) s = (refl, inl refl)
-  own_fits home (Some (ClassTy c)) (Some r) = (assigns_itself forest accepted c, inr (inl refl))
-  own_fits home (Some IntArray) (Some r) = (refl, inr (inl refl))
-  own_fits home (Some BoolArray) (Some r) = (refl, inr (inl refl))
-  own_fits home (Some (ClassArray c)) (Some r) = (is_same_number c c refl, inr (inl refl))
-  own_fits home (Some (ClassTy c)) None = tt
-  own_fits home (Some IntArray) None = tt
-  own_fits home (Some BoolArray) None = tt
-  own_fits home (Some (ClassArray c)) None = tt
-  own_fits home (Some Void) s = tt
-  own_fits home (Some Label) s = tt
-  own_fits home None s = tt
+  -- what lies in a scope that names an area goes, as it is seen from another such one, to where it lies
+  goes_as_seen : (home r : Scope) → NamesArea home → NamesArea r → GoesTo home Caller (seen_as home Caller r) r
+  unfolding seen_as
+  goes_as_seen home This h k = inr (inr (inl (subst NamesArea (sym (named_beside home h)) h, refl)))
+  goes_as_seen home Caller h k = inr (inr (inl (tt, refl)))
+  goes_as_seen home (In n) h k = inr (inr (inl (tt, refl)))
+  goes_as_seen home Any h k = absurd k
+  goes_as_seen home Unknown h k = absurd k
+  goes_as_seen home Lost h k = absurd k
+
+  seen_null : (home : Scope) → GoesTo home Caller (seen_as home Caller Any) Any
+  unfolding seen_as
+  seen_null home = inl refl
+
+  abbrev Named : Option Scope → Type 0
+  Named o = (r : Scope) → o ≡ Some r → NamesArea r
+
+  own_fits : (home : Scope) (t : Option Ty) (s : Option Scope) → NamesArea home → Named s →
+      Gives p home (seen_option home Caller (kind_of t s)) (kind_of t s)
+  unfolding kind_of seen_option seen_kind assigns are_same is_reference
+  own_fits home (Some Int) s h n = (tt, tt)
+  own_fits home (Some Boolean) s h n = (tt, tt)
+  own_fits home (Some NullTy) s h n = ((refl, seen_null home), tt)
+  own_fits home (Some (ClassTy c)) (Some r) h n =
+      ((assigns_itself forest accepted c, goes_as_seen home r h (n r refl)), known_result (ClassTy c) r (n r refl))
+  own_fits home (Some IntArray) (Some r) h n =
+      ((refl, goes_as_seen home r h (n r refl)), known_result IntArray r (n r refl))
+  own_fits home (Some BoolArray) (Some r) h n =
+      ((refl, goes_as_seen home r h (n r refl)), known_result BoolArray r (n r refl))
+  own_fits home (Some (ClassArray c)) (Some r) h n =
+      ((is_same_number c c refl, goes_as_seen home r h (n r refl)), known_result (ClassArray c) r (n r refl))
+  own_fits home (Some (ClassTy c)) None h n = tt
+  own_fits home (Some IntArray) None h n = tt
+  own_fits home (Some BoolArray) None h n = tt
+  own_fits home (Some (ClassArray c)) None h n = tt
+  own_fits home (Some Void) s h n = tt
+  own_fits home (Some Label) s h n = tt
+  own_fits home None s h n = tt
 
   narrower_fits : (home : Scope) (a b : ℕ) (s : Scope) (t : Option Ty) (r : Option Scope) →
       seen_option home Caller (kind_of t r) ≡ Some (reference (ClassTy b) s) → is_sub p.classes a b ≡ true →
-      Gives p home (Some (reference (ClassTy a) s)) (kind_of t r)
+      NamesArea home → Named r → Gives p home (Some (reference (ClassTy a) s)) (kind_of t r)
   unfolding kind_of seen_option seen_kind assigns
-  narrower_fits home a b s (Some (ClassTy c)) (Some r) e sub =
+  narrower_fits home a b s (Some (ClassTy c)) (Some r) e sub h n =
       let f : reference (ClassTy c) (seen_as home Caller r) ≡ reference (ClassTy b) s = some_inj _ _ e in
       let t : ClassTy c ≡ ClassTy b = cc (f) in
       let same : c ≡ b = cc (t) in
-      let there : seen_as home Caller r ≡ s = cc (f) in
-      (ap (is_sub p.classes a) same ∙ sub, inr (inl (sym there)))
-  narrower_fits home a b s (Some Int) r e sub =
+      let there : seen_as home Caller r ≡ s = cc (f) in (
+        (ap (is_sub p.classes a) same ∙ sub, subst (λ s. GoesTo home Caller s r) there (goes_as_seen home r h (n r refl))),
+        known_result (ClassTy c) r (n r refl),
+      )
+  narrower_fits home a b s (Some Int) r e sub h n =
       absurd (let f : number ≡ reference (ClassTy b) s = some_inj _ _ e in cc (f))
-  narrower_fits home a b s (Some Boolean) r e sub =
+  narrower_fits home a b s (Some Boolean) r e sub h n =
       absurd (let f : truth ≡ reference (ClassTy b) s = some_inj _ _ e in cc (f))
-  narrower_fits home a b s (Some NullTy) r e sub =
+  narrower_fits home a b s (Some NullTy) r e sub h n =
       absurd (let f : reference NullTy (seen_as home Caller Any) ≡ reference (ClassTy b) s = some_inj _ _ e in
       let t : NullTy ≡ ClassTy b = cc (f) in cc (t))
-  narrower_fits home a b s (Some IntArray) (Some r) e sub =
+  narrower_fits home a b s (Some IntArray) (Some r) e sub h n =
       absurd (let f : reference IntArray (seen_as home Caller r) ≡ reference (ClassTy b) s = some_inj _ _ e in
       let t : IntArray ≡ ClassTy b = cc (f) in cc (t))
-  narrower_fits home a b s (Some BoolArray) (Some r) e sub =
+  narrower_fits home a b s (Some BoolArray) (Some r) e sub h n =
       absurd (let f : reference BoolArray (seen_as home Caller r) ≡ reference (ClassTy b) s = some_inj _ _ e in
       let t : BoolArray ≡ ClassTy b = cc (f) in cc (t))
-  narrower_fits home a b s (Some (ClassArray c)) (Some r) e sub =
+  narrower_fits home a b s (Some (ClassArray c)) (Some r) e sub h n =
       absurd (let f : reference (ClassArray c) (seen_as home Caller r) ≡ reference (ClassTy b) s = some_inj _ _ e in
       let t : ClassArray c ≡ ClassTy b = cc (f) in cc (t))
-  narrower_fits home a b s (Some (ClassTy c)) None e sub = absurd (cc (e))
-  narrower_fits home a b s (Some IntArray) None e sub = absurd (cc (e))
-  narrower_fits home a b s (Some BoolArray) None e sub = absurd (cc (e))
-  narrower_fits home a b s (Some (ClassArray c)) None e sub = absurd (cc (e))
-  narrower_fits home a b s (Some Void) r e sub = absurd (cc (e))
-  narrower_fits home a b s (Some Label) r e sub = absurd (cc (e))
-  narrower_fits home a b s None r e sub = absurd (cc (e))
+  narrower_fits home a b s (Some (ClassTy c)) None e sub h n = absurd (cc (e))
+  narrower_fits home a b s (Some IntArray) None e sub h n = absurd (cc (e))
+  narrower_fits home a b s (Some BoolArray) None e sub h n = absurd (cc (e))
+  narrower_fits home a b s (Some (ClassArray c)) None e sub h n = absurd (cc (e))
+  narrower_fits home a b s (Some Void) r e sub h n = absurd (cc (e))
+  narrower_fits home a b s (Some Label) r e sub h n = absurd (cc (e))
+  narrower_fits home a b s None r e sub h n = absurd (cc (e))
 
-  result_fits : (home : Scope) (j : Option Kind) (f : FoundMethod) →
+  result_fits : (home : Scope) (j : Option Kind) (f : FoundMethod) → NamesArea home →
       IsNarrower p j (seen_option home Caller (kind_given_by p f)) → Gives p home j (kind_given_by p f)
   unfolding kind_given_by
-  result_fits home j f (inl e) =
+  result_fits home j f h (inl e) =
       subst (λ j. Gives p home j (kind_of (declared_type_of p f.method.declared) (result_scope p f.on f.method)))
-      (sym e) (own_fits home (declared_type_of p f.method.declared) (result_scope p f.on f.method))
-  result_fits home j f (inr x) =
+      (sym e)
+      (own_fits home (declared_type_of p f.method.declared) (result_scope p f.on f.method) h
+      (λ r k. result_named p r f.on f.method k))
+  result_fits home j f h (inr x) =
       subst (λ j. Gives p home j (kind_of (declared_type_of p f.method.declared) (result_scope p f.on f.method)))
       (sym x.3)
-      (narrower_fits home x.0 x.1 x.2 (declared_type_of p f.method.declared) (result_scope p f.on f.method) x.4 x.6)
+      (narrower_fits home x.0 x.1 x.2 (declared_type_of p f.method.declared) (result_scope p f.on f.method) x.4 x.6 h
+      (λ r k. result_named p r f.on f.method k))
 
   -- ---- the body that is found
 
@@ -274,7 +302,7 @@ module _ (forest : Forest) (accepted : IsAccepted forest) (whole : IsForest fore
         takes = ap (λ h. seen_kinds h Caller taken) same;
         gives =
             subst (λ h. Gives p h (kind_given_by p g) (kind_given_by p f))
-            (some_inj v.home body.home (sym v.is_home ∙ body.is_home)) (result_fits v.home (kind_given_by p g) f v.is);
+            (some_inj v.home body.home (sym v.is_home ∙ body.is_home)) (result_fits v.home (kind_given_by p g) f (this_named p v.home g.on v.is_home) v.is);
         runs = ap (λ h. seen_as h Caller r) same;
       }
 

@@ -19,9 +19,9 @@ use Rattle.scj_rules.specs.Classes.{FoundMethod, first_user_class, is_user_class
 use Rattle.scj_rules.specs.Contexts.{Declarations, declarations_of}
 use Rattle.scj_rules.specs.ScopeRules.{defined_by_chain}
 use Rattle.scj_rules.specs.StaticScopes.{runs_in}
-use Rattle.scj_rules.specs.Types.{type_written, assigns}
+use Rattle.scj_rules.specs.Types.{type_written, assigns, method_called}
 use Rattle.scj_rules.specs.TypeRules.{Types, declared_type_of}
-use Rattle.scj_rules.specs.UseRules.{method_called, run_of}
+use Rattle.scj_rules.specs.UseRules.{run_of}
 use Rattle.scj_rules.specs.Phases.{IsAccepted}
 use Rattle.scj_rules.proofs.ChainLemmas.{or_cases}
 use Rattle.accepted_laws.specs.Judgements.{type_at_node, scope_at_node, Inside, Judged}

@@ -14,9 +14,9 @@ use Rattle.scj_rules.specs.declared.views.Declared.{Declared}
 use Rattle.scj_rules.specs.Words.{is_among, holds}
 use Rattle.scj_rules.specs.Classes.{ClassRow, FoundMethod, method_named}
 use Rattle.scj_rules.specs.Contexts.{Declarations, declarations_of, object_of, declared_before, has_object}
-use Rattle.scj_rules.specs.Types.{assigns, are_same, is_reference, accepts_arguments, all_types, class_at_name, call_receiver, called_method, class_of_receiver, names_class, is_value}
+use Rattle.scj_rules.specs.Types.{assigns, are_same, is_reference, accepts_arguments, all_types, class_at_name, call_receiver, called_method, class_of_receiver, names_class, is_value, method_called}
 use Rattle.scj_rules.specs.TypeRules.{Types, declared_type_of, lacks_method, lacks_object_of_method}
-use Rattle.scj_rules.specs.UseRules.{Scopes, method_called}
+use Rattle.scj_rules.specs.UseRules.{Scopes}
 use Rattle.scj_rules.specs.Phases.{IsAccepted}
 use Rattle.scj_rules.proofs.ChainLemmas.{or_left, or_right, is_same_number}
 use Rattle.accepted_laws.specs.Judgements.{type_at_node, scope_at_node, HasScope, Inside, Judged, OwnObject}

@@ -236,7 +236,7 @@ module _ (forest : Forest) (accepted : IsAccepted forest) (whole : IsForest fore
       (inr
       (inr (same_case forest accepted whole sorted is_read b c id name object arguments _ _ x.parts refl refl k)))))))))
 
-  builtin_bound : (id n : ℕ) (place : Pos) (name : List ℕ) (object : Option ℕ) (arguments : List ℕ) (f : FoundMethod)
+  pub builtin_bound : (id n : ℕ) (place : Pos) (name : List ℕ) (object : Option ℕ) (arguments : List ℕ) (f : FoundMethod)
       (r : Receiver) → slice_get forest.nodes id ≡ Some (Call place name object arguments) →
       call_receiver p types id object ≡ Some r → called_method p r name ≡ Some f → f.method.builtin ≡ Some n →
       binding_at_node p id ≡ Builtin (target types r f arguments n)

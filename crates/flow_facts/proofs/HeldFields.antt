@@ -4,9 +4,9 @@ use Rattle.std.proofs.lemmas.Bool.{lt-ltb, le-ltb}
 use Rattle.std.proofs.lemmas.Option.{slice_get_within}
 use Rattle.scj_tree.specs.Forest.{Forest, IsForest}
 use Rattle.scj_rules.specs.declared.scopes.ClassScope.{ClassScope}
-use Rattle.scj_rules.specs.declared.scopes.ClassScope.TheVariants.{Unannotated as unannotated, Annotated as annotated, Unknown as unknown}
+use Rattle.scj_rules.specs.declared.scopes.ClassScope.TheVariants.{Unannotated as unannotated, Annotated as annotated, Missing as scopeless}
 use Rattle.scj_rules.specs.declared.typing.Scope.{Scope}
-use Rattle.scj_rules.specs.declared.typing.Scope.TheVariants.{Any, This, Caller, In}
+use Rattle.scj_rules.specs.declared.typing.Scope.TheVariants.{Any, This, Caller, In, Unknown, Lost}
 use Rattle.scj_rules.specs.declared.typing.Ty.{Ty}
 use Rattle.scj_rules.specs.declared.typing.Ty.TheVariants.{Int, Bool as Boolean, Class as ClassTy, IntArray, BoolArray, ClassArray}
 use Rattle.scj_rules.specs.declared.views.Declared.{Declared}
@@ -75,7 +75,7 @@ position_passes {A} test (x ∷ xs) j e =
 -- ---- scopes of fields
 
 -- an instance field lies in THIS, in IMMORTAL, or in a scope outside of that of an annotated class
-pub suited : (p : Declarations) (cs : ClassScope) (s : Scope) → suits_field p cs false s ≡ true → (cs ≡ unknown → ⊥) →
+pub suited : (p : Declarations) (cs : ClassScope) (s : Scope) → suits_field p cs false s ≡ true → (cs ≡ scopeless → ⊥) →
     (s ≡ This) ⊎
     ((n : ℕ) × (s ≡ In n) × ((n ≡ immortal_scope) ⊎ ((m : ℕ) × (cs ≡ annotated m) × (is_outer p n m ≡ true))))
 unfolding suits_field is_outer_of
@@ -89,7 +89,9 @@ suited p (annotated m) (In n) e k = inr (n, refl, inr (m, refl, e))
 suited p (annotated m) Any e k = absurd (true≢false (sym e))
 suited p (annotated m) This e k = absurd (true≢false (sym e))
 suited p (annotated m) Caller e k = absurd (true≢false (sym e))
-suited p unknown s e k = absurd (k refl)
+suited p (annotated m) Unknown e k = absurd (true≢false (sym e))
+suited p (annotated m) Lost e k = absurd (true≢false (sym e))
+suited p scopeless s e k = absurd (k refl)
 
 -- a declared type with such a scope has the kind of a slot
 slot_kind_of : (t : Ty) (s : Option Scope) (k : Kind) → holds_values t ≡ true →

@@ -8,7 +8,7 @@ use Rattle.scj_tree.specs.declared.nodes.Node.TheVariants.{Local as LocalNode, L
 use Rattle.scj_tree.specs.Forest.{Forest, IsForest}
 use Rattle.scj_rules.specs.declared.typing.Binding.{Binding}
 use Rattle.scj_rules.specs.declared.typing.Binding.TheVariants.{Local as LocalVariable}
-use Rattle.scj_rules.specs.declared.typing.Scope.TheVariants.{This, Caller, In, Any}
+use Rattle.scj_rules.specs.declared.typing.Scope.TheVariants.{This, Caller, In, Any, Unknown, Lost}
 use Rattle.scj_rules.specs.declared.typing.Ty.{Ty}
 use Rattle.scj_rules.specs.declared.views.Body.TheVariants.{Written}
 use Rattle.scj_rules.specs.declared.views.Declared.{Declared}
@@ -23,6 +23,7 @@ use Rattle.scj_rules.specs.Bindings.{variable_binding, plain_or, binding_of, bin
 use Rattle.scj_rules.specs.Phases.{IsAccepted}
 use Rattle.scj_rules.proofs.ChainLemmas.{is_same_number, same_number}
 use Rattle.accepted_laws.specs.Judgements.{Inside, binding_at_node}
+use Rattle.scj_rules.specs.StaticScopes.{beside}
 use Rattle.accepted_laws.specs.Kinds.{Kind, number, truth, reference, kind_of, kind_of_variable, seen_as, seen_kind, Fits, IsRealKind, fresh, yes}
 use Rattle.accepted_laws.specs.Sorts.{IsWellSorted}
 use Rattle.accepted_laws.proofs.Fields.{In as Element, here as at_head, there as in_tail, in_filter}
@@ -38,10 +39,11 @@ use Rattle.accepted_facts.proofs.ReturnFacts.{initial_value_facts}
 use Rattle.accepted_facts.proofs.StatementFacts.{fits_go}
 use Rattle.scj_model.specs.Code.{Code, binding}
 use Rattle.scj_model.specs.Operations.{bound_local}
+use Rattle.scope_flow.specs.Guards.{SparesGuards}
 use Rattle.scope_flow.specs.Needs.{IsVariable}
 use Rattle.scope_flow.specs.StatementFacts.{DeclaredFact, InitialValueFact}
 
-number_in : {A : Type 0} (xs : List A) (n k : ℕ) → k < length xs → Element (n + k) (numbers_from n xs)
+pub number_in : {A : Type 0} (xs : List A) (n k : ℕ) → k < length xs → Element (n + k) (numbers_from n xs)
 unfolding numbers_from
 number_in [] n k l = absurd (omega (arith, l))
 number_in (x ∷ xs) n zero l =
@@ -59,12 +61,12 @@ turned w v = go (w == v) refl (v == w) refl
     go true e false f = absurd (true≢false (sym (is_same_number v w (sym (same_number w v e))) ∙ f))
     go false e true f = absurd (true≢false (sym (is_same_number w v (sym (same_number v w f))) ∙ e))
 
-position_turned : (v : ℕ) (xs : List ℕ) → position (λ w. w == v) xs ≡ position (λ w. v == w) xs
+pub position_turned : (v : ℕ) (xs : List ℕ) → position (λ w. w == v) xs ≡ position (λ w. v == w) xs
 position_turned v xs = ap (λ (test : ℕ → Bool). position test xs) (λ i w. turned w v i)
 
 -- a kind as one sees it in its own body
 pub own_kind : (k : Kind) → seen_kind This Caller k ≡ k
-unfolding seen_kind seen_as
+unfolding seen_kind seen_as beside
 own_kind number = refl
 own_kind truth = refl
 own_kind yes = refl
@@ -73,6 +75,8 @@ own_kind (reference t Any) = refl
 own_kind (reference t This) = refl
 own_kind (reference t Caller) = refl
 own_kind (reference t (In n)) = refl
+own_kind (reference t Unknown) = refl
+own_kind (reference t Lost) = refl
 
 -- what fits a kind goes to a place of the kind in the same body
 pub goes_here : (p : Declarations) (j k : Kind) → IsRealKind k → FitsAsSeen p j k → Fits p This Caller j k
@@ -143,30 +147,30 @@ module _ (forest : Forest) (accepted : IsAccepted forest) (whole : IsForest fore
       is_bound : binding_at_node p id ≡ variable_binding p id id
 
     declared_at : (b c id : ℕ) (node : Node) → slice_get p.nodes id ≡ Some node → Inside p b c id → IsLocalNode id node →
-        (k : Kind) → kind_of_variable p id ≡ Some k → (d : DeclaredFact code b id) × (d.is_variable.kind ≡ k)
-    declared_at b c id node there inside x k kind =
+        SparesGuards code id id → (k : Kind) → kind_of_variable p id ≡ Some k → (d : DeclaredFact code b id) × (d.is_variable.kind ≡ k)
+    declared_at b c id node there inside x spares k kind =
         let n = variable_numbered b id x.declared inside.member x.is_declared (slice_get_within p.nodes id node there) in
         let i = is_variable_at b n.0 id k n.1 kind in
-        (record { local = n.0; is = local_of (binding code id) n.0 (x.is_bound ∙ n.2); is_variable = i.0 }, i.1)
+        (record { local = n.0; is = local_of (binding code id) n.0 (x.is_bound ∙ n.2); is_variable = i.0; spares = spares }, i.1)
 
     pub local_fact : (b c id declared_type : ℕ) (place : Pos) (name : List ℕ) (flags : Option ℕ) →
         slice_get forest.nodes id ≡ Some (LocalNode place name flags declared_type) → Inside p b c id →
-        DeclaredFact code b id
+        SparesGuards code id id → DeclaredFact code b id
     unfolding variable_of binding_of declarations_of
-    local_fact b c id declared_type place name flags there inside =
+    local_fact b c id declared_type place name flags there inside spares =
         let node : Node = LocalNode place name flags declared_type in
         let e = ap (λ (o : Option Node). option_and_then (variable_of p.nodes id) o) there in
         let k = variable_kind b c id _ inside.class inside.member e in
         (declared_at b c id node there inside
         (record { declared = _; is_declared = e; is_bound = binding_is forest accepted whole sorted id node there })
-        k.0 k.1).0
+        spares k.0 k.1).0
 
     pub initial_value_fact : (b c id value declared_type : ℕ) (place name_place : Pos) (name : List ℕ)
         (flags : Option ℕ) →
         slice_get forest.nodes id ≡ Some (LocalWithValue place name_place name flags declared_type value) →
-        Inside p b c id → InitialValueFact code b c id value
+        Inside p b c id → SparesGuards code id id → InitialValueFact code b c id value
     unfolding variable_of binding_of declarations_of
-    initial_value_fact b c id value declared_type place name_place name flags there inside =
+    initial_value_fact b c id value declared_type place name_place name flags there inside spares =
         let node : Node = LocalWithValue place name_place name flags declared_type value in
         let e = ap (λ (o : Option Node). option_and_then (variable_of p.nodes id) o) there in
         let f = initial_value_facts forest accepted whole sorted b c id value declared_type place name_place name flags
@@ -174,7 +178,7 @@ module _ (forest : Forest) (accepted : IsAccepted forest) (whole : IsForest fore
         let d =
         declared_at b c id node there inside
         (record { declared = _; is_declared = e; is_bound = binding_is forest accepted whole sorted id node there })
-        f.expected f.variable_is in
+        spares f.expected f.variable_is in
         record {
           declared = d.0;
           fits = record {

@@ -15,7 +15,7 @@ use Rattle.scj_rules.specs.TypeRules.{always_returns, ends_without_return, type_
 use Rattle.scj_rules.specs.Phases.{IsAccepted}
 use Rattle.scj_rules.proofs.ChainLemmas.{or_right, among-behind}
 use Rattle.scj_rules.proofs.ParentLemmas.{child-less}
-use Rattle.accepted_laws.specs.Judgements.{type_at_node}
+use Rattle.accepted_laws.specs.Judgements.{Inside, type_at_node}
 use Rattle.accepted_laws.specs.Sorts.{Of, HasRightChildren, IsWellSorted, is_block, is_statement}
 use Rattle.accepted_laws.specs.Variables.{parameter_list}
 use Rattle.accepted_laws.proofs.Breaks.{both_empty, right}
@@ -48,25 +48,33 @@ module _ (forest : Forest) (accepted : IsAccepted forest) (whole : IsForest fore
     abbrev nodes : List Node
     nodes = forest.nodes
 
+    -- what stands directly in a member
+    pub inside_member : (b c x : ℕ) (node child : Node) → slice_get nodes b ≡ Some node → is_member node ≡ true →
+        (context p b).class ≡ Some c → is_among x (children node) ≡ true → slice_get nodes x ≡ Some child →
+        Inside p b c x
+    unfolding child_context declarations_of
+    inside_member b c x node child there member class among is =
+        let e = child_context_is forest whole b x node there among in
+        let none = no_class_number forest whole b node there (member_no_class node member) in
+        record {
+          here = (child, is);
+          class = ap (λ (c : Context). c.class) e ∙ ap (λ (o : Option ℕ). or_else o (context p b).class) none ∙ class;
+          member = ap (λ (c : Context). c.member) e ∙ ap (λ t. if t then Some b else (context p b).member) member;
+        }
+
     -- the block of a method or a constructor
     pub body_fact : (b c body : ℕ) (node : Node) → slice_get nodes b ≡ Some node → is_member node ≡ true →
         (context p b).class ≡ Some c → is_among body (children node) ≡ true → Of is_block nodes body
         → ((parameters_before nodes (parameter_list node) body) ≡ declared_before nodes node body) → BodyFact p b c body
-    unfolding child_context declarations_of
+    unfolding declarations_of
     body_fact b c body node there member class among o declares =
-        let e = child_context_is forest whole b body node there among in
-        let none = no_class_number forest whole b node there (member_no_class node member) in
         record {
           smaller = child-less forest whole b body node there among;
           is = record {
             node = o.node;
             is_there = o.is_there;
             is_statement = block_is_statement o.node o.passes;
-            inside = record {
-              here = (o.node, o.is_there);
-              class = ap (λ (c : Context). c.class) e ∙ ap (λ (o : Option ℕ). or_else o (context p b).class) none ∙ class;
-              member = ap (λ (c : Context). c.member) e ∙ ap (λ t. if t then Some b else (context p b).member) member;
-            };
+            inside = inside_member b c body node o.node there member class among o.is_there;
           };
           known = member_child_known forest accepted whole sorted b body node there member among (sym declares);
         }

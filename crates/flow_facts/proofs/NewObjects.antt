@@ -7,7 +7,7 @@ use Rattle.scj_tree.specs.declared.nodes.Node.TheVariants.{New}
 use Rattle.scj_tree.specs.Forest.{Forest, IsForest}
 use Rattle.scj_tree.specs.Shape.{children}
 use Rattle.scj_rules.specs.declared.typing.Scope.{Scope}
-use Rattle.scj_rules.specs.declared.typing.Scope.TheVariants.{Any, This, Caller, In}
+use Rattle.scj_rules.specs.declared.typing.Scope.TheVariants.{This}
 use Rattle.scj_rules.specs.declared.typing.Ty.{Ty}
 use Rattle.scj_rules.specs.declared.typing.Ty.TheVariants.{Class as ClassTy}
 use Rattle.scj_rules.specs.declared.views.Body.{Body}
@@ -25,9 +25,9 @@ use Rattle.scj_rules.specs.TypeRules.{Types, type_of, misfits_constructor, misfi
 use Rattle.scj_rules.specs.Phases.{IsAccepted}
 use Rattle.scj_rules.proofs.ChainLemmas.{is_same_number}
 use Rattle.accepted_laws.specs.Judgements.{type_at_node, Inside, Judged}
-use Rattle.accepted_laws.specs.Kinds.{Kind, reference, seen_kinds, AllFit, IsReal}
+use Rattle.accepted_laws.specs.Kinds.{Kind, reference, seen_kinds, AllFit, NamesArea}
 use Rattle.accepted_laws.specs.Sorts.{HasRightChildren, IsWellSorted, is_argument, is_expression}
-use Rattle.accepted_laws.proofs.RealScopes.{current_not_any}
+use Rattle.accepted_laws.proofs.RealScopes.{current_named}
 use Rattle.accepted_laws.proofs.Tools.{some_inj}
 use Rattle.accepted_nodes.proofs.FormParts.{takes_parts}
 use Rattle.accepted_nodes.proofs.ScopesComplete.{of_option, arguments_typed}
@@ -54,7 +54,7 @@ use Rattle.flow_facts.proofs.SlotScopes.{slots_reach}
 -- ---- arguments
 
 -- arguments that fit as they are seen go to what is taken
-pub all_go : (p : Declarations) (home now : Scope) (js ks : List Kind) → AllReal ks → IsReal now →
+pub all_go : (p : Declarations) (home now : Scope) (js ks : List Kind) → AllReal ks → NamesArea now →
     AllFitAsSeen p js (seen_kinds home now ks) → AllFit p home now js ks
 unfolding seen_kinds
 all_go p home now [] [] r n h = tt
@@ -62,12 +62,9 @@ all_go p home now (j ∷ js) (k ∷ ks) r n h = (fits_go p home now j k r.0 n h.
 all_go p home now [] (k ∷ ks) r n h = absurd h
 all_go p home now (j ∷ js) [] r n h = absurd h
 
--- the current scope is none of null alone
-pub real_now : (p : Declarations) (b c : ℕ) (now : Scope) → current_in p c b ≡ Some now → IsReal now
-real_now p b c Any e = absurd (current_not_any p c b e)
-real_now p b c This e = tt
-real_now p b c Caller e = tt
-real_now p b c (In n) e = tt
+-- the current scope names an area
+pub names_now : (p : Declarations) (b c : ℕ) (now : Scope) → current_in p c b ≡ Some now → NamesArea now
+names_now p b c now e = current_named p now c b e
 
 no_types : (p : Declarations) (ts : List Ty) → accepts_arguments p [] ts ≡ true → ts ≡ []
 unfolding accepts_arguments
@@ -100,7 +97,7 @@ module _ (forest : Forest) (accepted : IsAccepted forest) (whole : IsForest fore
 
   -- of a user class
   pub user_constructor : (class : ℕ) (home : Scope) (given taken : List Kind) → IsWritten p class →
-      is_user_class class ≡ true → ConstructorTakes p class taken → IsReal home →
+      is_user_class class ≡ true → ConstructorTakes p class taken → NamesArea home →
       AllFitAsSeen p given (seen_kinds home home taken) → CallsConstructor p class home given
   unfolding Runs
   user_constructor class home given taken w user t real fit =
@@ -211,7 +208,7 @@ module _ (forest : Forest) (accepted : IsAccepted forest) (whole : IsForest fore
     constructor : CallsConstructor p class now kinds
 
   of_user : (b c id : ℕ) (arguments : List ℕ) (class : ℕ) (now : Scope) → IsWritten p class →
-      is_user_class class ≡ true → PassesToConstructor p b c id class arguments now → IsReal now →
+      is_user_class class ≡ true → PassesToConstructor p b c id class arguments now → NamesArea now →
       Constructed b c id class arguments now
   of_user b c id arguments class now w user t real =
       let q = t.passes in
@@ -244,7 +241,7 @@ module _ (forest : Forest) (accepted : IsAccepted forest) (whole : IsForest fore
       elim (concrete_is forest accepted whole sorted f.class f.concrete) as
       (λ z. Constructed b c id f.class arguments f.now) [
         | inl w ↦ (let user = w.is_users in of_user b c id arguments f.class f.now w user (f.passes user)
-            (real_now p b c f.now f.is_now))
+            (names_now p b c f.now f.is_now))
         | inr e ↦ of_object b c id arguments f.class f.now
             (none_passed b c id place name_place name arguments f.class there inside part f.named e) e
       ] in

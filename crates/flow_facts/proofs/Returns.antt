@@ -4,13 +4,12 @@ use Rattle.scj_base.specs.declared.places.Pos.{Pos}
 use Rattle.scj_tree.specs.declared.nodes.Node.TheVariants.{Return}
 use Rattle.scj_tree.specs.Forest.{Forest, IsForest}
 use Rattle.scj_rules.specs.declared.typing.Scope.{Scope}
-use Rattle.scj_rules.specs.declared.typing.Scope.TheVariants.{Any, This, Caller}
+use Rattle.scj_rules.specs.declared.typing.Scope.TheVariants.{This, Caller}
 use Rattle.scj_rules.specs.declared.typing.Ty.{Ty}
 use Rattle.scj_rules.specs.declared.views.WrittenType.{WrittenType}
 use Rattle.scj_rules.specs.declared.views.WrittenType.TheVariants.{Void as void_type, Long as long_type}
 use Rattle.scj_rules.specs.Views.{DeclaredMethod, method_at}
 use Rattle.scj_rules.specs.Contexts.{Declarations, declarations_of}
-use Rattle.scj_rules.specs.StaticScopes.{scoped_result}
 use Rattle.scj_rules.specs.AnnotationRules.{result_scope}
 use Rattle.scj_rules.specs.Types.{type_written}
 use Rattle.scj_rules.specs.TypeRules.{declared_type_of}
@@ -18,7 +17,7 @@ use Rattle.scj_rules.specs.Phases.{IsAccepted}
 use Rattle.accepted_laws.specs.Judgements.{Inside}
 use Rattle.accepted_laws.specs.Kinds.{Kind, number, kind_of, Fits, IsRealKind}
 use Rattle.accepted_laws.specs.Sorts.{IsWellSorted}
-use Rattle.accepted_laws.proofs.RealScopes.{declaration_not_any, runs_in_not_any}
+use Rattle.accepted_laws.proofs.RealScopes.{named_is_real, result_named}
 use Rattle.accepted_facts.specs.Statements.{FitsAsSeen, ReturnFacts}
 use Rattle.accepted_facts.proofs.ReturnFacts.{return_facts, returns_nothing}
 use Rattle.accepted_nodes.proofs.ValueFacts.{typed_of}
@@ -77,9 +76,6 @@ module _ (forest : Forest) (accepted : IsAccepted forest) (whole : IsForest fore
         ∙ result_void p (result_scope p c m)
 
     -- the kind of a result isn't null's
-    result_not_any : (c : ℕ) (m : DeclaredMethod) → result_scope p c m ≡ Some Any → ⊥
-    result_not_any c m e = declaration_not_any p (scoped_result p c m) (runs_in_not_any p c m) (runs_in_not_any p c m) e
-
     pub result_is_real : (b c : ℕ) (m : DeclaredMethod) (k : Kind) → method_at p.nodes b ≡ Some m →
         kind_of (declared_type_of p m.declared) (result_scope p c m) ≡ Some k → IsRealKind k
     result_is_real b c m k at e =
@@ -89,7 +85,7 @@ module _ (forest : Forest) (accepted : IsAccepted forest) (whole : IsForest fore
         elim (method_gives forest sorted b m t.0 at t.1) as (λ z. IsRealKind k) [
           | inl v ↦ absurd
               (void_no_kind (result_scope p c m) k (sym (ap (λ t. kind_of (Some t) (result_scope p c m)) v) ∙ typed))
-          | inr h ↦ real_value t.0 (result_scope p c m) k h (result_not_any c m) typed
+          | inr h ↦ real_value t.0 (result_scope p c m) k h (λ scope e. named_is_real scope (result_named p scope c m e)) typed
         ]
 
     -- ---- returns

@@ -42,7 +42,7 @@ in_aux x (y ∷ xs) ys h = elim (in_aux x xs (y ∷ ys) h) as (λ z. Element x (
       [ inl e ↦ inl (subst (λ z. Element z (y ∷ xs)) e here) | inr m ↦ inr m ]
 ]
 
-in_reversed : {A : Type 0} (x : A) (xs : List A) → Element x (reverse xs) → Element x xs
+pub in_reversed : {A : Type 0} (x : A) (xs : List A) → Element x (reverse xs) → Element x xs
 in_reversed x xs h = elim (in_aux x xs [] h) as (λ z. Element x xs) [ inl k ↦ k | inr k ↦ absurd (elim k [ ]) ]
 
 -- what a filter leaves passes its test

@@ -5,59 +5,65 @@ use Rattle.scj_tree.specs.declared.nodes.Node.TheVariants.{Block, Empty as Empty
 use Rattle.scj_tree.specs.Forest.{Forest, IsForest}
 use Rattle.scj_rules.specs.Contexts.{Declarations, declarations_of}
 use Rattle.scj_rules.specs.Bindings.{bindings_in}
+use Rattle.scj_rules.specs.CheckedProgram.{IsReadFromTexts}
 use Rattle.scj_rules.specs.Phases.{IsAccepted}
 use Rattle.accepted_laws.specs.Judgements.{Inside}
 use Rattle.accepted_laws.specs.Sorts.{IsWellSorted, is_statement}
 use Rattle.accepted_laws.proofs.Tools.{some_inj}
 use Rattle.scj_model.specs.Code.{Code, code_of}
+use Rattle.scope_flow.specs.Guards.{SparesGuards}
 use Rattle.scope_flow.specs.Needs.{IsStatement}
 use Rattle.scope_flow.specs.Signatures.{Signature, IsBody}
 use Rattle.scope_flow.specs.StatementFacts.{StatementFact, ReturnFact}
 use Rattle.flow_facts.proofs.Assignments.{assign_fact}
 use Rattle.flow_facts.proofs.Blocks.{block_statements}
 use Rattle.flow_facts.proofs.Conditions.{if_fact, while_fact, for_fact}
+use Rattle.flow_facts.proofs.DeclaredGuards.{declaration_spares}
 use Rattle.flow_facts.proofs.Invocations.{invocation_fact}
 use Rattle.flow_facts.proofs.Locals.{local_fact, initial_value_fact}
 use Rattle.flow_facts.proofs.Returns.{return_none_fact, return_value_fact}
 
 module _ (forest : Forest) (accepted : IsAccepted forest) (whole : IsForest forest) (sorted : IsWellSorted forest.nodes)
-  where
-    abbrev p : Declarations
-    p = declarations_of forest
+    (is_read : IsReadFromTexts forest) where
+  abbrev p : Declarations
+  p = declarations_of forest
 
-    abbrev code : Code
-    code = record { program = p; bindings = bindings_in p }
+  abbrev code : Code
+  code = record { program = p; bindings = bindings_in p }
 
-    by_kind : (b c : ℕ) (sig : Signature) (id : ℕ) (node : Node) → IsBody p b c sig → Inside p b c id →
-        slice_get forest.nodes id ≡ Some node → is_statement node ≡ true → StatementFact code b c sig id node
-    unfolding StatementFact ReturnFact is_statement code_of
-    by_kind b c sig id (Block place statements) body inside there e =
-        block_statements forest accepted whole sorted b c id place statements there inside
-    by_kind b c sig id (EmptyStatement place) body inside there e = tt
-    by_kind b c sig id (LocalNode place name flags declared_type) body inside there e =
-        local_fact forest accepted whole sorted b c id declared_type place name flags there inside
-    by_kind b c sig id (LocalWithValue place name_place name flags declared_type value) body inside there e =
-        initial_value_fact forest accepted whole sorted b c id value declared_type place name_place name flags there
-        inside
-    by_kind b c sig id (Assign place target value) body inside there e =
-        assign_fact forest accepted whole sorted b c id target value place there inside
-    by_kind b c sig id (ExpressionStatement place expression) body inside there e =
-        invocation_fact forest accepted whole sorted b c id expression place there inside
-    by_kind b c sig id (If place condition then_part else_part) body inside there e =
-        if_fact forest accepted whole sorted b c id condition then_part place else_part there inside
-    by_kind b c sig id (While place condition body_part) body inside there e =
-        while_fact forest accepted whole sorted b c id condition body_part place there inside
-    by_kind b c sig id (For place first condition step body_part) body inside there e =
-        for_fact forest accepted whole sorted b c id first condition step body_part place there inside
-    by_kind b c sig id (Return place None) body inside there e =
-        return_none_fact forest accepted whole sorted b c id sig place body there inside
-    by_kind b c sig id (Return place (Some value)) body inside there e =
-        return_value_fact forest accepted whole sorted b c id value sig place body there inside
-    by_kind b c sig id _ body inside there e = absurd (true≢false (sym e))
+  spares : (id : ℕ) → SparesGuards code id id
+  spares id = declaration_spares forest accepted whole sorted is_read id
 
-    pub statement_fact : (b c : ℕ) (sig : Signature) (id : ℕ) (node : Node) → IsBody p b c sig → IsStatement p b c id →
-        slice_get p.nodes id ≡ Some node → StatementFact code b c sig id node
-    unfolding declarations_of
-    statement_fact b c sig id node body is there =
-        by_kind b c sig id node body is.inside there (ap is_statement (some_inj node is.node (sym there ∙ is.is_there))
-        ∙ is.is_statement)
+  by_kind : (b c : ℕ) (sig : Signature) (id : ℕ) (node : Node) → IsBody p b c sig → Inside p b c id →
+      slice_get forest.nodes id ≡ Some node → is_statement node ≡ true → StatementFact code b c sig id node
+  unfolding StatementFact ReturnFact is_statement code_of
+  by_kind b c sig id (Block place statements) body inside there e =
+      block_statements forest accepted whole sorted b c id place statements there inside
+  by_kind b c sig id (EmptyStatement place) body inside there e = tt
+  by_kind b c sig id (LocalNode place name flags declared_type) body inside there e =
+      local_fact forest accepted whole sorted b c id declared_type place name flags there inside (spares id)
+  by_kind b c sig id (LocalWithValue place name_place name flags declared_type value) body inside there e =
+      initial_value_fact forest accepted whole sorted b c id value declared_type place name_place name flags there
+      inside (spares id)
+  by_kind b c sig id (Assign place target value) body inside there e =
+      assign_fact forest accepted whole sorted b c id target value place there inside
+  by_kind b c sig id (ExpressionStatement place expression) body inside there e =
+      invocation_fact forest accepted whole sorted b c id expression place there inside
+  by_kind b c sig id (If place condition then_part else_part) body inside there e =
+      if_fact forest accepted whole sorted b c id condition then_part place else_part there inside
+  by_kind b c sig id (While place condition body_part) body inside there e =
+      while_fact forest accepted whole sorted b c id condition body_part place there inside
+  by_kind b c sig id (For place first condition step body_part) body inside there e =
+      for_fact forest accepted whole sorted b c id first condition step body_part place there inside
+  by_kind b c sig id (Return place None) body inside there e =
+      return_none_fact forest accepted whole sorted b c id sig place body there inside
+  by_kind b c sig id (Return place (Some value)) body inside there e =
+      return_value_fact forest accepted whole sorted b c id value sig place body there inside
+  by_kind b c sig id _ body inside there e = absurd (true≢false (sym e))
+
+  pub statement_fact : (b c : ℕ) (sig : Signature) (id : ℕ) (node : Node) → IsBody p b c sig → IsStatement p b c id →
+      slice_get p.nodes id ≡ Some node → StatementFact code b c sig id node
+  unfolding declarations_of
+  statement_fact b c sig id node body is there =
+      by_kind b c sig id node body is.inside there (ap is_statement (some_inj node is.node (sym there ∙ is.is_there))
+      ∙ is.is_statement)

@@ -56,7 +56,7 @@ use Rattle.flow_facts.proofs.Calls.{Invoked, not_long}
 use Rattle.flow_facts.proofs.Dispatched.{body_found}
 use Rattle.flow_facts.proofs.Invocations.{call_value}
 use Rattle.flow_facts.proofs.Literals.{values_of}
-use Rattle.flow_facts.proofs.NewObjects.{all_go, real_now}
+use Rattle.flow_facts.proofs.NewObjects.{all_go, names_now}
 use Rattle.flow_facts.proofs.StaticMethods.{never_this, static_runs, all_without, result_itself, result_without, static_body, own_is_named, static_node}
 
 -- with no THIS it is one what that is
@@ -263,7 +263,7 @@ module _ (forest : Forest) (accepted : IsAccepted forest) (whole : IsForest fore
         kinds = passed.2.given;
         arguments_are = values_of p b c id arguments passed.2.given passed.2.operands;
         fit = all_go p Any now passed.2.given taken (taken_real p _ taken is_body.takes)
-            (real_now p b c now body.runs_in) passed.2.fit;
+            (names_now p b c now body.runs_in) passed.2.fit;
         takes_no_this = takes_without f taken static takes.are;
         gives_no_this = result_without forest accepted whole sorted f static;
         gives_itself = result_itself forest accepted whole sorted f static;

@@ -6,7 +6,7 @@ use Rattle.scj_tree.specs.declared.nodes.Node.{Node}
 use Rattle.scj_tree.specs.declared.nodes.Node.TheVariants.{Method as MethodNode}
 use Rattle.scj_tree.specs.Forest.{Forest, IsForest}
 use Rattle.scj_rules.specs.declared.typing.Scope.{Scope}
-use Rattle.scj_rules.specs.declared.typing.Scope.TheVariants.{Any, This, Caller, In}
+use Rattle.scj_rules.specs.declared.typing.Scope.TheVariants.{Any, This, Caller, In, Unknown, Lost}
 use Rattle.scj_rules.specs.declared.typing.Ty.{Ty}
 use Rattle.scj_rules.specs.declared.typing.Ty.TheVariants.{Int, Bool as Boolean, Void, NullTy, Label, Class as ClassTy, IntArray, BoolArray, ClassArray}
 use Rattle.scj_rules.specs.declared.views.Declared.{Declared}
@@ -16,53 +16,38 @@ use Rattle.scj_rules.specs.Views.{DeclaredMethod, method_of, modifiers_at}
 use Rattle.scj_rules.specs.Classes.{FoundMethod, superclass_in, superclasses, all_interfaces, own_method, method_named}
 use Rattle.scj_rules.specs.ClassRules.{c7, c9, c11, node_breaks, at_node, c9_type, leaves_open, has_wrong_body, has_class_words, is_wrongly_synchronized, is_misplaced_on_method}
 use Rattle.scj_rules.specs.Contexts.{Declarations, declarations_of, member_flags, is_static_member}
-use Rattle.scj_rules.specs.StaticScopes.{has_unknown_runs_in, has_other_runs_in, is_inherited_by_safelet, has_wrong_runs_in, fixed_for, free_runs_in, runs_in, parameter_scope}
+use Rattle.scj_rules.specs.StaticScopes.{has_wrong_runs_in, fixed_for, free_runs_in, runs_in, parameter_scope}
 use Rattle.scj_rules.specs.AnnotationRules.{result_scope}
 use Rattle.scj_rules.specs.Types.{assigns, are_same, is_reference}
 use Rattle.scj_rules.specs.TypeRules.{declared_type_of}
 use Rattle.scj_rules.specs.Phases.{IsAccepted}
 use Rattle.scj_rules.proofs.ChainLemmas.{is_same_number}
 use Rattle.accepted_laws.specs.Judgements.{HasScope}
-use Rattle.accepted_laws.specs.Kinds.{Kind, number, truth, yes, reference, fresh, kind_of, seen_as, GoesTo}
+use Rattle.accepted_laws.specs.Kinds.{Kind, number, truth, yes, reference, fresh, kind_of, seen_as, GoesTo, NamesArea}
 use Rattle.accepted_laws.specs.Overriding.{IsUserMethod}
 use Rattle.accepted_laws.specs.Sorts.{IsWellSorted}
 use Rattle.accepted_laws.proofs.Breaks.{both_empty, right, no_break_at_node}
 use Rattle.accepted_laws.proofs.Dispatch.{own_declaration, written_of}
 use Rattle.accepted_laws.proofs.Interfaces.{row_is, own_of_framework}
 use Rattle.accepted_laws.proofs.MethodNodes.{flat_none, method_node}
+use Rattle.accepted_laws.proofs.RealScopes.{result_named}
 use Rattle.accepted_laws.proofs.Rows.{at_class_unbroken}
 use Rattle.accepted_laws.proofs.ScopesOfClasses.{chain_is}
 use Rattle.accepted_laws.proofs.Subtypes.{assigns_itself}
 use Rattle.accepted_laws.proofs.Tools.{some_inj}
-use Rattle.accepted_nodes.proofs.DeclaredScopes.{static_result_not_this}
+use Rattle.accepted_nodes.proofs.DeclaredScopes.{static_not_this, static_result_not_this}
 use Rattle.accepted_facts.specs.Methods.{kind_of_parameter, kind_given as kind_given_by}
+use Rattle.flow_facts.proofs.RealKinds.{known_result}
 use Rattle.scope_flow.specs.Needs.{pushed}
 use Rattle.scope_flow.specs.Signatures.{Gives, IsWithoutThis, AreWithoutThis}
 
 -- ---- scopes of what is taken and given
 
 module _ (p : Declarations) where
-  -- a static method whose result is declared as a parameter is
-  abbrev giving : DeclaredMethod → Declared → DeclaredMethod
-  giving m d =
-      record m {
-        declared = record
-            (m.declared) {
-              declared_type = d.declared_type;
-              modifiers = record
-                  (m.declared.modifiers) { scope = d.modifiers.scope };
-            };
-      }
-
-  runs_alike : (class : ℕ) (m : DeclaredMethod) (d : Declared) → runs_in p class (giving m d) ≡ runs_in p class m
-  unfolding runs_in has_unknown_runs_in has_other_runs_in is_inherited_by_safelet
-  runs_alike class m d = refl
-
   -- what a static method takes never lies in THIS
   pub never_this : (class : ℕ) (m : DeclaredMethod) (d : Declared) → m.declared.modifiers.is_static ≡ true →
       parameter_scope p class m d ≡ Some This → ⊥
-  unfolding runs_in has_unknown_runs_in has_other_runs_in is_inherited_by_safelet
-  never_this class m d k e = static_result_not_this p class (giving m d) k e
+  never_this class m d k e = static_not_this p true class m d k e
 
   pub static_runs : (class : ℕ) (m : DeclaredMethod) → m.declared.modifiers.is_static ≡ true →
       HasScope (runs_in p class m) → runs_in p class m ≡ Some Caller
@@ -84,6 +69,8 @@ without_this This n = absurd (n refl)
 without_this Any n = tt
 without_this Caller n = tt
 without_this (In m) n = tt
+without_this Unknown n = tt
+without_this Lost n = tt
 
 abbrev KindWithoutThis : Kind → Type 0
 KindWithoutThis (reference t s) = IsWithoutThis s
@@ -121,12 +108,14 @@ kind_without (Some Void) o k n e = absurd (cc (e))
 kind_without (Some Label) o k n e = absurd (cc (e))
 kind_without None o k n e = absurd (cc (e))
 
-goes_itself : (s : Scope) → (Some s ≡ Some This → ⊥) → GoesTo Any Caller s s
+goes_itself : (s : Scope) → (Some s ≡ Some This → ⊥) → NamesArea s → GoesTo Any Caller s s
 unfolding seen_as
-goes_itself Any n = inl refl
-goes_itself This n = absurd (n refl)
-goes_itself Caller n = inr (inl refl)
-goes_itself (In m) n = inr (inl refl)
+goes_itself This n h = absurd (n refl)
+goes_itself Caller n h = inr (inr (inl (h, refl)))
+goes_itself (In m) n h = inr (inr (inl (h, refl)))
+goes_itself Any n h = absurd h
+goes_itself Unknown n h = absurd h
+goes_itself Lost n h = absurd h
 
 module _ (forest : Forest) (accepted : IsAccepted forest) (whole : IsForest forest) (sorted : IsWellSorted forest.nodes)
   where
@@ -148,28 +137,33 @@ module _ (forest : Forest) (accepted : IsAccepted forest) (whole : IsForest fore
     all_without f [] (k ∷ ks) s e = absurd (cc (e))
     all_without f (d ∷ ds) [] s e = absurd (cc (e))
 
-    itself_given : (t : Option Ty) (o : Option Scope) → (o ≡ Some This → ⊥) → Gives p Any (kind_of t o) (kind_of t o)
+    itself_given : (t : Option Ty) (o : Option Scope) → (o ≡ Some This → ⊥) →
+        ((s : Scope) → o ≡ Some s → NamesArea s) → Gives p Any (kind_of t o) (kind_of t o)
     unfolding kind_of assigns are_same is_reference
-    itself_given (Some Int) o n = tt
-    itself_given (Some Boolean) o n = tt
-    itself_given (Some NullTy) o n = (refl, inl refl)
-    itself_given (Some (ClassTy c)) (Some s) n = (assigns_itself forest accepted c, goes_itself s n)
-    itself_given (Some IntArray) (Some s) n = (refl, goes_itself s n)
-    itself_given (Some BoolArray) (Some s) n = (refl, goes_itself s n)
-    itself_given (Some (ClassArray c)) (Some s) n = (is_same_number c c refl, goes_itself s n)
-    itself_given (Some (ClassTy c)) None n = tt
-    itself_given (Some IntArray) None n = tt
-    itself_given (Some BoolArray) None n = tt
-    itself_given (Some (ClassArray c)) None n = tt
-    itself_given (Some Void) o n = tt
-    itself_given (Some Label) o n = tt
-    itself_given None o n = tt
+    itself_given (Some Int) o n h = (tt, tt)
+    itself_given (Some Boolean) o n h = (tt, tt)
+    itself_given (Some NullTy) o n h = ((refl, inl refl), tt)
+    itself_given (Some (ClassTy c)) (Some s) n h =
+        ((assigns_itself forest accepted c, goes_itself s n (h s refl)), known_result (ClassTy c) s (h s refl))
+    itself_given (Some IntArray) (Some s) n h =
+        ((refl, goes_itself s n (h s refl)), known_result IntArray s (h s refl))
+    itself_given (Some BoolArray) (Some s) n h =
+        ((refl, goes_itself s n (h s refl)), known_result BoolArray s (h s refl))
+    itself_given (Some (ClassArray c)) (Some s) n h =
+        ((is_same_number c c refl, goes_itself s n (h s refl)), known_result (ClassArray c) s (h s refl))
+    itself_given (Some (ClassTy c)) None n h = tt
+    itself_given (Some IntArray) None n h = tt
+    itself_given (Some BoolArray) None n h = tt
+    itself_given (Some (ClassArray c)) None n h = tt
+    itself_given (Some Void) o n h = tt
+    itself_given (Some Label) o n h = tt
+    itself_given None o n h = tt
 
     pub result_itself : (f : FoundMethod) → f.method.declared.modifiers.is_static ≡ true →
         Gives p Any (kind_given_by p f) (kind_given_by p f)
     unfolding kind_given_by
     result_itself f s = itself_given (declared_type_of p f.method.declared) (result_scope p f.on f.method)
-        (λ e. static_result_not_this p f.on f.method s e)
+        (λ e. static_result_not_this p f.on f.method s e) (λ r e. result_named p r f.on f.method e)
 
     pub result_without : (f : FoundMethod) → f.method.declared.modifiers.is_static ≡ true →
         AreWithoutThis (pushed (kind_given_by p f) [])

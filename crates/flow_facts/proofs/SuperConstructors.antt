@@ -12,7 +12,7 @@ use Rattle.scj_rules.specs.Contexts.{Declarations, declarations_of}
 use Rattle.scj_rules.specs.Types.{has_form}
 use Rattle.scj_rules.specs.Phases.{IsAccepted}
 use Rattle.scj_rules.proofs.ChainLemmas.{or_cases, same_number}
-use Rattle.accepted_laws.specs.Kinds.{Kind, seen_kinds, IsReal}
+use Rattle.accepted_laws.specs.Kinds.{Kind, seen_kinds, NamesArea}
 use Rattle.accepted_laws.specs.Sorts.{IsWellSorted}
 use Rattle.accepted_laws.proofs.Dispatch.{written_of}
 use Rattle.accepted_laws.proofs.Interfaces.{row_is}
@@ -78,7 +78,7 @@ module _ (forest : Forest) (accepted : IsAccepted forest) (whole : IsForest fore
       ]
 
   pub called : (class : ℕ) (home : Scope) (given taken : List Kind) → class < length p.classes →
-      is_user_class class ≡ true → ConstructorTakes p class taken → IsReal home →
+      is_user_class class ≡ true → ConstructorTakes p class taken → NamesArea home →
       AllFitAsSeen p given (seen_kinds home home taken) → CallsConstructor p class home given
   unfolding Runs
   called class home given taken l user t real fit =

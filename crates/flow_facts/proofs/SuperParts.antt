@@ -24,14 +24,14 @@ use Rattle.scj_rules.specs.Phases.{IsAccepted}
 use Rattle.scj_rules.proofs.ChainLemmas.{or_left, or_right, is_same_number}
 use Rattle.scj_rules.proofs.WithinLemmas.{counted-stays}
 use Rattle.accepted_laws.specs.Judgements.{type_at_node, binding_at_node}
-use Rattle.accepted_laws.specs.Kinds.{seen_kinds, IsReal}
+use Rattle.accepted_laws.specs.Kinds.{seen_kinds, NamesArea}
 use Rattle.accepted_laws.specs.Sorts.{IsWellSorted}
 use Rattle.accepted_laws.proofs.Breaks.{both_empty, right}
 use Rattle.accepted_laws.proofs.Children.{class_outermost}
 use Rattle.accepted_laws.proofs.ClassChains.{object_alone_is_top}
 use Rattle.accepted_laws.proofs.ClassNumbers.{name_denotes}
 use Rattle.accepted_laws.proofs.InnerNodes.{is_no_class}
-use Rattle.accepted_laws.proofs.RealScopes.{this_not_any}
+use Rattle.accepted_laws.proofs.RealScopes.{this_named}
 use Rattle.accepted_laws.proofs.ScopesOfClasses.{chain_is}
 use Rattle.accepted_laws.proofs.Tools.{some_inj}
 use Rattle.accepted_nodes.proofs.FormParts.{form_of}
@@ -45,7 +45,6 @@ use Rattle.scope_flow.specs.Facts.{SuperCallFact, UnwrittenSuperFact}
 use Rattle.scope_flow.specs.Signatures.{Signature}
 use Rattle.flow_facts.proofs.ClassNodes.{ClassAt, class_node_is}
 use Rattle.flow_facts.proofs.KnownParameters.{none_known}
-use Rattle.flow_facts.proofs.RealKinds.{real_scope}
 use Rattle.flow_facts.proofs.SuperConstructors.{called}
 
 empty_is : {A : Type 0} (xs : List A) → is_empty xs ≡ true → xs ≡ []
@@ -214,8 +213,8 @@ module _ (forest : Forest) (accepted : IsAccepted forest) (whole : IsForest fore
   unfolding seen_kinds
   nothing_fits home = tt
 
-  pub home_real : (c : ℕ) (home : Scope) → this_in p c ≡ Some home → IsReal home
-  home_real c home e = real_scope home (λ k. this_not_any p c (e ∙ k))
+  pub home_named : (c : ℕ) (home : Scope) → this_in p c ≡ Some home → NamesArea home
+  home_named c home e = this_named p home c e
 
   pub unwritten_super_fact : (b c k node : ℕ) (sig : Signature) → At c k → Unwritten c →
       this_in p c ≡ Some sig.runs_in → class_node p c ≡ Some node → UnwrittenSuperFact code b c sig node
@@ -242,7 +241,7 @@ module _ (forest : Forest) (accepted : IsAccepted forest) (whole : IsForest fore
             above = s.above;
             constructor =
                 called forest accepted whole sorted is_read s.superclass sig.runs_in [] [] s.above_within user
-                (nothing_taken s.superclass (takes_nothing c k s.superclass a s.up none)) (home_real c sig.runs_in home)
+                (nothing_taken s.superclass (takes_nothing c k s.superclass a s.up none)) (home_named c sig.runs_in home)
                 (nothing_fits sig.runs_in);
           }
 

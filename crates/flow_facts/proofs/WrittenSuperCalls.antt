@@ -38,7 +38,7 @@ use Rattle.flow_facts.proofs.KnownParameters.{member_child_known}
 use Rattle.flow_facts.proofs.Literals.{values_of}
 use Rattle.flow_facts.proofs.OneConstructor.{one_constructor}
 use Rattle.flow_facts.proofs.SuperConstructors.{called, user_no_form}
-use Rattle.flow_facts.proofs.SuperParts.{HasSuper, has_super, form_there, home_real}
+use Rattle.flow_facts.proofs.SuperParts.{HasSuper, has_super, form_there, home_named}
 use Rattle.scope_flow.specs.Needs.{CallsConstructor}
 
 module _ (forest : Forest) (accepted : IsAccepted forest) (whole : IsForest forest) (sorted : IsWellSorted forest.nodes)
@@ -121,7 +121,7 @@ module _ (forest : Forest) (accepted : IsAccepted forest) (whole : IsForest fore
               constructor = subst (λ h. CallsConstructor p s.superclass h q.passes.given) same
                   (called forest accepted whole sorted is_read s.superclass facts.home q.passes.given q.taken
                   s.above_within user q.takes
-                  (home_real forest accepted whole sorted is_read c facts.home facts.is_home) q.passes.fit);
+                  (home_named forest accepted whole sorted is_read c facts.home facts.is_home) q.passes.fit);
             }
 
     form_part_of : has_form s.superclass ≡ true → FormFact code b c call arguments s.superclass

@@ -6,7 +6,7 @@ use Rattle.scj_base.specs.declared.faults.RunFault.TheVariants.{NegativeSize}
 use Rattle.scj_base.specs.declared.values.Value.{Value}
 use Rattle.scj_rules.specs.declared.typing.Ty.TheVariants.{Class as ClassTy}
 use Rattle.scj_rules.specs.declared.typing.Scope.{Scope}
-use Rattle.scj_rules.specs.declared.typing.Scope.TheVariants.{Any, This, Caller, In}
+use Rattle.scj_rules.specs.declared.typing.Scope.TheVariants.{Any, This, Caller, In, Unknown, Lost}
 use Rattle.scj_rules.specs.declared.views.Body.TheVariants.{Written}
 use Rattle.scj_rules.specs.ScopeRules.{defined_by_chain}
 use Rattle.accepted_laws.specs.Kinds.{Kind, number, truth, yes, reference, fresh, Fits, AllFit, GoesTo, seen_as, seen_kind, seen_option}
@@ -18,31 +18,33 @@ use Rattle.scope_flow.specs.Slots.{IsOfType}
 use Rattle.scope_flow.specs.Signatures.{Signature, IsBody, Runs, parameters_of, runs_for_object, IsWithoutThis, AreWithoutThis, Gives}
 use Rattle.scope_flow.specs.Needs.{pushed}
 use Rattle.scope_flow.proofs.Courses.{entry_courses}
-use Rattle.frame_sound.specs.Places.{area_named, denote, held, IsObject, Has, AllHave}
+use Rattle.frame_sound.specs.Places.{Place, in_one, the_area, LiesAt, area_named, denote, held, IsObject, Has, AllHave}
 use Rattle.frame_sound.specs.Calls.{IsCalledBy}
-use Rattle.frame_sound.specs.Fine.{Ready, held_option, GivenFits}
-use Rattle.frame_sound.proofs.Places.{IsNamed, named_is}
+use Rattle.frame_sound.specs.Fine.{Ready, held_option, GivenFits, IsInside}
+use Rattle.frame_sound.proofs.Places.{IsNamed, named_is, at_area}
 use Rattle.frame_sound.proofs.Begins.{locals_begin, begins}
-use Rattle.frame_sound.proofs.Scenes.{Scene, memory, den, Holds, HoldAll, FlowsOn, Ok, take, next_taken, pop_fine, given_fine, int_fine, object_fine, arguments_fine, ready, on_with, on_list}
+use Rattle.frame_sound.proofs.GuardSteps.{begins_guarded}
+use Rattle.frame_sound.proofs.Scenes.{Scene, memory, den, Holds, HoldAll, FlowsOn, Ok, take, next_taken, pop_fine, given_fine, int_fine, object_fine, arguments_fine, ready, guards_left, on_with, on_list, never_any}
 use Rattle.frame_sound.proofs.ActsOnValues.{DoesThere}
 use Rattle.frame_sound.proofs.ActsOnCalls.{concrete}
 
-nowhere : (m : Scene) (s : Scope) → s ≡ Any → (a : ℕ) → den m s ≡ Some a → ⊥
-unfolding denote
-nowhere m s e a h = absurd (let x : None ≡ Some a = sym (ap (den m) e) ∙ h in cc (x))
-
-caller_is : (m : Scene) → denote (memory m) m.list None m.frame.area Caller ≡ Some m.frame.area
+caller_is : (m : Scene) → denote (memory m) m.list None m.frame.area Caller ≡ the_area m.frame.area
 unfolding denote
 caller_is m = refl
 
-named_now : (m : Scene) (a : ℕ) → m.sig.runs_in ≡ In a → area_named m.areas a m.list ≡ Some m.frame.area
+as_named : (m : Scene) (a : ℕ) → LiesAt (den m (In a)) m.frame.area → area_named m.areas a m.list ≡ Some m.frame.area
 unfolding denote
-named_now m a e = ap (den m) (sym e) ∙ m.home.is_now
+as_named m a h = h
 
-named_there : (m : Scene) (a : ℕ) (this : Option ℕ) (now : ℕ) → den m (In a) ≡ Some now →
-    denote (memory m) m.list this now (In a) ≡ Some now
+named_now : (m : Scene) (a : ℕ) → m.sig.runs_in ≡ In a → area_named m.areas a m.list ≡ Some m.frame.area
+named_now m a e =
+    as_named m a
+    (subst (λ s. LiesAt (den m s) m.frame.area) e (at_area (den m m.sig.runs_in) m.frame.area m.home.is_now))
+
+named_there : (m : Scene) (a : ℕ) (this : Option ℕ) (now : ℕ) → LiesAt (den m (In a)) now →
+    denote (memory m) m.list this now (In a) ≡ the_area now
 unfolding denote
-named_there m a this now e = e
+named_there m a this now e = ap (λ o. in_one o) e
 
 gives_none : (m : Scene) (r now : ℕ) (sig : Signature) → sig.gives ≡ None →
     GivenFits m.code.program (held_option (denote (memory m) m.list (Some r) now) sig.gives) (held_option (den m) None)
@@ -60,16 +62,22 @@ first_without (fresh c s) ks w = (tt, w)
 module _ (m : Scene) where
   -- ---- static methods: no object, and CALLER is where they are called
 
-  abbrev static_den : Scope → Option ℕ
+  abbrev static_den : Scope → Place
   static_den = denote (memory m) m.list None m.frame.area
 
-  -- a scope that isn't THIS is the same to both
+  -- a scope that isn't THIS lies at the same place for both
   static_agrees : (s : Scope) → IsWithoutThis s → static_den s ≡ den m (seen_as Any m.sig.runs_in s)
   unfolding denote seen_as
   static_agrees This w = absurd w
   static_agrees Caller w = sym m.home.is_now
   static_agrees (In a) w = refl
   static_agrees Any w = refl
+  static_agrees Unknown w = refl
+  static_agrees Lost w = refl
+
+  static_unknown : (s : Scope) → IsInside (den m s) (static_den Unknown)
+  unfolding denote
+  static_unknown s a e = on_list m s a e
 
   static_fit : (j k : Kind) → AreWithoutThis (k ∷ []) → Fits m.code.program Any m.sig.runs_in j k → (v : Value) →
       Holds m j v → Has m.code.program (memory m) (held static_den k) v
@@ -80,8 +88,7 @@ module _ (m : Scene) where
   static_fit (reference t s) (reference u r) w fit v (inl e) = inl e
   static_fit (reference t s) (reference u r) w fit v (inr o) = go fit.1
     where
-      moved : static_den r ≡ Some o.object.area →
-          Has m.code.program (memory m) (held static_den (reference u r)) v
+      moved : LiesAt (static_den r) o.object.area → Has m.code.program (memory m) (held static_den (reference u r)) v
       moved e =
           inr (record {
             r = o.r;
@@ -93,9 +100,12 @@ module _ (m : Scene) where
           })
 
       go : GoesTo Any m.sig.runs_in s r → Has m.code.program (memory m) (held static_den (reference u r)) v
-      go (inl e) = absurd (nowhere m s e o.object.area o.lies)
-      go (inr (inl e)) = moved (static_agrees r w.0 ∙ ap (den m) (sym e) ∙ o.lies)
-      go (inr (inr e)) = absurd (subst IsWithoutThis e.0 w.0)
+      go (inl e) = absurd (never_any m s o.object.area o.lies e)
+      go (inr (inl e)) =
+          moved (subst (λ r. LiesAt (static_den r) o.object.area) (sym e) (static_unknown s o.object.area o.lies))
+      go (inr (inr (inl e))) =
+          moved (subst (λ q. LiesAt q o.object.area) (ap (den m) e.1 ∙ sym (static_agrees r w.0)) o.lies)
+      go (inr (inr (inr e))) = absurd (subst IsWithoutThis e.0 w.0)
   static_fit _ _ w fit v h = absurd fit
 
   static_fits : (js ks : List Kind) → AreWithoutThis ks → AllFit m.code.program Any m.sig.runs_in js ks →
@@ -115,9 +125,9 @@ module _ (m : Scene) where
   static_gives None w g = tt
   static_gives (Some number) w g = tt
   static_gives (Some truth) w g = tt
-  static_gives (Some (reference t s)) w g = (inr (static_agrees s w.0), g.0)
-  static_gives (Some yes) w g = absurd g
-  static_gives (Some (fresh c s)) w g = absurd g
+  static_gives (Some (reference t s)) w g = (λ n e. subst (λ q. LiesAt q n) (static_agrees s w.0) e, g.0.0)
+  static_gives (Some yes) w g = absurd g.0
+  static_gives (Some (fresh c s)) w g = absurd g.0
 
   static_begins : (id b on : ℕ) (sig : Signature) → IsBody m.code.program b on sig →
       runs_for_object m.code.program (Written b) ≡ false → sig.runs_in ≡ Caller → (args : List Value) →
@@ -138,11 +148,12 @@ module _ (m : Scene) where
         operands = tt;
         locals = locals_begin m.code.program (memory m) static_den b on sig body args h;
         flow = entry_courses m.code m.facts b on sig body;
+        guards = begins_guarded m.code m.facts (memory m) b on sig body None _ None [];
       }
 
   pub call_static_fine : (id : ℕ) → DoesThere m (CALLSTATIC id)
   unfolding effect_of new_frame IsCalledBy node_of
-  call_static_fine id r =
+  call_static_fine id l r =
       let n = r.1.needed in
       given_fine m _ _ n.method n.is
       (given_fine m _ _ (length n.arguments) n.count
@@ -155,7 +166,8 @@ module _ (m : Scene) where
           goes =
               ready m rest m.frame.locals m.frame.rest (seen_option Any m.sig.runs_in n.static.gives) m.known n.others
               rh
-              m.locals (subst (FlowsOn m m.frame.rest m.known) n.leaves r.1.goes);
+              m.locals (subst (FlowsOn m m.frame.rest m.known) n.leaves r.1.goes)
+              (guards_left m l rest (seen_option Any m.sig.runs_in n.static.gives));
           class = n.on;
           own = n.static;
           begins = static_begins id n.body n.on n.static n.has_signature n.for_no_object n.runs args
@@ -179,7 +191,7 @@ module _ (m : Scene) where
 
   pub enter_fine : (id : ℕ) → DoesThere m (ENTER id)
   unfolding effect_of held IsOfType new_frame IsCalledBy node_of
-  enter_fine id r =
+  enter_fine id l r =
       let n = r.1.needed in
       let x = take m (reference (ClassTy n.class) n.scope) (number ∷ r.1.out) n.takes in
       let y = next_taken m number r.1.out x.rest x.have in
@@ -207,7 +219,7 @@ module _ (m : Scene) where
           (given_fine m _ _ r.1.needed.entered e.defines
           (record {
             is = record {
-              goes = on_with m rest r.1.out have r.1.goes;
+              goes = on_with m l rest r.1.out have r.1.goes;
               parent = r.1.needed.parent;
               is_parent = r.1.needed.is_parent;
               around = around.area;
@@ -243,7 +255,7 @@ module _ (m : Scene) where
 
   pub execute_in_fine : (id : ℕ) → DoesThere m (EXECUTEIN id)
   unfolding effect_of held IsOfType new_frame IsCalledBy node_of
-  execute_in_fine id r =
+  execute_in_fine id l r =
       let n = r.1.needed in
       let x = take m (reference (ClassTy n.class) n.scope) (reference n.type (In n.area) ∷ r.1.out) n.takes in
       let y = next_taken m (reference n.type (In n.area)) r.1.out x.rest x.have in
@@ -260,7 +272,7 @@ module _ (m : Scene) where
       (record {
         is = record {
           kind = None;
-          goes = on_with m y.rest r.1.out y.have r.1.goes;
+          goes = on_with m l y.rest r.1.out y.have r.1.goes;
           class = e.run.own.on;
           own = e.run.own.sig;
           begins = begins m.code m.facts (memory m) m.list m.fine m.heap there.object.area

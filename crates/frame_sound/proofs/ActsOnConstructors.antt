@@ -6,13 +6,13 @@ use Rattle.scj_base.specs.declared.values.Value.TheVariants.{Null}
 use Rattle.scj_rules.specs.declared.typing.Ty.{Ty}
 use Rattle.scj_rules.specs.declared.typing.Ty.TheVariants.{Class as ClassTy}
 use Rattle.scj_rules.specs.declared.typing.Scope.{Scope}
-use Rattle.scj_rules.specs.declared.typing.Scope.TheVariants.{Any, This, Caller, In}
+use Rattle.scj_rules.specs.declared.typing.Scope.TheVariants.{Any, This, Caller, In, Unknown, Lost}
 use Rattle.scj_rules.specs.declared.views.Body.{Body}
 use Rattle.scj_rules.specs.declared.views.Body.TheVariants.{Written, Empty}
 use Rattle.scj_rules.specs.Words.{is_among, ◌>>=◌}
 use Rattle.scj_rules.specs.Types.{assigns}
-use Rattle.accepted_laws.specs.Kinds.{Kind, reference, fresh, seen_as}
-use Rattle.accepted_laws.proofs.Tools.{some_inj}
+use Rattle.scj_rules.specs.StaticScopes.{beside}
+use Rattle.accepted_laws.specs.Kinds.{Kind, reference, fresh, NamesArea, seen_as}
 use Rattle.scj_model.specs.declared.operations.Op.TheVariants.{Construct as CONSTRUCT, Super as SUPER}
 use Rattle.scj_model.specs.State.{Object, Frame}
 use Rattle.scj_model.specs.Ops.{body_ops, node_of}
@@ -22,12 +22,14 @@ use Rattle.scope_flow.specs.Slots.{IsOfType}
 use Rattle.scope_flow.specs.Signatures.{Signature, Runs, empty_signature}
 use Rattle.scope_flow.specs.Needs.{pushed, stacked, CallsConstructor}
 use Rattle.scope_flow.proofs.Courses.{entry_stood}
-use Rattle.frame_sound.specs.Places.{denote, held, IsObject, AllHave}
-use Rattle.frame_sound.specs.Fine.{LocalsFine, Ready, held_option, GivenFits}
+use Rattle.frame_sound.specs.Places.{Place, the_area, LiesAt, denote, held, IsObject, AllHave}
+use Rattle.frame_sound.specs.Fine.{LocalsFine, Ready, held_option, GivenFits, IsInside}
 use Rattle.frame_sound.specs.Calls.{IsCalledBy, IsCalledIn}
 use Rattle.frame_sound.specs.EffectsFine.{GoesOn}
+use Rattle.frame_sound.proofs.Places.{denotes_area, at_area, area_at}
 use Rattle.frame_sound.proofs.Begins.{begins, home_denotes, on_this}
-use Rattle.frame_sound.proofs.Scenes.{Scene, memory, den, HoldAll, FlowsOn, Ok, Taken, next_taken, pop_fine, given_fine, reference_fine, arguments_fine, on_with, on_list, never_any}
+use Rattle.frame_sound.proofs.GuardSteps.{leaves_guarded}
+use Rattle.frame_sound.proofs.Scenes.{Scene, memory, den, HoldAll, FlowsOn, LeftGuards, Ok, Taken, next_taken, pop_fine, given_fine, reference_fine, arguments_fine, on_with, on_list, never_any, beside_there}
 use Rattle.frame_sound.proofs.ActsOnValues.{DoesThere}
 use Rattle.frame_sound.proofs.ActsOnCalls.{all_fit, denote_caller}
 
@@ -36,36 +38,59 @@ module _ (m : Scene) where
       (v : Value) (o : IsObject m.code.program (memory m) t (den m m.sig.runs_in) v)
       (of_type : IsOfType m.code.program o.object.class (ClassTy class)) (args : List Value)
       (have : HoldAll m us args) where
-    abbrev there : Scope → Option ℕ
+    abbrev there : Scope → Place
     there = denote (memory m) m.list (Some o.r) m.frame.area
 
     here : o.object.area ≡ m.frame.area
-    here = some_inj o.object.area m.frame.area (sym o.lies ∙ m.home.is_now)
+    here = sym (area_at (den m m.sig.runs_in) m.frame.area o.object.area m.home.is_now o.lies)
 
     on : is_among o.object.area m.list ≡ true
     on = on_list m m.sig.runs_in o.object.area o.lies
 
-    agree : (s : Scope) (n : ℕ) → den m (seen_as m.sig.runs_in m.sig.runs_in s) ≡ Some n → there s ≡ Some n
-    unfolding denote seen_as
-    agree This n e = ap (λ (x : Option Object). x >>= (λ o. Some o.area)) o.found ∙ (sym o.lies ∙ e)
-    agree Caller n e = sym m.home.is_now ∙ e
-    agree (In a) n e = e
-    agree Any n e = e
+    agree : (s : Scope) → NamesArea (seen_as m.sig.runs_in m.sig.runs_in s) →
+        IsInside (den m (seen_as m.sig.runs_in m.sig.runs_in s)) (there s)
+    unfolding seen_as denote
+    agree This h n e =
+        own_lies n (here ∙ area_at (den m (beside m.sig.runs_in)) m.frame.area n beside_now e)
+      where
+        beside_now : den m (beside m.sig.runs_in) ≡ the_area m.frame.area
+        beside_now =
+            denotes_area (memory m) m.list m.frame.this m.frame.area (beside m.sig.runs_in) m.frame.area h
+            (beside_there m m.sig.runs_in m.frame.area (at_area (den m m.sig.runs_in) m.frame.area m.home.is_now))
+
+        own_lies : (n : ℕ) → o.object.area ≡ n → LiesAt (there This) n
+        own_lies n same = ap (λ (x : Option Object). x >>= (λ o. Some o.area)) o.found ∙ ap (λ a. Some a) same
+    agree Caller h n e = at_now n (area_at (den m m.sig.runs_in) m.frame.area n m.home.is_now e)
+      where
+        at_now : (n : ℕ) → m.frame.area ≡ n → LiesAt (there Caller) n
+        at_now n same = ap (λ a. Some a) same
+    agree (In a) h n e = same_name n e
+      where
+        same_name : (n : ℕ) → LiesAt (den m (In a)) n → LiesAt (there (In a)) n
+        same_name n e = e
+    agree Any h n e = absurd h
+    agree Unknown h n e = absurd h
+    agree Lost h n e = absurd h
+
+    unknown : (s : Scope) → IsInside (den m s) (there Unknown)
+    unfolding denote
+    unknown s a e = on_list m s a e
 
     takes : AllHave m.code.program (memory m) there k.sig.takes args
     takes =
-        all_fit m there m.sig.runs_in m.sig.runs_in (never_any m m.sig.runs_in m.frame.area m.home.is_now) agree us
-        k.sig.takes k.fit args have
+        all_fit m there m.sig.runs_in m.sig.runs_in
+        (never_any m m.sig.runs_in m.frame.area (at_area (den m m.sig.runs_in) m.frame.area m.home.is_now)) unknown agree
+        us k.sig.takes k.fit args have
 
-    runs_there : there k.sig.runs_in ≡ Some m.frame.area
+    runs_there : there k.sig.runs_in ≡ the_area m.frame.area
     runs_there =
-        elim k.runs_in_home as (λ z. there k.sig.runs_in ≡ Some m.frame.area) [
+        elim k.runs_in_home as (λ z. there k.sig.runs_in ≡ the_area m.frame.area) [
           | inl e ↦ ap there e ∙ caller
           | inr e ↦ home_denotes m.code m.facts (memory m) m.list m.fine m.heap m.frame.area m.home.now_on_list o.r
-              o.object o.found on class of_type k.sig.runs_in e ∙ ap (λ a. Some a) here
+              o.object o.found on class of_type k.sig.runs_in e ∙ ap the_area here
         ]
       where
-        caller : denote (memory m) m.list (Some o.r) m.frame.area Caller ≡ Some m.frame.area
+        caller : denote (memory m) m.list (Some o.r) m.frame.area Caller ≡ the_area m.frame.area
         caller = denote_caller m (Some o.r)
 
     empty_args : (sig : Signature) → sig ≡ empty_signature → AllHave m.code.program (memory m) there sig.takes args →
@@ -77,7 +102,7 @@ module _ (m : Scene) where
         go (v ∷ vs) h = absurd h
 
     starts : (body : Body) (sig : Signature) → Runs m.code.program body class sig →
-        there sig.runs_in ≡ Some m.frame.area →
+        there sig.runs_in ≡ the_area m.frame.area →
         AllHave m.code.program (memory m) there sig.takes args →
         Ready m.code (memory m) m.list class sig (new_frame m.code body (Some id) (Some o.r) m.frame.area args) None
     unfolding Runs new_frame body_ops pushed
@@ -105,6 +130,7 @@ module _ (m : Scene) where
               (sym (empty_args sig runs.1 h))
               (record { long = refl; each = λ i v k there_ is known. absurd (cc (there_)); fits = λ i v value there_ has. absurd (cc (there_)) });
           flow = (entry_stood m.code Empty class, ap (λ (s : Signature). s.gives) runs.1);
+          guards = leaves_guarded m.code (memory m) Empty (Some o.r) _ None [];
         }
 
     pub constructed : (h : Frame) → GoesOn m.code (memory m) m.list m.class m.sig m.frame h None →
@@ -126,7 +152,8 @@ module _ (m : Scene) where
         }
 
   -- the arguments and the object below them are popped
-  module _ (id : ℕ) (class : ℕ) (us : List Kind) (k : CallsConstructor m.code.program class m.sig.runs_in us) (new : ℕ)
+  module _ (l : LeftGuards m m.frame.rest) (id : ℕ) (class : ℕ) (us : List Kind)
+      (k : CallsConstructor m.code.program class m.sig.runs_in us) (new : ℕ)
       (others : List Kind) (e : m.kinds ≡ stacked us (fresh new m.sig.runs_in ∷ others))
       (below : (c : ℕ) → IsOfType m.code.program c (ClassTy new) → IsOfType m.code.program c (ClassTy class))
       (calls : (v : Value) (o : IsObject m.code.program (memory m) (ClassTy new) (den m m.sig.runs_in) v)
@@ -151,7 +178,7 @@ module _ (m : Scene) where
             (reference_fine m (ClassTy new) (den m m.sig.runs_in) x.v _ x.has
             (constructed id class us k (ClassTy new) x.v x.has (below x.has.object.class x.has.of_type) args ah
             (record m.frame { operands = rest })
-            (on_with m rest (reference (ClassTy new) m.sig.runs_in ∷ others)
+            (on_with m l rest (reference (ClassTy new) m.sig.runs_in ∷ others)
             (subst (λ vs. HoldAll m (reference (ClassTy new) m.sig.runs_in ∷ others) vs) (sym x.is) (inr x.has, x.have))
             w) (calls x.v x.has rest)))
 
@@ -169,15 +196,15 @@ module _ (m : Scene) where
             pop_fine m rest _ x.v x.rest x.is
             (reference_fine m (ClassTy new) (den m m.sig.runs_in) x.v _ x.has
             (constructed id class us k (ClassTy new) x.v x.has (below x.has.object.class x.has.of_type) args ah
-            (record m.frame { operands = x.rest }) (on_with m x.rest others x.have w) (calls x.v x.has x.rest)))
+            (record m.frame { operands = x.rest }) (on_with m l x.rest others x.have w) (calls x.v x.has x.rest)))
 
   pub construct_fine : (id : ℕ) → DoesThere m (CONSTRUCT id)
   unfolding effect_of IsCalledBy node_of
-  construct_fine id r =
+  construct_fine id l r =
       let n = r.1.needed in
       given_fine m _ _ n.class n.is
       (given_fine m _ _ (length n.arguments) n.count
-      (keeps_fine id n.class n.arguments n.constructor n.class n.others n.takes (λ c h. h) (λ v o vs. calls v o vs)
+      (keeps_fine l id n.class n.arguments n.constructor n.class n.others n.takes (λ c h. h) (λ v o vs. calls v o vs)
       (subst (FlowsOn m m.frame.rest m.known) n.leaves r.1.goes)))
     where
       calls : (v : Value)
@@ -207,11 +234,11 @@ module _ (m : Scene) where
 
   pub super_fine : (id : ℕ) → DoesThere m (SUPER id)
   unfolding effect_of assigns IsCalledBy node_of
-  super_fine id r =
+  super_fine id l r =
       let n = r.1.needed in
       given_fine m _ _ n.superclass n.is
       (subst (λ count. Ok m (constructs m.code m.frame id n.superclass count false)) (sym n.count)
-      (drops_fine id n.superclass n.arguments n.constructor m.class r.1.out n.takes
+      (drops_fine l id n.superclass n.arguments n.constructor m.class r.1.out n.takes
       (λ c h. m.facts.assigned c (ClassTy m.class) (ClassTy n.superclass) h n.above) (λ v o vs. calls v o vs)
       r.1.goes))
     where

@@ -3,6 +3,7 @@
 use Rattle.std.specs.Prelude.{Option, Some, None, ◌==◌, not, map, if◌then◌else◌, ℤ, pos, unsigned_abs}
 use Rattle.std.specs.Int.{is_negative}
 use Rattle.std.proofs.Common.{◌≡◌, ℕ, zero, suc, ◌<◌, List, [], ◌∷◌, length, Bool, true, false, refl, sym, ◌∙◌, ap, subst, arith, true≢false, inl, inr}
+use Rattle.std.proofs.lemmas.Bool.Decides.{nat_tests}
 use Rattle.scj_base.specs.declared.faults.RunFault.TheVariants.{ClassCast, NegativeSize, BadPriority, BadPeriod, BadPort}
 use Rattle.scj_base.specs.declared.values.Value.{Value}
 use Rattle.scj_base.specs.declared.values.Value.TheVariants.{Int, Bool as Truth, Null, At}
@@ -19,10 +20,11 @@ use Rattle.scj_model.specs.Operations.{effect_of, with_area, are_one_area, is_pr
 use Rattle.scope_flow.specs.Slots.{IsOfType}
 use Rattle.scope_flow.specs.Signatures.{runs_for_object}
 use Rattle.scope_flow.specs.Needs.{numbers, stacked, parameter_count, hidden_count, HasHidden}
-use Rattle.frame_sound.specs.Places.{held, an_object, IsObject, Has}
+use Rattle.frame_sound.specs.Guards.{AreTogether}
+use Rattle.frame_sound.specs.Places.{Place, LiesAt, held, an_object, IsObject, Has}
 use Rattle.frame_sound.specs.EffectsFine.{AreInts, IsThere}
-use Rattle.frame_sound.proofs.Scenes.{on_list, Scene, memory, den, Holds, HoldAll, FlowsOn, Ok, take, next_taken, pop_fine, given_fine, int_fine, object_fine, arguments_fine, on_with, goes_fine, never_any}
-use Rattle.frame_sound.proofs.ActsOnValues.{Does}
+use Rattle.frame_sound.proofs.Scenes.{on_list, Scene, memory, den, Holds, HoldAll, FlowsOn, LeftGuards, Ok, take, next_taken, pop_fine, given_fine, int_fine, object_fine, arguments_fine, on_with, goes_fine, never_any, guards_left, goes_guarded, GuardedWith}
+use Rattle.frame_sound.proofs.ActsOnValues.{NeedsNext, Does}
 
 module _ (m : Scene) where
   -- ---- casts
@@ -39,7 +41,7 @@ module _ (m : Scene) where
 
   pub cast_fine : (id : ℕ) → Does m (CAST id)
   unfolding effect_of held IsOfType
-  cast_fine id r =
+  cast_fine id l r =
       let n = r.needed in
       let x = take m (reference n.type n.scope) n.others n.takes in
       given_fine m _ _ n.class n.is
@@ -48,14 +50,14 @@ module _ (m : Scene) where
       passes : (v : Value) → Holds m (reference (ClassTy r.needed.class) r.needed.seen) v → (rest : List Value) →
           HoldAll m r.needed.others rest → Ok m (pushes (record m.frame { operands = rest }) v)
       passes v h rest have =
-          goes_fine m (v ∷ rest) (reference (ClassTy r.needed.class) r.needed.seen ∷ r.needed.others) (h, have)
+          goes_fine m l (v ∷ rest) (reference (ClassTy r.needed.class) r.needed.seen ∷ r.needed.others) (h, have)
           (subst (FlowsOn m m.frame.rest m.known) r.needed.leaves r.goes)
 
-      lies : (o : Object) → den m r.needed.scope ≡ Some o.area → den m r.needed.seen ≡ Some o.area
+      lies : (o : Object) → LiesAt (den m r.needed.scope) o.area → LiesAt (den m r.needed.seen) o.area
       lies o e =
-          elim r.needed.lies as (λ z. den m r.needed.seen ≡ Some o.area) [
+          elim r.needed.lies as (λ z. LiesAt (den m r.needed.seen) o.area) [
             | inl f ↦ absurd (never_any m r.needed.scope o.area e f)
-            | inr f ↦ ap (den m) f ∙ e
+            | inr f ↦ subst (λ s. LiesAt (den m s) o.area) (sym f) e
           ]
 
       tested : (t : Bool) (v : Value) (o : IsObject m.code.program (memory m) r.needed.type (den m r.needed.scope) v) →
@@ -109,35 +111,72 @@ module _ (m : Scene) where
   -- ---- calls of the framework
 
   -- the area in which the object of a value lies
-  area_fine : (t : Ty) (a : Option ℕ) (v : Value) (next : Option ℕ → Effect) →
-      Has m.code.program (memory m) (an_object t a) v → ((area : Option ℕ) → Ok m (next area)) →
+  record LiesThere (v : Value) (area : ℕ) : Type 0 where
+    r : ℕ
+    is : v ≡ At r
+    object : Object
+    found : m.world.object_at r ≡ Some object
+    lies : object.area ≡ area
+
+  abbrev IsAreaOf : Value → Option ℕ → Type 0
+  IsAreaOf v None = Unit {0}
+  IsAreaOf v (Some area) = LiesThere v area
+
+  area_fine : (t : Ty) (a : Place) (v : Value) (next : Option ℕ → Effect) →
+      Has m.code.program (memory m) (an_object t a) v → ((area : Option ℕ) → IsAreaOf v area → Ok m (next area)) →
       Ok m (with_area m.world v next)
-  area_fine t a v next (inl e) go = subst (λ x. Ok m (with_area m.world x next)) (sym e) (go None)
+  area_fine t a v next (inl e) go = subst (λ x. Ok m (with_area m.world x next)) (sym e) (go None tt)
   area_fine t a v next (inr o) go =
       subst (λ x. Ok m (with_area m.world x next)) (sym o.is)
-      (given_fine m (m.world.object_at o.r) _ o.object o.found (go (Some o.object.area)))
+      (given_fine m (m.world.object_at o.r) _ o.object o.found (go (Some o.object.area)
+      (record { r = o.r; is = o.is; object = o.object; found = o.found; lies = refl })))
 
-  pub same_fine : (id : ℕ) → Does m (SAME id)
+  together : (u v : Value) (a b : Option ℕ) → IsAreaOf u a → IsAreaOf v b → are_one_area a b ≡ true →
+      AreTogether (memory m) u v
+  together u v None b x y e = absurd (true≢false (sym e))
+  together u v (Some a) None x y e = absurd (true≢false (sym e))
+  together u v (Some a) (Some b) x y e =
+      record {
+        r = x.r;
+        s = y.r;
+        is_first = x.is;
+        is_second = y.is;
+        first = x.object;
+        second = y.object;
+        first_found = x.found;
+        second_found = y.found;
+        one_area = (let h = x.lies in let k = y.lies in grind (arith, nat_tests));
+      }
+
+  pub same_guarded : (id : ℕ) →
+      ((a b : Value) (rest : List Value) (t : Bool) → m.frame.operands ≡ b ∷ (a ∷ rest) →
+      (t ≡ true → AreTogether (memory m) a b) → GuardedWith m (Truth t ∷ rest)) → NeedsNext m (SAME id) →
+      Ok m (effect_of m.code m.world m.frame (SAME id))
   unfolding effect_of held
-  same_fine id r =
+  same_guarded id g r =
       let n = r.needed in
       let x =
       take m (reference n.second_type n.second_scope) (reference n.first_type n.first_scope ∷ n.others) n.takes in
       let y = next_taken m (reference n.first_type n.first_scope) n.others x.rest x.have in
       pop_fine m m.frame.operands _ x.v x.rest x.is
       (pop_fine m x.rest _ y.v y.rest y.is
-      (area_fine n.first_type (den m n.first_scope) y.v _ y.has (λ a.
-      area_fine n.second_type (den m n.second_scope) x.v _ x.has (λ b. pushed (are_one_area a b) y.rest y.have))))
+      (area_fine n.first_type (den m n.first_scope) y.v _ y.has (λ a is_a.
+      area_fine n.second_type (den m n.second_scope) x.v _ x.has (λ b is_b.
+      answers (are_one_area a b) y.rest y.have (g y.v x.v y.rest (are_one_area a b)
+      (x.is ∙ ap (λ vs. x.v ∷ vs) y.is) (together y.v x.v a b is_a is_b))))))
     where
-      pushed : (t : Bool) (rest : List Value) → HoldAll m r.needed.others rest →
+      answers : (t : Bool) (rest : List Value) → HoldAll m r.needed.others rest → GuardedWith m (Truth t ∷ rest) →
           Ok m (pushes (record m.frame { operands = rest }) (Truth t))
-      pushed t rest have =
-          goes_fine m (Truth t ∷ rest) (truth ∷ r.needed.others) ((t, refl), have)
-          (subst (FlowsOn m m.frame.rest m.known) r.needed.leaves r.goes)
+      answers t rest have guarded =
+          goes_guarded m (Truth t ∷ rest) (truth ∷ r.needed.others) ((t, refl), have)
+          (subst (FlowsOn m m.frame.rest m.known) r.needed.leaves r.goes) guarded
+
+  pub same_fine : (id : ℕ) → Does m (SAME id)
+  same_fine id l r = same_guarded id (λ a b rest t e h. guards_left m l (Truth t ∷ rest) None) r
 
   pub set_ceiling_fine : (id : ℕ) → Does m (SETCEILING id)
   unfolding effect_of held
-  set_ceiling_fine id r =
+  set_ceiling_fine id l r =
       let n = r.needed in
       let x = take m number (reference n.type n.scope ∷ r.out) n.takes in
       let y = next_taken m (reference n.type n.scope) r.out x.rest x.have in
@@ -149,21 +188,21 @@ module _ (m : Scene) where
     where
       go : (z : ℤ) (t : Bool) (rest : List Value) → HoldAll m r.out rest → (q : ℕ) → IsThere (memory m) q →
           Ok m (if t then SetsCeiling (record m.frame { operands = rest }) q (unsigned_abs z) else Faults BadPriority)
-      go z true rest have q there = record { is = (on_with m rest r.out have r.goes, there) }
+      go z true rest have q there = record { is = (on_with m l rest r.out have r.goes, there) }
       go z false rest have q there = record { is = tt }
 
   pub print_fine : (id : ℕ) → Does m (PRINT id)
   unfolding effect_of held
-  print_fine id r =
+  print_fine id l r =
       let n = r.needed in
       let x = take m number r.out n.takes in
       given_fine m _ _ n.label n.is
       (pop_fine m m.frame.operands _ x.v x.rest x.is
-      (int_fine m x.v _ x.has (λ z. record { is = on_with m x.rest r.out x.have r.goes })))
+      (int_fine m x.v _ x.has (λ z. record { is = on_with m l x.rest r.out x.have r.goes })))
 
   pub read_fine : (id : ℕ) → Does m (READ id)
   unfolding effect_of held
-  read_fine id r =
+  read_fine id l r =
       let n = r.needed in
       let x = take m number n.others n.takes in
       pop_fine m m.frame.operands _ x.v x.rest x.is
@@ -172,20 +211,20 @@ module _ (m : Scene) where
       go : (t : Bool) (z : ℤ) (rest : List Value) → HoldAll m r.needed.others rest →
           Ok m (if t then pushes (record m.frame { operands = rest }) (Int z) else Faults BadPort)
       go true z rest have =
-          goes_fine m (Int z ∷ rest) (number ∷ r.needed.others) ((z, refl), have)
+          goes_fine m l (Int z ∷ rest) (number ∷ r.needed.others) ((z, refl), have)
           (subst (FlowsOn m m.frame.rest m.known) r.needed.leaves r.goes)
       go false z rest have = record { is = tt }
 
   pub register_fine : (id : ℕ) → Does m (REGISTER id)
   unfolding effect_of held IsOfType
-  register_fine id r =
+  register_fine id l r =
       let n = r.needed.receiver in
       let x = take m (reference (ClassTy n.class) n.scope) r.out n.takes in
       pop_fine m m.frame.operands _ x.v x.rest x.is
       (object_fine m (ClassTy n.class) (den m n.scope) x.v _ x.has (λ o.
       record {
         is = (
-          on_with m x.rest r.out x.have r.goes,
+          on_with m l x.rest r.out x.have r.goes,
           record {
             there = record {
               object = o.object;
@@ -199,21 +238,21 @@ module _ (m : Scene) where
 
   pub release_fine : (id : ℕ) → Does m (RELEASE id)
   unfolding effect_of held
-  release_fine id r =
+  release_fine id l r =
       let n = r.needed in
       let x = take m (reference (ClassTy n.class) n.scope) r.out n.takes in
       pop_fine m m.frame.operands _ x.v x.rest x.is
       (object_fine m (ClassTy n.class) (den m n.scope) x.v _ x.has (λ o.
-      record { is = (on_with m x.rest r.out x.have r.goes, record { object = o.object; found = o.found }) }))
+      record { is = (on_with m l x.rest r.out x.have r.goes, record { object = o.object; found = o.found }) }))
 
   pub terminate_fine : (id : ℕ) → Does m (TERMINATE id)
   unfolding effect_of held
-  terminate_fine id r =
+  terminate_fine id l r =
       let n = r.needed in
       let x = take m (reference (ClassTy n.class) n.scope) r.out n.takes in
       pop_fine m m.frame.operands _ x.v x.rest x.is
       (object_fine m (ClassTy n.class) (den m n.scope) x.v _ x.has (λ o.
-      record { is = (on_with m x.rest r.out x.have r.goes, record { object = o.object; found = o.found }) }))
+      record { is = (on_with m l x.rest r.out x.have r.goes, record { object = o.object; found = o.found }) }))
 
   -- ---- the parameters of handlers and sequencers
 
@@ -235,7 +274,8 @@ module _ (m : Scene) where
         many = ap suc q.many;
       }
 
-  module _ (id : ℕ) (body : runs_for_object m.code.program m.frame.body ≡ true) (superclass : ℕ)
+  module _ (l : LeftGuards m m.frame.rest) (body : runs_for_object m.code.program m.frame.body ≡ true)
+      (superclass : ℕ)
       (hidden : HasHidden m.code.program m.class (hidden_count superclass)) (rest : List Value) (out : List Kind)
       (have : HoldAll m out rest) (goes : FlowsOn m m.frame.rest m.known out) where
     abbrev after : Frame
@@ -249,7 +289,7 @@ module _ (m : Scene) where
         let own = m.home.own body in
         record {
           is = (
-            on_with m rest out have goes,
+            on_with m l rest out have goes,
             record {
               object = own.object;
               found = own.found;
@@ -310,7 +350,7 @@ module _ (m : Scene) where
 
   pub params_fine : (id : ℕ) → Does m (PARAMS id)
   unfolding effect_of parameter_count hidden_count
-  params_fine id r =
+  params_fine id l r =
       let n = r.needed in
       let own = m.home.own n.for_object in
       given_fine m _ _ n.superclass n.is
@@ -331,7 +371,7 @@ module _ (m : Scene) where
           (λ values f. periodic_parameters f (m.home.own r.needed.for_object).r values)
           (subst (λ k. HoldAll m (stacked (numbers k) r.out) m.frame.operands) k
           (subst (λ ks. HoldAll m ks m.frame.operands) r.needed.takes m.operands)) (λ args rest ah rh.
-          periodic_fine id r.needed.for_object r.needed.superclass r.needed.hidden rest r.out rh r.goes
+          periodic_fine l r.needed.for_object r.needed.superclass r.needed.hidden rest r.out rh r.goes
           (ap (λ (x : Bool). if x then 4 else (if r.needed.superclass == mission_sequencer then 0 else 2)) e) args
           (ints_of 6 args ah))
       by_class false e true f =
@@ -340,9 +380,9 @@ module _ (m : Scene) where
           (λ values f. right_parameters values (λ priority storage. Goes f))
           (subst (λ k. HoldAll m (stacked (numbers k) r.out) m.frame.operands) k
           (subst (λ ks. HoldAll m ks m.frame.operands) r.needed.takes m.operands)) (λ args rest ah rh.
-          right_fine id r.needed.for_object r.needed.superclass r.needed.hidden rest r.out rh r.goes args
+          right_fine l r.needed.for_object r.needed.superclass r.needed.hidden rest r.out rh r.goes args
           (ints_of 2 args ah)
-          (λ x y. Goes (record m.frame { operands = rest })) (λ x y. goes_fine m rest r.out rh r.goes))
+          (λ x y. Goes (record m.frame { operands = rest })) (λ x y. goes_fine m l rest r.out rh r.goes))
       by_class false e false f =
           let k : parameter_count r.needed.superclass ≡ 2 = ap (λ x. if x then 6 else 2) e in
           let two : hidden_count r.needed.superclass ≡ 2 =
@@ -353,10 +393,10 @@ module _ (m : Scene) where
           SetsHidden f (m.home.own r.needed.for_object).r (Int priority ∷ Int storage ∷ [])))
           (subst (λ k. HoldAll m (stacked (numbers k) r.out) m.frame.operands) k
           (subst (λ ks. HoldAll m ks m.frame.operands) r.needed.takes m.operands)) (λ args rest ah rh.
-          right_fine id r.needed.for_object r.needed.superclass r.needed.hidden rest r.out rh r.goes args
+          right_fine l r.needed.for_object r.needed.superclass r.needed.hidden rest r.out rh r.goes args
           (ints_of 2 args ah)
           (λ x y. SetsHidden (record m.frame { operands = rest }) (m.home.own r.needed.for_object).r
           (Int x ∷ Int y ∷ []))
-          (λ x y. hides id r.needed.for_object r.needed.superclass r.needed.hidden rest r.out rh r.goes
+          (λ x y. hides l r.needed.for_object r.needed.superclass r.needed.hidden rest r.out rh r.goes
           (Int x ∷ Int y ∷ [])
           ((x, refl), ((y, refl), tt)) (sym two)))

@@ -28,9 +28,9 @@ use Rattle.scj_model.specs.Operations.{effect_of}
 use Rattle.scope_flow.specs.Slots.{array_type_by, array_type, kind_of_elements, kind_of_own_slot, kind_of_slot, IsOfType}
 use Rattle.scope_flow.specs.Needs.{pushed}
 use Rattle.scope_flow.proofs.Known.{bool_cases}
-use Rattle.frame_sound.specs.Places.{World, held, Has}
+use Rattle.frame_sound.specs.Places.{World, Place, held, Has}
 use Rattle.frame_sound.proofs.Defaults.{default_has}
-use Rattle.frame_sound.proofs.Scenes.{Scene, HoldAll, FlowsOn, Ok, take, pop_fine, given_fine, int_fine, ready}
+use Rattle.frame_sound.proofs.Scenes.{Scene, HoldAll, FlowsOn, Ok, take, pop_fine, given_fine, int_fine, ready, guards_left}
 use Rattle.frame_sound.proofs.ActsOnValues.{Does}
 
 -- ---- lists
@@ -81,7 +81,7 @@ hidden_ints p class i v e =
     go false true (suc (suc i)) e = absurd (cc (e))
     go false false i e = absurd (cc (e))
 
-module _ (p : Declarations) (w : World) (den : Scope → Option ℕ) (class : ℕ) where
+module _ (p : Declarations) (w : World) (den : Scope → Place) (class : ℕ) where
   field_begins : (slot : ℕ) (k : Kind) (v : Value) →
       slice_get (instance_fields p.classes class) slot >>= kind_of_field p ≡ Some k →
       slice_get (map (λ (f : Declared). default_value (kind_of_type f.declared_type)) (instance_fields p.classes class))
@@ -168,7 +168,7 @@ by_array p class slot o e =
 module _ (m : Scene) where
   pub alloc_fine : (id : ℕ) → Does m (ALLOC id)
   unfolding effect_of pushed IsOfType
-  alloc_fine id r =
+  alloc_fine id l r =
       let n = r.needed in
       let no_array = m.facts.classes n.class (m.facts.concrete n.class n.is_concrete).0 in
       given_fine m _ _ n.class n.is
@@ -178,7 +178,8 @@ module _ (m : Scene) where
           is_kind = inl (refl, n.is_concrete);
           goes =
               ready m m.frame.operands m.frame.locals m.frame.rest (Some (fresh n.class m.sig.runs_in)) m.known m.kinds
-              m.operands m.locals (subst (FlowsOn m m.frame.rest m.known) n.leaves r.goes);
+              m.operands m.locals (subst (FlowsOn m m.frame.rest m.known) n.leaves r.goes)
+              (guards_left m l m.frame.operands (Some (fresh n.class m.sig.runs_in)));
           lies = n.lies;
           reach = n.reach;
           is_full = λ e. slots_counted m.code.program n.class;
@@ -194,7 +195,7 @@ module _ (m : Scene) where
 
   pub alloc_array_fine : (id : ℕ) → Does m (ALLOCARRAY id)
   unfolding effect_of held pushed
-  alloc_array_fine id r =
+  alloc_array_fine id l r =
       let n = r.needed in
       let x = take m number n.others n.takes in
       given_fine m _ _ n.class n.is
@@ -214,7 +215,8 @@ module _ (m : Scene) where
               is_kind = inr (n.type, refl, n.is_type);
               goes =
                   ready m rest m.frame.locals m.frame.rest (Some (reference n.type m.sig.runs_in)) m.known n.others have
-                  m.locals (subst (FlowsOn m m.frame.rest m.known) n.leaves r.goes);
+                  m.locals (subst (FlowsOn m m.frame.rest m.known) n.leaves r.goes)
+                  (guards_left m l rest (Some (reference n.type m.sig.runs_in)));
               lies = n.lies;
               reach = n.reach;
               is_full = λ e. absurd (let y = sym e ∙ n.is_type in cc (y));

@@ -13,7 +13,7 @@ use Rattle.scj_model.specs.Arithmetic.{entry, int_operators, comparisons, are_eq
 use Rattle.scj_model.specs.Effects.{Faults, given, pushes}
 use Rattle.scj_model.specs.Operations.{effect_of}
 use Rattle.scope_flow.specs.Needs.{kind_of_unary, kind_of_ints, kind_of_equality, kind_of_binary}
-use Rattle.frame_sound.specs.Places.{held, an_object, Has}
+use Rattle.frame_sound.specs.Places.{Place, held, an_object, Has}
 use Rattle.frame_sound.proofs.Scenes.{Scene, memory, den, Holds, HoldAll, FlowsOn, Ok, take, next_taken, pop_fine, given_fine, goes_fine}
 use Rattle.frame_sound.proofs.ActsOnValues.{Does, ValueOf}
 
@@ -62,14 +62,14 @@ module _ (m : Scene) where
 
   pub unary_fine : (id : ℕ) → Does m (UNARY id)
   unfolding effect_of
-  unary_fine id r =
+  unary_fine id l r =
       let n = r.needed in
       let x = take m n.operand n.others n.takes in
       let y = unary_gives n.operator n.operand n.kind n.gives x.v x.has in
       given_fine m _ _ n.operator n.is
       (pop_fine m m.frame.operands _ x.v x.rest x.is
       (given_fine m _ _ y.value y.is
-      (goes_fine m _ (n.kind ∷ n.others) (y.has, x.have) (subst (FlowsOn m m.frame.rest m.known) n.leaves r.goes))))
+      (goes_fine m l _ (n.kind ∷ n.others) (y.has, x.have) (subst (FlowsOn m m.frame.rest m.known) n.leaves r.goes))))
 
   -- ---- two operands
 
@@ -112,7 +112,7 @@ module _ (m : Scene) where
       go false true s e = truth_of (not s) k e
       go false false s e = ints_give operator k e x y
 
-  references_equal : (t u : _) (a b : Option ℕ) (x y : Value) → Has m.code.program (memory m) (an_object t a) x →
+  references_equal : (t u : _) (a b : Place) (x y : Value) → Has m.code.program (memory m) (an_object t a) x →
       Has m.code.program (memory m) (an_object u b) y → (z : Bool) × (are_equal x y ≡ Some z)
   unfolding are_equal
   references_equal t u a b x y (inl e) (inl f) = (true, ap (λ z. are_equal z y) e ∙ ap (are_equal Null) f)
@@ -137,7 +137,7 @@ module _ (m : Scene) where
 
   pub bin_fine : (id : ℕ) → Does m (BIN id)
   unfolding effect_of
-  bin_fine id r =
+  bin_fine id l r =
       let n = r.needed in
       let x = take m n.right (n.left ∷ n.others) n.takes in
       let y = next_taken m n.left n.others x.rest x.have in
@@ -155,5 +155,5 @@ module _ (m : Scene) where
       go right left rest have y true = record { is = tt }
       go right left rest have y false =
           given_fine m _ _ y.value y.is
-          (goes_fine m _ (r.needed.kind ∷ r.needed.others) (y.has, have)
+          (goes_fine m l _ (r.needed.kind ∷ r.needed.others) (y.has, have)
           (subst (FlowsOn m m.frame.rest m.known) r.needed.leaves r.goes))

@@ -11,7 +11,7 @@ use Rattle.scj_tree.specs.declared.nodes.Node.TheVariants.{Number, True, False, 
 use Rattle.scj_rules.specs.declared.typing.Ty.{Ty}
 use Rattle.scj_rules.specs.declared.typing.Ty.TheVariants.{NullTy, Class as ClassTy, IntArray, BoolArray, ClassArray}
 use Rattle.scj_rules.specs.declared.typing.Scope.{Scope}
-use Rattle.scj_rules.specs.declared.typing.Scope.TheVariants.{Any, This, Caller, In}
+use Rattle.scj_rules.specs.declared.typing.Scope.TheVariants.{Any, This, Caller, In, Unknown, Lost}
 use Rattle.scj_rules.specs.Words.{◌>>=◌}
 use Rattle.scj_rules.specs.StaticScopes.{this_in}
 use Rattle.accepted_laws.specs.Kinds.{Kind, number, truth, yes, reference, fresh, seen_kind}
@@ -25,20 +25,31 @@ use Rattle.scj_model.specs.Operations.{effect_of, index_in}
 use Rattle.scope_flow.specs.Slots.{array_type, kind_of_own_slot, kind_of_slot, kind_of_elements, IsSlotKind, IsImmortal, IsOfType, kind_of_literal}
 use Rattle.scope_flow.specs.Needs.{Loosely}
 use Rattle.scope_flow.specs.Flow.{Needs}
-use Rattle.frame_sound.specs.Places.{denote, area_around, within, held, IsObject, Has}
-use Rattle.frame_sound.proofs.Places.{around_named, has_where, slot_seen}
+use Rattle.scope_flow.specs.Guards.{IsPlain, StandsIn}
+use Rattle.frame_sound.specs.Places.{in_one, LiesAt, denote, area_around, within, held, IsObject, Has}
+use Rattle.frame_sound.proofs.Places.{at_area, around_named, has_where, slot_seen}
 use Rattle.frame_sound.proofs.Begins.{home_cases}
-use Rattle.frame_sound.proofs.Scenes.{Scene, memory, den, Holds, HoldAll, FlowsOn, Ok, take, next_taken, pop_fine, given_fine, int_fine, object_fine, goes_fine, on_list}
+use Rattle.frame_sound.proofs.Scenes.{Scene, memory, den, Holds, HoldAll, FlowsOn, LeftGuards, GuardedWith, Ok, take, next_taken, pop_fine, given_fine, int_fine, object_fine, guards_left, goes_guarded, goes_fine, on_list, view}
+
+abbrev pub NeedsNext : Scene → Op → Type 0
+NeedsNext m op = Needs m.code m.frame.body m.class m.sig op m.known m.kinds (FlowsOn m m.frame.rest)
 
 -- what an operation needs, and that its effect is fine
 abbrev pub Does : Scene → Op → Type 0
 Does m op =
-    Needs m.code m.frame.body m.class m.sig op m.known m.kinds (FlowsOn m m.frame.rest) →
-    Ok m (effect_of m.code m.world m.frame op)
+    LeftGuards m m.frame.rest → NeedsNext m op → Ok m (effect_of m.code m.world m.frame op)
 
 -- the same where it is known on which way through the body the operation stands
 abbrev pub DoesThere : Scene → Op → Type 0
-DoesThere m op = FlowsOn m (op ∷ m.frame.rest) m.known m.kinds → Ok m (effect_of m.code m.world m.frame op)
+DoesThere m op =
+    LeftGuards m m.frame.rest → FlowsOn m (op ∷ m.frame.rest) m.known m.kinds →
+    Ok m (effect_of m.code m.world m.frame op)
+
+-- the same of one that leads into a part, sets a variable or stores in a field, and has nothing to do with a guard itself
+abbrev pub DoesStanding : Scene → Op → Type 0
+DoesStanding m op =
+    (l : LeftGuards m m.frame.rest) → IsPlain m.code op → StandsIn m.code l.around op →
+    FlowsOn m (op ∷ m.frame.rest) m.known m.kinds → Ok m (effect_of m.code m.world m.frame op)
 
 -- a value that is there, of a kind
 pub record ValueOf (m : Scene) (o : Option Value) (k : Kind) : Type 0 where
@@ -85,22 +96,23 @@ module _ (m : Scene) where
 
   pub push_fine : (id : ℕ) → Does m (PUSH id)
   unfolding effect_of
-  push_fine id r =
+  push_fine id l r =
       let v = literal_of_node (slice_get m.code.program.nodes id) r.needed.exact r.needed.is in
       given_fine m _ _ v.value v.is
-      (goes_fine m _ (r.needed.kind ∷ m.kinds)
+      (goes_fine m l _ (r.needed.kind ∷ m.kinds)
       (literal_loose r.needed.exact r.needed.kind r.needed.loose v.value v.has, m.operands)
       (subst (FlowsOn m m.frame.rest m.known) r.needed.leaves r.goes))
 
   -- ---- variables
 
-  pub this_fine : (id : ℕ) → Does m (THIS id)
+  pub this_guarded : (id : ℕ) → ((q : ℕ) → m.frame.this ≡ Some q → GuardedWith m (At q ∷ m.frame.operands)) →
+      NeedsNext m (THIS id) → Ok m (effect_of m.code m.world m.frame (THIS id))
   unfolding effect_of held
-  this_fine id r =
+  this_guarded id g r =
       let o = m.home.own r.needed.for_object in
       given_fine m _ _ o.r o.is
-      (goes_fine m _ (r.needed.kind ∷ m.kinds) (holds (At o.r) (is_object o.r refl), m.operands)
-      (subst (FlowsOn m m.frame.rest m.known) r.needed.leaves r.goes))
+      (goes_guarded m _ (r.needed.kind ∷ m.kinds) (holds (At o.r) (is_object o.r refl), m.operands)
+      (subst (FlowsOn m m.frame.rest m.known) r.needed.leaves r.goes) (g o.r o.is))
     where
       is_object : (q : ℕ) → q ≡ (m.home.own r.needed.for_object).r →
           IsObject m.code.program (memory m) (ClassTy m.class) (den m r.needed.home) (At q)
@@ -112,7 +124,7 @@ module _ (m : Scene) where
             object = o.object;
             found = o.found;
             of_type = o.of_type;
-            lies = o.lies r.needed.home r.needed.is_home;
+            lies = at_area (den m r.needed.home) o.object.area (o.lies r.needed.home r.needed.is_home);
           }
 
       holds : (v : Value) → IsObject m.code.program (memory m) (ClassTy m.class) (den m r.needed.home) v →
@@ -123,15 +135,23 @@ module _ (m : Scene) where
             | inr e ↦ subst (λ k. Holds m k v) (sym e) (inr o)
           ]
 
-  pub load_fine : (id : ℕ) → Does m (LOAD id)
+  pub this_fine : (id : ℕ) → Does m (THIS id)
+  this_fine id l r = this_guarded id (λ q e. guards_left m l (At q ∷ m.frame.operands) None) r
+
+  pub load_guarded : (id : ℕ) (r : NeedsNext m (LOAD id)) →
+      ((value : Value) → slice_get m.frame.locals r.needed.local ≡ Some value →
+      GuardedWith m (value ∷ m.frame.operands)) → Ok m (effect_of m.code m.world m.frame (LOAD id))
   unfolding effect_of
-  load_fine id r =
+  load_guarded id r g =
       let v = r.needed.is_variable in
-      let l = m.locals.each r.needed.local r.needed.variable v.kind v.is_there v.is_kind r.needed.is_set in
+      let x = m.locals.each r.needed.local r.needed.variable v.kind v.is_there v.is_kind r.needed.is_set in
       given_fine m _ _ r.needed.local r.needed.is
-      (given_fine m _ _ l.value l.is
-      (goes_fine m _ (v.kind ∷ m.kinds) (l.has, m.operands)
-      (subst (FlowsOn m m.frame.rest m.known) r.needed.leaves r.goes)))
+      (given_fine m _ _ x.value x.is
+      (goes_guarded m _ (v.kind ∷ m.kinds) (x.has, m.operands)
+      (subst (FlowsOn m m.frame.rest m.known) r.needed.leaves r.goes) (g x.value x.is)))
+
+  pub load_fine : (id : ℕ) → Does m (LOAD id)
+  load_fine id l r = load_guarded id r (λ value e. guards_left m l (value ∷ m.frame.operands) None)
 
   -- ---- slots
 
@@ -141,17 +161,16 @@ module _ (m : Scene) where
   get_at (x ∷ xs) (suc i) l = get_at xs i (omega (arith, l))
 
   -- a value of a slot, as the frame sees it that has the object in this scope
-  pub seen_value : (o : Object) (r : ℕ) → m.world.object_at r ≡ Some o → (scope : Scope) → den m scope ≡ Some o.area →
-      (slot : ℕ) (k : Kind) → kind_of_slot m.code.program o.class slot ≡ Some k → IsSlotKind k → (v : Value) →
+  pub seen_value : (o : Object) (r : ℕ) → m.world.object_at r ≡ Some o → (scope : Scope) →
+      LiesAt (den m scope) o.area → (slot : ℕ) (k : Kind) → kind_of_slot m.code.program o.class slot ≡ Some k → IsSlotKind k → (v : Value) →
       slice_get o.slots slot ≡ Some v → Holds m (seen_kind scope Caller k) v
-  unfolding denote
   seen_value o r found scope lies slot k is fs v there =
-      slot_seen m.code.program (memory m) m.list m.fine (den m) (λ s. refl) o.area (on_list m scope o.area lies) scope
+      slot_seen m.code.program (memory m) m.list m.fine (den m) (view m) o.area (on_list m scope o.area lies) scope
       lies k fs v ((m.heap r o found).has slot k v is there)
 
   pub get_fine : (id : ℕ) → Does m (GET id)
   unfolding effect_of held IsOfType
-  get_fine id r =
+  get_fine id l r =
       let n = r.needed in
       let x = take m (reference (ClassTy n.class) n.scope) n.others n.takes in
       given_fine m _ _ n.field n.is
@@ -163,7 +182,7 @@ module _ (m : Scene) where
       given_fine m _ _ o.object o.found
       (given_fine m _ _ s.slot s.is
       (given_fine m _ _ v.0 v.1
-      (goes_fine m (v.0 ∷ x.rest) (seen_kind n.scope Caller n.has.kind ∷ n.others)
+      (goes_fine m l (v.0 ∷ x.rest) (seen_kind n.scope Caller n.has.kind ∷ n.others)
       (seen_value o.object o.r o.found n.scope o.lies s.slot n.has.kind s.holds n.has.is_slot_kind v.0 v.1, x.have)
       (subst (FlowsOn m m.frame.rest m.known) n.leaves r.goes)))))))
 
@@ -177,21 +196,23 @@ module _ (m : Scene) where
   static_seen yes fs v h = h
   static_seen (fresh c s) fs v h = absurd fs
   static_seen (reference t (In n)) fs v h =
-      has_where m.code.program (memory m) t (area_around m.areas n 1 0) (den m (In n)) v
+      has_where m.code.program (memory m) t (in_one (area_around m.areas n 1 0)) (den m (In n)) v
       (λ r e. around_named m.areas m.list m.fine n r 1 0 m.fine.has_immortal e) h
   static_seen (reference t This) fs v h = absurd fs
   static_seen (reference t Caller) fs v h = absurd fs
   static_seen (reference t Any) fs v h = absurd fs
+  static_seen (reference t Unknown) fs v h = absurd fs
+  static_seen (reference t Lost) fs v h = absurd fs
 
   pub get_static_fine : (id : ℕ) → Does m (GETSTATIC id)
   unfolding effect_of
-  get_static_fine id r =
+  get_static_fine id l r =
       let n = r.needed in
       let s = m.statics n.has.place n.has.kind n.has.holds in
       given_fine m _ _ n.field n.is
       (given_fine m _ _ n.has.place n.has.is
       (given_fine m _ _ s.value s.is
-      (goes_fine m _ (n.has.kind ∷ m.kinds) (static_seen n.has.kind n.has.is_immortal s.value s.has, m.operands)
+      (goes_fine m l _ (n.has.kind ∷ m.kinds) (static_seen n.has.kind n.has.is_immortal s.value s.has, m.operands)
       (subst (FlowsOn m m.frame.rest m.known) n.leaves r.goes))))
 
   -- ---- arrays
@@ -236,13 +257,13 @@ module _ (m : Scene) where
 
   pub length_fine : (id : ℕ) → Does m (LENGTH id)
   unfolding effect_of held
-  length_fine id r =
+  length_fine id l r =
       let n = r.needed in
       let x = take m (reference n.type n.scope) n.others n.takes in
       pop_fine m m.frame.operands _ x.v x.rest x.is
       (object_fine m n.type (den m n.scope) x.v _ x.has (λ o.
       given_fine m _ _ o.object o.found
-      (goes_fine m (Int (pos (length o.object.slots)) ∷ x.rest) (number ∷ n.others)
+      (goes_fine m l (Int (pos (length o.object.slots)) ∷ x.rest) (number ∷ n.others)
       ((pos (length o.object.slots), refl), x.have)
       (subst (FlowsOn m m.frame.rest m.known) n.leaves r.goes))))
 
@@ -259,7 +280,7 @@ module _ (m : Scene) where
 
   pub elem_fine : (id : ℕ) → Does m (ELEM id)
   unfolding effect_of held
-  elem_fine id r =
+  elem_fine id l r =
       let n = r.needed in
       let x = take m number (reference n.type n.scope ∷ n.others) n.takes in
       let y = next_taken m (reference n.type n.scope) n.others x.rest x.have in
@@ -273,7 +294,7 @@ module _ (m : Scene) where
     where
       at_index : (rest : List Value) → HoldAll m r.needed.others rest → (o : Object) (q : ℕ) →
           m.world.object_at q ≡ Some o → array_type m.code.program o.class ≡ Some r.needed.type →
-          den m r.needed.scope ≡ Some o.area → (z : ℤ) →
+          LiesAt (den m r.needed.scope) o.area → (z : ℤ) →
           (index_in o.slots z ≡ None) ⊎ ((i : ℕ) × (index_in o.slots z ≡ Some i) × (i < length o.slots)) →
           Ok m (elim (index_in o.slots z) [
             | None ↦ Faults ArrayIndex
@@ -292,7 +313,7 @@ module _ (m : Scene) where
             | Some k ↦ given (slice_get o.slots k) (λ value. pushes (record m.frame { operands = rest }) value)
           ])) (sym i.1)
           (given_fine m _ _ v.0 v.1
-          (goes_fine m (v.0 ∷ rest) (seen_kind n.scope Caller n.kind ∷ n.others) (
+          (goes_fine m l (v.0 ∷ rest) (seen_kind n.scope Caller n.kind ∷ n.others) (
             seen_value o q found n.scope lies i.0 n.kind (element_kind_is o.class n.type n.kind i.0 n.elements is)
                 (elements_are_slots n.type n.kind n.elements) v.0 v.1,
             have,

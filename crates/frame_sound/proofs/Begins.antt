@@ -7,7 +7,7 @@ use Rattle.scj_rules.specs.declared.typing.Scope.{Scope}
 use Rattle.scj_rules.specs.declared.typing.Scope.TheVariants.{This, In}
 use Rattle.scj_rules.specs.declared.typing.Ty.TheVariants.{Class as ClassTy}
 use Rattle.scj_rules.specs.declared.scopes.ClassScope.{ClassScope}
-use Rattle.scj_rules.specs.declared.scopes.ClassScope.TheVariants.{Unannotated, Annotated, Unknown}
+use Rattle.scj_rules.specs.declared.scopes.ClassScope.TheVariants.{Unannotated, Annotated, Missing}
 use Rattle.scj_rules.specs.declared.views.Body.TheVariants.{Written}
 use Rattle.scj_rules.specs.Words.{is_among, ◌>>=◌}
 use Rattle.scj_rules.specs.Classes.{is_sub}
@@ -26,8 +26,9 @@ use Rattle.scope_flow.specs.Signatures.{Signature, IsBody, Runs, kinds_of_variab
 use Rattle.scope_flow.specs.Needs.{pushed}
 use Rattle.scope_flow.specs.Facts.{Facts}
 use Rattle.scope_flow.proofs.Courses.{entry_courses}
-use Rattle.frame_sound.specs.Places.{World, area_named, denote, held, Has, AllHave}
+use Rattle.frame_sound.specs.Places.{World, Place, in_one, the_area, area_named, denote, held, Has, AllHave}
 use Rattle.frame_sound.specs.Fine.{ListFine, HeapFine, IsOnList, HoldsNullOr, LocalFine, LocalsFine, Ready}
+use Rattle.frame_sound.proofs.GuardSteps.{begins_guarded}
 
 -- ---- locals
 
@@ -93,7 +94,7 @@ as_many_kinds p [] ks e = ap length (some_inj [] ks e)
 as_many_kinds p (v ∷ vs) ks e =
     let q = kinds_first p v vs ks e in ap suc (as_many_kinds p vs q.others q.rest) ∙ ap length (sym q.is)
 
-module _ (p : Declarations) (w : World) (den : Scope → Option ℕ) where
+module _ (p : Declarations) (w : World) (den : Scope → Place) where
   all_as_many : (ks : List Kind) (vs : List Value) → AllHave p w den ks vs → length ks ≡ length vs
   all_as_many [] [] h = refl
   all_as_many [] (v ∷ vs) h = absurd h
@@ -181,17 +182,17 @@ pub home_cases : (p : Declarations) (c : ℕ) (h : Scope) → this_in p c ≡ So
 unfolding this_in
 home_cases p c h e = go (class_scope p c) e
   where
-    go : (s : ClassScope) → (elim s [ Unannotated ↦ Some This | Annotated s ↦ Some (In s) | Unknown ↦ None ]) ≡ Some h →
+    go : (s : ClassScope) → (elim s [ Unannotated ↦ Some This | Annotated s ↦ Some (In s) | Missing ↦ None ]) ≡ Some h →
         (h ≡ This) ⊎ ((n : ℕ) × (h ≡ In n))
     go Unannotated e = inl (sym (some_inj This h e))
     go (Annotated n) e = inr (n, sym (some_inj (In n) h e))
-    go Unknown e = absurd (cc (e))
+    go Missing e = absurd (cc (e))
 
 module _ (code : Code) (facts : Facts code) (w : World) (list : List ℕ) (fine : ListFine w.areas list)
     (heap : HeapFine code.program w) (now : ℕ) (now_on : is_among now list ≡ true) (r : ℕ) (object : Object)
     (found : w.objects r ≡ Some object) (on_list : is_among object.area list ≡ true) (on : ℕ)
     (of_type : IsOfType code.program object.class (ClassTy on)) where
-  abbrev there : Scope → Option ℕ
+  abbrev there : Scope → Place
   there = denote w list (Some r) now
 
   is_sub_of : is_sub code.program.classes object.class on ≡ true
@@ -199,7 +200,7 @@ module _ (code : Code) (facts : Facts code) (w : World) (list : List ℕ) (fine 
   is_sub_of = of_type.1
 
   -- scopes in normal form meet here: THIS, as the class of a callee has it, is where its object lies
-  pub home_denotes : (h : Scope) → this_in code.program on ≡ Some h → there h ≡ Some object.area
+  pub home_denotes : (h : Scope) → this_in code.program on ≡ Some h → there h ≡ the_area object.area
   unfolding denote
   home_denotes h is = go (home_cases code.program on h is)
     where
@@ -215,9 +216,9 @@ module _ (code : Code) (facts : Facts code) (w : World) (list : List ℕ) (fine 
           let one : x.0 ≡ o.area = some_inj x.0 o.area (sym x.1 ∙ o.is_area) in
           subst (λ m. area_named w.areas m list ≡ Some object.area) (ap (λ y. y.scope) one ∙ named) x.2
 
-      go : (h ≡ This) ⊎ ((n : ℕ) × (h ≡ In n)) → denote w list (Some r) now h ≡ Some object.area
-      go (inl e) = ap (denote w list (Some r) now) e ∙ here
-      go (inr e) = ap (denote w list (Some r) now) e.1 ∙ placed e.0 e.1
+      go : (h ≡ This) ⊎ ((n : ℕ) × (h ≡ In n)) → denote w list (Some r) now h ≡ the_area object.area
+      go (inl e) = ap (denote w list (Some r) now) e ∙ ap (λ o. in_one o) here
+      go (inr e) = ap (denote w list (Some r) now) e.1 ∙ ap (λ o. in_one o) (placed e.0 e.1)
 
   pub on_this : (s : ℕ) → Some r ≡ Some s → IsOnList w list s
   on_this s e =
@@ -225,7 +226,7 @@ module _ (code : Code) (facts : Facts code) (w : World) (list : List ℕ) (fine 
 
   -- a body that begins on the object
   pub begins : (b : ℕ) (sig : Signature) (body : IsBody code.program b on sig) (called_at : Option ℕ) →
-      there sig.runs_in ≡ Some now → (args : List Value) → AllHave code.program w there sig.takes args →
+      there sig.runs_in ≡ the_area now → (args : List Value) → AllHave code.program w there sig.takes args →
       Ready code w list on sig (new_frame code (Written b) called_at (Some r) now args) None
   unfolding pushed new_frame body_ops Runs
   begins b sig body called_at runs args h =
@@ -249,4 +250,5 @@ module _ (code : Code) (facts : Facts code) (w : World) (list : List ℕ) (fine 
         operands = tt;
         locals = locals_begin code.program w there b on sig body args h;
         flow = entry_courses code facts b on sig body;
+        guards = begins_guarded code facts w b on sig body (Some r) _ None [];
       }

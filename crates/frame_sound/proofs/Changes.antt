@@ -18,10 +18,10 @@ use Rattle.scj_model.specs.Memory.{new_object}
 use Rattle.scope_flow.specs.Slots.{array_type, kind_of_slot}
 use Rattle.scope_flow.specs.Signatures.{Signature, LiesHere, LiesAround, SlotsReach}
 use Rattle.scope_flow.proofs.Known.{bool_cases}
-use Rattle.frame_sound.specs.Places.{World, area_named, denote, area_around, within, held, Has}
+use Rattle.frame_sound.specs.Places.{World, Place, area_named, denote, area_around, within, held, Has}
 use Rattle.frame_sound.specs.Fine.{ListFine, AreasFine, IsInstance, ObjectFine, HeapFine, StaticsFine, Home}
 use Rattle.frame_sound.specs.EffectsFine.{StoreFine}
-use Rattle.frame_sound.proofs.Places.{named_is}
+use Rattle.frame_sound.proofs.Places.{at_area, named_is}
 use Rattle.frame_sound.proofs.Keeps.{IsKept, ObjectsAreKept, Keeps, has_kept}
 
 -- ---- one element of a list changes
@@ -124,7 +124,8 @@ module _ (p : Declarations) (w : World) (af : AreasFine p w.areas) (list : List 
   named : (n : ℕ) → sig.runs_in ≡ In n → here.0.scope ≡ n
   unfolding denote
   named n e =
-      let y = named_is w.areas n now list (sym (ap (denote w list this now) e) ∙ home.is_now) in
+      let y = named_is w.areas n now list
+      (at_area (denote w list this now (In n)) now (sym (ap (denote w list this now) e) ∙ home.is_now)) in
       ap (λ z. z.scope) (some_inj here.0 y.area (sym here.1 ∙ y.is_there)) ∙ y.is_named
 
   around : (n : ℕ) → LiesAround p n sig.runs_in → (n ≡ immortal_scope) ⊎ (is_outer p n here.0.scope ≡ true)
@@ -134,7 +135,7 @@ module _ (p : Declarations) (w : World) (af : AreasFine p w.areas) (list : List 
   -- a new object in the current area
   pub new_fine : (class : ℕ) (values : List Value) → IsInstance p class → LiesHere p class sig.runs_in →
       SlotsReach p class sig.runs_in → (array_type p class ≡ None → length values ≡ slots p class) →
-      ((u : World) (den : Scope → Option ℕ) (slot : ℕ) (k : Kind) (v : Value) → kind_of_slot p class slot ≡ Some k →
+      ((u : World) (den : Scope → Place) (slot : ℕ) (k : Kind) (v : Value) → kind_of_slot p class slot ≡ Some k →
       slice_get values slot ≡ Some v → Has p u (held den k) v) → (w2 : World) → w2.areas ≡ w.areas →
       ObjectFine p w2 (new_object class now values)
   new_fine class values instance_ lies reach full begins w2 same =

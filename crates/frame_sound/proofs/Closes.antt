@@ -6,7 +6,7 @@ use Rattle.std.proofs.Common.{arith}
 use Rattle.std.proofs.lemmas.Bool.Decides.{nat_tests}
 use Rattle.scj_base.specs.declared.values.Value.{Value}
 use Rattle.scj_rules.specs.declared.typing.Scope.{Scope}
-use Rattle.scj_rules.specs.declared.typing.Scope.TheVariants.{Any, This, Caller, In}
+use Rattle.scj_rules.specs.declared.typing.Scope.TheVariants.{Any, This, Caller, In, Unknown, Lost}
 use Rattle.scj_rules.specs.Words.{is_among, holds, ◌>>=◌}
 use Rattle.scj_rules.specs.Contexts.{Declarations}
 use Rattle.scj_rules.specs.ScopeRules.{immortal_scope, is_outer, parent_scope}
@@ -14,7 +14,7 @@ use Rattle.accepted_laws.specs.Kinds.{Kind}
 use Rattle.accepted_laws.proofs.Tools.{some_inj}
 use Rattle.scj_model.specs.Code.{Code}
 use Rattle.scj_model.specs.State.{MemoryArea, Object, Frame, changed}
-use Rattle.frame_sound.specs.Places.{World, Held, area_named, area_around, within, held, Has}
+use Rattle.frame_sound.specs.Places.{World, Held, in_one, area_named, area_around, within, held, Has}
 use Rattle.frame_sound.specs.Fine.{ListFine, IsInParent, AreasFine, HeapFine, StaticsFine, Under, list_of}
 use Rattle.frame_sound.proofs.Keeps.{ObjectsAreKept, Keeps, has_kept, under_kept}
 use Rattle.frame_sound.proofs.Changes.{changed_at, changed_off, changed_from}
@@ -162,9 +162,11 @@ module _ (areas : List MemoryArea) (a : ℕ) where
     where
       same : (s : Scope) → within new_areas b s ≡ within old_areas b s
       same This = refl
-      same (In n) = around_still n (suc b) b
+      same (In n) = ap (λ o. in_one o) (around_still n (suc b) b)
       same Caller = refl
       same Any = refl
+      same Unknown = refl
+      same Lost = refl
 
   -- a list on which the area doesn't stand
   pub list_closed : (list : List ℕ) → is_among a list ≡ false → ListFine old_areas list → ListFine new_areas list

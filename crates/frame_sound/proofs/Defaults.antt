@@ -14,9 +14,9 @@ use Rattle.scj_rules.specs.Types.{type_written}
 use Rattle.accepted_laws.specs.Kinds.{Kind, number, truth, reference, kind_of}
 use Rattle.accepted_laws.proofs.Tools.{some_inj}
 use Rattle.scj_model.specs.Memory.{default_value}
-use Rattle.frame_sound.specs.Places.{World, held, Has}
+use Rattle.frame_sound.specs.Places.{World, Place, held, Has}
 
-module _ (p : Declarations) (w : World) (den : Scope → Option ℕ) where
+module _ (p : Declarations) (w : World) (den : Scope → Place) where
   null_has : (t : Ty) (s : Scope) (k : Kind) → Some (reference t s) ≡ Some k → Has p w (held den k) Null
   unfolding held
   null_has t s k e = subst (λ k. Has p w (held den k) Null) (some_inj (reference t s) k e) (refl_null t s)

@@ -1,7 +1,7 @@
 -- Frames over frames: one in the place of another, one that gets the value it waited for, and those that are left when
 -- the upper one leaves.
 use Rattle.std.specs.Prelude.{Option, Some, None, ◌++◌, option_to_list}
-use Rattle.std.proofs.Common.{◌≡◌, ℕ, List, [], ◌∷◌, true, refl, sym, ◌∙◌, ap, subst, ◌⊎◌, inl, inr}
+use Rattle.std.proofs.Common.{◌≡◌, ℕ, List, [], ◌∷◌, true, refl, sym, ◌∙◌, ap, subst, inl, inr}
 use Rattle.scj_base.specs.declared.values.Value.{Value}
 use Rattle.scj_rules.specs.declared.typing.Scope.{Scope}
 use Rattle.scj_rules.specs.Contexts.{Declarations}
@@ -13,9 +13,10 @@ use Rattle.scj_model.specs.Apply.{returned}
 use Rattle.scope_flow.specs.Signatures.{Signature}
 use Rattle.scope_flow.specs.Needs.{pushed}
 use Rattle.scope_flow.specs.Facts.{Facts}
-use Rattle.frame_sound.specs.Places.{World, denote, Held, a_number, a_truth, a_yes, an_object, held, Has}
+use Rattle.frame_sound.specs.Places.{World, Place, denote, Held, a_number, a_truth, a_yes, an_object, held, Has}
 use Rattle.frame_sound.specs.Fine.{ListFine, list_of, Ready, HeldFits, held_option, GivenFits, IsOn, Under, FramesFine}
 use Rattle.frame_sound.specs.EffectsFine.{IsSame, ReturnFine}
+use Rattle.frame_sound.proofs.GuardSteps.{answered_guarded}
 
 module _ (code : Code) (w : World) (base : List ℕ) (f h : Frame) (fs : List Frame) (same : IsSame f h) where
   abbrev old : List ℕ
@@ -72,6 +73,7 @@ answered code w list c sig f k v h r =
       operands = (h, r.operands);
       locals = r.locals;
       flow = r.flow;
+      guards = answered_guarded code w f.body f.this f.locals k v f.operands f.rest r.guards;
     }
 
 -- a value that one gives is what the other waits for
@@ -81,19 +83,15 @@ given_has code facts w a_number a_number v f h = h
 given_has code facts w a_truth a_truth v f h = h
 given_has code facts w a_yes a_truth v f h = (true, h)
 given_has code facts w (an_object t a) (an_object u b) v f (inl e) = inl e
-given_has code facts w (an_object t a) (an_object u b) v f (inr o) = go f.0
-  where
-    go : (a ≡ None) ⊎ (a ≡ b) → Has code.program w (an_object u b) v
-    go (inl e) = absurd (let x : None ≡ Some o.object.area = sym e ∙ o.lies in cc (x))
-    go (inr e) =
-        inr (record {
-          r = o.r;
-          is = o.is;
-          object = o.object;
-          found = o.found;
-          of_type = facts.assigned o.object.class t u o.of_type f.1;
-          lies = sym e ∙ o.lies;
-        })
+given_has code facts w (an_object t a) (an_object u b) v f (inr o) =
+    inr (record {
+      r = o.r;
+      is = o.is;
+      object = o.object;
+      found = o.found;
+      of_type = facts.assigned o.object.class t u o.of_type f.1;
+      lies = f.0 o.object.area o.lies;
+    })
 given_has code facts w _ _ v f h = absurd f
 
 -- what a frame leaves with is what it gives
@@ -101,7 +99,7 @@ abbrev Answers : Declarations → World → Option Held → Option Value → Typ
 Answers p w None v = v ≡ None
 Answers p w (Some h) v = (x : Value) × (v ≡ Some x) × Has p w h x
 
-answers : (p : Declarations) (w : World) (den : Scope → Option ℕ) (o : Option Kind) (v : Option Value) →
+answers : (p : Declarations) (w : World) (den : Scope → Place) (o : Option Kind) (v : Option Value) →
     ReturnFine p w den o v → Answers p w (held_option den o) v
 unfolding held_option
 answers p w den None None h = refl
@@ -143,7 +141,7 @@ module _ (code : Code) (facts : Facts code) (w : World) (base : List ℕ) where
           answered code w (list_of base (f ∷ fs)) u.0.class u.0.sig f k x (given_has code facts w h _ x fits has) ready
 
   -- a frame leaves: the one below it gets the value
-  pub returned_fine : (fs : List Frame) (den : Scope → Option ℕ) (gives : Option Kind) (v : Option Value) →
+  pub returned_fine : (fs : List Frame) (den : Scope → Place) (gives : Option Kind) (v : Option Value) →
       Under code w base fs (held_option den gives) → ReturnFine code.program w den gives v →
       FramesFine code w base (returned v fs)
   returned_fine fs den gives v u r = given_back fs (held_option den gives) v u (answers code.program w den gives v r)

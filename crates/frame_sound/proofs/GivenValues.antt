@@ -14,14 +14,14 @@ use Rattle.scj_rules.specs.StaticScopes.{current_in}
 use Rattle.accepted_laws.specs.Kinds.{Kind, number, truth, yes, reference, fresh}
 use Rattle.accepted_laws.proofs.Tools.{some_inj}
 use Rattle.scope_flow.specs.Signatures.{kind_given, Runs, Signature}
-use Rattle.frame_sound.specs.Places.{Has, IsObject, World, denote, held}
+use Rattle.frame_sound.specs.Places.{Has, IsObject, World, Place, denote, held}
 use Rattle.frame_sound.specs.Fine.{Home, IsOnList}
 use Rattle.frame_sound.specs.EffectsFine.{ReturnFine}
 use Rattle.frame_sound.proofs.Places.{denote_on}
 use Rattle.frame_sound.proofs.Keeps.{ObjectsAreKept, has_kept}
 
 -- what a frame leaves with stays so where the objects do
-pub returns_kept : (p : Declarations) (w w2 : World) → ObjectsAreKept w w2 → (den : Scope → Option ℕ) (o : Option Kind)
+pub returns_kept : (p : Declarations) (w w2 : World) → ObjectsAreKept w w2 → (den : Scope → Place) (o : Option Kind)
     (v : Option Value) → ReturnFine p w den o v → ReturnFine p w2 den o v
 returns_kept p w w2 kept den None None h = h
 returns_kept p w w2 kept den (Some k) (Some v) h = has_kept p w w2 kept (held den k) v h

@@ -4,7 +4,7 @@ use Rattle.std.specs.Prelude.{Option, Some, None, ◌++◌, option_to_list, code
 use Rattle.std.proofs.Common.{◌≡◌, ℕ, List, [], ◌∷◌, true, refl, sym, ◌∙◌, ap, subst, inl, inr}
 use Rattle.scj_base.specs.declared.values.Value.{Value}
 use Rattle.scj_rules.specs.declared.typing.Scope.{Scope}
-use Rattle.scj_rules.specs.declared.typing.Scope.TheVariants.{Any, This, Caller, In}
+use Rattle.scj_rules.specs.declared.typing.Scope.TheVariants.{Any, This, Caller, In, Unknown, Lost}
 use Rattle.scj_rules.specs.declared.typing.Ty.{Ty}
 use Rattle.scj_rules.specs.declared.typing.Ty.TheVariants.{Class as ClassTy}
 use Rattle.scj_rules.specs.declared.views.Body.{Body}
@@ -19,8 +19,9 @@ use Rattle.scj_model.specs.State.{Object, Frame}
 use Rattle.scope_flow.specs.Slots.{IsOfType}
 use Rattle.scope_flow.specs.Signatures.{Signature}
 use Rattle.frame_sound.specs.Calls.{HasThis, ByRun, IsCalledBy, IsCalledIn}
-use Rattle.frame_sound.specs.Places.{World, area_named, denote, Held, a_number, a_truth, a_yes, an_object, a_fresh, held, IsObject, Has, AllHave}
+use Rattle.frame_sound.specs.Places.{World, Place, in_one, the_area, LiesAt, area_named, denote, Held, a_number, a_truth, a_yes, an_object, a_fresh, held, IsObject, Has, AllHave}
 use Rattle.frame_sound.specs.Fine.{ListFine, list_of, Home, HoldsNullOr, LocalsFine, Ready, held_option, GivenFits, IsOn, Under, FramesFine}
+use Rattle.frame_sound.proofs.GuardSteps.{guards_kept}
 
 -- an object that has its class and its area as before
 pub record IsKept (w : World) (r : ℕ) (o : Object) : Type 0 where
@@ -37,7 +38,7 @@ pub record Keeps (w w2 : World) (list : List ℕ) : Type 0 where
   pub fine : ListFine w2.areas list
 
 module _ (p : Declarations) (w w2 : World) (kept : ObjectsAreKept w w2) where
-  object_kept : (t : Ty) (a : Option ℕ) (v : Value) → IsObject p w t a v → IsObject p w2 t a v
+  object_kept : (t : Ty) (a : Place) (v : Value) → IsObject p w t a v → IsObject p w2 t a v
   object_kept t a v o =
       let k = kept o.r o.object o.found in
       record {
@@ -46,7 +47,7 @@ module _ (p : Declarations) (w w2 : World) (kept : ObjectsAreKept w w2) where
         object = k.object;
         found = k.found;
         of_type = subst (λ c. IsOfType p c t) (sym k.class) o.of_type;
-        lies = o.lies ∙ ap (λ a. Some a) (sym k.area);
+        lies = subst (LiesAt a) (sym k.area) o.lies;
       }
 
   pub has_kept : (h : Held) (v : Value) → Has p w h v → Has p w2 h v
@@ -57,14 +58,14 @@ module _ (p : Declarations) (w w2 : World) (kept : ObjectsAreKept w w2) where
   has_kept (an_object t a) v (inr o) = inr (object_kept t a v o)
   has_kept (a_fresh c a) v o = object_kept (ClassTy c) a v o
 
-  pub all_kept : (den : Scope → Option ℕ) (ks : List Kind) (vs : List Value) → AllHave p w den ks vs →
+  pub all_kept : (den : Scope → Place) (ks : List Kind) (vs : List Value) → AllHave p w den ks vs →
       AllHave p w2 den ks vs
   all_kept den [] [] h = tt
   all_kept den [] (v ∷ vs) h = h
   all_kept den (k ∷ ks) [] h = h
   all_kept den (k ∷ ks) (v ∷ vs) h = (has_kept (held den k) v h.0, all_kept den ks vs h.1)
 
-  pub locals_kept : (den : Scope → Option ℕ) (body : Body) (known : List ℕ) (locals : List Value) →
+  pub locals_kept : (den : Scope → Place) (body : Body) (known : List ℕ) (locals : List Value) →
       LocalsFine p w den body known locals → LocalsFine p w2 den body known locals
   locals_kept den body known locals l =
       record {
@@ -96,9 +97,11 @@ module _ (p : Declarations) (w w2 : World) (kept : ObjectsAreKept w w2) where
 
         same : (s : Scope) → denote w2 list this now s ≡ denote w list this now s
         same Any = refl
-        same This = own this refl
+        same This = ap (λ o. in_one o) (own this refl)
         same Caller = refl
-        same (In s) = keeps.named s
+        same (In s) = ap (λ o. in_one o) (keeps.named s)
+        same Unknown = refl
+        same Lost = refl
 
     pub home_kept : Home p w2 list c sig body this now
     home_kept =
@@ -110,7 +113,7 @@ module _ (p : Declarations) (w w2 : World) (kept : ObjectsAreKept w w2) where
                 object = k.object;
                 found = k.found;
                 of_type = subst (λ d. IsOfType p d (ClassTy c)) (sym k.class) o.of_type;
-                lies = λ h is. ap (λ d. d h) denote_kept ∙ (o.lies h is ∙ ap (λ a. Some a) (sym k.area));
+                lies = λ h is. ap (λ d. d h) denote_kept ∙ (o.lies h is ∙ ap the_area (sym k.area));
               });
           on_list = λ r e. (let x = home.on_list r e in let k = kept r x.object x.found in
               record {
@@ -136,7 +139,7 @@ module _ (code : Code) (w w2 : World) (kept : ObjectsAreKept w w2) where
             ap (λ d. body_named code.program d (codes "run")) (kept b.on.r b.on.object b.on.found).class ∙ b.runs;
       }
 
-  by_kept : (den : Scope → Option ℕ) (c now : ℕ) (op : Op) (body : Body) (this : Option ℕ) (area : ℕ) →
+  by_kept : (den : Scope → Place) (c now : ℕ) (op : Op) (body : Body) (this : Option ℕ) (area : ℕ) →
       IsCalledBy code w den c now op body this area → IsCalledBy code w2 den c now op body this area
   unfolding IsCalledBy
   by_kept den c now (CALL id) body this area b =
@@ -150,7 +153,7 @@ module _ (code : Code) (w w2 : World) (kept : ObjectsAreKept w w2) where
         is_receiver = b.is_receiver;
         scope = b.scope;
         of_receiver = b.of_receiver;
-        lies = b.lies ∙ ap (λ a. Some a) (sym k.area);
+        lies = subst (LiesAt (den b.scope)) (sym k.area) b.lies;
         same_area = b.same_area;
       }
   by_kept den c now (CALLSTATIC id) body this area b = b
@@ -162,7 +165,7 @@ module _ (code : Code) (w w2 : World) (kept : ObjectsAreKept w w2) where
         on = this_kept this b.on;
         scope = b.scope;
         of_new = b.of_new;
-        lies = b.lies ∙ ap (λ a. Some a) (sym (kept b.on.r b.on.object b.on.found).area);
+        lies = subst (LiesAt (den b.scope)) (sym (kept b.on.r b.on.object b.on.found).area) b.lies;
         same_area = b.same_area;
       }
   by_kept den c now (SUPER id) body this area b =
@@ -173,7 +176,7 @@ module _ (code : Code) (w w2 : World) (kept : ObjectsAreKept w w2) where
         on = this_kept this b.on;
         scope = b.scope;
         of_this = b.of_this;
-        lies = b.lies ∙ ap (λ a. Some a) (sym (kept b.on.r b.on.object b.on.found).area);
+        lies = subst (LiesAt (den b.scope)) (sym (kept b.on.r b.on.object b.on.found).area) b.lies;
         same_area = b.same_area;
       }
   by_kept den c now (ENTER id) body this area b = run_kept body this b
@@ -210,6 +213,8 @@ module _ (code : Code) (w w2 : World) (kept : ObjectsAreKept w w2) where
         locals = subst (λ d. LocalsFine code.program w2 d f.body r.known f.locals) e
             (locals_kept code.program w w2 kept _ f.body r.known f.locals r.locals);
         flow = r.flow;
+        guards = guards_kept code w w2 f.body f.this f.locals (λ q o found. (let k = kept q o found in (k.object, k.found, k.area))) t
+            f.operands f.rest r.guards;
       }
 
   -- of the lists of which a property holds, as of all behind them

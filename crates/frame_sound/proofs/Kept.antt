@@ -26,6 +26,7 @@ use Rattle.frame_sound.specs.Places.{World, denote, within, held, IsObject, Has}
 use Rattle.frame_sound.specs.Fine.{ListFine, AreasFine, IsInstance, ObjectFine, HeapFine, StaticsFine, Home, Ready, held_option, Under, IsOn, list_of, Stands}
 use Rattle.frame_sound.specs.Calls.{IsCalledIn}
 use Rattle.frame_sound.specs.EffectsFine.{IsSame, GoesOn, MakeFine, StoreFine, HiddenFine, CallFine}
+use Rattle.frame_sound.proofs.Places.{at_area}
 use Rattle.frame_sound.proofs.Keeps.{ObjectsAreKept, Keeps, denote_kept, ready_kept, under_kept, on_kept}
 use Rattle.frame_sound.proofs.Frames.{same_list, replaced, answered}
 use Rattle.frame_sound.proofs.Changes.{look, same_areas, statics_still, new_is_kept, heap_new, new_fine, change_is_kept, with_value, heap_stored}
@@ -236,7 +237,7 @@ module _ (code : Code) (facts : Facts code) (areas : List MemoryArea) (objects :
             object = new;
             found = get_last objects new;
             of_type = of_type;
-            lies = ready2.home.is_now;
+            lies = at_area (denote w2_ list h.this h.area sig.runs_in) h.area ready2.home.is_now;
           }
 
       has : Has code.program w2_ (held (denote w2_ list h.this h.area) x.kind) (At (length objects))
@@ -285,6 +286,7 @@ module _ (code : Code) (facts : Facts code) (areas : List MemoryArea) (objects :
             operands = r.operands;
             locals = r.locals;
             flow = r.flow;
+            guards = r.guards;
           }
 
       under : Under code w base (h ∷ fs) (held_option (denote w list g.this g.area) x.own.gives)

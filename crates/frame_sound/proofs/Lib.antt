@@ -16,6 +16,8 @@ pub mod Closes
 pub mod Defaults
 pub mod Frames
 pub mod GivenValues
+pub mod GuardSteps
+pub mod GuardedPuts
 pub mod HiddenSlots
 pub mod Keeps
 pub mod Kept
@@ -41,3 +43,4 @@ pub mod OwnedAreas
 pub mod Places
 pub mod Scenes
 pub mod Starting
+pub mod StoredBeside

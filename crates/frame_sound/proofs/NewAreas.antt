@@ -19,10 +19,11 @@ use Rattle.scope_flow.specs.Needs.{pushed}
 use Rattle.scope_flow.specs.Signatures.{Runs, Signature}
 use Rattle.scope_flow.specs.Slots.{IsOfType}
 use Rattle.scope_flow.proofs.Courses.{entry_stood}
-use Rattle.frame_sound.specs.Places.{AllHave, World, area_named, denote}
+use Rattle.frame_sound.specs.Places.{AllHave, World, in_one, the_area, area_named, denote}
 use Rattle.frame_sound.specs.Fine.{HeapFine, ListFine, Ready}
 use Rattle.frame_sound.proofs.Begins.{begins, on_this}
 use Rattle.frame_sound.proofs.Changes.{look}
+use Rattle.frame_sound.proofs.GuardSteps.{leaves_guarded}
 use Rattle.frame_sound.proofs.Opens.{list_open}
 
 -- ---- a body without arguments on an object, written or the framework's
@@ -32,7 +33,7 @@ module _ (code : Code) (facts : Facts code) (w : World) (list : List ℕ) (fine 
     (found : w.objects r ≡ Some object) (on_list : is_among object.area list ≡ true) (on : ℕ)
     (of_type : IsOfType code.program object.class (ClassTy on)) where
   pub body_begins : (body : Body) (sig : Signature) → Runs code.program body on sig → (called_at : Option ℕ) →
-      denote w list (Some r) now sig.runs_in ≡ Some now → sig.takes ≡ [] →
+      denote w list (Some r) now sig.runs_in ≡ the_area now → sig.takes ≡ [] →
       Ready code w list on sig (new_frame code body called_at (Some r) now []) None
   unfolding Runs new_frame body_ops pushed
   body_begins (Written b) sig body called_at runs takes =
@@ -52,11 +53,12 @@ module _ (code : Code) (facts : Facts code) (w : World) (list : List ℕ) (fine 
         operands = tt;
         locals = record { long = refl; each = λ i v k there is known. absurd (cc (there)); fits = λ i v value there has. absurd (cc (there)) };
         flow = (entry_stood code Empty on, ap (λ (s : Signature). s.gives) body.1);
+        guards = leaves_guarded code w Empty (Some r) _ None [];
       }
 
   -- in an area that was opened for the frame
   pub body_begins_in : (body : Body) (sig : Signature) → Runs code.program body on sig → (called_at : Option ℕ) →
-      denote w list (Some r) now sig.runs_in ≡ Some now → sig.takes ≡ [] → (from : ℕ) →
+      denote w list (Some r) now sig.runs_in ≡ the_area now → sig.takes ≡ [] → (from : ℕ) →
       Ready code w list on sig
       (record (new_frame code body called_at (Some r) from []) { area = now; opened = Some now }) None
   unfolding new_frame
@@ -70,6 +72,7 @@ module _ (code : Code) (facts : Facts code) (w : World) (list : List ℕ) (fine 
         operands = x.operands;
         locals = x.locals;
         flow = x.flow;
+        guards = x.guards;
       }
 
 -- ---- the list with a new area in front, inside one that stands on it
@@ -104,7 +107,7 @@ module _ (areas : List MemoryArea) (objects : List Object) (low : List ℕ) (sco
       subst (λ (y : MemoryArea). area_named more.areas y.scope (a ∷ low) ≡ Some a) one q.2
 
   pub runs_in_new : (this : Option ℕ) (s : Scope) → (s ≡ Caller) ⊎ (s ≡ In scope) →
-      denote more (a ∷ low) this a s ≡ Some a
+      denote more (a ∷ low) this a s ≡ the_area a
   unfolding denote
   runs_in_new this s (inl e) = ap (denote more (a ∷ low) this a) e
-  runs_in_new this s (inr e) = ap (denote more (a ∷ low) this a) e ∙ found_new
+  runs_in_new this s (inr e) = ap (denote more (a ∷ low) this a) e ∙ ap (λ o. in_one o) found_new

@@ -4,7 +4,7 @@ use Rattle.std.proofs.Common.{◌≡◌, ℕ, zero, suc, ◌<◌, List, [], ◌�
 use Rattle.std.proofs.lemmas.Bool.Decides.{nat_tests}
 use Rattle.scj_base.specs.declared.values.Value.{Value}
 use Rattle.scj_rules.specs.declared.typing.Scope.{Scope}
-use Rattle.scj_rules.specs.declared.typing.Scope.TheVariants.{Any, This, Caller, In}
+use Rattle.scj_rules.specs.declared.typing.Scope.TheVariants.{Any, This, Caller, In, Unknown, Lost}
 use Rattle.scj_rules.specs.declared.views.Body.{Body}
 use Rattle.scj_rules.specs.Words.{is_among, holds, ◌>>=◌}
 use Rattle.scj_rules.specs.Contexts.{Declarations}
@@ -14,7 +14,7 @@ use Rattle.accepted_laws.proofs.Tools.{some_inj}
 use Rattle.scj_model.specs.Code.{Code}
 use Rattle.scj_model.specs.State.{MemoryArea, Object, Frame}
 use Rattle.frame_sound.specs.Places.{World, Held, area_named, area_around, within, held, Has}
-use Rattle.frame_sound.specs.Fine.{ListFine, HeapFine, StaticsFine, IsOn, Under}
+use Rattle.frame_sound.specs.Fine.{IsInside, ListFine, HeapFine, StaticsFine, IsOn, Under}
 use Rattle.frame_sound.proofs.ListsStay.{Stay, are_there, list_stays, named_stays}
 use Rattle.frame_sound.proofs.Places.{has_where}
 use Rattle.frame_sound.proofs.Keeps.{ObjectsAreKept, Keeps, has_kept, under_kept, on_kept}
@@ -63,12 +63,14 @@ module _ (areas : List MemoryArea) (new : MemoryArea) where
           (still a x there)
           ∙ pick x (x.scope == s) e ih
 
-  within_more : (a : ℕ) (s : Scope) (n : ℕ) → within old_areas a s ≡ Some n → within more_areas a s ≡ Some n
+  within_more : (a : ℕ) (s : Scope) → IsInside (within old_areas a s) (within more_areas a s)
   unfolding within
   within_more a This n e = e
   within_more a (In s) n e = around_more s (suc a) a n e
   within_more a Caller n e = absurd (cc (e))
   within_more a Any n e = absurd (cc (e))
+  within_more a Unknown n e = absurd (cc (e))
+  within_more a Lost n e = absurd (cc (e))
 
   pub list_more : (list : List ℕ) → ListFine old_areas list → ListFine more_areas list
   list_more list fine = list_stays old_areas more_areas list fine (stay list)

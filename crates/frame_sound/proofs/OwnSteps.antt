@@ -18,9 +18,10 @@ use Rattle.scope_flow.specs.Facts.{Facts}
 use Rattle.scope_flow.specs.Ways.{Course}
 use Rattle.scope_flow.specs.Needs.{pushed}
 use Rattle.scope_flow.specs.Signatures.{Runs, Signature}
-use Rattle.frame_sound.specs.Places.{World, denote}
+use Rattle.frame_sound.specs.Places.{World, Place, denote}
 use Rattle.frame_sound.specs.Fine.{GivenFits, Ready, Stands, WaitsFor, held_option, list_of}
 use Rattle.frame_sound.specs.EffectsFine.{EffectFine, IsSame}
+use Rattle.frame_sound.specs.Guards.{GuardsFine}
 use Rattle.frame_sound.specs.OwnJob.{HasFaulted, HasLeft, JobGoesOn, JobStands, KeepsItsJob, lowest}
 use Rattle.frame_sound.proofs.Changes.{look}
 use Rattle.frame_sound.proofs.Kept.{ActsHere}
@@ -87,7 +88,7 @@ same_over f g h x y =
 without_next : (f : Frame) (rest : List Op) → IsSame f (record f { rest = rest })
 without_next f rest = record { body = refl; called_at = refl; this = refl; area = refl; saved = refl; opened = refl }
 
-none_waits : (p : Declarations) (den : Scope → Option ℕ) (kind : Option Kind) →
+none_waits : (p : Declarations) (den : Scope → Place) (kind : Option Kind) →
     GivenFits p None (held_option den kind) →
     kind ≡ None
 unfolding held_option
@@ -160,6 +161,8 @@ module _ (code : Code) (facts : Facts code) (rows : List ReadingRow) (s : State)
           flow =
               subst (λ ops. Course code f.body waits.class waits.sig ops ready.known (pushed None ready.kinds)) e
               ready.flow;
+          guards =
+              subst (λ ops. GuardsFine code w f.body f.this f.locals None f.operands ops) e ready.guards;
         }) in
         x.is
 

@@ -6,9 +6,10 @@ use Rattle.std.proofs.lemmas.Bool.Decides.{nat_tests}
 use Rattle.scj_base.specs.declared.values.Value.{Value}
 use Rattle.scj_base.specs.declared.values.Value.TheVariants.{Bool as Truth}
 use Rattle.scj_rules.specs.declared.typing.Scope.{Scope}
-use Rattle.scj_rules.specs.declared.typing.Scope.TheVariants.{Any, This, Caller, In}
+use Rattle.scj_rules.specs.declared.typing.Scope.TheVariants.{Any, This, Caller, In, Unknown, Lost}
 use Rattle.scj_rules.specs.declared.typing.Ty.{Ty}
 use Rattle.scj_rules.specs.Words.{is_among}
+use Rattle.scj_rules.specs.StaticScopes.{beside}
 use Rattle.accepted_laws.specs.Kinds.{Kind, kind_of_variable, Fits, seen_as}
 use Rattle.accepted_laws.proofs.Lists.{get_set_same, get_set_other, length_set, get_within}
 use Rattle.accepted_laws.proofs.Tools.{some_inj}
@@ -22,10 +23,13 @@ use Rattle.scope_flow.specs.Needs.{pushed, stacked, IsVariable}
 use Rattle.scope_flow.specs.Ways.{Course}
 use Rattle.scope_flow.specs.Facts.{Facts}
 use Rattle.scope_flow.proofs.Known.{bool_cases, or_cases}
-use Rattle.frame_sound.specs.Places.{World, denote, held, a_number, an_object, IsObject, Has, AllHave}
-use Rattle.frame_sound.specs.Fine.{ListFine, HeapFine, StaticsFine, Home, HoldsNullOr, LocalFine, LocalsFine}
+use Rattle.scj_rules.specs.declared.typing.Guard.{Guard}
+use Rattle.scope_flow.specs.Guards.{guard_of, Rest}
+use Rattle.frame_sound.specs.Guards.{GuardHolds, GuardsFine, on_no_way}
+use Rattle.frame_sound.specs.Places.{World, Place, in_one, LiesAt, denote, held, a_number, an_object, IsObject, Has, AllHave}
+use Rattle.frame_sound.specs.Fine.{ListFine, HeapFine, StaticsFine, Home, HoldsNullOr, LocalFine, LocalsFine, IsInside}
 use Rattle.frame_sound.specs.EffectsFine.{IsSame, GoesOn, Fine}
-use Rattle.frame_sound.proofs.Places.{denote_on, has_fits}
+use Rattle.frame_sound.proofs.Places.{IsView, denote_on, has_fits}
 
 -- a frame without the operation that is next, in a body of a class
 pub record Scene : Type 0 where
@@ -54,7 +58,7 @@ pub record Scene : Type 0 where
 abbrev pub memory : Scene → World
 memory m = record { areas = m.areas; objects = m.world.object_at }
 
-abbrev pub den : Scene → Scope → Option ℕ
+abbrev pub den : Scene → Scope → Place
 den m = denote (memory m) m.list m.frame.this m.frame.area
 
 abbrev pub Holds : Scene → Kind → Value → Type 0
@@ -65,6 +69,19 @@ HoldAll m ks vs = AllHave m.code.program (memory m) (den m) ks vs
 
 abbrev pub FlowsOn : Scene → List Op → List ℕ → List Kind → Type 0
 FlowsOn m ops ks s = Course m.code m.frame.body m.class m.sig ops ks s
+
+-- the frame is on no way to a guard where these operations are left: they stand in the first parts of `if`s, of which
+-- those that are guards hold
+pub record LeftGuards (m : Scene) (ops : List Op) : Type 0 where
+  pub around : List ℕ
+  pub holds : (number : ℕ) (guard : Guard) → is_among number around ≡ true → guard_of m.code number ≡ Some guard →
+      GuardHolds m.code.program (memory m) m.frame.body m.frame.this m.frame.locals guard
+  pub rest : Rest m.code m.frame.body around ops
+
+-- what the frame knows of guards where it goes on with these operands
+abbrev pub GuardedWith : Scene → List Value → Type 0
+GuardedWith m vs =
+    GuardsFine m.code (memory m) m.frame.body m.frame.this m.frame.locals None vs m.frame.rest
 
 abbrev pub Ok : Scene → Effect → Type 0
 Ok m e = Fine m.code (memory m) m.list m.class m.sig m.frame e
@@ -112,13 +129,13 @@ module _ (m : Scene) where
   pub truth_fine : (v : Value) (next : Bool → Effect) (t : Bool) → v ≡ Truth t → Ok m (next t) → Ok m (as_truth v next)
   truth_fine v next t e a = subst (λ x. Ok m (as_truth x next)) (sym e) a
 
-  pub object_fine : (t : Ty) (a : Option ℕ) (v : Value) (next : ℕ → Effect) →
+  pub object_fine : (t : Ty) (a : Place) (v : Value) (next : ℕ → Effect) →
       Has m.code.program (memory m) (an_object t a) v →
       ((o : IsObject m.code.program (memory m) t a v) → Ok m (next o.r)) → Ok m (as_object v next)
   object_fine t a v next (inl e) go = subst (λ x. Ok m (as_object x next)) (sym e) (record { is = tt })
   object_fine t a v next (inr o) go = subst (λ x. Ok m (as_object x next)) (sym o.is) (go o)
 
-  pub reference_fine : (t : Ty) (a : Option ℕ) (v : Value) (next : ℕ → Effect)
+  pub reference_fine : (t : Ty) (a : Place) (v : Value) (next : ℕ → Effect)
       (o : IsObject m.code.program (memory m) t a v) → Ok m (next o.r) → Ok m (as_reference v next)
   reference_fine t a v next o go = subst (λ x. Ok m (as_reference x next)) (sym o.is) go
 
@@ -165,9 +182,10 @@ module _ (m : Scene) where
   pub ready : (vs locals : List Value) (rest : List Op) (t : Option Kind) (ks : List ℕ) (ts : List Kind) →
       HoldAll m ts vs → LocalsFine m.code.program (memory m) (den m) m.frame.body ks locals →
       FlowsOn m rest ks (pushed t ts) →
+      GuardsFine m.code (memory m) m.frame.body m.frame.this locals t vs rest →
       GoesOn m.code (memory m) m.list m.class m.sig m.frame
       (record m.frame { operands = vs; locals = locals; rest = rest }) t
-  ready vs locals rest t ks ts h l w =
+  ready vs locals rest t ks ts h l w g =
       record {
         same = same vs locals rest;
         ready = record {
@@ -178,45 +196,81 @@ module _ (m : Scene) where
           operands = h;
           locals = l;
           flow = w;
+          guards = g;
         };
       }
 
-  -- with other operands alone
-  pub on_with : (vs : List Value) (ts : List Kind) → HoldAll m ts vs → FlowsOn m m.frame.rest m.known ts →
-      GoesOn m.code (memory m) m.list m.class m.sig m.frame (record m.frame { operands = vs }) None
-  unfolding pushed
-  on_with vs ts h w = ready vs m.frame.locals m.frame.rest None m.known ts h m.locals w
+  -- on no way to a guard the operands don't matter
+  pub guards_left : {ops : List Op} → LeftGuards m ops → (vs : List Value) (t : Option Kind) →
+      GuardsFine m.code (memory m) m.frame.body m.frame.this m.frame.locals t vs ops
+  guards_left {ops} l vs t =
+      record { around = l.around; holds = l.holds; progress = on_no_way t vs ops l.rest }
 
-  pub goes_fine : (vs : List Value) (ts : List Kind) → HoldAll m ts vs → FlowsOn m m.frame.rest m.known ts →
-      Ok m (Goes (record m.frame { operands = vs }))
-  goes_fine vs ts h w = record { is = on_with vs ts h w }
+  -- with other operands alone
+  guarded_on : (vs : List Value) (ts : List Kind) → HoldAll m ts vs → FlowsOn m m.frame.rest m.known ts →
+      GuardedWith m vs → GoesOn m.code (memory m) m.list m.class m.sig m.frame (record m.frame { operands = vs }) None
+  unfolding pushed
+  guarded_on vs ts h w g = ready vs m.frame.locals m.frame.rest None m.known ts h m.locals w g
+
+  pub on_with : LeftGuards m m.frame.rest → (vs : List Value) (ts : List Kind) → HoldAll m ts vs →
+      FlowsOn m m.frame.rest m.known ts →
+      GoesOn m.code (memory m) m.list m.class m.sig m.frame (record m.frame { operands = vs }) None
+  on_with l vs ts h w = guarded_on vs ts h w (guards_left l vs None)
+
+  pub goes_guarded : (vs : List Value) (ts : List Kind) → HoldAll m ts vs → FlowsOn m m.frame.rest m.known ts →
+      GuardedWith m vs → Ok m (Goes (record m.frame { operands = vs }))
+  goes_guarded vs ts h w g = record { is = guarded_on vs ts h w g }
+
+  pub goes_fine : LeftGuards m m.frame.rest → (vs : List Value) (ts : List Kind) → HoldAll m ts vs →
+      FlowsOn m m.frame.rest m.known ts → Ok m (Goes (record m.frame { operands = vs }))
+  goes_fine l vs ts h w = record { is = on_with l vs ts h w }
 
   -- ---- where values go
 
-  pub on_list : (s : Scope) (a : ℕ) → den m s ≡ Some a → is_among a m.list ≡ true
+  pub on_list : (s : Scope) (a : ℕ) → LiesAt (den m s) a → is_among a m.list ≡ true
   on_list s a e =
       denote_on m.code.program (memory m) m.list m.class m.sig m.frame.body m.frame.this m.frame.area m.home s a e
 
-  pub no_any : den m Any ≡ None
+  pub no_any : den m Any ≡ in_one None
   unfolding denote
   no_any = refl
 
-  pub never_any : (s : Scope) (a : ℕ) → den m s ≡ Some a → s ≡ Any → ⊥
+  pub never_any : (s : Scope) (a : ℕ) → LiesAt (den m s) a → s ≡ Any → ⊥
+  never_any s a e h =
+      absurd (let x : LiesAt (in_one None) a = subst (λ q. LiesAt q a) (ap (den m) h ∙ no_any) e in cc (x))
+
+  -- what is unknown lies somewhere on the list, and what lies beside an object lies where that does
+  pub to_unknown : (s : Scope) → IsInside (den m s) (den m Unknown)
   unfolding denote
-  never_any s a e h = absurd (let x : None ≡ Some a = sym (ap (den m) h) ∙ e in cc (x))
+  to_unknown s a e = on_list s a e
+
+  pub beside_there : (s : Scope) → IsInside (den m s) (den m (beside s))
+  unfolding denote beside
+  beside_there Any a e = e
+  beside_there This a e = e
+  beside_there Caller a e = e
+  beside_there (In n) a e = e
+  beside_there Unknown a e = e
+  beside_there Lost a e = e
+
+  pub view : IsView m.areas m.list (den m)
+  unfolding denote
+  view = record { none = refl; named = λ s. refl; beside_there = beside_there }
 
   -- to a place of the same frame
   pub fits_here : (j k : Kind) → Fits m.code.program This Caller j k → (v : Value) → Holds m j v → Holds m k v
-  unfolding seen_as denote
+  unfolding seen_as beside
   fits_here j k fit v h =
-      has_fits m.code m.facts (memory m) (den m) (den m) This Caller refl (λ e. cc (e)) j k
-      (λ t r e n. agree r n) fit v h
+      has_fits m.code m.facts (memory m) (den m) (den m) This Caller no_any (λ e. cc (e)) to_unknown j k
+      (λ t r e n. agree r) fit v h
     where
-      agree : (r : Scope) (n : ℕ) → den m (seen_as This Caller r) ≡ Some n → den m r ≡ Some n
-      agree Any n e = e
-      agree This n e = e
-      agree Caller n e = e
-      agree (In s) n e = e
+      agree : (r : Scope) → IsInside (den m (seen_as This Caller r)) (den m r)
+      agree Any a e = e
+      agree This a e = e
+      agree Caller a e = e
+      agree (In s) a e = e
+      agree Unknown a e = e
+      agree Lost a e = e
 
   -- a local that is set
   pub locals_set : (i v : ℕ) (slot : IsVariable m.code.program m.frame.body i v) (x : Value) → Holds m slot.kind x →

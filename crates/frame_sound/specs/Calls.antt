@@ -15,7 +15,7 @@ use Rattle.scope_flow.specs.Signatures.{Signature, Runs}
 use Rattle.scope_flow.specs.Pushers.{Pusher, IsScopeOfExpression, IsScopeOfReceiver}
 use Rattle.scope_flow.specs.CallNeeds.{receiver_of}
 use Rattle.scope_flow.specs.Ways.{Comes}
-use Rattle.frame_sound.specs.Places.{World, denote}
+use Rattle.frame_sound.specs.Places.{World, Place, LiesAt, denote}
 
 -- the object of a frame is there
 pub record HasThis (w : World) (this : Option ℕ) : Type 0 where
@@ -29,7 +29,7 @@ pub record HasThis (w : World) (this : Option ℕ) : Type 0 where
 
 -- a call: the body is what the class of the object has for the method that is called. The object lies where the scope of
 -- the receiver says
-pub record ByCall (code : Code) (w : World) (den : Scope → Option ℕ) (c now id : ℕ) (body : Body) (this : Option ℕ)
+pub record ByCall (code : Code) (w : World) (den : Scope → Place) (c now id : ℕ) (body : Body) (this : Option ℕ)
     (area : ℕ) : Type 0 where
   pub method : ℕ
   pub is : bound_method (binding code id) ≡ Some method
@@ -39,7 +39,7 @@ pub record ByCall (code : Code) (w : World) (den : Scope → Option ℕ) (c now 
   pub is_receiver : part code receiver_of id ≡ Some receiver
   pub scope : Scope
   pub of_receiver : IsScopeOfReceiver code.program c receiver scope
-  pub lies : den scope ≡ Some on.object.area
+  pub lies : LiesAt (den scope) on.object.area
   pub same_area : area ≡ now
 
 -- a static call: the body is that of the method that is called
@@ -51,7 +51,7 @@ pub record ByStaticCall (code : Code) (now id : ℕ) (body : Body) (this : Optio
   pub same_area : area ≡ now
 
 -- a `new`: the body is the constructor of its class. The object lies where the scope of the `new` says
-pub record ByNew (code : Code) (w : World) (den : Scope → Option ℕ) (now id : ℕ) (body : Body) (this : Option ℕ)
+pub record ByNew (code : Code) (w : World) (den : Scope → Place) (now id : ℕ) (body : Body) (this : Option ℕ)
     (area : ℕ) : Type 0 where
   pub class : ℕ
   pub is : bound_class (binding code id) ≡ Some class
@@ -59,11 +59,11 @@ pub record ByNew (code : Code) (w : World) (den : Scope → Option ℕ) (now id 
   pub on : HasThis w this
   pub scope : Scope
   pub of_new : IsScopeOfExpression code.program id scope
-  pub lies : den scope ≡ Some on.object.area
+  pub lies : LiesAt (den scope) on.object.area
   pub same_area : area ≡ now
 
 -- a super part: the body is the constructor of the superclass. The object lies where the scope of `this` says
-pub record BySuper (code : Code) (w : World) (den : Scope → Option ℕ) (c now id : ℕ) (body : Body) (this : Option ℕ)
+pub record BySuper (code : Code) (w : World) (den : Scope → Place) (c now id : ℕ) (body : Body) (this : Option ℕ)
     (area : ℕ) : Type 0 where
   pub superclass : ℕ
   pub is : bound_class (binding code id) ≡ Some superclass
@@ -71,7 +71,7 @@ pub record BySuper (code : Code) (w : World) (den : Scope → Option ℕ) (c now
   pub on : HasThis w this
   pub scope : Scope
   pub of_this : this_in code.program c ≡ Some scope
-  pub lies : den scope ≡ Some on.object.area
+  pub lies : LiesAt (den scope) on.object.area
   pub same_area : area ≡ now
 
 -- ENTER and EXECUTEIN: the body is the `run` of the object
@@ -79,7 +79,7 @@ pub record ByRun (code : Code) (w : World) (body : Body) (this : Option ℕ) : T
   pub on : HasThis w this
   pub runs : body_named code.program on.object.class (codes "run") ≡ Some body
 
-unfoldable pub IsCalledBy : Code → World → (Scope → Option ℕ) → ℕ → ℕ → Op → Body → Option ℕ → ℕ → Type 0
+unfoldable pub IsCalledBy : Code → World → (Scope → Place) → ℕ → ℕ → Op → Body → Option ℕ → ℕ → Type 0
 IsCalledBy code w den c now (CALL id) body this area = ByCall code w den c now id body this area
 IsCalledBy code w den c now (CALLSTATIC id) body this area = ByStaticCall code now id body this area
 IsCalledBy code w den c now (CONSTRUCT id) body this area = ByNew code w den now id body this area

@@ -16,7 +16,7 @@ use Rattle.scj_model.specs.Effects.{Effect, Goes, Prints, Makes, Stores, StoresS
 use Rattle.scope_flow.specs.Slots.{array_type, kind_of_slot, kind_of_static}
 use Rattle.scope_flow.specs.Signatures.{Signature, IsConcrete, IsEntered, LiesHere, SlotsReach}
 use Rattle.frame_sound.specs.Calls.{IsCalledIn}
-use Rattle.frame_sound.specs.Places.{World, denote, within, held, Has}
+use Rattle.frame_sound.specs.Places.{World, Place, denote, within, held, Has}
 use Rattle.frame_sound.specs.Fine.{Ready, held_option, GivenFits, IsOnList}
 
 -- the frame stands where it stood
@@ -49,7 +49,7 @@ pub record MakeFine (code : Code) (w : World) (list : List ℕ) (c : ℕ) (sig :
   pub reach : SlotsReach code.program class sig.runs_in
   pub is_full : array_type code.program class ≡ None → length values ≡ slots code.program class
   -- the values with which it begins are right wherever it lies
-  pub begins : (u : World) (den : Scope → Option ℕ) (slot : ℕ) (k : Kind) (v : Value) →
+  pub begins : (u : World) (den : Scope → Place) (slot : ℕ) (k : Kind) (v : Value) →
       kind_of_slot code.program class slot ≡ Some k → slice_get values slot ≡ Some v →
       Has code.program u (held den k) v
 
@@ -100,7 +100,7 @@ pub record OpenFine (code : Code) (w : World) (list : List ℕ) (c : ℕ) (sig :
   -- whichever area is opened for it
   pub on : (area : ℕ) → IsCalledIn code w list h g.body g.called_at g.this area
 
-abbrev pub ReturnFine : Declarations → World → (Scope → Option ℕ) → Option Kind → Option Value → Type 0
+abbrev pub ReturnFine : Declarations → World → (Scope → Place) → Option Kind → Option Value → Type 0
 ReturnFine p w den None None = Unit {0}
 ReturnFine p w den (Some k) (Some v) = Has p w (held den k) v
 ReturnFine p w den _ _ = ⊥

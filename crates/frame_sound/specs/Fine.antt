@@ -21,7 +21,8 @@ use Rattle.scope_flow.specs.Signatures.{Signature, Runs, variables_in, runs_for_
 use Rattle.scope_flow.specs.Needs.{pushed}
 use Rattle.scope_flow.specs.Ways.{Course}
 use Rattle.frame_sound.specs.Calls.{IsCalledIn}
-use Rattle.frame_sound.specs.Places.{World, world_of, area_named, denote, area_around, within, Held, a_number, a_truth, a_yes, an_object, held, Has, AllHave}
+use Rattle.frame_sound.specs.Guards.{GuardsFine}
+use Rattle.frame_sound.specs.Places.{World, world_of, area_named, Place, the_area, LiesAt, denote, area_around, within, Held, a_number, a_truth, a_yes, an_object, held, Has, AllHave}
 
 -- ---- a job's list of areas
 
@@ -123,7 +124,7 @@ pub record OwnObject (p : Declarations) (w : World) (list : List ℕ) (c : ℕ) 
   pub object : Object
   pub found : w.objects r ≡ Some object
   pub of_type : IsOfType p object.class (ClassTy c)
-  pub lies : (home : Scope) → this_in p c ≡ Some home → denote w list this now home ≡ Some object.area
+  pub lies : (home : Scope) → this_in p c ≡ Some home → denote w list this now home ≡ the_area object.area
 
 -- an object lies in an area of the list
 pub record IsOnList (w : World) (list : List ℕ) (r : ℕ) : Type 0 where
@@ -137,20 +138,20 @@ pub record Home (p : Declarations) (w : World) (list : List ℕ) (c : ℕ) (sig 
   pub own : runs_for_object p body ≡ true → OwnObject p w list c this now
   pub on_list : (r : ℕ) → this ≡ Some r → IsOnList w list r
   pub now_on_list : is_among now list ≡ true
-  pub is_now : denote w list this now sig.runs_in ≡ Some now
+  pub is_now : denote w list this now sig.runs_in ≡ the_area now
 
-pub record LocalFine (p : Declarations) (w : World) (den : Scope → Option ℕ) (locals : List Value) (i : ℕ)
+pub record LocalFine (p : Declarations) (w : World) (den : Scope → Place) (locals : List Value) (i : ℕ)
     (k : Kind) : Type 0 where
   pub value : Value
   pub is : slice_get locals i ≡ Some value
   pub has : Has p w (held den k) value
 
 -- null, or a value as the variable says
-abbrev pub HoldsNullOr : Declarations → World → (Scope → Option ℕ) → ℕ → Value → Type 0
+abbrev pub HoldsNullOr : Declarations → World → (Scope → Place) → ℕ → Value → Type 0
 HoldsNullOr p w den v value =
     (value ≡ Null) ⊎ ((k : Kind) × (kind_of_variable p v ≡ Some k) × Has p w (held den k) value)
 
-pub record LocalsFine (p : Declarations) (w : World) (den : Scope → Option ℕ) (body : Body) (known : List ℕ)
+pub record LocalsFine (p : Declarations) (w : World) (den : Scope → Place) (body : Body) (known : List ℕ)
     (locals : List Value) : Type 0 where
   pub long : length locals ≡ length (variables_in p body)
   pub each : (i v : ℕ) (k : Kind) → slice_get (variables_in p body) i ≡ Some v → kind_of_variable p v ≡ Some k →
@@ -169,16 +170,21 @@ pub record Ready (code : Code) (w : World) (list : List ℕ) (c : ℕ) (sig : Si
   pub operands : AllHave code.program w (denote w list f.this f.area) kinds f.operands
   pub locals : LocalsFine code.program w (denote w list f.this f.area) f.body known f.locals
   pub flow : Course code f.body c sig f.rest known (pushed t kinds)
+  pub guards : GuardsFine code w f.body f.this f.locals t f.operands f.rest
+
+-- what lies at the first place lies at the second
+abbrev pub IsInside : Place → Place → Type 0
+IsInside a b = (n : ℕ) → LiesAt a n → LiesAt b n
 
 -- what one gives is what another waits for
 abbrev pub HeldFits : Declarations → Held → Held → Type 0
 HeldFits p a_number a_number = Unit {0}
 HeldFits p a_truth a_truth = Unit {0}
 HeldFits p a_yes a_truth = Unit {0}
-HeldFits p (an_object t a) (an_object u b) = ((a ≡ None) ⊎ (a ≡ b)) × (assigns p.classes t u ≡ true)
+HeldFits p (an_object t a) (an_object u b) = IsInside a b × (assigns p.classes t u ≡ true)
 HeldFits p _ _ = ⊥
 
-unfoldable pub held_option : (Scope → Option ℕ) → Option Kind → Option Held
+unfoldable pub held_option : (Scope → Place) → Option Kind → Option Held
 held_option den None = None
 held_option den (Some k) = Some (held den k)
 

@@ -2,6 +2,7 @@ pub mod AllJobs
 pub mod Calls
 pub mod EffectsFine
 pub mod Fine
+pub mod Guards
 pub mod Others
 pub mod OwnJob
 pub mod Places

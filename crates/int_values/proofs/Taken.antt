@@ -1,6 +1,6 @@
 -- What the next operation of a job takes and sets, where its frames are as the rules say: ELEM takes an array, and the
 -- hidden fields that PARAMS sets are hidden ones of the object.
-use Rattle.std.proofs.Common.{◌≡◌, ℕ, zero, suc, ◌≤◌, ◌<◌, List, ◌∷◌, length, Option, Some, None, sym, ◌∙◌, subst, arith, inl, inr}
+use Rattle.std.proofs.Common.{◌≡◌, ℕ, zero, suc, ◌≤◌, ◌<◌, List, ◌∷◌, length, Some, None, sym, ◌∙◌, subst, arith, inl, inr}
 use Rattle.std.specs.Prelude.{slice_get}
 use Rattle.scj_base.specs.declared.values.Value.{Value}
 use Rattle.scj_base.specs.declared.values.Value.TheVariants.{At, Null}
@@ -27,7 +27,7 @@ use Rattle.scope_flow.specs.Signatures.{Signature}
 use Rattle.scope_flow.specs.Slots.{array_type, kind_of_elements, IsOfType}
 use Rattle.frame_sound.specs.EffectsFine.{EffectFine, HiddenFine}
 use Rattle.frame_sound.specs.Fine.{FramesFine, MemoryFine, Ready, list_of}
-use Rattle.frame_sound.specs.Places.{AllHave, Has, World, an_object, denote, held, world_of}
+use Rattle.frame_sound.specs.Places.{AllHave, Has, Place, World, an_object, denote, held, world_of}
 use Rattle.frame_sound.proofs.NextOperation.{next_fine}
 use Rattle.reference_sound.proofs.Passes.{highest_ready}
 use Rattle.int_values.proofs.Applied.{SetsItsHidden}
@@ -50,7 +50,7 @@ same_reference r q e = cc (e)
 no_null : (r : ℕ) → At r ≡ Null → ⊥
 no_null r e = cc (e)
 
-module _ (p : Declarations) (w : World) (den : Scope → Option ℕ) where
+module _ (p : Declarations) (w : World) (den : Scope → Place) where
   element_of : (id : ℕ) (kinds out : List Kind) (values : List Value) → AllHave p w den kinds values →
       ElemNeeds p id kinds out → (index : Value) (r : ℕ) (below : List Value) (o : Object) →
       values ≡ index ∷ At r ∷ below → w.objects r ≡ Some o → (t : Ty) × (array_type p o.class ≡ Some t)
@@ -90,7 +90,7 @@ sets_of : (code : Code) (s : State) (list : List ℕ) (c : ℕ) (sig : Signature
 sets_of code s list c sig f (SetsHidden h r values) x = hidden_of code.program s r values x.1
 sets_of code s list c sig f _ x = tt
 
-takes_of : (code : Code) (world : Environment) (areas : _) (den : Scope → Option ℕ) (body : Body) (c : ℕ)
+takes_of : (code : Code) (world : Environment) (areas : _) (den : Scope → Place) (body : Body) (c : ℕ)
     (sig : Signature) (f : Frame) (op : Op) (known : List ℕ) (kinds : List Kind) (next : Goals) →
     AllHave code.program (record { areas = areas; objects = world.object_at }) den kinds f.operands →
     Needs code body c sig op known kinds next → Takes code world f op

@@ -59,7 +59,7 @@ pub frame_live : (s : State) (job : Job) (activity : Activity) (f : Frame) (belo
     activity_of s job ≡ Some activity → activity.frames ≡ f ∷ below →
     (r : ℕ) → Contains (references_of_frame f) r → IsTrue (is_of_open_area s r)
 frame_live s job activity f below none e frames r c =
-    none r (in_live s job activity r e
+    none.are_open r (in_live s job activity r e
     (subst (λ (fs : List Frame). Contains (flat_map references_of_frame fs) r) (sym frames)
     (Contains-append_left (references_of_frame f) (flat_map references_of_frame below) r c)))
 

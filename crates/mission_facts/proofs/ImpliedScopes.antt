@@ -3,7 +3,7 @@
 use Rattle.std.proofs.Common.{◌≡◌, ℕ, ◌<◌, List, [], length, sym, ap, ◌∙◌, refl, Option, Some, None, Bool, true, false, not, ◌||◌, ◌==◌, true≢false, if◌then◌else◌}
 use Rattle.scj_tree.specs.Forest.{Forest, IsForest}
 use Rattle.scj_rules.specs.declared.scopes.ClassScope.{ClassScope}
-use Rattle.scj_rules.specs.declared.scopes.ClassScope.TheVariants.{Unannotated as unannotated, Annotated as annotated, Unknown as unknown}
+use Rattle.scj_rules.specs.declared.scopes.ClassScope.TheVariants.{Unannotated as unannotated, Annotated as annotated, Missing as scopeless}
 use Rattle.scj_rules.specs.declared.scopes.Written.{Written}
 use Rattle.scj_rules.specs.declared.typing.Scope.TheVariants.{This, In}
 use Rattle.scj_rules.specs.Words.{holds}
@@ -27,23 +27,23 @@ scope_is p w n e = go (scope_number p w.name) refl e
 
 -- of a class on which A2 isn't broken, where IMMORTAL is demanded of it
 demanded : (p : Declarations) (w : Option Written) (above : ClassScope) →
-    differs_from_above p w above true ≡ false → (scope_of_right_class p w above true ≡ unknown → ⊥) →
+    differs_from_above p w above true ≡ false → (scope_of_right_class p w above true ≡ scopeless → ⊥) →
     scope_of_right_class p w above true ≡ annotated immortal_scope
 unfolding differs_from_above scope_of_right_class
 demanded p (Some w) (annotated n) e k =
-    ap (λ (o : Option ℕ). elim o as (λ _. ClassScope) [ None ↦ unknown | Some s ↦ annotated s ])
+    ap (λ (o : Option ℕ). elim o as (λ _. ClassScope) [ None ↦ scopeless | Some s ↦ annotated s ])
     (scope_is p w immortal_scope (or_false (is_not_scope p w immortal_scope) false
     (or_false (is_not_scope p w n) _ e).1).0)
 demanded p (Some w) unannotated e k =
-    ap (λ (o : Option ℕ). elim o as (λ _. ClassScope) [ None ↦ unknown | Some s ↦ annotated s ])
+    ap (λ (o : Option ℕ). elim o as (λ _. ClassScope) [ None ↦ scopeless | Some s ↦ annotated s ])
     (scope_is p w immortal_scope (or_false (is_not_scope p w immortal_scope) false e).0)
-demanded p (Some w) unknown e k =
-    ap (λ (o : Option ℕ). elim o as (λ _. ClassScope) [ None ↦ unknown | Some s ↦ annotated s ])
+demanded p (Some w) scopeless e k =
+    ap (λ (o : Option ℕ). elim o as (λ _. ClassScope) [ None ↦ scopeless | Some s ↦ annotated s ])
     (scope_is p w immortal_scope (or_false (is_not_scope p w immortal_scope) false e).0)
 demanded p None (annotated n) e k =
     ap (λ n. annotated n) (not_other n immortal_scope (or_false (not (n == immortal_scope)) false e).0)
 demanded p None unannotated e k = refl
-demanded p None unknown e k = absurd (k refl)
+demanded p None scopeless e k = absurd (k refl)
 
 module _ (forest : Forest) (accepted : IsAccepted forest) (whole : IsForest forest) (sorted : IsWellSorted forest.nodes)
   where
@@ -77,8 +77,8 @@ module _ (forest : Forest) (accepted : IsAccepted forest) (whole : IsForest fore
         let s : ClassScope = scope_above p class in
         let i : Bool = is_implied_immortal p class in
         from_above class l
-        ∙ ap (λ t. if t || differs_from_above p w s i then unknown else scope_of_right_class p w s i) r.known
-        ∙ ap (λ t. if t then unknown else scope_of_right_class p w s i) r.same
+        ∙ ap (λ t. if t || differs_from_above p w s i then scopeless else scope_of_right_class p w s i) r.known
+        ∙ ap (λ t. if t then scopeless else scope_of_right_class p w s i) r.same
 
     -- a class that names a scope lies in it
     pub named_class_scope : (class : ℕ) (w : Written) (n : ℕ) → class < length p.classes →
@@ -87,7 +87,7 @@ module _ (forest : Forest) (accepted : IsAccepted forest) (whole : IsForest fore
     named_class_scope class w n l written number =
         from_right class l
         ∙ ap (λ w. scope_of_right_class p w (scope_above p class) (is_implied_immortal p class)) written
-        ∙ ap (λ (o : Option ℕ). elim o as (λ _. ClassScope) [ None ↦ unknown | Some s ↦ annotated s ]) number
+        ∙ ap (λ (o : Option ℕ). elim o as (λ _. ClassScope) [ None ↦ scopeless | Some s ↦ annotated s ]) number
 
     -- what is implied to lie in immortal memory does
     pub implied_class_scope : (class : ℕ) → class < length p.classes → is_implied_immortal p class ≡ true →

@@ -6,7 +6,7 @@ use Rattle.scj_builtins.specs.declared.kinds.RunsInKind.TheVariants.{Immortal as
 use Rattle.scj_builtins.specs.Framework.{framework_methods, safelet}
 use Rattle.scj_tree.specs.Forest.{Forest, IsForest}
 use Rattle.scj_rules.specs.declared.scopes.ClassScope.{ClassScope}
-use Rattle.scj_rules.specs.declared.scopes.ClassScope.TheVariants.{Unannotated as unannotated, Annotated as annotated, Unknown as unknown}
+use Rattle.scj_rules.specs.declared.scopes.ClassScope.TheVariants.{Unannotated as unannotated, Annotated as annotated, Missing as scopeless}
 use Rattle.scj_rules.specs.declared.scopes.Resolution.{Resolution}
 use Rattle.scj_rules.specs.declared.scopes.Resolution.TheVariants.{Resolved as resolved, Unresolved as unresolved}
 use Rattle.scj_rules.specs.declared.scopes.Written.{Written}
@@ -56,7 +56,7 @@ module _ (forest : Forest) (accepted : IsAccepted forest) (whole : IsForest fore
         go unannotated a k = subst RunsInImmortal (some_inj This s k) tt
         go (annotated n) a k =
             subst RunsInImmortal (some_inj (In n) s k) (scope_of_this class on n l h e a)
-        go unknown a k = absurd (cc (k))
+        go scopeless a k = absurd (cc (k))
 
     default_immortal : (class on : ℕ) (s : Scope) → class < length p.classes →
         is_among on (superclasses p.classes class) ≡ true → class_scope p class ≡ annotated immortal_scope →
@@ -68,7 +68,7 @@ module _ (forest : Forest) (accepted : IsAccepted forest) (whole : IsForest fore
         go unannotated a k = subst RunsInImmortal (some_inj Caller s k) tt
         go (annotated n) a k =
             subst RunsInImmortal (some_inj (In n) s k) (scope_of_this class on n l h e a)
-        go unknown a k = absurd (cc (k))
+        go scopeless a k = absurd (cc (k))
 
     -- the name of a scope that isn't inside IMMORTAL
     written_immortal : (class on : ℕ) (name : List ℕ) (s : Scope) → class < length p.classes →

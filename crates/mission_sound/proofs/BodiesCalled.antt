@@ -19,8 +19,9 @@ use Rattle.scope_flow.specs.Slots.{IsOfType}
 use Rattle.scope_flow.specs.Needs.{pushed}
 use Rattle.scope_flow.specs.Facts.{Facts}
 use Rattle.scope_flow.proofs.Courses.{entry_stood}
-use Rattle.frame_sound.specs.Places.{World, denote, world_of, AllHave}
+use Rattle.frame_sound.specs.Places.{World, the_area, denote, world_of, AllHave}
 use Rattle.frame_sound.specs.Fine.{ListFine, HeapFine, Ready, held_option, Under, list_of}
+use Rattle.frame_sound.proofs.GuardSteps.{leaves_guarded}
 use Rattle.frame_sound.proofs.Begins.{begins, on_this}
 use Rattle.mission_sound.specs.Bases.{areas_of}
 use Rattle.mission_sound.specs.Invariant.{IsCalledBy, body_called_by, lowest, SequencerFine, AfterOperation, Operates}
@@ -40,7 +41,7 @@ module _ (code : Code) (facts : Facts code) (w : World) (list : List ℕ) (fine 
     (heap : HeapFine code.program w) (now : ℕ) (now_on : is_among now list ≡ true) (r : ℕ) (object : Object)
     (found : w.objects r ≡ Some object) (on_list : is_among object.area list ≡ true) (on : ℕ)
     (of_type : IsOfType code.program object.class (ClassTy on)) (sig : Signature) (takes : sig.takes ≡ [])
-    (runs_there : denote w list (Some r) now sig.runs_in ≡ Some now) where
+    (runs_there : denote w list (Some r) now sig.runs_in ≡ the_area now) where
   takes_none : AllHave code.program w (denote w list (Some r) now) sig.takes []
   takes_none = subst (λ ks. AllHave code.program w (denote w list (Some r) now) ks []) (sym takes) tt
 
@@ -64,6 +65,7 @@ module _ (code : Code) (facts : Facts code) (w : World) (list : List ℕ) (fine 
         operands = tt;
         locals = record { long = refl; each = λ i v k there is known. absurd (cc (there)); fits = λ i v value there has. absurd (cc (there)) };
         flow = (entry_stood code Empty on, ap (λ (s : Signature). s.gives) runs.1);
+        guards = leaves_guarded code w Empty (Some r) _ None [];
       }
 
 -- ---- the sequencer, with the frame
@@ -73,7 +75,7 @@ module _ (code : Code) (basics : Facts code) (s : State) (f : Free code s) (r : 
     (others : List ℕ) (is_base : areas_of f.invariant.base ≡ now ∷ others)
     (fine : ListFine (world_of s).areas (now ∷ others)) (lies : is_among object.area (now ∷ others) ≡ true)
     (body : Option Body) (called : IsCalledOn code.program object.class body)
-    (runs_there : denote (world_of s) (now ∷ others) (Some r) now called.sig.runs_in ≡ Some now)
+    (runs_there : denote (world_of s) (now ∷ others) (Some r) now called.sig.runs_in ≡ the_area now)
     (by_operation : body_called_by code.program (world_of s) s.operation ≡ body) where
   abbrev frame : Frame
   frame = new_frame code called.body None (Some r) now []

@@ -22,7 +22,7 @@ use Rattle.scj_model.specs.Plan.{Plan}
 use Rattle.scj_model.specs.Memory.{literal_value, default_value}
 use Rattle.scj_model.specs.Run.{first_static, empty_state}
 use Rattle.scope_flow.specs.Slots.{kind_of_literal, kind_of_static}
-use Rattle.frame_sound.specs.Places.{World, within, held, Has, world_of}
+use Rattle.frame_sound.specs.Places.{World, Place, within, held, Has, world_of}
 use Rattle.frame_sound.specs.Fine.{StaticFine}
 use Rattle.frame_sound.proofs.Defaults.{default_has}
 use Rattle.mission_sound.specs.Bases.{unopened}
@@ -53,7 +53,7 @@ literal_is (FalseNode place) j v e f = literal_as j truth (Truth false) v e f (f
 literal_is (NullNode place) j v e f = literal_as j (reference NullTy Any) Null v e f refl
 literal_is _ j v e f = absurd (cc (e))
 
-module _ (p : Declarations) (w : World) (den : Scope → Option ℕ) where
+module _ (p : Declarations) (w : World) (den : Scope → Place) where
   fitting_has : (j k : Kind) (v : Value) → Fits p This Caller j k → IsLiteral j v → Has p w (held den k) v
   unfolding held
   fitting_has number number v f h = h
@@ -64,7 +64,7 @@ module _ (p : Declarations) (w : World) (den : Scope → Option ℕ) where
 
 -- ---- static fields before the run
 
-module _ (code : Code) (facts : SequencerFacts code) (w : World) (den : Scope → Option ℕ) where
+module _ (code : Code) (facts : SequencerFacts code) (w : World) (den : Scope → Place) where
   first_has : (place : ℕ) (d : Declared) (k : Kind) → slice_get (static_fields code.program) place ≡ Some d →
       kind_of_field code.program d ≡ Some k → Has code.program w (held den k) (first_static code d)
   unfolding first_static kind_of_field

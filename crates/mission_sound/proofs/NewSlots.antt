@@ -19,7 +19,7 @@ use Rattle.scj_model.specs.Memory.{default_value, hidden_values, new_slots}
 use Rattle.scj_model.proofs.Slots.{hidden_counted}
 use Rattle.scope_flow.specs.Slots.{array_type, kind_of_elements, kind_of_own_slot, kind_of_slot}
 use Rattle.scope_flow.proofs.Known.{bool_cases}
-use Rattle.frame_sound.specs.Places.{World, held, Has}
+use Rattle.frame_sound.specs.Places.{World, Place, held, Has}
 use Rattle.frame_sound.proofs.Defaults.{default_has}
 
 -- ---- lists
@@ -65,7 +65,7 @@ hidden_ints p class i v e =
     go false true (suc (suc i)) e = absurd (cc (e))
     go false false i e = absurd (cc (e))
 
-module _ (p : Declarations) (w : World) (den : Scope → Option ℕ) (class : ℕ) where
+module _ (p : Declarations) (w : World) (den : Scope → Place) (class : ℕ) where
   field_begins : (slot : ℕ) (k : Kind) (v : Value) →
       slice_get (instance_fields p.classes class) slot >>= kind_of_field p ≡ Some k →
       slice_get (map (λ (f : Declared). default_value (kind_of_type f.declared_type)) (instance_fields p.classes class))

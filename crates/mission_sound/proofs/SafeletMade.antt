@@ -21,7 +21,7 @@ use Rattle.scj_model.proofs.Slots.{slots_counted}
 use Rattle.scope_flow.specs.Signatures.{Signature, IsConcrete}
 use Rattle.scope_flow.specs.Slots.{array_type, IsOfType}
 use Rattle.scope_flow.specs.Facts.{Facts}
-use Rattle.frame_sound.specs.Places.{area_named, denote, world_of}
+use Rattle.frame_sound.specs.Places.{in_one, area_named, denote, world_of}
 use Rattle.frame_sound.specs.Fine.{ListFine, Home, ObjectFine}
 use Rattle.frame_sound.proofs.Keeps.{ObjectsAreKept}
 use Rattle.frame_sound.proofs.Changes.{new_is_kept, heap_new, statics_still, new_fine}
@@ -81,7 +81,7 @@ module _ (code : Code) (basics : Facts code) (facts : SequencerFacts code) (s : 
         own = λ h. absurd (true≢false (sym h));
         on_list = λ r h. absurd (cc (h));
         now_on_list = refl;
-        is_now = immortal_named (world_of s).areas list_fine;
+        is_now = ap (λ o. in_one o) (immortal_named (world_of s).areas list_fine);
       }
 
   new_is_fine : ObjectFine code.program (world_of made) new

@@ -4,7 +4,7 @@ use Rattle.std.proofs.Common.{◌≡◌, ℕ, List, [], ◌∷◌, true, false, 
 use Rattle.std.proofs.lemmas.Bool.Decides.{nat_tests}
 use Rattle.scj_builtins.specs.Framework.{safelet as safelet_interface, mission as mission_class, mission_sequencer as sequencer_class}
 use Rattle.scj_rules.specs.declared.typing.Scope.{Scope}
-use Rattle.scj_rules.specs.declared.typing.Scope.TheVariants.{Any, This, Caller, In}
+use Rattle.scj_rules.specs.declared.typing.Scope.TheVariants.{Any, This, Caller, In, Unknown, Lost}
 use Rattle.scj_rules.specs.declared.views.Body.{Body}
 use Rattle.scj_rules.specs.Words.{is_among, ◌>>=◌}
 use Rattle.scj_rules.specs.Classes.{is_sub}
@@ -23,7 +23,7 @@ use Rattle.scope_flow.specs.Signatures.{IsConcrete}
 use Rattle.scope_flow.specs.Slots.{IsOfType}
 use Rattle.scope_flow.specs.Needs.{CallsConstructor}
 use Rattle.scope_flow.specs.Facts.{Facts}
-use Rattle.frame_sound.specs.Places.{World, area_named, denote, world_of}
+use Rattle.frame_sound.specs.Places.{World, in_one, the_area, area_named, denote, world_of}
 use Rattle.frame_sound.specs.Fine.{ListFine}
 use Rattle.frame_sound.proofs.Begins.{home_denotes}
 use Rattle.mission_sound.specs.Bases.{areas_of, in_immortal, in_mission, BaseBefore, BaseFine, IsInMission, IsMissionMemory}
@@ -37,26 +37,28 @@ use Rattle.mission_sound.proofs.SafeletMade.{immortal_named, safelet_is_made}
 
 -- ---- where bodies run
 
-caller_denoted : (w : World) (list : List ℕ) (this : Option ℕ) (now : ℕ) → denote w list this now Caller ≡ Some now
+caller_denoted : (w : World) (list : List ℕ) (this : Option ℕ) (now : ℕ) → denote w list this now Caller ≡ the_area now
 unfolding denote
 caller_denoted w list this now = refl
 
 module _ (w : World) (r : ℕ) (object : Object) (found : w.objects r ≡ Some object) (lies : object.area ≡ 0) where
   -- in immortal memory each of these scopes is immortal memory
   immortal_denoted : ListFine w.areas (0 ∷ []) → (scope : Scope) → RunsInImmortal scope →
-      denote w (0 ∷ []) (Some r) 0 scope ≡ Some 0
+      denote w (0 ∷ []) (Some r) 0 scope ≡ the_area 0
   unfolding denote
   immortal_denoted fine This h =
-      ap (λ (o : Option Object). o >>= (λ o. Some o.area)) found ∙ ap (λ a. Some a) lies
+      ap (λ o. in_one o) (ap (λ (o : Option Object). o >>= (λ o. Some o.area)) found ∙ ap (λ a. Some a) lies)
   immortal_denoted fine Caller h = refl
   immortal_denoted fine (In n) h =
-      ap (λ n. area_named w.areas n (0 ∷ [])) h ∙ immortal_named w.areas fine
+      ap (λ o. in_one o) (ap (λ n. area_named w.areas n (0 ∷ [])) h ∙ immortal_named w.areas fine)
   immortal_denoted fine Any h = absurd h
+  immortal_denoted fine Unknown h = absurd h
+  immortal_denoted fine Lost h = absurd h
 
   -- and in a mission's memory each of these that memory
   memory_denoted : (memory : ℕ) (area : MemoryArea) → w.areas memory ≡ Some area →
       ListFine w.areas (memory ∷ (0 ∷ [])) → (scope : Scope) → RunsInNamed area.scope scope →
-      denote w (memory ∷ (0 ∷ [])) (Some r) memory scope ≡ Some memory
+      denote w (memory ∷ (0 ∷ [])) (Some r) memory scope ≡ the_area memory
   unfolding denote
   memory_denoted memory area there fine scope (inl e) = ap (denote w (memory ∷ (0 ∷ [])) (Some r) memory) e
   memory_denoted memory area there fine scope (inr e) =
@@ -64,7 +66,8 @@ module _ (w : World) (r : ℕ) (object : Object) (found : w.objects r ≡ Some o
       let x = fine.found memory (ap (λ b. b || is_among memory (0 ∷ [])) t) in
       let same : x.0 ≡ area = some_inj x.0 area (sym x.1 ∙ there) in
       ap (denote w (memory ∷ (0 ∷ [])) (Some r) memory) e
-      ∙ subst (λ (y : MemoryArea). area_named w.areas y.scope (memory ∷ (0 ∷ [])) ≡ Some memory) same x.2
+      ∙ ap (λ o. in_one o)
+      (subst (λ (y : MemoryArea). area_named w.areas y.scope (memory ∷ (0 ∷ [])) ≡ Some memory) same x.2)
 
 -- a constructor without arguments is a body that is called on the object
 no_arguments : (p : Declarations) (home now : Scope) (ks : List Kind) → AllFit p home now [] ks → ks ≡ []
@@ -103,7 +106,7 @@ module _ (code : Code) (basics : Facts code) (facts : SequencerFacts code) (s : 
       list_fine = subst (BaseFine code s) base f.invariant.sequencer.base_fine
 
       calls_there : (body : Option Body) (called : IsCalledOn code.program x.object.class body) →
-          denote (world_of s) (0 ∷ []) (Some r) 0 called.sig.runs_in ≡ Some 0 →
+          denote (world_of s) (0 ∷ []) (Some r) 0 called.sig.runs_in ≡ the_area 0 →
           body_called_by code.program (world_of s) s.operation ≡ body → Operates code (body >>= body_called code s r)
       calls_there body called runs_there by =
           body_is_called code basics s f r x.object x.found x.concrete 0 [] (ap areas_of base) list_fine
@@ -136,17 +139,17 @@ module _ (code : Code) (basics : Facts code) (facts : SequencerFacts code) (s : 
           (by ∙ ap (λ (o : Option Object). o >>= (λ o. constructor_body code.program o.class)) x.found))
         where
           home : (scope : Scope) → this_in code.program x.object.class ≡ Some scope →
-              denote (world_of s) (0 ∷ []) (Some r) 0 scope ≡ Some x.object.area
+              denote (world_of s) (0 ∷ []) (Some r) 0 scope ≡ the_area x.object.area
           home =
               home_denotes code basics (world_of s) (0 ∷ []) list_fine (quiet code s f).memory.heap 0 refl r x.object
               x.found
               (on_zero x.object.area x.lies) x.object.class (basics.concrete x.object.class x.concrete)
 
           runs : (k.sig.runs_in ≡ Caller) ⊎ (this_in code.program x.object.class ≡ Some k.sig.runs_in) →
-              denote (world_of s) (0 ∷ []) (Some r) 0 k.sig.runs_in ≡ Some 0
+              denote (world_of s) (0 ∷ []) (Some r) 0 k.sig.runs_in ≡ the_area 0
           runs (inl e) =
               ap (denote (world_of s) (0 ∷ []) (Some r) 0) e ∙ caller_denoted (world_of s) (0 ∷ []) (Some r) 0
-          runs (inr e) = home k.sig.runs_in e ∙ ap (λ a. Some a) x.lies
+          runs (inr e) = home k.sig.runs_in e ∙ ap the_area x.lies
 
   -- in the mission's memory
   module _ (base : IsInMission f.invariant.base) (r : ℕ) (is : s.mission ≡ Some r) where

@@ -4,7 +4,7 @@
 use Rattle.std.specs.Prelude.{◌≡◌, ◌<◌, ℕ, true, false, ◌⊎◌, List, [], length, slice_get, Option, Some, None, codes}
 use Rattle.scj_builtins.specs.Framework.{runnable, safelet as safelet_interface, mission as mission_class, mission_sequencer as sequencer_class}
 use Rattle.scj_rules.specs.declared.typing.Scope.{Scope}
-use Rattle.scj_rules.specs.declared.typing.Scope.TheVariants.{Any, This, Caller, In}
+use Rattle.scj_rules.specs.declared.typing.Scope.TheVariants.{This, Caller, In}
 use Rattle.scj_rules.specs.declared.typing.Ty.TheVariants.{Class as ClassTy}
 use Rattle.scj_rules.specs.declared.views.Body.{Body}
 use Rattle.scj_rules.specs.declared.views.Declared.{Declared}
@@ -37,7 +37,7 @@ abbrev pub RunsInImmortal : Scope → Type 0
 RunsInImmortal This = Unit {0}
 RunsInImmortal Caller = Unit {0}
 RunsInImmortal (In n) = n ≡ immortal_scope
-RunsInImmortal Any = ⊥
+RunsInImmortal _ = ⊥
 
 -- a body that runs in this scope is called in a memory that is named so
 abbrev pub RunsInNamed : ℕ → Scope → Type 0

@@ -9,10 +9,12 @@ pub mod ProgramE2Call
 pub mod ProgramE3Argument
 pub mod ProgramE4Assign
 pub mod ProgramE5Store
+pub mod ProgramE5Undone
 pub mod ProgramE6Return
 pub mod ProgramE7Enter
 pub mod ProgramE8Execute
 pub mod Reading
+pub mod RowOfGuards
 pub mod Rows
 pub mod RowsOfAnnotations
 pub mod Texts

@@ -43,7 +43,7 @@ none_dangles program units safe =
 
 pub dangles : (program : Forest) (units : ℕ) → Dangles program units → IsSafeInAnyOrder (code_of program) → ⊥
 dangles program units d safe =
-    absurd (cc (d.is_gone, none_dangles program units safe d.r (contains_at (live (state_of program units)) d.place d.r d.is_live)))
+    absurd (cc (d.is_gone, (none_dangles program units safe).are_open d.r (contains_at (live (state_of program units)) d.place d.r d.is_live)))
 
 pub is_stuck : (program : Forest) (units : ℕ) → IsStuck program units → IsSafeInAnyOrder (code_of program) → ⊥
 is_stuck program units d safe = absurd (cc (d.is, safe_run (code_of program) plan safe units))

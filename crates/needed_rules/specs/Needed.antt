@@ -1,9 +1,16 @@
 -- A rule is needed: some text is read as a program that breaks it and no other one, and isn't safe.
-use Rattle.std.specs.Prelude.{◌≡◌, ℕ, List, [], ◌∷◌}
+use Rattle.std.specs.Prelude.{◌≡◌, ℕ, true, List, [], ◌∷◌, Some, None}
 use Rattle.scj_base.specs.declared.findings.Rule.{Rule}
+use Rattle.scj_base.specs.declared.findings.Rule.TheVariants.{E5}
 use Rattle.scj_base.specs.declared.places.Pos.{Pos}
 use Rattle.scj_tree.specs.Forest.{Forest}
+use Rattle.scj_tree.specs.Recursion.{lookup}
+use Rattle.scj_rules.specs.declared.typing.Guard.{Guard}
+use Rattle.scj_rules.specs.Words.{is_among}
+use Rattle.scj_rules.specs.Views.{place_at}
 use Rattle.scj_rules.specs.Contexts.{declarations_of}
+use Rattle.scj_rules.specs.TypeRules.{types_in}
+use Rattle.scj_rules.specs.Guards.{asked_at, is_undone, ifs_around}
 use Rattle.scj_rules.specs.Syntax.{Reads}
 use Rattle.scj_rules.specs.Phases.{class_phase, type_phase, scope_phase, use_phase}
 use Rattle.scj_model.specs.Code.{code_of}
@@ -24,3 +31,16 @@ pub record IsNeeded (rule : Rule) : Type 0 where
   pub place : Pos
   pub breaks : BreaksOnly program rule place
   pub is_unsafe : IsSafeInAnyOrder (code_of program) → ⊥
+
+-- it isn't enough that an `if` asks: some text is read as a program that breaks E5 alone, by a store in the first part of
+-- an `if` that asks, in which one of its subjects is assigned to, and isn't safe
+pub record IsUnsafeWhereUndone : Type 0 where
+  pub needed : IsNeeded E5
+  pub store : ℕ
+  pub is_at : place_at (declarations_of needed.program).nodes store ≡ needed.place
+  pub number : ℕ
+  pub stands : is_among number (ifs_around (declarations_of needed.program).nodes store) ≡ true
+  pub guard : Guard
+  pub asks : asked_at (declarations_of needed.program) (lookup None (types_in (declarations_of needed.program))) number
+      ≡ Some guard
+  pub is_undone : is_undone (declarations_of needed.program) number guard ≡ true

@@ -4,7 +4,7 @@ use Rattle.std.proofs.Common.{◌≡◌, ℕ, zero, suc, List, [], ◌∷◌, Bo
 use Rattle.std.proofs.lemmas.List.Elements.{All-nil, All-cons}
 use Rattle.scj_base.specs.declared.values.Value.{Value}
 use Rattle.scj_rules.specs.declared.typing.Scope.{Scope}
-use Rattle.scj_rules.specs.declared.typing.Scope.TheVariants.{Any, This, Caller, In}
+use Rattle.scj_rules.specs.declared.typing.Scope.TheVariants.{Any, This, Caller, In, Unknown, Lost}
 use Rattle.scj_rules.specs.declared.typing.Ty.{Ty}
 use Rattle.scj_rules.specs.declared.typing.Ty.TheVariants.{Class as ClassTy}
 use Rattle.scj_rules.specs.Words.{is_among, ◌>>=◌}
@@ -12,12 +12,12 @@ use Rattle.scj_rules.specs.Contexts.{Declarations}
 use Rattle.accepted_laws.specs.Kinds.{Kind, number, truth, yes, reference, fresh}
 use Rattle.accepted_laws.proofs.Tools.{some_inj}
 use Rattle.scj_model.specs.State.{MemoryArea}
-use Rattle.frame_sound.specs.Places.{World, area_around, within, held, IsObject, Has, AllHave}
+use Rattle.frame_sound.specs.Places.{World, Place, LiesAt, area_around, within, held, IsObject, Has, AllHave}
 use Rattle.frame_sound.specs.Fine.{IsOnList}
 use Rattle.reference_sound.specs.References.{IfReference, EachReference, LiesIn, is_itself, lies_deeper, LiesAround, LiesInImmortal}
 
 -- what holds of each object that lies where a kind says, holds of what a value of the kind refers to
-module _ (p : Declarations) (w : World) (den : Scope → Option ℕ) (Q : ℕ → Type 0)
+module _ (p : Declarations) (w : World) (den : Scope → Place) (Q : ℕ → Type 0)
     (lies : (t : Ty) (s : Scope) (v : Value) (o : IsObject p w t (den s) v) → Q o.r) where
   referred : (t : Ty) (s : Scope) (v : Value) → IsObject p w t (den s) v → IfReference Q v
   referred t s v o = subst (IfReference Q) (sym o.is) (lies t s v o)
@@ -67,15 +67,17 @@ module _ (areas : ℕ → Option MemoryArea) where
   around_lies n r zero a e = absurd (cc (e))
   around_lies n r (suc bound) a e = around_step n r bound a (λ b e. around_lies n r bound b e) e
 
-  pub within_lies : (a : ℕ) (s : Scope) (b : ℕ) → within areas a s ≡ Some b → LiesIn areas a b
+  pub within_lies : (a : ℕ) (s : Scope) (b : ℕ) → LiesAt (within areas a s) b → LiesIn areas a b
   unfolding within
   within_lies a This b e = subst (LiesIn areas a) (some_inj a b e) (is_itself a)
   within_lies a (In n) b e = around_lies n b (suc a) a e
   within_lies a Caller b e = absurd (cc (e))
   within_lies a Any b e = absurd (cc (e))
+  within_lies a Unknown b e = absurd (cc (e))
+  within_lies a Lost b e = absurd (cc (e))
 
   -- around the first area there is only itself
-  pub within_first : (s : Scope) (b : ℕ) → within areas 0 s ≡ Some b → b ≡ 0
+  pub within_first : (s : Scope) (b : ℕ) → LiesAt (within areas 0 s) b → b ≡ 0
   unfolding within area_around
   within_first This b e = sym (some_inj 0 b e)
   within_first (In n) b e = go (areas 0) e
@@ -94,6 +96,8 @@ module _ (areas : ℕ → Option MemoryArea) where
       go (Some x) e = pick x (x.scope == n) e
   within_first Caller b e = absurd (cc (e))
   within_first Any b e = absurd (cc (e))
+  within_first Unknown b e = absurd (cc (e))
+  within_first Lost b e = absurd (cc (e))
 
 -- ---- what slots and static fields refer to
 
@@ -116,8 +120,8 @@ module _ (p : Declarations) (w : World) where
       }) k v h
 
   -- what a frame sees lies on its list
-  pub all_on_list : (list : List ℕ) (den : Scope → Option ℕ) →
-      ((s : Scope) (a : ℕ) → den s ≡ Some a → is_among a list ≡ true) → (ks : List Kind) (vs : List Value) →
+  pub all_on_list : (list : List ℕ) (den : Scope → Place) →
+      ((s : Scope) (a : ℕ) → LiesAt (den s) a → is_among a list ≡ true) → (ks : List Kind) (vs : List Value) →
       AllHave p w den ks vs → EachReference (IsOnList w list) vs
   all_on_list list den on ks vs h =
       all_referred p w den (IsOnList w list) (λ t s v o. record {

@@ -1,18 +1,18 @@
 -- No reference that can be used dangles: each leads to an object of an open area.
-use Rattle.std.specs.Prelude.{Option, Some, None, slice_get, flat_map, filter, filter_map, map, option_to_list, ◌++◌, if◌then◌else◌}
+use Rattle.std.specs.Prelude.{Option, Some, None, slice_get, flat_map, filter, filter_map, map, option_to_list, ◌++◌, ◌==◌, ◌||◌, if◌then◌else◌}
 use Rattle.std.specs.List.{All, cons_option}
 use Rattle.std.proofs.Common.{◌≡◌, ℕ, suc, List, [], ◌∷◌, Bool, true, false, refl, sym, ◌∙◌, ap}
 use Rattle.std.proofs.lemmas.List.Elements.{All-nil, All-cons, All-head, All-tail, All-append, All-weaker, All-map, All-contains}
 use Rattle.scj_base.specs.declared.values.Value.{Value}
 use Rattle.scj_base.specs.declared.values.Value.TheVariants.{Int, Bool as Truth, Null, At}
 use Rattle.scj_rules.specs.Contexts.{Declarations}
-use Rattle.scj_rules.specs.Words.{holds, ◌>>=◌}
+use Rattle.scj_rules.specs.Words.{is_among, holds, ◌>>=◌}
 use Rattle.scj_model.specs.declared.handlers.HandlerRow.{HandlerRow}
 use Rattle.scj_model.specs.Code.{Code}
 use Rattle.scj_model.specs.State.{MemoryArea, Object, Frame, Activity, Release, Job, TheSequencer, ReleaseAt, State, activity_in, activity_of, is_open_area}
-use Rattle.scj_model.specs.Safety.{reference_in, references, references_of_frame, references_of_job, started_activities, open_objects, live, NoDangling}
+use Rattle.scj_model.specs.Safety.{reference_in, references, references_of_frame, references_of_job, started_activities, open_objects, live, IsRightlyHeld, NoDangling}
 use Rattle.frame_sound.specs.Places.{World, world_of, denote, Held}
-use Rattle.frame_sound.specs.Fine.{ListFine, HeapFine, IsOnList, Ready, Under, FramesFine, list_of}
+use Rattle.frame_sound.specs.Fine.{ListFine, HeapFine, IsOnList, Ready, Under, FramesFine, JobFine, list_of}
 use Rattle.frame_sound.proofs.Places.{denote_on}
 use Rattle.reference_sound.specs.References.{IfReference, EachReference, LiesIn, is_itself, lies_deeper, LiesAround, LiesInImmortal, JobHolds}
 use Rattle.reference_sound.specs.Roots.{LiesOpen, ImmortalIsOpen, IsRooted}
@@ -89,6 +89,18 @@ first_open p s r heap immortal h =
           ∙ immortal o.area (ap (world_of s).areas (sym h.in_first) ∙ o.is_area);
     }
 
+-- the list that a frame leaves lies behind what it opened
+pub still_on : (w : World) (base : List ℕ) (f : Frame) (fs : List Frame) (r : ℕ) → IsOnList w (list_of base fs) r →
+    IsOnList w (list_of base (f ∷ fs)) r
+still_on w base f fs r h =
+    record { object = h.object; found = h.found; on_list = behind f.opened h.on_list }
+  where
+    behind : (o : Option ℕ) → is_among h.object.area (list_of base fs) ≡ true →
+        is_among h.object.area (option_to_list o ++ list_of base fs) ≡ true
+    behind None e = e
+    behind (Some a) e = elim (h.object.area == a) as (λ t. (t || is_among h.object.area (list_of base fs)) ≡ true)
+        [ true ↦ refl | false ↦ e ]
+
 module _ (code : Code) (s : State) (base : List ℕ) (rooted : IsRooted code s base) where
   abbrev w : World
   w = world_of s
@@ -113,38 +125,37 @@ module _ (code : Code) (s : State) (base : List ℕ) (rooted : IsRooted code s b
 
   -- ---- frames
 
-  frames_live : (fs : List Frame) (given : Option Held) → Under code w base fs given → JobHolds w base fs →
-      All Lives (flat_map references_of_frame fs)
-  unfolding references_of_frame
-  frames_live [] given u h = All-nil Lives
-  frames_live (f ∷ fs) given u h =
-      All-append Lives (references_of_frame f) (flat_map references_of_frame fs)
-      (All-append Lives (option_to_list f.this) (references f.locals ++ references f.operands)
-      (all_of_option Lives f.this (λ r e. lives r (ready.home.on_list r e)))
-      (All-append Lives (references f.locals) (references f.operands) (values f.locals h.0)
-      (values f.operands operands)))
-      (frames_live fs _ u.2 h.1)
-    where
-      list : List ℕ
-      list = list_of base (f ∷ fs)
+  abbrev On : List Frame → ℕ → Type 0
+  On fs r = IsOnList w (list_of base fs) r
 
+  -- what a frame refers to lies on its list
+  frame_on : (f : Frame) (fs : List Frame) (given : Option Held) → Under code w base (f ∷ fs) given →
+      JobHolds w base (f ∷ fs) → All (On (f ∷ fs)) (references_of_frame f)
+  unfolding references_of_frame
+  frame_on f fs given u h =
+      All-append (On (f ∷ fs)) (option_to_list f.this) (references f.locals ++ references f.operands)
+      (all_of_option (On (f ∷ fs)) f.this (λ r e. ready.home.on_list r e))
+      (All-append (On (f ∷ fs)) (references f.locals) (references f.operands)
+      (all_references (On (f ∷ fs)) f.locals h.0)
+      (all_references (On (f ∷ fs)) f.operands operands))
+    where
       ready : Ready code w (list_of base (f ∷ fs)) u.0.class u.0.sig f u.0.kind
       ready = u.0.ready
 
-      lives : (r : ℕ) → IsOnList w (list_of base (f ∷ fs)) r → Lives r
-      lives r x = list_open s (list_of base (f ∷ fs)) r u.1 x
-
-      values : (vs : List Value) → EachReference (IsOnList w (list_of base (f ∷ fs))) vs → All Lives (references vs)
-      values vs x =
-          All-weaker (IsOnList w (list_of base (f ∷ fs))) Lives lives (references vs)
-          (all_references (IsOnList w (list_of base (f ∷ fs))) vs x)
-
-      operands : EachReference (IsOnList w (list_of base (f ∷ fs))) f.operands
+      operands : EachReference (On (f ∷ fs)) f.operands
       operands =
           all_on_list code.program w (list_of base (f ∷ fs)) (denote w (list_of base (f ∷ fs)) f.this f.area)
           (λ s a e. denote_on code.program w (list_of base (f ∷ fs)) u.0.class u.0.sig f.body f.this f.area ready.home s
           a e)
           ready.kinds f.operands ready.operands
+
+  frames_live : (fs : List Frame) (given : Option Held) → Under code w base fs given → JobHolds w base fs →
+      All Lives (flat_map references_of_frame fs)
+  frames_live [] given u h = All-nil Lives
+  frames_live (f ∷ fs) given u h =
+      All-append Lives (references_of_frame f) (flat_map references_of_frame fs)
+      (All-weaker (On (f ∷ fs)) Lives (λ r x. list_open s (list_of base (f ∷ fs)) r u.1 x) (references_of_frame f)
+      (frame_on f fs given u h)) (frames_live fs _ u.2 h.1)
 
   job_lives : (job : Job) (activity : Activity) → activity_of s job ≡ Some activity →
       All Lives (references_of_job activity)
@@ -155,6 +166,32 @@ module _ (code : Code) (s : State) (base : List ℕ) (rooted : IsRooted code s b
           All Lives (flat_map references_of_frame fs)
       go [] fine h = All-nil Lives
       go (f ∷ fs) fine h = frames_live (f ∷ fs) None fine h
+
+  -- what the frames of a job refer to lies on the job's own list
+  frames_on : (fs : List Frame) (given : Option Held) → Under code w base fs given → JobHolds w base fs →
+      All (On fs) (flat_map references_of_frame fs)
+  frames_on [] given u h = All-nil (On [])
+  frames_on (f ∷ fs) given u h =
+      All-append (On (f ∷ fs)) (references_of_frame f) (flat_map references_of_frame fs) (frame_on f fs given u h)
+      (All-weaker (On fs) (On (f ∷ fs)) (λ r x. still_on w base f fs r x) (flat_map references_of_frame fs)
+      (frames_on fs _ u.2 h.1))
+
+  job_on : (job : Job) (activity : Activity) → activity_of s job ≡ Some activity → IsRightlyHeld s activity
+  job_on job activity e r h =
+      let x = All-contains (On activity.frames) (references_of_job activity) r (go activity.frames fine.frames held) h in
+      ap (λ (o : Option Object). holds o (λ o. is_among o.area activity.areas)) x.found
+      ∙ (ap (λ list. is_among x.object.area list) fine.is_list ∙ x.on_list)
+    where
+      fine : JobFine code w base activity
+      fine = rooted.jobs job activity e
+
+      held : JobHolds w base activity.frames
+      held = rooted.references.jobs job activity e
+
+      go : (fs : List Frame) → FramesFine code w base fs → JobHolds w base fs →
+          All (On fs) (flat_map references_of_frame fs)
+      go [] fine h = All-nil (On [])
+      go (f ∷ fs) fine h = frames_on (f ∷ fs) None fine h
 
   -- ---- all that can be used
 
@@ -199,6 +236,9 @@ module _ (code : Code) (s : State) (base : List ℕ) (rooted : IsRooted code s b
       (All-append Lives _ _ (all_of_option Lives s.mission rooted.roots.mission) objects_live))))))
 
   pub none_dangles : NoDangling s
-  none_dangles r h =
-      let x = All-contains Lives (live s) r all_live h in
-      ap (λ (o : Option Object). holds o (λ o. is_open_area s o.area)) x.found ∙ x.is_open
+  none_dangles =
+      record {
+        are_open = λ r h. (let x = All-contains Lives (live s) r all_live h in
+            ap (λ (o : Option Object). holds o (λ o. is_open_area s o.area)) x.found ∙ x.is_open);
+        are_on_lists = job_on;
+      }

@@ -1,6 +1,6 @@
 -- Stores: what a slot or a static field gets lies around it.
 use Rattle.std.specs.Prelude.{Option, Some, None, ℤ}
-use Rattle.std.proofs.Common.{◌≡◌, ℕ, ◌<◌, List, [], ◌∷◌, length, sym, ◌∙◌, ap, subst, ◌⊎◌, inl, inr}
+use Rattle.std.proofs.Common.{◌≡◌, ℕ, ◌<◌, List, [], ◌∷◌, length, refl, sym, ◌∙◌, ap, subst, ◌⊎◌, inl, inr}
 use Rattle.scj_base.specs.declared.faults.RunFault.TheVariants.{ArrayIndex}
 use Rattle.scj_base.specs.declared.values.Value.{Value}
 use Rattle.scj_rules.specs.declared.typing.Ty.{Ty}
@@ -17,15 +17,24 @@ use Rattle.scj_model.specs.Effects.{Effect, Stores, StoresStatic, Faults, Stuck,
 use Rattle.scj_model.specs.Operations.{effect_of, index_in}
 use Rattle.scope_flow.specs.Flow.{Needs}
 use Rattle.scope_flow.specs.Slots.{array_type, kind_of_slot, IsSlotKind, IsOfType}
-use Rattle.frame_sound.specs.Places.{Has, IsObject, an_object, held}
-use Rattle.frame_sound.specs.EffectsFine.{Fine}
-use Rattle.frame_sound.proofs.Scenes.{Scene, memory, den, Holds, FlowsOn, Ok, Taken, take, next_taken}
+use Rattle.frame_sound.specs.Places.{Place, LiesAt, Has, IsObject, an_object, held}
+use Rattle.scope_flow.specs.Needs.{IsGuardedAssign}
+use Rattle.frame_sound.specs.EffectsFine.{StoreFine}
+use Rattle.frame_sound.specs.Guards.{AreTogether}
+use Rattle.frame_sound.proofs.Scenes.{Scene, memory, den, Holds, FlowsOn, Taken, take, next_taken}
 use Rattle.frame_sound.proofs.ActsOnValues.{is_array_of, element_kind_is, elements_are_slots, index_cases}
-use Rattle.frame_sound.proofs.ActsOnStores.{stored, put_static_fine}
+use Rattle.frame_sound.proofs.ActsOnStores.{stored, static_stored}
+use Rattle.frame_sound.proofs.StoredBeside.{stored_beside}
 use Rattle.reference_sound.specs.References.{IfReference, EachReference, LiesInImmortal}
 use Rattle.reference_sound.proofs.Around.{has_around, has_in_first}
 use Rattle.reference_sound.proofs.EffectSteps.{known_given, known_pop, any_int}
 use Rattle.reference_sound.specs.EffectsHold.{MayStore, Holding}
+
+-- the object and the value of a store that a guard allows lie in one area
+abbrev pub GuardedStores : Scene → ℕ → Op → Type 0
+GuardedStores m id op =
+    op ≡ PUT id → IsGuardedAssign m.code.program id → (a b : Value) (below : List Value) →
+    m.frame.operands ≡ b ∷ (a ∷ below) → AreTogether (memory m) a b
 
 module _ (m : Scene) (Q : ℕ → Type 0) (locals : EachReference Q m.frame.locals) where
   -- what the operation needs, and that its effect holds
@@ -34,18 +43,17 @@ module _ (m : Scene) (Q : ℕ → Type 0) (locals : EachReference Q m.frame.loca
       Needs m.code m.frame.body m.class m.sig op m.known m.kinds (FlowsOn m m.frame.rest) →
       Holding (memory m) Q (effect_of m.code m.world m.frame op)
 
-  known_object : (t : Ty) (a : Option ℕ) (v : Value) (next : ℕ → Effect) →
+  known_object : (t : Ty) (a : Place) (v : Value) (next : ℕ → Effect) →
       Has m.code.program (memory m) (an_object t a) v →
       ((o : IsObject m.code.program (memory m) t a v) → Holding (memory m) Q (next o.r)) →
       Holding (memory m) Q (as_object v next)
   known_object t a v next (inl e) go = subst (λ x. Holding (memory m) Q (as_object x next)) (sym e) (record { is = tt })
   known_object t a v next (inr o) go = subst (λ x. Holding (memory m) Q (as_object x next)) (sym o.is) (go o)
 
-  may_store : (o : Object) (r : ℕ) → m.world.object_at r ≡ Some o → (scope : Scope) → den m scope ≡ Some o.area →
-      (slot : ℕ) (k : Kind) → kind_of_slot m.code.program o.class slot ≡ Some k → IsSlotKind k → (j : Kind) →
-      Fits m.code.program scope Caller j k → (v : Value) → Holds m j v → MayStore (memory m) r v
-  may_store o r found scope lies slot k is fs j fit v h =
-      let s = stored m o r found scope lies slot k is fs j fit v h in
+  stored_around : (o : Object) (r : ℕ) → m.world.object_at r ≡ Some o → (slot : ℕ) (k : Kind) →
+      kind_of_slot m.code.program o.class slot ≡ Some k → (v : Value) →
+      StoreFine m.code.program (memory m) r slot v → MayStore (memory m) r v
+  stored_around o r found slot k is v s =
       let same : s.object ≡ o = some_inj s.object o (sym s.found ∙ found) in
       record {
         object = s.object;
@@ -54,9 +62,15 @@ module _ (m : Scene) (Q : ℕ → Type 0) (locals : EachReference Q m.frame.loca
             (s.has k (ap (λ (o : Object). kind_of_slot m.code.program o.class slot) same ∙ is));
       }
 
-  pub put_holds : (id : ℕ) → Does (PUT id)
+  may_store : (o : Object) (r : ℕ) → m.world.object_at r ≡ Some o → (scope : Scope) → LiesAt (den m scope) o.area →
+      (slot : ℕ) (k : Kind) → kind_of_slot m.code.program o.class slot ≡ Some k → IsSlotKind k → (j : Kind) →
+      Fits m.code.program scope Caller j k → (v : Value) → Holds m j v → MayStore (memory m) r v
+  may_store o r found scope lies slot k is fs j fit v h =
+      stored_around o r found slot k is v (stored m o r found scope lies slot k is fs j fit v h)
+
+  pub put_holds : (id : ℕ) → GuardedStores m id (PUT id) → Does (PUT id)
   unfolding effect_of held IsOfType
-  put_holds id r =
+  put_holds id g r =
       let n = r.needed in
       let x = take m n.value (reference (ClassTy n.class) n.scope ∷ r.out) n.takes in
       let y = next_taken m (reference (ClassTy n.class) n.scope) r.out x.rest x.have in
@@ -70,8 +84,15 @@ module _ (m : Scene) (Q : ℕ → Type 0) (locals : EachReference Q m.frame.loca
       (record {
         is = (
           locals,
-          may_store o.object o.r o.found n.scope o.lies s.slot n.has.kind s.holds n.has.is_slot_kind n.value n.fit x.v
-              x.has,
+          elim n.fit as (λ _. MayStore (memory m) o.r x.v) [
+            | inl fit ↦ may_store o.object o.r o.found n.scope o.lies s.slot n.has.kind s.holds n.has.is_slot_kind n.value
+                fit x.v x.has
+            | inr guarded ↦ stored_around o.object o.r o.found s.slot n.has.kind s.holds x.v
+                (stored_beside m o.object o.r o.found n.class o.of_type.1 s.slot n.has.kind s.holds guarded.1 n.scope n.value
+                guarded.0 x.v x.has
+                (subst (λ v. AreTogether (memory m) v x.v) o.is
+                (g refl guarded.2 y.v x.v y.rest (x.is ∙ ap (λ vs. x.v ∷ vs) y.is))))
+          ],
         );
       }))))))
 
@@ -93,7 +114,7 @@ module _ (m : Scene) (Q : ℕ → Type 0) (locals : EachReference Q m.frame.loca
     where
       at_index : (v : Value) → Holds m r.needed.value v → (rest : List Value) → (o : Object) (q : ℕ) →
           m.world.object_at q ≡ Some o → array_type m.code.program o.class ≡ Some r.needed.type →
-          den m r.needed.scope ≡ Some o.area → (i : ℤ) →
+          LiesAt (den m r.needed.scope) o.area → (i : ℤ) →
           (index_in o.slots i ≡ None) ⊎ ((k : ℕ) × (index_in o.slots i ≡ Some k) × (k < length o.slots)) →
           Holding (memory m) Q (elim (index_in o.slots i) [
             | None ↦ Faults ArrayIndex
@@ -137,11 +158,6 @@ module _ (m : Scene) (Q : ℕ → Type 0) (locals : EachReference Q m.frame.loca
             | v ∷ below ↦ StoresStatic (record m.frame { operands = below }) r.needed.has.place v
           ]) x.is)
 
-      fine : Fine m.code (memory m) m.list m.class m.sig m.frame
-          (StoresStatic (record m.frame { operands = x.rest }) r.needed.has.place x.v)
-      fine = subst (λ e. Ok m e) stores (put_static_fine m id r)
-
       lies : IfReference (LiesInImmortal (memory m)) x.v
       lies =
-          has_in_first m.code.program (memory m) r.needed.has.kind x.v
-          (fine.is.1 r.needed.has.kind r.needed.has.holds)
+          has_in_first m.code.program (memory m) r.needed.has.kind x.v (static_stored m id r x.v x.has)

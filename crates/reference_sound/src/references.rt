@@ -91,7 +91,8 @@ pub fn fine_lists_are_open()
         LiesInImmortal (world_of s) r → LiesOpen s r }
 {}
 
-/// In a state whose references are rooted (`IsRooted`) no reference that can be used leads into a closed area.
+/// In a state whose references are rooted (`IsRooted`) no reference that can be used leads into a closed area, and those
+/// of a job's frames lead into areas of the job's own list.
 pub fn no_reference_dangles()
     ensures { (code : Code) (s : State) (base : List ℕ) → IsRooted code s base → NoDangling s }
 {}

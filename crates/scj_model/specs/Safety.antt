@@ -5,7 +5,7 @@
 use Rattle.std.specs.Prelude.{◌≡◌, ℕ, ◌<◌, ◌≤◌, ◌==◌, Bool, true, not, ◌&&◌, List, [], ◌∷◌, ◌++◌, length, map, filter, filter_map, flat_map, Contains, IsTrue, IsFalse, IsSome, Option, Some, None, option_to_list}
 use Rattle.scj_base.specs.declared.values.Value.{Value}
 use Rattle.scj_base.specs.declared.values.Value.TheVariants.{At}
-use Rattle.scj_rules.specs.Words.{holds}
+use Rattle.scj_rules.specs.Words.{holds, is_among}
 use Rattle.scj_rules.specs.ScopeRules.{immortal_scope}
 use Rattle.scj_model.specs.declared.handlers.HandlerRow.{HandlerRow}
 use Rattle.scj_model.specs.declared.plans.ReadingRow.{ReadingRow}
@@ -58,9 +58,19 @@ live s =
 abbrev pub is_of_open_area : State → ℕ → Bool
 is_of_open_area s r = holds (object_at s r) (λ o. is_open_area s o.area)
 
+-- the object of the reference lies in an area of this list
+abbrev pub is_on_list : State → List ℕ → ℕ → Bool
+is_on_list s areas r = holds (object_at s r) (λ o. is_among o.area areas)
+
+-- the references of a job's frames lead into areas of the job's own list
+abbrev pub IsRightlyHeld : State → Activity → Type 0
+IsRightlyHeld s activity =
+    (r : ℕ) → Contains (references_of_job activity) r → IsTrue (is_on_list s activity.areas r)
+
 -- NoDangling
-abbrev pub NoDangling : State → Type 0
-NoDangling s = (r : ℕ) → Contains (live s) r → IsTrue (is_of_open_area s r)
+pub record NoDangling (s : State) : Type 0 where
+  pub are_open : (r : ℕ) → Contains (live s) r → IsTrue (is_of_open_area s r)
+  pub are_on_lists : (job : Job) (activity : Activity) → activity_of s job ≡ Some activity → IsRightlyHeld s activity
 
 -- ---- Passes: what an operation stores
 

@@ -61,6 +61,7 @@ module _ (code : Code) (b c : ℕ) (sig : Signature) (id : ℕ) (sub : ℕ → L
           is = is_target bound_local _ r.local r.is refl;
           variable = r.variable;
           is_variable = r.is_variable;
+          spares = r.spares;
           value = r.fits.kind;
           others = s;
           takes = refl;

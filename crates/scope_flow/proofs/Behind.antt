@@ -75,13 +75,14 @@ module _ (next more : Goals) (h : (ks : List ℕ) (s : List Kind) → next ks s 
   needs_more code body c sig (RELEASE id) ks s r = steps_more _ ks r
   needs_more code body c sig (TERMINATE id) ks s r = steps_more _ ks r
   needs_more code body c sig (ZERO id) ks s r =
-      record { local = r.local; is = r.is; is_variable = r.is_variable; goes = h _ s r.goes }
+      record { local = r.local; is = r.is; is_variable = r.is_variable; spares = r.spares; goes = h _ s r.goes }
   needs_more code body c sig (STORE id) ks s r =
       record {
         local = r.local;
         is = r.is;
         variable = r.variable;
         is_variable = r.is_variable;
+        spares = r.spares;
         value = r.value;
         others = r.others;
         takes = r.takes;

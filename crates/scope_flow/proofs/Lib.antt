@@ -9,6 +9,7 @@ pub mod Flows
 pub mod Known
 pub mod LoopFlows
 pub mod PlainValues
+pub mod Rests
 pub mod StatementFlows
 pub mod Stood
 pub mod Taken

@@ -116,6 +116,7 @@ module _ (code : Code) (b c : ℕ) (sig : Signature) (id : ℕ) (sub : ℕ → L
         local = r.local;
         is = r.is;
         is_variable = r.is_variable;
+        spares = r.spares;
         goes =
             then_ code b c sig id ls os s (returns_at code.program id _ there) k (id ∷ ls) (among_more ls id)
             (λ h. among_first ls id);
@@ -129,6 +130,7 @@ module _ (code : Code) (b c : ℕ) (sig : Signature) (id : ℕ) (sub : ℕ → L
             (ap (at_reading (assigned_node id)) there) ∙ r.declared.is;
         variable = id;
         is_variable = r.declared.is_variable;
+        spares = r.declared.spares;
         value = r.fits.kind;
         others = s;
         takes = refl;

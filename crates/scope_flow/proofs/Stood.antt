@@ -264,6 +264,7 @@ module _ (code : Code) (body : Body) (c : ℕ) (sig : Signature) (ops : List Op)
         local = r.local;
         is = r.is;
         is_variable = r.is_variable;
+        spares = r.spares;
         goes = (leaves (ZERO id) s 0 (after_none (ZERO id) s st) refl refl, r.goes);
       }
   needs_stood (STORE id) ks s st r =
@@ -272,6 +273,7 @@ module _ (code : Code) (body : Body) (c : ℕ) (sig : Signature) (ops : List Op)
         is = r.is;
         variable = r.variable;
         is_variable = r.is_variable;
+        spares = r.spares;
         value = r.value;
         others = r.others;
         takes = r.takes;

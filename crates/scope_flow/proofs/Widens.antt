@@ -145,6 +145,7 @@ needs_widen code body c sig (ZERO id) next w ks ls s a r =
       local = r.local;
       is = r.is;
       is_variable = r.is_variable;
+      spares = r.spares;
       goes = w _ _ s (among_both ks ls id a) r.goes;
     }
 needs_widen code body c sig (STORE id) next w ks ls s a r =
@@ -153,6 +154,7 @@ needs_widen code body c sig (STORE id) next w ks ls s a r =
       is = r.is;
       variable = r.variable;
       is_variable = r.is_variable;
+      spares = r.spares;
       value = r.value;
       others = r.others;
       takes = r.takes;

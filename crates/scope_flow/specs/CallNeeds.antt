@@ -20,7 +20,7 @@ use Rattle.scj_model.specs.Operations.{bound_field, bound_static, bound_class, b
 use Rattle.scope_flow.specs.Slots.{kind_of_elements, HasField, HasStatic}
 use Rattle.scope_flow.specs.Signatures.{Gives, Signature, IsBody, runs_for_object, IsConcrete, IsDispatched, IsEntered, IsExecuted, AreWithoutThis}
 use Rattle.scope_flow.specs.Pushers.{IsKindOfExpression, IsGivenBy, IsScopeOfReceiver}
-use Rattle.scope_flow.specs.Needs.{pushed, stacked}
+use Rattle.scope_flow.specs.Needs.{pushed, stacked, FieldTakes}
 
 -- ---- calls: one leaves a value where its method has a result
 
@@ -153,7 +153,7 @@ pub record PutNeeds (code : Code) (id : ℕ) (s out : List Kind) : Type 0 where
   pub scope : Scope
   pub takes : s ≡ value ∷ (reference (ClassTy class) scope ∷ out)
   pub has : HasField code.program class field
-  pub fit : Fits code.program scope Caller value has.kind
+  pub fit : FieldTakes code.program id class scope value has.kind
 
 pub record PutStaticNeeds (code : Code) (id : ℕ) (s out : List Kind) : Type 0 where
   pub field : ℕ

@@ -27,6 +27,7 @@ use Rattle.scj_model.specs.Code.{Code, binding, part}
 use Rattle.scj_model.specs.Operations.{bound_field, super_count}
 use Rattle.scope_flow.specs.Slots.{array_type, HasField, IsOfType, kind_of_literal}
 use Rattle.scope_flow.specs.Signatures.{Signature, IsBody, parameters_of, IsConcrete}
+use Rattle.scope_flow.specs.GuardFacts.{GuardFacts}
 use Rattle.scope_flow.specs.Needs.{IsStatement, CallsConstructor, HasHidden, parameter_count, hidden_count}
 use Rattle.scope_flow.specs.CallFacts.{ExpressionFact}
 use Rattle.scope_flow.specs.ValueFacts.{HaveValues, HasObject}
@@ -146,6 +147,7 @@ pub record Facts (code : Code) : Type 0 where
       StatementFact code b c sig id node
   pub entries : (b c : ℕ) (sig : Signature) (body : IsBody code.program b c sig) →
       EntryFact code b c sig body.node
+  pub guards : GuardFacts code
   -- an object of a type is of each type that this one may be assigned to
   pub assigned : (class : ℕ) (t u : Ty) → IsOfType code.program class t →
       assigns code.program.classes t u ≡ true → IsOfType code.program class u

@@ -15,6 +15,7 @@ use Rattle.scj_model.specs.Code.{Code, binding, part}
 use Rattle.scj_model.specs.Ops.{if_parts}
 use Rattle.scj_model.specs.Operations.{bound_local, assigned}
 use Rattle.scope_flow.specs.Signatures.{Signature}
+use Rattle.scope_flow.specs.Guards.{SparesGuards}
 use Rattle.scope_flow.specs.Needs.{PushNeeds, ThisNeeds, IsVariable, LoadNeeds, GetNeeds, GetStaticNeeds, LengthNeeds, ElemNeeds, UnaryNeeds, BinNeeds, TakesTruth, IsValuePart, IsStatementPart, IsOptionPart, ShortNeeds, AllocNeeds, ConstructNeeds, SuperNeeds, AllocArrayNeeds, InitNeeds, ParamsNeeds}
 use Rattle.scope_flow.specs.CallNeeds.{CallNeeds, CallStaticNeeds, CastNeeds, EnterNeeds, ExecuteInNeeds, SameNeeds, SetCeilingNeeds, PrintNeeds, ReadNeeds, ReceiverNeeds, RegisterNeeds, PutNeeds, PutStaticNeeds, PutElemNeeds, DropNeeds}
 
@@ -35,6 +36,7 @@ pub record ZeroNeeds (code : Code) (body : Body) (id : ℕ) (known : List ℕ) (
   pub local : ℕ
   pub is : bound_local (binding code id) ≡ Some local
   pub is_variable : IsVariable code.program body local id
+  pub spares : SparesGuards code id id
   pub goes : next (id ∷ known) s
 
 pub record StoreNeeds (code : Code) (body : Body) (id : ℕ) (known : List ℕ) (s : List Kind) (next : Goals) : Type 0 where
@@ -42,6 +44,7 @@ pub record StoreNeeds (code : Code) (body : Body) (id : ℕ) (known : List ℕ) 
   pub is : assigned code id >>= bound_local ≡ Some local
   pub variable : ℕ
   pub is_variable : IsVariable code.program body local variable
+  pub spares : SparesGuards code id variable
   pub value : Kind
   pub others : List Kind
   pub takes : s ≡ value ∷ others

@@ -2,6 +2,8 @@ pub mod CallFacts
 pub mod CallNeeds
 pub mod Facts
 pub mod Flow
+pub mod GuardFacts
+pub mod Guards
 pub mod Needs
 pub mod Pushers
 pub mod Signatures

@@ -3,21 +3,24 @@
 use Rattle.std.specs.Prelude.{◌≡◌, ℕ, zero, suc, ◌<◌, ◌==◌, ◌||◌, Bool, true, ◌⊎◌, List, [], ◌∷◌, length, slice_get, Option, Some, None, if◌then◌else◌, is_some}
 use Rattle.scj_base.specs.Vocabulary.{sign_equal, sign_not_equal, sign_minus, sign_not, sign_tilde}
 use Rattle.scj_builtins.specs.Framework.{mission_sequencer, periodic_handler}
+use Rattle.scj_base.specs.declared.places.Pos.{Pos}
 use Rattle.scj_tree.specs.declared.nodes.Node.{Node}
+use Rattle.scj_tree.specs.declared.nodes.Node.TheVariants.{Assign}
 use Rattle.scj_rules.specs.declared.typing.Ty.{Ty}
 use Rattle.scj_rules.specs.declared.typing.Ty.TheVariants.{Class as ClassTy}
 use Rattle.scj_rules.specs.declared.typing.Scope.{Scope}
-use Rattle.scj_rules.specs.declared.typing.Scope.TheVariants.{This, Caller}
+use Rattle.scj_rules.specs.declared.typing.Scope.TheVariants.{This, Caller, In}
 use Rattle.scj_rules.specs.declared.views.Body.{Body}
 use Rattle.scj_rules.specs.declared.views.SlotKind.{SlotKind}
 use Rattle.scj_rules.specs.Words.{is_among, ◌>>=◌}
 use Rattle.scj_rules.specs.Classes.{is_sub, hidden_fields}
 use Rattle.scj_rules.specs.Contexts.{Declarations, known_variables}
+use Rattle.scj_rules.specs.Guards.{is_guarded_store}
 use Rattle.scj_rules.specs.StaticScopes.{this_in}
 use Rattle.scj_rules.specs.Layout.{element_kind, literal_written}
 use Rattle.scj_rules.specs.Bodies.{constructor_body}
-use Rattle.accepted_laws.specs.Kinds.{Kind, number, truth, yes, reference, fresh, kind_of_variable, seen_kind, Fits, AllFit}
-use Rattle.accepted_laws.specs.Judgements.{Judged, Inside, Among}
+use Rattle.accepted_laws.specs.Kinds.{Kind, number, truth, yes, reference, fresh, kind_of_variable, seen_kind, unscoped, Fits, AllFit}
+use Rattle.accepted_laws.specs.Judgements.{type_at_node, Judged, Inside, Among}
 use Rattle.accepted_laws.specs.Sorts.{is_statement}
 use Rattle.scj_model.specs.Code.{Code, binding, part}
 use Rattle.scj_model.specs.Ops.{right_operand}
@@ -115,6 +118,31 @@ pub record ElemNeeds (p : Declarations) (id : ℕ) (s out : List Kind) : Type 0 
   pub elements : kind_of_elements p type ≡ Some kind
   pub by_expression : IsKindOfExpression p id (seen_kind scope Caller kind)
   pub leaves : out ≡ seen_kind scope Caller kind ∷ others
+
+-- ---- fields
+
+-- the scope of a field of a class is where the object lies: THIS, or the one scope in which all objects of the class lie,
+-- or all that the field may refer to
+unfoldable pub LiesWithObject : Declarations → ℕ → Kind → Type 0
+LiesWithObject p class (reference t This) = Unit {0}
+LiesWithObject p class (reference t (In n)) =
+    (this_in p class ≡ Some (In n)) ⊎ ((c : ℕ) × (t ≡ ClassTy c) × (this_in p c ≡ Some (In n)))
+LiesWithObject p class _ = ⊥
+
+-- a node is an assignment that a guard allows
+pub record IsGuardedAssign (p : Declarations) (id : ℕ) : Type 0 where
+  pub place : Pos
+  pub target : ℕ
+  pub value : ℕ
+  pub is_there : slice_get p.nodes id ≡ Some (Assign place target value)
+  pub is_guarded : is_guarded_store p (type_at_node p) id target value ≡ true
+
+-- a value may be stored in a field of this kind of an object of the class, which lies in the scope `home`: it fits, or a
+-- guard allows the store, and the field's scope is where the object lies
+abbrev pub FieldTakes : Declarations → ℕ → ℕ → Scope → Kind → Kind → Type 0
+FieldTakes p id class home value place =
+    Fits p home Caller value place
+    ⊎ (Fits p home Caller value (unscoped place) × LiesWithObject p class place × IsGuardedAssign p id)
 
 -- ---- operators
 

@@ -5,7 +5,7 @@ use Rattle.scj_tree.specs.declared.nodes.Node.{Node}
 use Rattle.scj_tree.specs.declared.nodes.Node.TheVariants.{Class, Method as MethodNode, Constructor}
 use Rattle.scj_rules.specs.declared.typing.Ty.{Ty}
 use Rattle.scj_rules.specs.declared.typing.Scope.{Scope}
-use Rattle.scj_rules.specs.declared.typing.Scope.TheVariants.{This, Caller, In}
+use Rattle.scj_rules.specs.declared.typing.Scope.TheVariants.{This, Caller, In, Unknown}
 use Rattle.scj_rules.specs.declared.views.Body.{Body}
 use Rattle.scj_rules.specs.declared.views.Body.TheVariants.{Written, Empty}
 use Rattle.scj_rules.specs.declared.views.WrittenType.{WrittenType}
@@ -100,9 +100,14 @@ runs_for_object p Empty = false
 
 -- ---- what is called on an object of a class
 
+-- a result is never said to be unknown
+abbrev pub IsKnownResult : Kind → Type 0
+IsKnownResult (reference t Unknown) = ⊥
+IsKnownResult _ = Unit {0}
+
 -- what an override gives fits what is said of the method above
 abbrev pub Gives : Declarations → Scope → Option Kind → Option Kind → Type 0
-Gives p home (Some j) (Some k) = Fits p home Caller j k
+Gives p home (Some j) (Some k) = Fits p home Caller j k × IsKnownResult k
 Gives p home None None = Unit {0}
 Gives p home _ _ = ⊥
 

@@ -17,7 +17,8 @@ use Rattle.scj_model.specs.Ops.{leaves_value}
 use Rattle.scj_model.specs.Operations.{bound_local}
 use Rattle.scope_flow.specs.Slots.{kind_of_elements, HasField, HasStatic}
 use Rattle.scope_flow.specs.Signatures.{Signature}
-use Rattle.scope_flow.specs.Needs.{IsVariable}
+use Rattle.scope_flow.specs.Guards.{SparesGuards}
+use Rattle.scope_flow.specs.Needs.{IsVariable, FieldTakes}
 use Rattle.scope_flow.specs.ValueFacts.{HasValue, HasStatement, HasOptionStatement, HasNext, HaveStatements, HasObject}
 
 -- ---- statements
@@ -26,12 +27,19 @@ pub record DeclaredFact (code : Code) (b id : ℕ) : Type 0 where
   pub local : ℕ
   pub is : bound_local (binding code id) ≡ Some local
   pub is_variable : IsVariable code.program (Written b) local id
+  pub spares : SparesGuards code id id
 
 -- a value of a kind that fits a place of another one, seen with this THIS
 pub record ValueFits (p : Declarations) (b c id value : ℕ) (home : Scope) (place : Kind) : Type 0 where
   pub kind : Kind
   pub value_is : HasValue p b c id value (Some kind)
   pub fits : Fits p home Caller kind place
+
+-- a value that may be stored in a field of this kind of an object of the class
+pub record FieldValueFits (p : Declarations) (b c id value class : ℕ) (home : Scope) (place : Kind) : Type 0 where
+  pub kind : Kind
+  pub value_is : HasValue p b c id value (Some kind)
+  pub fits : FieldTakes p id class home kind place
 
 pub record InitialValueFact (code : Code) (b c id value : ℕ) : Type 0 where
   pub declared : DeclaredFact code b id
@@ -47,6 +55,7 @@ pub record SetLocalFact (code : Code) (b c id target value : ℕ) : Type 0 where
   pub is : binding code target ≡ LocalVariable local
   pub variable : ℕ
   pub is_variable : IsVariable code.program (Written b) local variable
+  pub spares : SparesGuards code id variable
   pub fits : ValueFits code.program b c id value This is_variable.kind
 
 pub record SetOwnFieldFact (code : Code) (b c id target value : ℕ) : Type 0 where
@@ -57,7 +66,7 @@ pub record SetOwnFieldFact (code : Code) (b c id target value : ℕ) : Type 0 wh
   pub is : binding code target ≡ InstanceField field
   pub own : HasObject code.program b c
   pub has : HasField code.program c field
-  pub fits : ValueFits code.program b c id value own.home has.kind
+  pub fits : FieldValueFits code.program b c id value c own.home has.kind
 
 pub record SetFieldFact (code : Code) (b c id target value : ℕ) : Type 0 where
   pub place : Pos
@@ -70,7 +79,7 @@ pub record SetFieldFact (code : Code) (b c id target value : ℕ) : Type 0 where
   pub scope : Scope
   pub object_is : HasValue code.program b c id object (Some (reference (ClassTy class) scope))
   pub has : HasField code.program class field
-  pub fits : ValueFits code.program b c id value scope has.kind
+  pub fits : FieldValueFits code.program b c id value class scope has.kind
 
 pub record SetStaticFact (code : Code) (b c id target value : ℕ) : Type 0 where
   pub node : Node

@@ -25,7 +25,7 @@ use Rattle.scope_flow.specs.Flow.{Needs}
 use Rattle.scope_flow.specs.Needs.{pushed}
 use Rattle.scope_flow.specs.Signatures.{Signature}
 use Rattle.scope_flow.specs.Slots.{array_type, array_type_by}
-use Rattle.frame_sound.specs.Places.{World, Has, IsObject, an_object, held}
+use Rattle.frame_sound.specs.Places.{World, Place, Has, IsObject, an_object, held}
 use Rattle.frame_sound.specs.Fine.{ListFine, HeapFine, StaticsFine, Ready}
 use Rattle.frame_sound.proofs.Scenes.{Scene, memory, den, FlowsOn, take, next_taken}
 use Rattle.frame_sound.proofs.ActsOnValues.{is_array_of}
@@ -124,7 +124,7 @@ module _ (m : Scene) where
   any_int Null next h = stops
   any_int (At r) next h = stops
 
-  known_object : (t : Ty) (a : Option ℕ) (v : Value) (next : ℕ → Effect) →
+  known_object : (t : Ty) (a : Place) (v : Value) (next : ℕ → Effect) →
       Has m.code.program (memory m) (an_object t a) v →
       ((o : IsObject m.code.program (memory m) t a v) → Ok (next o.r)) → Ok (as_object v next)
   known_object t a v next (inl e) go =

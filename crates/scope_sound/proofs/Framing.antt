@@ -16,7 +16,7 @@ use Rattle.scope_flow.specs.Pushers.{Pusher, scope_in, IsPushed, ArePushed}
 use Rattle.scope_flow.specs.Needs.{pushed}
 use Rattle.scope_flow.specs.Ways.{Comes, Stood}
 use Rattle.scope_flow.proofs.Courses.{course_stood}
-use Rattle.frame_sound.specs.Places.{World, Held, denote, held, IsObject, Has, AllHave}
+use Rattle.frame_sound.specs.Places.{World, Place, Held, denote, held, IsObject, Has, AllHave}
 use Rattle.frame_sound.specs.Fine.{list_of, Ready, GivenFits, held_option, Under, FramesFine}
 use Rattle.frame_sound.proofs.Places.{denote_on}
 use Rattle.scope_sound.specs.FramedAndPlaced.{LiesWhere, LocalLies, OperandLies, FrameFramed, FramedUnder, FramesFramed}
@@ -29,7 +29,7 @@ element_there (x ∷ xs) (suc i) l = element_there xs i (omega (arith, l))
 
 module _ (code : Code) (w : World) (list : List ℕ) (c : ℕ) (sig : Signature) (f : Frame) (t : Option Kind)
     (r : Ready code w list c sig f t) where
-  abbrev den : Scope → Option ℕ
+  abbrev den : Scope → Place
   den = denote w list f.this f.area
 
   lies_where : (ty : Ty) (scope : Scope) (q : ℕ) → IsObject code.program w ty (den scope) (At q) →
@@ -171,7 +171,7 @@ module _ (code : Code) (w : World) (list : List ℕ) (c : ℕ) (sig : Signature)
 
 -- ---- the frames of a job
 
-none_given : (code : Code) (den : Scope → Option ℕ) (kind : Option Kind) →
+none_given : (code : Code) (den : Scope → Place) (kind : Option Kind) →
     GivenFits code.program None (held_option den kind) → kind ≡ None
 unfolding held_option
 none_given code den None h = refl

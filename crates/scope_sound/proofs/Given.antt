@@ -22,7 +22,7 @@ use Rattle.scj_model.specs.State.{Frame, Object, TheSequencer, State}
 use Rattle.scope_flow.specs.Facts.{Facts}
 use Rattle.scope_flow.specs.Signatures.{Runs, Signature}
 use Rattle.scope_flow.specs.Slots.{IsOfType}
-use Rattle.frame_sound.specs.Places.{World, Has, IsObject, denote, held, world_of}
+use Rattle.frame_sound.specs.Places.{World, Place, Has, IsObject, denote, held, world_of}
 use Rattle.frame_sound.specs.Fine.{HeapFine, IsOnList, list_of}
 use Rattle.frame_sound.specs.EffectsFine.{ReturnFine}
 use Rattle.frame_sound.specs.OwnJob.{HasLeft}
@@ -47,9 +47,9 @@ module _ (code : Code) (facts : Facts code) (w : World) (heap : HeapFine code.pr
   unfolding IsOfType assigns
   under_both class c h e = (facts.assigned class (ClassTy c) (ClassTy above) h e).1
 
-  is_immortal : (c : ℕ) → is_sub code.program.classes c above ≡ true → (area : Option ℕ) (v : Value) →
-      LiesFirst w (Some v) → IsObject code.program w (ClassTy c) area v → IsNullOr code.program w above v
-  is_immortal c under area v first o =
+  is_immortal : (c : ℕ) → is_sub code.program.classes c above ≡ true → (place : Place) (v : Value) →
+      LiesFirst w (Some v) → IsObject code.program w (ClassTy c) place v → IsNullOr code.program w above v
+  is_immortal c under place v first o =
       inr (
         o.r,
         o.is,
@@ -63,14 +63,14 @@ module _ (code : Code) (facts : Facts code) (w : World) (heap : HeapFine code.pr
         },
       )
 
-  of_kind : (den : Scope → Option ℕ) (c : ℕ) (scope : Scope) → is_sub code.program.classes c above ≡ true →
+  of_kind : (den : Scope → Place) (c : ℕ) (scope : Scope) → is_sub code.program.classes c above ≡ true →
       (v : Value) → Has code.program w (held den (reference (ClassTy c) scope)) v → LiesFirst w (Some v) →
       IsNullOr code.program w above v
   unfolding held
   of_kind den c scope under v (inl e) first = inl e
   of_kind den c scope under v (inr o) first = is_immortal c under (den scope) v first o
 
-  null_or_immortal : (den : Scope → Option ℕ) (given : Option Kind) → GivesUnder code.program above given →
+  null_or_immortal : (den : Scope → Place) (given : Option Kind) → GivesUnder code.program above given →
       (value : Option Value) → ReturnFine code.program w den given value → LiesFirst w value →
       IsNullOr code.program w above (unwrap_or value Null)
   null_or_immortal den given g value h first =

@@ -9,7 +9,7 @@ use Rattle.scj_model.specs.State.{MemoryArea, Object, Frame, Activity, Job, Rele
 use Rattle.scope_flow.specs.Signatures.{Signature, Runs, variables_in}
 use Rattle.scope_flow.specs.Pushers.{Pusher, IsScopeOf, IsScopeOfVariable}
 use Rattle.scope_flow.specs.Ways.{Comes}
-use Rattle.frame_sound.specs.Places.{World, world_of, denote}
+use Rattle.frame_sound.specs.Places.{World, world_of, the_area, LiesAt, denote}
 use Rattle.frame_sound.specs.Fine.{IsInParent, IsOn, JobFine, list_of}
 use Rattle.mission_sound.specs.Bases.{Base, areas_of, BaseFine, BaseSuits, IsInMission}
 use Rattle.mission_sound.specs.Invariant.{Invariant, IsPrivateScope}
@@ -18,11 +18,11 @@ use Rattle.reference_sound.specs.References.{JobHolds, MemoryHolds}
 -- ---- one frame
 
 -- the object of a reference lies in the area that the scope names for the frame, and that area is on the list. The scope
--- any names none
+-- any names none; where the scope is unknown or lost, the object lies in some area of the list
 pub record LiesWhere (w : World) (list : List ℕ) (f : Frame) (scope : Scope) (r : ℕ) : Type 0 where
   pub object : Object
   pub found : w.objects r ≡ Some object
-  pub named : denote w list f.this f.area scope ≡ Some object.area
+  pub named : LiesAt (denote w list f.this f.area scope) object.area
   pub on_list : is_among object.area list ≡ true
 
 -- of a local, also of a block that is over: the scope is its variable's
@@ -48,7 +48,7 @@ pub record FrameFramed (code : Code) (w : World) (list : List ℕ) (f : Frame) (
   pub sig : Signature
   pub runs : Runs code.program f.body class sig
   -- the current area is the one that the current scope of the body names; the empty body runs in CALLER
-  pub now : denote w list f.this f.area sig.runs_in ≡ Some f.area
+  pub now : denote w list f.this f.area sig.runs_in ≡ the_area f.area
   pub locals : (i r : ℕ) → slice_get f.locals i ≡ Some (At r) → LocalLies code w list f i r
   -- what pushed the operands, on a way through the body to the operations that are left
   pub pushers : List Pusher

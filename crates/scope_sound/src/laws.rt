@@ -20,9 +20,10 @@ use accepted_laws::nodes::checked_is_accepted;
 use scj_rules::Checked;
 
 /// A sealed program is safe. Whatever the plan, and whichever release acts in each unit: no job is ever stuck, and the
-/// sequencer always goes on; no reference that can be used leads into a closed area, and no store lets a reference
-/// outlive its object. And where the most urgent release acts, monitors exclude one another, at most 28 releases are
-/// started at a time, and areas are closed in the reverse order of their opening.
+/// sequencer always goes on; no reference that can be used leads into a closed area, and one in a frame leads into an
+/// area on the list of the frame's own job; and no store lets a reference outlive its object. And where the most urgent
+/// release acts, monitors exclude one another, at most 28 releases are started at a time, and areas are closed in the
+/// reverse order of their opening.
 pub fn law_safe(checked: &Checked)
     ensures { IsSafe (code_of checked.now.program) }
 {

@@ -6,4 +6,4 @@ use Rattle.flow_facts.proofs.statements.statements_have_facts.Goals as goal
 pub returns : goal.returns
 unfolding code_of
 returns c = λ forest a b class sig id node body is there. statement_fact forest a.is_accepted a.whole
-    (well_sorted forest a.is_read) b class sig id node body is there
+    (well_sorted forest a.is_read) a.is_read b class sig id node body is there
