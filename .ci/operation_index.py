@@ -161,7 +161,7 @@ def where_stands(name, path):
 
 
 def law_of(word):
-    clause = re.search(rf"(?m)^effect_fine m \(?{word}(?: id\))? r = (\w+)", read(FINE))
+    clause = re.search(rf"(?m)^effect_fine m \(?{word}(?: id\))?(?: \w+)* r = (\w+)", read(FINE))
     path = clause and where_stands(clause[1], FINE)
     return [(path, clause[1])] if path else []
 

@@ -1,9 +1,10 @@
-"""Makes changes of the program changed.java beside this file, and the report of each by slow_rules.py.
+"""Makes changes of the programs changed.java and guarded.java beside this file, and the report of each by slow_rules.py.
 
-    python3 make_changes.py      writes them behind the last case of the reports of crates/scj_tables
+    python3 make_changes.py      writes them as the last two cases of the reports of crates/scj_tables
 
 Each change is one that the grammar allows: a name in the place of another one, an annotation or a word more or less,
-another literal, type or operator, arguments, a `return`, a super call or a superclass less.
+another literal, type or operator, arguments, a `return`, a super call or a superclass less. In guarded.java, which has scopes that are unknown, they are
+also a guard's condition in another form, and assignments in its first part.
 """
 
 import os
@@ -15,13 +16,13 @@ import slow_rules
 import table_files
 import trees
 
-HEAD = "== changes of a program"
+PROGRAMS = {"== changes of a program": "changed.java", "== changes of a guarded program": "guarded.java"}
 NAME = "E.java"
 MARKS = {"Scope", "RunsIn", "DefineScope", "name", "parent"}
 SCOPES = ["M", "A", "S", "P", "Q", "IMMORTAL", "THIS", "CALLER", "UNKNOWN"]
 OTHER = {"int": ["boolean", "Object", "int[]"], "boolean": ["int", "Note"], "void": ["int", "Note"], "long": ["int"], "null": ["this", "0", "new Object()"], "this": ["null", "true"], "true": ["1"], "false": ["0", "null"],
          "+": ["&&", "==", "-"], "-": ["||"], "*": ["+", "<"], "/": ["!="], "&&": ["+", "||"], "||": ["&&"], ">": ["==", "&"], "<": ["!="], "==": ["<", "!="], "!=": ["==", "+"], "++": ["--"], "+=": ["-="], "!": ["~"]}
-ADDED = {"scope": ['@Scope("M") ', "@Scope(THIS) ", "@Scope(CALLER) ", "@Scope(IMMORTAL) ", '@Scope("S") ', "@Scope(Q) "],
+ADDED = {"scope": ['@Scope("M") ', "@Scope(THIS) ", "@Scope(CALLER) ", "@Scope(IMMORTAL) ", '@Scope("S") ', "@Scope(Q) ", "@Scope(UNKNOWN) "],
          "runs": ['@RunsIn("M") ', "@RunsIn(THIS) ", "@RunsIn(CALLER) ", "@RunsIn(IMMORTAL) ", '@RunsIn("P") ', "@RunsIn(Q) "],
          "define": ['@DefineScope(name="Q", parent="M") ', '@DefineScope(name="M", parent="IMMORTAL") ', '@DefineScope(name="Q", parent="Q") ', '@DefineScope(name="Q", parent="IMMORTAL") '],
          "static": ["static "], "abstract": ["abstract "], "sync": ["synchronized "]}
@@ -137,15 +138,38 @@ def parts(source):
             yield source.at(number + 1), source.end(end), "Object" if text == "extends" else "Safelet"
 
 
-def main():
-    folder = os.path.dirname(os.path.abspath(__file__))
-    with open(os.path.join(folder, "changed.java")) as file:
-        text = file.read()
+def guards(source):
+    """Other conditions in a guard's place, and assignments in its first part."""
+    for number in range(len(source.tokens) - 4):
+        if source.tokens[number][1] != "allocInSame":
+            continue
+        begin, last = number - 2, source.closing(number + 1)
+        call = source.text[source.at(begin) : source.end(last)]
+        for form in (f"({call})", f"!{call}", f"{call} && true", f"{call} == true", "true"):
+            yield source.at(begin), source.end(last), form
+        first, second = call[call.index("(") + 1 : -1].split(", ")
+        yield source.at(number + 1), source.end(last), f"({second}, {first})"
+        for one in f"({first})", "null", f"{first}.next":
+            yield source.at(number + 1), source.end(last), f"({one}, {second})"
+        if source.word(last + 2) == "{":
+            behind = source.end(last + 2)
+            for name in {first, second, "old", "c", "any"} - {"this"}:
+                yield behind, behind, f" {name} = null;"
+                yield behind, behind, f" if (false) {{ {name} = null; }}"
+            yield behind, behind, f" {first}.next = null; {second}.next = {first}; {first}.mark = {second};"
+            yield behind, behind, f" }} {{ {first}.next = {second};"
+
+
+def changes_of(text):
     source = Source(text)
     some = random.Random(20)
-    changes = sorted(set(names(source, some)) | set(flags(source)) | set(parts(source)))
-    asked = [HEAD, "-- " + NAME] + text.rstrip("\n").split("\n")
-    told = [HEAD]
+    return sorted(set(names(source, some)) | set(flags(source)) | set(parts(source)) | set(guards(source)))
+
+
+def reports_of(head, text):
+    """The lines of a case, and what they have to print."""
+    asked, told = [head, "-- " + NAME] + text.rstrip("\n").split("\n"), [head]
+    changes = changes_of(text)
     kept = 0
     for begin, end, new in changes:
         changed = text[:begin] + new + text[end:]
@@ -156,10 +180,21 @@ def main():
         kept += 1
         asked.append(f"~ {begin} {end} {new}")
         told += [asked[-1]] + report + ["status %d" % (0 if report == ["accepted"] else 1)]
-    for name, lines in ("stdin", asked), ("stdout", told):
-        before = table_files.read(name, "reports").split(HEAD + "\n")[0]
-        table_files.write(name, "reports", before + "".join(line + "\n" for line in lines))
     print(kept, "changes of", len(changes))
+    return asked, told
+
+
+def main():
+    folder = os.path.dirname(os.path.abspath(__file__))
+    asked, told = [], []
+    for head, name in PROGRAMS.items():
+        with open(os.path.join(folder, name)) as file:
+            of_one = reports_of(head, file.read())
+        asked += of_one[0]
+        told += of_one[1]
+    for name, lines in ("stdin", asked), ("stdout", told):
+        before = table_files.read(name, "reports").split(next(iter(PROGRAMS)) + "\n")[0]
+        table_files.write(name, "reports", before + "".join(line + "\n" for line in lines))
 
 
 if __name__ == "__main__":

@@ -82,6 +82,9 @@ FIRST_SEVEN = ("Object", "Runnable", "Safelet", "Mission", "MissionSequencer", "
 HAVE_FORM = ("PeriodicEventHandler", "AperiodicEventHandler", "MissionSequencer")
 
 
+UNKNOWN, LOST = "(unknown)", "(lost)"
+
+
 class Row:
     """A method of the framework."""
     builtin = True
@@ -525,7 +528,8 @@ class Checker:
                 if not any(not isinstance(d, str) and d.flags.define for d in ch):
                     say("S6", c.pos)
 
-    # ---- annotations. A scope is a name, "THIS", "CALLER" or "any"; None is a missing one
+    # ---- annotations. A scope is a name, "THIS", "CALLER", "any", UNKNOWN or LOST, which no name is; None is a missing
+    # one
 
     def named(self, n):
         return n if n == "IMMORTAL" or n in self.defines else None
@@ -588,6 +592,9 @@ class Checker:
             return current
         return self.named(name)
 
+    def meant(self, c, current, name):
+        return UNKNOWN if name == "UNKNOWN" else self.written(c, current, name)
+
     def fixed(self, c, name):
         row = self.row_of(c, name)
         if row is None:
@@ -642,7 +649,7 @@ class Checker:
     def current(self, member):
         return self.this(member.on) if member.kind == "ctor" else self.runs_in(self.method(member))
 
-    def thing(self, c, node, type_, current, default, is_field, is_static):
+    def thing(self, c, node, type_, current, default, kind, is_static):
         """The scope of a declared thing; says A1, A9 and for fields A3 to A5."""
         if node in self.things:
             return self.things[node]
@@ -658,7 +665,9 @@ class Checker:
             if w.name == "THIS":
                 unknown = is_static and self.class_scope(c) == (True, None)
             elif w.name == "CALLER":
-                unknown = is_field
+                unknown = kind == "field"
+            elif w.name == "UNKNOWN":
+                unknown = kind != "variable"
             else:
                 unknown = self.named(w.name) is None
             if unknown:
@@ -668,7 +677,7 @@ class Checker:
                 self.say("A9", w.pos)
                 bad = True
             elif fine and s is not None:
-                mean = self.written(c, current, w.name)
+                mean = self.meant(c, current, w.name)
                 if unknown or (mean is not None and mean != s):
                     self.say("A9", w.pos)
                     bad = True
@@ -677,10 +686,10 @@ class Checker:
         elif s is not None:
             got = s
         elif w is not None:
-            got = self.written(c, current, w.name)
+            got = self.meant(c, current, w.name)
         else:
             got = default
-        if is_field and not bad and not prim and got is not None:
+        if kind == "field" and not bad and not prim and got is not None:
             cf, cs = self.class_scope(c)
             if is_static:
                 if got != "IMMORTAL":
@@ -698,15 +707,15 @@ class Checker:
 
     def field_scope(self, f):
         st = f.flags.static
-        return self.thing(f.on, f, f.type, None, "IMMORTAL" if st else self.this(f.on), True, st)
+        return self.thing(f.on, f, f.type, None, "IMMORTAL" if st else self.this(f.on), "field", st)
 
     def param_scope(self, member, p):
         cur = self.current(member)
-        return self.thing(member.on, p, p.type, cur, cur, False, member.flags.static)
+        return self.thing(member.on, p, p.type, cur, cur, "variable", member.flags.static)
 
     def result_scope(self, m):
         cur = self.runs_in(m)
-        return self.thing(m.on, m.node, m.node.type, cur, cur, False, m.static)
+        return self.thing(m.on, m.node, m.node.type, cur, cur, "result", m.static)
 
     def uses(self):
         self.class_scopes, self.runs, self.things = {}, {}, {}
@@ -772,6 +781,11 @@ def parts(n):
     if k == "element":
         return [n.arr, n.ix]
     return []
+
+
+def below(n):
+    """A node and all under it."""
+    return [n] + [y for x in parts(n) for y in below(x)]
 
 
 def returns(s):
@@ -1113,6 +1127,7 @@ class Body:
 
     def scopes(self):
         self.scoped = True
+        self.guards = []
         self.types()
         m = self.m
         self.cur = self.p.current(m)
@@ -1140,11 +1155,19 @@ class Body:
             self.locals(k)
 
     def local(self, n):
-        return self.p.thing(self.c, n, n.type, self.cur, self.cur, False, self.m.flags.static)
+        return self.p.thing(self.c, n, n.type, self.cur, self.cur, "variable", self.m.flags.static)
 
     def walk(self, s):
         k = s.kind
-        if k in ("block", "if", "while", "for"):
+        if k == "if":
+            self.s(s.c)
+            guard = self.guard(s)
+            self.guards.append(guard)
+            self.walk(s.a)
+            self.guards.pop()
+            if s.b:
+                self.walk(s.b)
+        elif k in ("block", "while", "for"):
             for i in parts(s):
                 if i.kind in ("block", "if", "while", "for", "return", "local", "assign", "exprstmt", "empty"):
                     self.walk(i)
@@ -1156,7 +1179,8 @@ class Body:
         elif k == "assign":
             a, b = self.s(s.target), self.s(s.value)
             is_local = s.target.kind == "name" and self.meanings[s.target].kind in ("local", "param")
-            self.fit(b, a, "E4" if is_local else "E5", s.pos)
+            if is_local or not self.guarded(s.target, s.value):
+                self.fit(b, a, "E4" if is_local else "E5", s.pos)
         elif k == "return":
             if s.value is not None:
                 v = self.s(s.value)
@@ -1165,11 +1189,47 @@ class Body:
         elif k == "exprstmt":
             self.s(s.e)
 
+    # ---- guards
+
+    def operand(self, n):
+        """The local, the parameter or `this` that an expression is; None where it is another one."""
+        if n.kind == "this":
+            return "this"
+        v = self.meanings[n] if n.kind == "name" else None
+        return v if v is not None and not isinstance(v, str) and v.kind in ("local", "param") else None
+
+    def guard(self, s):
+        """The two operands of a guard; None where the `if` is none."""
+        if s.c.kind != "call" or self.meanings.get(s.c) is not BUILTIN["ManagedMemory"]["allocInSame"]:
+            return None
+        a, b = [self.operand(x) for x in s.c.args]
+        if a is None or b is None:
+            return None
+        assigned = [self.operand(x.target) for x in below(s.a) if x.kind == "assign"]
+        return None if a in assigned or b in assigned else (a, b)
+
+    def guarded(self, target, value):
+        if target.kind == "name":
+            f, x = self.meanings[target], "this"
+        elif target.kind == "access":
+            f, x = self.meanings[target], self.operand(target.obj) if target.recv[0] == "value" else None
+        else:
+            return False
+        if f == "length" or f.flags.static or (f.flags.scope is not None and f.flags.scope.name != "THIS"):
+            return False
+        y = self.operand(value)
+        return x is not None and y is not None and ((x, y) in self.guards or (y, x) in self.guards)
+
     def fit(self, s, t, rule, pos):
-        if s is not None and t is not None and s != t and s != "any" and t != "any":
+        fits = s == "any" or t in ("any", UNKNOWN) or (s == t and t != LOST)
+        if s is not None and t is not None and not fits:
             self.p.say(rule, pos)
 
+    def beside(self, s):
+        return LOST if s == UNKNOWN else s
+
     def subst(self, s, object_, current):
+        object_ = self.beside(object_)
         return object_ if s == "THIS" else current if s == "CALLER" else s
 
     def ctor_arguments(self, c, object_, args, ss):
@@ -1207,7 +1267,7 @@ class Body:
             if e in ("int", "boolean"):
                 return None
             fine, s = p.class_scope(p.cls(e))
-            return None if not fine else (s or a)
+            return None if not fine else (s or self.beside(a))
         if k == "newarray":
             self.s(n.size)
             if n.name not in ("int", "boolean"):
@@ -1290,7 +1350,7 @@ class Body:
         bad = m is None
         if not bad and area is not None:
             r = self.p.runs_in(m)
-            bad = area in ("any", "THIS", "CALLER") or (r is not None and r != area)
+            bad = area in ("any", "THIS", "CALLER", UNKNOWN, LOST) or (r is not None and r != area)
         if bad:
             self.p.say("E8", n.pos)
 

@@ -1,0 +1,7 @@
+class Item {
+  Item next;
+}
+
+class Items {
+  static void link(@Scope(Scope.UNKNOWN) Item a, @Scope(Scope.UNKNOWN) Item b) { a.next = b; }
+}
