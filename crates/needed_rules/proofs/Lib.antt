@@ -10,13 +10,14 @@ pub mod ProgramE3Argument
 pub mod ProgramE4Assign
 pub mod ProgramE5Store
 pub mod ProgramE5Undone
+pub mod ProgramE5Unguarded
 pub mod ProgramE6Return
 pub mod ProgramE7Enter
 pub mod ProgramE8Execute
 pub mod Reading
-pub mod RowOfGuards
 pub mod Rows
 pub mod RowsOfAnnotations
+pub mod RowsOfGuards
 pub mod Texts
 pub mod TextsRead
 pub mod Unsafe

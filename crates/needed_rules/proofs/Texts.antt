@@ -105,6 +105,17 @@ e5_undone_text =
     ++ (codes "RelativeTime(1, 0)),\n        new StorageParameters(100));\n    list = a;\n  }\n"
     ++ codes "  public void handleAsyncEvent() { Node.tie(list, list, new Node()); }\n}\n")))))))
 
+abbrev pub e5_unguarded_text : List ℕ
+e5_unguarded_text =
+    beginning
+    ++ (codes "  public void initialize() { new H(new Node()).register(); }\n}\nclass Node {\n  Node next;\n"
+    ++ (codes "  static void tie(@Scope(UNKNOWN) Node a, @Scope(UNKNOWN) Node b) { a.next = b; }\n}\n"
+    ++ (codes "@Scope(\"M\") @DefineScope(name=\"P\", parent=\"M\") class H extends PeriodicEventHandler {\n"
+    ++ (codes "  Node list;\n  H(Node a) {\n"
+    ++ (codes "    super(new PriorityParameters(5), new PeriodicParameters(new RelativeTime(0, 0), new "
+    ++ (codes "RelativeTime(1, 0)),\n        new StorageParameters(100));\n    list = a;\n  }\n"
+    ++ codes "  public void handleAsyncEvent() { Node.tie(list, new Node()); }\n}\n"))))))
+
 abbrev pub e6_return_text : List ℕ
 e6_return_text =
     beginning

@@ -14,12 +14,13 @@ use Rattle.needed_rules.proofs.ProgramE3Argument.{e3_argument}
 use Rattle.needed_rules.proofs.ProgramE4Assign.{e4_assign}
 use Rattle.needed_rules.proofs.ProgramE5Store.{e5_store}
 use Rattle.needed_rules.proofs.ProgramE5Undone.{e5_undone}
+use Rattle.needed_rules.proofs.ProgramE5Unguarded.{e5_unguarded}
 use Rattle.needed_rules.proofs.ProgramE6Return.{e6_return}
 use Rattle.needed_rules.proofs.ProgramE7Enter.{e7_enter}
 use Rattle.needed_rules.proofs.ProgramE8Execute.{e8_execute}
 use Rattle.needed_rules.proofs.ProgramE10Array.{e10_array}
 use Rattle.needed_rules.proofs.Reading.{read_alone, reading}
-use Rattle.needed_rules.proofs.Texts.{a2_class_text, a3_field_text, a4_field_text, a5_static_text, a6_override_text, e1_new_text, e2_call_text, e3_argument_text, e4_assign_text, e5_store_text, e5_undone_text, e6_return_text, e7_enter_text, e8_execute_text, e10_array_text}
+use Rattle.needed_rules.proofs.Texts.{a2_class_text, a3_field_text, a4_field_text, a5_static_text, a6_override_text, e1_new_text, e2_call_text, e3_argument_text, e4_assign_text, e5_store_text, e5_undone_text, e5_unguarded_text, e6_return_text, e7_enter_text, e8_execute_text, e10_array_text}
 
 pub e1_new_reads : Reads (e1_new_text ∷ []) e1_new
 unfolding reading
@@ -56,6 +57,12 @@ unfolding reading
 e5_undone_reads =
     read_alone 2000 e5_undone_text (unwrap_or (tokens_from 2000 0 [] e5_undone_text) []) e5_undone
     (15 ∷ 30 ∷ 49 ∷ 82 ∷ 121 ∷ []) refl refl refl refl
+
+pub e5_unguarded_reads : Reads (e5_unguarded_text ∷ []) e5_unguarded
+unfolding reading
+e5_unguarded_reads =
+    read_alone 2000 e5_unguarded_text (unwrap_or (tokens_from 2000 0 [] e5_unguarded_text) []) e5_unguarded
+    (15 ∷ 30 ∷ 49 ∷ 69 ∷ 107 ∷ []) refl refl refl refl
 
 pub e6_return_reads : Reads (e6_return_text ∷ []) e6_return
 unfolding reading

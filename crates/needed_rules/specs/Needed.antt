@@ -1,16 +1,20 @@
 -- A rule is needed: some text is read as a program that breaks it and no other one, and isn't safe.
-use Rattle.std.specs.Prelude.{◌≡◌, ℕ, true, List, [], ◌∷◌, Some, None}
+use Rattle.std.specs.Prelude.{◌≡◌, ℕ, true, List, [], ◌∷◌, slice_get, Option, Some, None}
 use Rattle.scj_base.specs.declared.findings.Rule.{Rule}
 use Rattle.scj_base.specs.declared.findings.Rule.TheVariants.{E5}
 use Rattle.scj_base.specs.declared.places.Pos.{Pos}
+use Rattle.scj_tree.specs.declared.nodes.Node.TheVariants.{Assign}
 use Rattle.scj_tree.specs.Forest.{Forest}
 use Rattle.scj_tree.specs.Recursion.{lookup}
 use Rattle.scj_rules.specs.declared.typing.Guard.{Guard}
+use Rattle.scj_rules.specs.declared.typing.Scope.{Scope}
+use Rattle.scj_rules.specs.declared.typing.Scope.TheVariants.{Lost, Unknown}
 use Rattle.scj_rules.specs.Words.{is_among}
 use Rattle.scj_rules.specs.Views.{place_at}
 use Rattle.scj_rules.specs.Contexts.{declarations_of}
 use Rattle.scj_rules.specs.TypeRules.{types_in}
 use Rattle.scj_rules.specs.Guards.{asked_at, is_undone, ifs_around}
+use Rattle.scj_rules.specs.UseRules.{scopes_in}
 use Rattle.scj_rules.specs.Syntax.{Reads}
 use Rattle.scj_rules.specs.Phases.{class_phase, type_phase, scope_phase, use_phase}
 use Rattle.scj_model.specs.Code.{code_of}
@@ -31,6 +35,24 @@ pub record IsNeeded (rule : Rule) : Type 0 where
   pub place : Pos
   pub breaks : BreaksOnly program rule place
   pub is_unsafe : IsSafeInAnyOrder (code_of program) → ⊥
+
+-- the static scope of a node
+abbrev pub scope_at : Forest → ℕ → Option Scope
+scope_at program id =
+    let p = declarations_of program in
+    lookup None (scopes_in p (lookup None (types_in p))) id
+
+-- where nothing is known of two areas, a store needs a guard: some text is read as a program that breaks E5 alone, by a
+-- store of an object that may lie anywhere in a field that is lost, with no `if` around it, and isn't safe
+pub record IsUnsafeUnguarded : Type 0 where
+  pub needed : IsNeeded E5
+  pub store : ℕ
+  pub target : ℕ
+  pub value : ℕ
+  pub is_store : slice_get (declarations_of needed.program).nodes store ≡ Some (Assign needed.place target value)
+  pub is_lost : scope_at needed.program target ≡ Some Lost
+  pub is_unknown : scope_at needed.program value ≡ Some Unknown
+  pub stands_alone : ifs_around (declarations_of needed.program).nodes store ≡ []
 
 -- it isn't enough that an `if` asks: some text is read as a program that breaks E5 alone, by a store in the first part of
 -- an `if` that asks, in which one of its subjects is assigned to, and isn't safe

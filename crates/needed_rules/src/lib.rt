@@ -3,7 +3,7 @@
 #![tactic(auto)]
 
 ghost use Rattle.scj_base.specs.declared.findings.Rule.TheVariants.{A2, A3, A4, A5, A6, E1, E2, E3, E4, E5, E6, E7, E8, E10};
-ghost use Rattle.needed_rules.specs.Needed.{IsNeeded, IsUnsafeWhereUndone};
+ghost use Rattle.needed_rules.specs.Needed.{IsNeeded, IsUnsafeUnguarded, IsUnsafeWhereUndone};
 
 /// Without one of these rules unsafe programs would be accepted.
 pub fn rules_on_uses_are_needed()
@@ -26,6 +26,11 @@ pub fn rules_on_annotations_are_needed()
     ensures field_of_unannotated { IsNeeded A4 }
     ensures static_field { IsNeeded A5 }
     ensures override_ { IsNeeded A6 }
+{}
+
+/// Where nothing is known of where two objects lie, a store of one in a field of the other isn't safe without a guard.
+pub fn unguarded_stores_are_unsafe()
+    ensures { IsUnsafeUnguarded }
 {}
 
 /// A store isn't safe because an `if` around it asks whether its object and its value lie in one area: the part may assign

@@ -1,15 +1,11 @@
 -- The `if`s around a node, step by step.
-use Rattle.std.proofs.Common.{◌≡◌, ℕ, ◌+◌, ◌-◌, zero, suc, List, [], ◌∷◌, ◌++◌, length, refl, sym, ap, ◌∙◌, arith, Option, Some, None, Bool, true, false, ◌||◌, ◌&&◌, ◌==◌, ◌<◌, ◌≤◌, ◌≢◌, drop, set, get_or-set_other, nat_lt, true≢false, is_some, if◌then◌else◌, slice_get}
+use Rattle.std.proofs.Common.{◌≡◌, ℕ, ◌+◌, ◌-◌, zero, suc, List, [], ◌∷◌, ◌++◌, length, refl, sym, ap, ◌∙◌, arith, Option, Some, None, Bool, true, false, ◌||◌, ◌&&◌, ◌==◌, ◌<◌, ◌≤◌, drop, nat_lt, true≢false, is_some, cond, if◌then◌else◌, slice_get}
 use Rattle.std.specs.List.{list_any, cons_option}
 use Rattle.std.proofs.lemmas.List.Folds.{list_any-append}
-use Rattle.std.proofs.lemmas.Grind.{get_or-set_at}
-use Rattle.std.proofs.lemmas.List.{get_or_past, set_past}
-use Rattle.scj_tree.proofs.RecursionLemmas.{listed-at}
 use Rattle.std.proofs.lemmas.Bool.Decides.{nat_tests}
 use Rattle.std.proofs.lemmas.Option.{slice_get_past}
 use Rattle.scj_tree.specs.declared.nodes.Node.{Node}
 use Rattle.scj_tree.specs.Forest.{Forest}
-use Rattle.scj_tree.specs.Recursion.{lookup, listed}
 use Rattle.scj_rules.specs.declared.typing.Guard.{Guard}
 use Rattle.scj_rules.specs.declared.typing.Subject.{Subject}
 use Rattle.scj_rules.specs.Words.{holds, is_among, chain}
@@ -21,7 +17,7 @@ use Rattle.scj_rules.specs.Contexts.{Declarations, declarations_of}
 use Rattle.scj_rules.specs.ClassRules.{numbers_from}
 use Rattle.scj_rules.proofs.NumberLemmas.{numbers_next, numbers_end}
 use Rattle.runs_in_check.specs.declared.guards.Guards.{Guards}
-use Rattle.runs_in_check.specs.Guards.{AreGuards, guards_both, ifs_on, ifs_at, unless, left_by, left_from}
+use Rattle.runs_in_check.specs.Guards.{AreGuards, guards_both, ifs_on, ifs_at, unless, left_by, left_from, row_in}
 
 -- one step up
 pub no_ifs : (nodes : List Node) (bound part : ℕ) → parent_in nodes part ≡ None → ifs_on nodes (suc bound) part ≡ []
@@ -194,86 +190,118 @@ pub asked_past : (forest : Forest) (types : Types) (number : ℕ) → length for
 unfolding declarations_of
 asked_past forest types number l = rw (slice_get_past forest.nodes number l) refl
 
-pub asked_rows : (forest : Forest) (types : Types) (n number : ℕ) → length forest.nodes ≤ n
-    → lookup None (listed (asked_at (declarations_of forest) types) n) number
+-- rows with what the numbers below a bound have
+module _ (f : ℕ → Option Guard) (n number : ℕ) (o : Option Guard)
+    (below : o ≡ (if nat_lt number n then f number else None)) where
+  -- the bound itself has nothing
+  pub none_below : f n ≡ None → o ≡ (if nat_lt number (n + 1) then f number else None)
+  none_below e = by (nat_lt number n) refl (nat_lt number (n + 1)) refl
+    where
+      by : (a : Bool) → nat_lt number n ≡ a → (b : Bool) → nat_lt number (n + 1) ≡ b
+          → o ≡ (if nat_lt number (n + 1) then f number else None)
+      by true la true lb = rw lb (rw la at below)
+      by false la true lb =
+          let same : number ≡ n = grind (arith, nat_tests, la, lb) in
+          rw lb ((rw la at below) ∙ sym (ap f same ∙ e))
+      by true la false lb = absurd (grind (arith, nat_tests, la, lb))
+      by false la false lb = rw lb (rw la at below)
+
+  -- it has a guard
+  pub one_below : (g : Guard) (after : Option Guard) → f n ≡ Some g → after ≡ cond (n == number) (Some g) o
+      → after ≡ (if nat_lt number (n + 1) then f number else None)
+  one_below g after e h = by (n == number) refl (nat_lt number n) refl (nat_lt number (n + 1)) refl
+    where
+      by : (s : Bool) → (n == number) ≡ s → (a : Bool) → nat_lt number n ≡ a → (b : Bool) → nat_lt number (n + 1) ≡ b
+          → after ≡ (if nat_lt number (n + 1) then f number else None)
+      by true ls a la true lb =
+          let same : number ≡ n = grind (arith, nat_tests, ls) in
+          rw lb ((rw ls at h) ∙ sym (ap f same ∙ e))
+      by true ls a la false lb = absurd (grind (arith, nat_tests, ls, lb))
+      by false ls true la true lb = rw lb ((rw ls at h) ∙ (rw la at below))
+      by false ls false la true lb = absurd (grind (arith, nat_tests, ls, la, lb))
+      by false ls true la false lb = absurd (grind (arith, nat_tests, la, lb))
+      by false ls false la false lb = rw lb ((rw ls at h) ∙ (rw la at below))
+
+pub all_below : (forest : Forest) (types : Types) (n number : ℕ) → length forest.nodes ≤ n
+    → (if nat_lt number n then asked_at (declarations_of forest) types number else None)
     ≡ asked_at (declarations_of forest) types number
-asked_rows forest types n number l = by (nat_lt number n) refl
+all_below forest types n number l = by (nat_lt number n) refl
   where
-    f : ℕ → Option Guard
-    f = asked_at (declarations_of forest) types
-
-    by : (b : Bool) → nat_lt number n ≡ b → lookup None (listed f n) number ≡ f number
-    by true e = listed-at None f n number ∙ rw e refl
-    by false e = listed-at None f n number ∙ rw e (sym (asked_past forest types number (grind (arith, nat_tests, e, l))))
-
-pub listed_more : (f : ℕ → Option Guard) (n : ℕ) (rows more : List (Option Guard)) (o : Option Guard) →
-    more ≡ rows ++ o ∷ [] → rows ≡ listed f n → o ≡ f n → more ≡ listed f (n + 1)
-unfolding listed
-listed_more f n rows more o e h k = let one : n + 1 ≡ suc n = omega arith in rw (e, h, k, one) refl
+    by : (b : Bool) → nat_lt number n ≡ b
+        → (if nat_lt number n then asked_at (declarations_of forest) types number else None)
+        ≡ asked_at (declarations_of forest) types number
+    by true e = rw e refl
+    by false e = rw e (sym (asked_past forest types number (grind (arith, nat_tests, e, l))))
 
 pub none_is : (o : Option Guard) → is_some o ≡ false → o ≡ None
 none_is None e = refl
 none_is (Some g) e = absurd (true≢false e)
 
--- the row of an `if` that is undone
-pub left_in_rows : (x : Subject) (rows : List (Option Guard)) (number other : ℕ)
-    → lookup None (set rows number (unless (λ g. is_subject g x) (lookup None rows number))) other
-    ≡ left_by x (number ∷ []) other (lookup None rows other)
-left_in_rows x rows number other = by (other == number) refl
+-- a guard that stays, and one that goes
+kept : (s : Guard → Bool) (o : Option Guard) → holds o s ≡ false → o ≡ unless s o
+kept s None e = refl
+kept s (Some g) e = rw e refl
+
+gone : (s : Guard → Bool) (o : Option Guard) → holds o s ≡ true → None ≡ unless s o
+gone s None e = refl
+gone s (Some g) e = rw e refl
+
+-- an assignment in the first part of one `if` leaves the guards of the others
+elsewhere : (x : Subject) (number other : ℕ) (o : Option Guard) → (other == number) ≡ false
+    → o ≡ left_by x (number ∷ []) other o
+elsewhere x number other None e = refl
+elsewhere x number other (Some g) e = rw e (go (is_subject g x))
   where
-    here : (o : Option Guard) (b : Bool) → b ≡ true → unless (λ g. is_subject g x) o
-        ≡ unless (λ g. is_subject g x && (b || false)) o
-    here o b e = unless_same (λ g. is_subject g x) (λ g. is_subject g x && (b || false)) (λ g. both (is_subject g x) b e) o
-      where
-        both : (s b : Bool) → b ≡ true → s ≡ (s && (b || false))
-        both true true e = refl
-        both false true e = refl
-        both s false e = absurd (true≢false (sym e))
+    go : (s : Bool) → Some g ≡ (if s && false then None else Some g)
+    go true = refl
+    go false = refl
 
-    elsewhere : (o : Option Guard) (b : Bool) → b ≡ false → o ≡ unless (λ g. is_subject g x && (b || false)) o
-    elsewhere None b e = refl
-    elsewhere (Some g) b e = rw e (keeps (is_subject g x))
-      where
-        keeps : (s : Bool) → Some g ≡ (if s && false then None else Some g)
-        keeps true = refl
-        keeps false = refl
+-- and undoes its own
+here : (x : Subject) (number other : ℕ) (o : Option Guard) → (other == number) ≡ true
+    → unless (λ g. is_subject g x) o ≡ left_by x (number ∷ []) other o
+here x number other o e =
+    unless_same (λ g. is_subject g x) (λ g. is_subject g x && is_among other (number ∷ []))
+    (λ g. rw e (go (is_subject g x))) o
+  where
+    go : (s : Bool) → s ≡ (s && true)
+    go true = refl
+    go false = refl
 
-    by : (b : Bool) → (other == number) ≡ b
-        → lookup None (set rows number (unless (λ g. is_subject g x) (lookup None rows number))) other
-        ≡ left_by x (number ∷ []) other (lookup None rows other)
-    by true e = within (nat_lt number (length rows)) refl
-      where
-        same : other ≡ number
-        same = grind (arith, nat_tests, e)
+-- the rows where an `if` asks of nothing that is assigned to stay as they are
+pub left_as_they_are : (x : Subject) (row : ℕ → Option Guard) (number : ℕ) →
+    holds (row number) (λ g. is_subject g x) ≡ false → (other : ℕ)
+    → row other ≡ left_by x (number ∷ []) other (row other)
+left_as_they_are x row number h other = by (other == number) refl
+  where
+    by : (b : Bool) → (other == number) ≡ b → row other ≡ left_by x (number ∷ []) other (row other)
+    by true e =
+        let same : other ≡ number = grind (arith, nat_tests, e) in
+        kept (λ g. is_subject g x) (row other) (rw (← same) at h) ∙ here x number other (row other) e
+    by false e = elsewhere x number other (row other) e
 
-        within : (b : Bool) → nat_lt number (length rows) ≡ b
-            → lookup None (set rows number (unless (λ g. is_subject g x) (lookup None rows number))) other
-            ≡ left_by x (number ∷ []) other (lookup None rows other)
-        within true l = get_or-set_at rows number other _ None same (grind (arith, nat_tests, l))
-            ∙ ap (λ m. unless (λ g. is_subject g x) (lookup None rows m)) (sym same)
-            ∙ here (lookup None rows other) (other == number) e
-        within false l =
-            let past : length rows ≤ number = grind (arith, nat_tests, l) in
-            let past_too : length rows ≤ other = grind (arith, nat_tests, l, same) in
-            ap (λ (rs : List (Option Guard)). lookup None rs other) (set_past rows number _ past)
-            ∙ get_or_past rows other None past_too
-            ∙ sym (ap (λ (o : Option Guard). left_by x (number ∷ []) other o) (get_or_past rows other None past_too))
-    by false e =
-        let apart : other ≢ number = grind (arith, nat_tests, e) in
-        get_or-set_other rows number other _ None apart ∙ elsewhere (lookup None rows other) (other == number) e
+pub left_without : (x : Subject) (row : ℕ → Option Guard) (number : ℕ) →
+    holds (row number) (λ g. is_subject g x) ≡ true → (other : ℕ)
+    → cond (number == other) None (row other) ≡ left_by x (number ∷ []) other (row other)
+left_without x row number h other = by (number == other) refl (other == number) refl
+  where
+    by : (a : Bool) → (number == other) ≡ a → (b : Bool) → (other == number) ≡ b
+        → cond (number == other) None (row other) ≡ left_by x (number ∷ []) other (row other)
+    by true d true e =
+        let same : other ≡ number = grind (arith, nat_tests, e) in
+        rw d (gone (λ g. is_subject g x) (row other) (rw (← same) at h) ∙ here x number other (row other) e)
+    by false d false e = rw d (elsewhere x number other (row other) e)
+    by true d false e = absurd (grind (arith, nat_tests, d, e))
+    by false d true e = absurd (grind (arith, nat_tests, d, e))
 
-pub left_at_first : (nodes : List Node) (parent part : ℕ) (x : Subject) (rows after : List (Option Guard)) →
-    true ≡ holds (slice_get nodes parent) (is_first_part part)
-    → after ≡ set rows parent (unless (λ g. is_subject g x) (lookup None rows parent)) → (number : ℕ)
-    → lookup None after number ≡ left_by x (ifs_at nodes parent part) number (lookup None rows number)
-left_at_first nodes parent part x rows after first e number =
-    rw (e, ← first) (left_in_rows x rows parent number)
+pub left_at_first : (nodes : List Node) (parent part : ℕ) (x : Subject) (number : ℕ) (o after : Option Guard) →
+    true ≡ holds (slice_get nodes parent) (is_first_part part) → after ≡ left_by x (parent ∷ []) number o
+    → after ≡ left_by x (ifs_at nodes parent part) number o
+left_at_first nodes parent part x number o after first e = rw (← first) e
 
-pub left_elsewhere : (nodes : List Node) (parent part : ℕ) (x : Subject) (rows : List (Option Guard)) →
-    false ≡ holds (slice_get nodes parent) (is_first_part part) → (number : ℕ)
-    → lookup None rows number ≡ left_by x (ifs_at nodes parent part) number (lookup None rows number)
-left_elsewhere nodes parent part x rows first number =
-    rw (← first) (sym (left_by_none x number (lookup None rows number)))
+pub left_elsewhere : (nodes : List Node) (parent part : ℕ) (x : Subject) (number : ℕ) (o : Option Guard) →
+    false ≡ holds (slice_get nodes parent) (is_first_part part)
+    → o ≡ left_by x (ifs_at nodes parent part) number o
+left_elsewhere nodes parent part x number o first = rw (← first) (sym (left_by_none x number o))
 
 -- no node asks, if none below a bound behind all of them does
 pub none_asked : (forest : Forest) (types : Types) (n : ℕ) → length forest.nodes ≤ n →
@@ -300,12 +328,12 @@ none_guarded p types none id x y =
 
 pub guarded_by_rows : (p : Declarations) (types : Types) (guards : Guards) → AreGuards p types guards →
     (id : ℕ) (x y : Subject)
-    → list_any (guards_both guards.rows.items x y) (ifs_on p.nodes (length p.nodes) id) ≡ is_guarded p types id x y
+    → list_any (guards_both (row_in guards) x y) (ifs_on p.nodes (length p.nodes) id) ≡ is_guarded p types id x y
 unfolding is_guarded ifs_around
 guarded_by_rows p types guards h id x y =
-    same_tests (guards_both guards.rows.items x y) (λ number. holds (guard_at p types number) (are_subjects x y))
+    same_tests (guards_both (row_in guards) x y) (λ number. holds (guard_at p types number) (are_subjects x y))
     (λ number. ap (λ (o : Option Guard). holds o (are_subjects x y)) (h.exact number)) (ifs_on p.nodes (length p.nodes) id)
 
 -- there are rows
-pub some_rows : (rows : List (Option Guard)) → (length rows == 0) ≡ false → rows ≡ [] → ⊥
-some_rows rows e none = absurd (true≢false (ap (λ (rs : List (Option Guard)). length rs == 0) (sym none) ∙ e))
+pub some_rows : (n : ℕ) → (n == 0) ≡ false → n ≡ 0 → ⊥
+some_rows n e none = absurd (true≢false (ap (λ (m : ℕ). m == 0) (sym none) ∙ e))

@@ -1,6 +1,7 @@
 -- The tables of parents and guards, and how they are made.
-use Rattle.std.specs.Prelude.{◌≡◌, ◌<◌, ℕ, Bool, ◌&&◌, List, [], ◌∷◌, drop, set, length, filter_map, slice_get, Option, Some, None, option_map, if◌then◌else◌}
+use Rattle.std.specs.Prelude.{◌≡◌, ◌<◌, ◌==◌, ℕ, Bool, ◌&&◌, List, [], ◌∷◌, drop, set, length, filter_map, slice_get, Option, Some, None, option_map, if◌then◌else◌}
 use Rattle.std.specs.List.{list_any, position_from}
+use Rattle.std.specs.HashMap.{get, hash_map_len}
 use Rattle.scj_tree.specs.declared.nodes.Node.{Node}
 use Rattle.scj_tree.specs.Recursion.{lookup}
 use Rattle.scj_tree.specs.Shape.{children}
@@ -69,11 +70,16 @@ abbrev pub left_from : Declarations → ℕ → ℕ → Option Guard → Option 
 left_from p k number guard =
     unless (λ g. list_any (undoes p number g) (numbers_from k (drop k p.nodes))) guard
 
--- the row of a number has a guard of x and y
-abbrev pub guards_both : List (Option Guard) → Subject → Subject → ℕ → Bool
-guards_both rows x y number = holds (lookup None rows number) (are_subjects x y)
+-- the row of a number
+abbrev pub row_in : Guards → ℕ → Option Guard
+row_in guards = get ◌==◌ guards.rows
+
+-- it has a guard of x and y
+abbrev pub guards_both : (ℕ → Option Guard) → Subject → Subject → ℕ → Bool
+guards_both row x y number = holds (row number) (are_subjects x y)
 
 -- each row has the guard of its number, and where there are rows, each node has its parent
 pub record AreGuards (p : Declarations) (types : Types) (guards : Guards) : Type 0 where
-  pub exact : (number : ℕ) → lookup None guards.rows.items number ≡ guard_at p types number
-  pub around : (guards.rows.items ≡ [] → ⊥) → (id : ℕ) → lookup None guards.parents.items id ≡ parent_in p.nodes id
+  pub exact : (number : ℕ) → row_in guards number ≡ guard_at p types number
+  pub around : (hash_map_len guards.rows ≡ 0 → ⊥) → (id : ℕ) →
+      lookup None guards.parents.items id ≡ parent_in p.nodes id

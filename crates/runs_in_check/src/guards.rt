@@ -1,12 +1,13 @@
 //! The guards of a program: the `if`s whose first part may store a subject in a field of the other.
 
-ghost use Rattle.std.specs.Prelude.{◌≡◌, ◌+◌, ◌<◌, ◌&&◌, ℕ, false, IfOk, length, None, set, slice_get};
+ghost use Rattle.std.specs.Prelude.{◌≡◌, ◌∷◌, ◌+◌, ◌<◌, ◌==◌, ◌&&◌, ℕ, [], false, IfOk, length, None, slice_get};
+ghost use Rattle.std.specs.HashMap.{get, hash_map_len};
 ghost use Rattle.scj_tree.specs.Recursion.{lookup};
 ghost use Rattle.scj_rules.specs.Words.{holds};
 ghost use Rattle.scj_rules.specs.Contexts.{declarations_of, parent_in};
 ghost use Rattle.scj_rules.specs.Guards.{asked_at, ifs_around, is_first_part, is_guarded, is_subject};
 ghost use Rattle.program_facts.specs.Told.{declared, types};
-ghost use Rattle.runs_in_check.specs.Guards.{guards_both, ifs_at, left_by, left_from, unless, AreGuards};
+ghost use Rattle.runs_in_check.specs.Guards.{guards_both, ifs_at, left_by, left_from, row_in, AreGuards};
 
 use crate::parents::parents_of;
 use crate::subjects::{are_subjects, asked_at, assigned_at, is_first_part, is_subject};
@@ -15,12 +16,13 @@ use scj_base::{Memory, NodeId};
 use scj_rules::{Guard, Subject, Ty};
 use scj_tree::{Program, told};
 use std::alloc::Global;
+use std::collections::HashMap;
 
-/// The guards of a program, by the numbers of their `if`s, and the parents of its nodes. There are no rows where no `if`
-/// asks.
+/// The guards of a program, by the places of their `if`s, and the parents of its nodes, where there are guards. Few nodes
+/// are guards, so no row stands for each node.
 #[derive(Drop)]
 pub struct Guards {
-    pub rows: Vec<Option<Guard>>,
+    pub rows: HashMap<usize, Guard>,
     pub parents: Vec<Option<NodeId>>,
 }
 
@@ -46,19 +48,19 @@ fn is_any_asked<'a>(facts: &'a Facts<'a>, types: &'a [Option<Ty>]) -> bool
 }
 
 /// What each `if` asks.
-#[tactic(auto, unfolding(scj_tree::specs::Recursion::listed))]
+#[tactic(auto, using(crate::proofs::Walks::none_below, crate::proofs::Walks::one_below))]
 fn asked<'a>(
     alloc: Global,
     facts: &'a Facts<'a>,
     types: &'a [Option<Ty>],
-) -> Result<Vec<Option<Guard>>, Memory>
+) -> Result<HashMap<usize, Guard>, Memory>
     ensures { IfOk result (λ rows. (number : ℕ) →
-        lookup None rows.items number ≡ asked_at (declarations_of facts.now) (lookup None types.now) number) }
+        get ◌==◌ rows number ≡ asked_at (declarations_of facts.now) (lookup None types.now) number) }
 {
     // The proof wants the type named that a guard holds.
     let _subject: Option<Subject> = None;
     let program = facts.program();
-    let mut rows = Vec::with_capacity(alloc, program.len())?;
+    let mut rows = HashMap::new(alloc);
     for place in 0..program.len() {
         let id = NodeId::at(place as u32);
         let at = At {
@@ -67,48 +69,43 @@ fn asked<'a>(
             scopes: &[],
             id,
         };
-        rows.push(asked_at(&at))?;
+        if let Some(guard) = asked_at(&at) {
+            rows.insert(place, guard)?;
+        }
     }
     Ok(rows)
 }
 
-/// What is left of a guard where a subject of it is assigned to.
-fn unless_subject(guard: &Option<Guard>, x: &Subject) -> Option<Guard>
-    ensures { result ≡ unless (λ g. is_subject g x.now) guard.now }
+/// Whether the row of an `if` has a guard of the subject.
+fn is_asked_of(rows: &HashMap<usize, Guard>, number: NodeId, x: &Subject) -> bool
+    ensures { result ≡ holds (get ◌==◌ rows.now number) (λ g. is_subject g x.now) }
 {
-    match guard {
-        Some(guard) => {
-            if is_subject(guard, x) {
-                None
-            } else {
-                Some(*guard)
-            }
-        }
-        None => None,
+    match rows.get(&number.place()) {
+        Some(guard) => is_subject(guard, x),
+        None => false,
     }
 }
 
 /// Undoes a guard, if there is one of the subject.
-fn undo_one(rows: &mut Vec<Option<Guard>>, number: NodeId, x: &Subject)
-    ensures { rows.new.items
-        ≡ set rows.old.items number (unless (λ g. is_subject g x.now) (lookup None rows.old.items number)) }
+fn undo_one(rows: &mut HashMap<usize, Guard>, number: NodeId, x: &Subject)
+    ensures { (other : ℕ) → get ◌==◌ rows.new other
+        ≡ left_by x.now (number ∷ []) other (get ◌==◌ rows.old other) }
 {
-    let place = number.place();
-    if place < rows.len() {
-        rows[place] = unless_subject(&rows[place], x);
+    if is_asked_of(rows, number, x) {
+        rows.remove(&number.place());
     }
 }
 
 /// Undoes the guard of which a part of a parent is the first, if there is one of the subject.
 fn undo_at(
-    rows: &mut Vec<Option<Guard>>,
+    rows: &mut HashMap<usize, Guard>,
     program: &Program,
     parent: NodeId,
     part: NodeId,
     x: &Subject,
 )
-    ensures { (number : ℕ) → lookup None rows.new.items number
-        ≡ left_by x.now (ifs_at program.now.nodes parent part) number (lookup None rows.old.items number) }
+    ensures { (number : ℕ) → get ◌==◌ rows.new number
+        ≡ left_by x.now (ifs_at program.now.nodes parent part) number (get ◌==◌ rows.old number) }
 {
     if is_first_part(program, parent, part) {
         undo_one(rows, parent, x);
@@ -117,15 +114,15 @@ fn undo_at(
 
 /// Undoes the guards of a subject around a node, which assigns to it.
 fn undo(
-    rows: &mut Vec<Option<Guard>>,
+    rows: &mut HashMap<usize, Guard>,
     program: &Program,
     parents: &[Option<NodeId>],
     id: NodeId,
     x: &Subject,
 )
     requires { (n : ℕ) → lookup None parents.now n ≡ parent_in program.now.nodes n }
-    ensures { (number : ℕ) → lookup None rows.new.items number
-        ≡ left_by x.now (ifs_around program.now.nodes id) number (lookup None rows.old.items number) }
+    ensures { (number : ℕ) → get ◌==◌ rows.new number
+        ≡ left_by x.now (ifs_around program.now.nodes id) number (get ◌==◌ rows.old number) }
 {
     let mut part = id;
     let mut left = program.len();
@@ -140,12 +137,17 @@ fn undo(
 }
 
 /// Undoes the guards that a node undoes.
-fn undo_by(rows: &mut Vec<Option<Guard>>, facts: &Facts<'_>, parents: &[Option<NodeId>], id: NodeId)
+fn undo_by(
+    rows: &mut HashMap<usize, Guard>,
+    facts: &Facts<'_>,
+    parents: &[Option<NodeId>],
+    id: NodeId,
+)
     requires parents { (n : ℕ) → lookup None parents.now n ≡ parent_in facts.now.nodes n }
     requires within { id < length facts.now.nodes }
     ensures { let p = declarations_of facts.now in (number : ℕ) →
-        left_from p (id + 1) number (lookup None rows.new.items number)
-        ≡ left_from p id number (lookup None rows.old.items number) }
+        left_from p (id + 1) number (get ◌==◌ rows.new number)
+        ≡ left_from p id number (get ◌==◌ rows.old number) }
 {
     match &assigned_at(facts, id) {
         Some(x) => undo(rows, facts.program(), parents, id, x),
@@ -154,10 +156,10 @@ fn undo_by(rows: &mut Vec<Option<Guard>>, facts: &Facts<'_>, parents: &[Option<N
 }
 
 /// Undoes the guards that some node undoes.
-fn undo_all(rows: &mut Vec<Option<Guard>>, facts: &Facts<'_>, parents: &[Option<NodeId>])
+fn undo_all(rows: &mut HashMap<usize, Guard>, facts: &Facts<'_>, parents: &[Option<NodeId>])
     requires { (n : ℕ) → lookup None parents.now n ≡ parent_in facts.now.nodes n }
-    ensures { (number : ℕ) → lookup None rows.new.items number
-        ≡ left_from (declarations_of facts.now) 0 number (lookup None rows.old.items number) }
+    ensures { (number : ℕ) → get ◌==◌ rows.new number
+        ≡ left_from (declarations_of facts.now) 0 number (get ◌==◌ rows.old number) }
 {
     let program = facts.program();
     for place in 0..program.len() {
@@ -175,7 +177,7 @@ pub fn guards_of<'a>(
     ensures { IfOk result (AreGuards (declarations_of facts.now) (lookup None types.now)) }
 {
     if !is_any_asked(facts, types) {
-        let rows = Vec::new(alloc);
+        let rows = HashMap::new(alloc);
         let parents = Vec::new(alloc);
         return Ok(Guards { rows, parents });
     }
@@ -195,15 +197,22 @@ fn guards_part(
     y: &Subject,
 ) -> bool
     ensures { result ≡ (holds (slice_get program.now.nodes parent) (is_first_part part)
-        && guards_both guards.now.rows.items x.now y.now parent) }
+        && guards_both (row_in guards.now) x.now y.now parent) }
 {
     if !is_first_part(program, parent, part) {
         return false;
     }
-    match &told(&guards.rows, None, parent) {
+    match guards.rows.get(&parent.place()) {
         Some(guard) => are_subjects(x, y, guard),
         None => false,
     }
+}
+
+/// Whether there are no guards.
+fn is_without(guards: &Guards) -> bool
+    ensures { result ≡ (hash_map_len guards.now.rows == 0) }
+{
+    guards.rows.len() == 0
 }
 
 /// Whether a node stands in the first part of a guard of two subjects.
@@ -211,8 +220,7 @@ pub fn is_guarded(guards: &Guards, at: &At<'_>, x: &Subject, y: &Subject) -> boo
     requires { AreGuards (declared at.now) (types at.now) guards.now }
     ensures { result ≡ is_guarded (declared at.now) (types at.now) at.now.id x.now y.now }
 {
-    let rows = guards.rows.as_slice();
-    if rows.is_empty() {
+    if is_without(guards) {
         return false;
     }
     let program = at.facts.program();

@@ -1,10 +1,11 @@
-use Rattle.std.proofs.Common.{◌≡◌, None}
-use Rattle.scj_tree.specs.Recursion.{listed, lookup}
+use Rattle.std.proofs.Common.{◌≡◌, ◌==◌, ℕ, nat_lt, None, if◌then◌else◌}
+use Rattle.std.specs.HashMap.{get}
+use Rattle.scj_tree.specs.Recursion.{lookup}
 use Rattle.scj_rules.specs.Contexts.{declarations_of}
 use Rattle.scj_rules.specs.Guards.{asked_at}
 use Rattle.runs_in_check.proofs.guards.asked.Given as goal
 
 -- what the nodes so far ask
 abbrev pub invariant-loop-place : goal.invariant-loop-place
-invariant-loop-place l =
-    l.rows.items ≡ listed (asked_at (declarations_of l.facts) (lookup None l.types)) l.place
+invariant-loop-place l = (number : ℕ) → get ◌==◌ l.rows number
+    ≡ (if nat_lt number l.place then asked_at (declarations_of l.facts) (lookup None l.types) number else None)

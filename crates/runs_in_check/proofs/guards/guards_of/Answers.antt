@@ -1,4 +1,4 @@
-use Rattle.std.proofs.Common.{List, Option, None, ap, ◌∙◌}
+use Rattle.std.proofs.Common.{Option, None, ap, ◌∙◌}
 use Rattle.scj_tree.specs.Recursion.{lookup}
 use Rattle.scj_rules.specs.declared.typing.Guard.{Guard}
 use Rattle.scj_rules.specs.Contexts.{Declarations, declarations_of}
@@ -12,9 +12,9 @@ returns-then-not-is_any_asked c =
     let p : Declarations = declarations_of c.args.facts.now in
     let ts : Types = lookup None c.args.types.now in
     record {
-      exact = λ number. ap (λ (rows : List (Option Guard)). lookup None rows number) c.new-rows.ensures.items
-          ∙ no_guard p ts (c.is_any_asked.ensures c.if-not-is_any_asked.true) number;
-      around = λ filled. absurd (filled c.new-rows.ensures.items);
+      exact = λ number. rw c.new-rows.ensures.empty
+          (no_guard p ts (c.is_any_asked.ensures c.if-not-is_any_asked.true) number);
+      around = λ filled. absurd (filled c.new-rows.ensures.len);
     }
 
 pub returns : goal.returns

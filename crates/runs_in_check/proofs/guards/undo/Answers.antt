@@ -1,5 +1,5 @@
-use Rattle.std.proofs.Common.{◌≡◌, ◌-◌, None, Some, Option, sym, ap, ◌∙◌, arith}
-use Rattle.scj_tree.specs.Recursion.{lookup}
+use Rattle.std.proofs.Common.{◌≡◌, ◌==◌, ◌-◌, None, Some, Option, sym, ap, ◌∙◌, arith}
+use Rattle.std.specs.HashMap.{get}
 use Rattle.scj_rules.specs.declared.typing.Guard.{Guard}
 use Rattle.scj_rules.specs.Contexts.{parent_in}
 use Rattle.scj_rules.specs.Guards.{ifs_around}
@@ -12,7 +12,7 @@ unfolding ifs_around
 returns-in_default c = λ number.
     let top : parent_in c.args.program.now.nodes c.loop-left.part ≡ None = cc (c.requires c.loop-left.part) in
     sym (left_at_top c.args.program.now.nodes c.args.x.now c.loop-left.left c.loop-left.part number
-    (lookup None c.loop-left.rows.items number) (omega arith) top)
+    (get ◌==◌ c.loop-left.rows number) (omega arith) top)
     ∙ c.loop-left.invariant number
 
 pub loop-left-preserved : goal.loop-left-preserved
@@ -22,12 +22,12 @@ loop-left-preserved c = λ number.
     ap (λ (o : Option Guard). left_by c.args.x.now
     (ifs_on c.args.program.now.nodes (c.loop-left.left - 1) c.in-Some.parent) number o) (c.undo_at.ensures number)
     ∙ left_by_next c.args.program.now.nodes c.args.x.now c.loop-left.left c.loop-left.part c.in-Some.parent number
-    (lookup None c.loop-left.rows.items number) (omega arith) up
+    (get ◌==◌ c.loop-left.rows number) (omega arith) up
     ∙ c.loop-left.invariant number
 
 pub returns : goal.returns
 unfolding ifs_around
 returns c = λ number.
     sym (left_at_end c.args.program.now.nodes c.args.x.now c.loop-left.left c.loop-left.part number
-    (lookup None c.loop-left.rows.items number) (omega arith))
+    (get ◌==◌ c.loop-left.rows number) (omega arith))
     ∙ c.loop-left.invariant number

@@ -1,5 +1,5 @@
-use Rattle.std.proofs.Common.{◌≡◌, ℕ, None}
-use Rattle.scj_tree.specs.Recursion.{lookup}
+use Rattle.std.proofs.Common.{◌≡◌, ◌==◌, ℕ}
+use Rattle.std.specs.HashMap.{get}
 use Rattle.scj_rules.specs.Contexts.{declarations_of}
 use Rattle.runs_in_check.specs.Guards.{left_from}
 use Rattle.runs_in_check.proofs.guards.undo_all.Given as goal
@@ -7,5 +7,5 @@ use Rattle.runs_in_check.proofs.guards.undo_all.Given as goal
 -- what the nodes from the place on undo is still to be undone
 abbrev pub invariant-loop-place : goal.invariant-loop-place
 invariant-loop-place l = (number : ℕ)
-    → left_from (declarations_of l.facts) l.place number (lookup None l.rows.items number)
-    ≡ left_from (declarations_of l.facts) 0 number (lookup None l.initial.rows.items number)
+    → left_from (declarations_of l.facts) l.place number (get ◌==◌ l.rows number)
+    ≡ left_from (declarations_of l.facts) 0 number (get ◌==◌ l.initial.rows number)

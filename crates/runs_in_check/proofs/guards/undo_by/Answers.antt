@@ -1,5 +1,5 @@
-use Rattle.std.proofs.Common.{◌≡◌, ◌+◌, Option, None, Some, sym, ap, ◌∙◌}
-use Rattle.scj_tree.specs.Recursion.{lookup}
+use Rattle.std.proofs.Common.{◌≡◌, ◌==◌, ◌+◌, Option, Some, sym, ap, ◌∙◌}
+use Rattle.std.specs.HashMap.{get}
 use Rattle.scj_rules.specs.declared.typing.Guard.{Guard}
 use Rattle.scj_rules.specs.Contexts.{Declarations, declarations_of}
 use Rattle.scj_rules.specs.Guards.{assigned_at}
@@ -14,10 +14,10 @@ returns-in-Some c = λ number.
     let there : assigned_at p c.args.id ≡ Some c.in-Some.x = sym c.assigned_at.ensures ∙ c.in-Some.is in
     ap (λ (o : Option Guard). left_from p (c.args.id + 1) number o) (rw c.program.ensures at (c.undo.ensures number))
     ∙ left_from_assigned p c.args.id c.requires.within c.in-Some.x number
-    (lookup None c.args.rows.now.items number) there
+    (get ◌==◌ c.args.rows.now number) there
 
 pub returns-in-None : goal.returns-in-None
 unfolding declarations_of
 returns-in-None c = λ number.
     left_from_plain (declarations_of c.args.facts.now) c.args.id c.requires.within number
-    (lookup None c.args.rows.now.items number) (sym c.assigned_at.ensures ∙ c.in-None.is)
+    (get ◌==◌ c.args.rows.now number) (sym c.assigned_at.ensures ∙ c.in-None.is)
