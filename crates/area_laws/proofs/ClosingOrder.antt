@@ -11,7 +11,7 @@ use Rattle.scj_model.specs.Reached.{Arrived, Operated, Reached}
 use Rattle.scj_model.specs.Sequencer.{innermost}
 use Rattle.scj_model.specs.State.{Activity, Frame, ReleaseAt, ReleaseStatus, Waits, Started, Ended, Dropped, Release, State, TheSequencer, Turn, TurnOf, IdleTurn, activity_in, activity_of, is_exec, is_open_area}
 use Rattle.accepted_laws.specs.Programs.{IsAcceptedProgram}
-use Rattle.priority_laws.specs.Started.{StartedRelease, started_at}
+use Rattle.priority_laws.specs.Started.{started_at}
 use Rattle.priority_laws.specs.InOrder.{IsInOrder}
 use Rattle.priority_laws.specs.Nesting.{AreBefore, Falls, IsOpenedByRelease, opened_by}
 use Rattle.accepted_laws.proofs.Tools.{some_inj}
@@ -120,7 +120,7 @@ started_status Dropped a e = absurd (cc)
 abbrev turn_of : Option ℕ → Turn
 turn_of o = elim o as (λ z. Turn) [ None ↦ IdleTurn | Some place ↦ TurnOf place ]
 
-chosen_of : (s : State) (place : ℕ) → by_priority s ≡ Some (TurnOf place) → chosen s ≡ Some place
+pub chosen_of : (s : State) (place : ℕ) → by_priority s ≡ Some (TurnOf place) → chosen s ≡ Some place
 unfolding by_priority
 chosen_of s place e = go (chosen s) refl
   where

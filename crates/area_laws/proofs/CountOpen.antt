@@ -1,8 +1,8 @@
 -- How many areas are open, where each of them stands on a list.
 use Rattle.std.specs.Prelude.{Option, Some, cond, filter, filter_map, flat_map, not, option_map, option_to_list, slice_get, if◌then◌else◌, ◌==◌}
 use Rattle.std.specs.List.{cons_option}
-use Rattle.std.proofs.Common.{◌≡◌, ◌∙◌, Bool, true, false, ℕ, zero, suc, ◌+◌, ◌*◌, ◌≤◌, List, [], ◌∷◌, ◌++◌, None, length, ◌⊎◌, inl, inr, refl, ap, sym, subst, arith, length-append}
-use Rattle.scj_rules.specs.Words.{holds, is_among, ◌>>=◌}
+use Rattle.std.proofs.Common.{◌≡◌, ◌∙◌, Bool, true, false, ℕ, zero, suc, ◌+◌, ◌*◌, ◌<◌, ◌≤◌, List, [], ◌∷◌, ◌++◌, None, length, ◌⊎◌, inl, inr, refl, ap, sym, subst, arith, length-append}
+use Rattle.scj_rules.specs.Words.{is_among}
 use Rattle.scj_model.specs.State.{Activity, Frame, MemoryArea, Release, activity_in}
 use Rattle.accepted_laws.proofs.Tools.{some_inj}
 use Rattle.priority_laws.specs.Nesting.{opened_by}
@@ -144,6 +144,43 @@ opened_at_most (r ∷ rs) h = go (activity_in r.status) h.0 (opened_at_most rs h
         length (opened_of rs) ≤ 64 * length (filter_map (λ (q : Release). activity_in q.status) rs) →
         length (flat_map (λ (a : Activity). opened_by a.frames)
         (cons_option o (filter_map (λ (q : Release). activity_in q.status) rs)))
+        ≤ 64 * length (cons_option o (filter_map (λ (q : Release). activity_in q.status) rs))
+    go None few k = k
+    go (Some a) few k =
+        let own : length (opened_by a.frames) ≤ length a.frames = few_opened a.frames in
+        let depth : length a.frames ≤ 64 = few a refl in
+        let all : length (opened_by a.frames ++ opened_of rs) ≡ length (opened_by a.frames) + length (opened_of rs) =
+        length-append (opened_by a.frames) (opened_of rs) in
+        omega (arith, own, depth, all, k)
+
+-- one of them has fewer frames than it may have
+pub opened_fewer : (rs : List Release) (p : ℕ) (w : StartedRelease) → RowsAreFew rs → started_at rs p ≡ Some w →
+    length w.activity.frames < 64 →
+    suc (length (opened_of rs)) ≤ 64 * length (filter_map (λ (r : Release). activity_in r.status) rs)
+unfolding started_at started_in
+opened_fewer [] p w h e fewer = absurd (cc)
+opened_fewer (r ∷ rs) zero w h e fewer = go (activity_in r.status) e (opened_at_most rs h.1)
+  where
+    go : (o : Option Activity) → option_map (started_as r.handler) o ≡ Some w →
+        length (opened_of rs) ≤ 64 * length (filter_map (λ (q : Release). activity_in q.status) rs) →
+        suc (length (flat_map (λ (a : Activity). opened_by a.frames)
+        (cons_option o (filter_map (λ (q : Release). activity_in q.status) rs))))
+        ≤ 64 * length (cons_option o (filter_map (λ (q : Release). activity_in q.status) rs))
+    go None f k = absurd (cc)
+    go (Some a) f k =
+        let same : started_as r.handler a ≡ w = some_inj (started_as r.handler a) w f in
+        let act : a ≡ w.activity = ap (λ (x : StartedRelease). x.activity) same in
+        let frames : length a.frames ≡ length w.activity.frames = ap (λ (x : Activity). length x.frames) act in
+        let own : length (opened_by a.frames) ≤ length a.frames = few_opened a.frames in
+        let all : length (opened_by a.frames ++ opened_of rs) ≡ length (opened_by a.frames) + length (opened_of rs) =
+        length-append (opened_by a.frames) (opened_of rs) in
+        omega (arith, frames, own, fewer, all, k)
+opened_fewer (r ∷ rs) (suc p) w h e fewer = go (activity_in r.status) h.0 (opened_fewer rs p w h.1 e fewer)
+  where
+    go : (o : Option Activity) → ((a : Activity) → o ≡ Some a → length a.frames ≤ 64) →
+        suc (length (opened_of rs)) ≤ 64 * length (filter_map (λ (q : Release). activity_in q.status) rs) →
+        suc (length (flat_map (λ (a : Activity). opened_by a.frames)
+        (cons_option o (filter_map (λ (q : Release). activity_in q.status) rs))))
         ≤ 64 * length (cons_option o (filter_map (λ (q : Release). activity_in q.status) rs))
     go None few k = k
     go (Some a) few k =

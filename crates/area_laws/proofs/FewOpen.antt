@@ -1,6 +1,6 @@
 -- At most 1,794 areas are open.
 use Rattle.std.specs.Prelude.{Option, Some, None, option_to_list, slice_get}
-use Rattle.std.proofs.Common.{◌≡◌, ◌∙◌, Bool, true, false, ℕ, ◌+◌, ◌*◌, ◌≤◌, List, [], ◌∷◌, ◌++◌, length, ◌⊎◌, inl, inr, refl, ap, sym, subst, arith, length-append}
+use Rattle.std.proofs.Common.{◌≡◌, ◌∙◌, true, false, ℕ, ◌+◌, ◌≤◌, List, [], ◌∷◌, ◌++◌, length, ◌⊎◌, inl, inr, refl, ap, subst, arith, length-append}
 use Rattle.scj_rules.specs.Words.{holds, is_among}
 use Rattle.scj_tree.specs.Forest.{Forest}
 use Rattle.scj_model.specs.Code.{code_of}
@@ -40,6 +40,50 @@ list_few base (f ∷ fs) = go f.opened (list_few base fs)
     go None h = omega (arith, h)
     go (Some a) h = omega (arith, h)
 
+-- in execution the sequencer has no frame, outside it no release is started
+module _ (s : State) (o : IsInOrder s) where
+  open_at : (i : ℕ) (x : MemoryArea) → slice_get s.areas i ≡ Some x → x.is_open ≡ true → is_open_area s i ≡ true
+  open_at i x e t = ap (λ (y : Option MemoryArea). holds y (λ z. z.is_open)) e ∙ t
+
+  pub open_inside : open_count s ≤ length s.activity.areas + length (opened_of s.releases)
+  open_inside =
+      let all : open_count s ≤ length (s.activity.areas ++ opened_of s.releases) =
+      open_few s.areas 0 (s.activity.areas ++ opened_of s.releases) (λ i x e t. listed i (o.opened.is i (open_at i x e
+      t))) in
+      let sum : length (s.activity.areas ++ opened_of s.releases)
+      ≡ length s.activity.areas + length (opened_of s.releases) =
+      length-append s.activity.areas (opened_of s.releases) in
+      omega (arith, all, sum)
+    where
+      listed : (i : ℕ) → (is_among i s.activity.areas ≡ true) ⊎ IsOpenedByRelease s i →
+          is_among (0 + i) (s.activity.areas ++ opened_of s.releases) ≡ true
+      listed i b =
+          let at : i ≡ 0 + i = omega arith in
+          subst (λ (k : ℕ). is_among k (s.activity.areas ++ opened_of s.releases) ≡ true) at (by b)
+        where
+          by : (is_among i s.activity.areas ≡ true) ⊎ IsOpenedByRelease s i →
+              is_among i (s.activity.areas ++ opened_of s.releases) ≡ true
+          by (inl m) = among_left i s.activity.areas (opened_of s.releases) m
+          by (inr r) =
+              among_right i s.activity.areas (opened_of s.releases)
+              (opened_among s.releases r.place r.release i r.is_there r.is_opened)
+
+  pub open_outside : is_exec s.phase ≡ false → open_count s ≤ length s.activity.areas
+  open_outside phase = open_few s.areas 0 s.activity.areas (λ i x e t. listed i (o.opened.is i (open_at i x e t)))
+    where
+      listed : (i : ℕ) → (is_among i s.activity.areas ≡ true) ⊎ IsOpenedByRelease s i →
+          is_among (0 + i) s.activity.areas ≡ true
+      listed i b =
+          let at : i ≡ 0 + i = omega arith in
+          subst (λ (k : ℕ). is_among k s.activity.areas ≡ true) at (by b)
+        where
+          by : (is_among i s.activity.areas ≡ true) ⊎ IsOpenedByRelease s i → is_among i s.activity.areas ≡ true
+          by (inl m) = m
+          by (inr r) =
+              let none : started_at s.releases r.place ≡ None = o.turns.outside phase r.place in
+              let some : started_at s.releases r.place ≡ Some r.release = r.is_there in
+              absurd (cc)
+
 module _ (forest : Forest) (accepted : IsAcceptedProgram forest) (plan : Plan) (moment : Moment) (s : State)
     (reached : Reached (code_of forest) plan by_priority moment s) where
   framed : Framed (code_of forest) s TheSequencer
@@ -51,7 +95,7 @@ module _ (forest : Forest) (accepted : IsAcceptedProgram forest) (plan : Plan) (
   few : FewFrames s
   few = few_frames (code_of forest) plan by_priority moment s reached
 
-  sequencers : length s.activity.areas ≤ length s.activity.frames + 2
+  pub sequencers : length s.activity.areas ≤ length s.activity.frames + 2
   unfolding activity_of
   sequencers =
       let j : JobFine (code_of forest) (world_of s) (areas_of framed.base) s.activity =
@@ -61,63 +105,32 @@ module _ (forest : Forest) (accepted : IsAcceptedProgram forest) (plan : Plan) (
       let h = list_few framed.base s.activity.frames in
       omega (arith, l, h)
 
+  pub started_few : started_count s ≤ 28
+  started_few =
+      let safety : IsSafe (code_of forest) = safe forest accepted in
+      safety.under_priorities.few_are_started plan moment s reached
+
   started : length (opened_of s.releases) ≤ 1792
   unfolding started_activities
   started =
       let h = opened_at_most s.releases few.releases in
-      let safety : IsSafe (code_of forest) = safe forest accepted in
-      let count : started_count s ≤ 28 = safety.under_priorities.few_are_started plan moment s reached in
+      let count : started_count s ≤ 28 = started_few in
       omega (arith, h, count)
 
-  open_at : (i : ℕ) (x : MemoryArea) → slice_get s.areas i ≡ Some x → x.is_open ≡ true → is_open_area s i ≡ true
-  open_at i x e t = ap (λ (y : Option MemoryArea). holds y (λ z. z.is_open)) e ∙ t
-
-  -- in execution the sequencer has no frame, outside it no release is started
   pub few_open : open_count s ≤ 1794
   few_open = go (bool_cases (is_exec s.phase))
     where
+      own : length s.activity.areas ≤ length s.activity.frames + 2
+      own = sequencers
+
       go : (is_exec s.phase ≡ true) ⊎ (is_exec s.phase ≡ false) → open_count s ≤ 1794
       go (inl phase) =
           let none : s.activity.frames ≡ [] = o.turns.inside phase in
           let depth : length s.activity.frames ≡ 0 = ap (λ (fs : List Frame). length fs) none in
-          let all : open_count s ≤ length (s.activity.areas ++ opened_of s.releases) =
-          open_few s.areas 0 (s.activity.areas ++ opened_of s.releases) (λ i x e t. listed i (o.opened.is i (open_at i x e
-          t))) in
-          let sum : length (s.activity.areas ++ opened_of s.releases)
-          ≡ length s.activity.areas + length (opened_of s.releases) =
-          length-append s.activity.areas (opened_of s.releases) in
+          let all : open_count s ≤ length s.activity.areas + length (opened_of s.releases) = open_inside s o in
           let releases : length (opened_of s.releases) ≤ 1792 = started in
-          let own : length s.activity.areas ≤ length s.activity.frames + 2 = sequencers in
-          omega (arith, all, sum, releases, own, depth)
-        where
-          listed : (i : ℕ) → (is_among i s.activity.areas ≡ true) ⊎ IsOpenedByRelease s i →
-              is_among (0 + i) (s.activity.areas ++ opened_of s.releases) ≡ true
-          listed i b =
-              let at : i ≡ 0 + i = omega arith in
-              subst (λ (k : ℕ). is_among k (s.activity.areas ++ opened_of s.releases) ≡ true) at (by b)
-            where
-              by : (is_among i s.activity.areas ≡ true) ⊎ IsOpenedByRelease s i →
-                  is_among i (s.activity.areas ++ opened_of s.releases) ≡ true
-              by (inl m) = among_left i s.activity.areas (opened_of s.releases) m
-              by (inr r) =
-                  among_right i s.activity.areas (opened_of s.releases)
-                  (opened_among s.releases r.place r.release i r.is_there r.is_opened)
+          omega (arith, all, releases, own, depth)
       go (inr phase) =
-          let all : open_count s ≤ length s.activity.areas =
-          open_few s.areas 0 s.activity.areas (λ i x e t. listed i (o.opened.is i (open_at i x e t))) in
-          let own : length s.activity.areas ≤ length s.activity.frames + 2 = sequencers in
+          let all : open_count s ≤ length s.activity.areas = open_outside s o phase in
           let depth : length s.activity.frames ≤ 64 = few.sequencer in
           omega (arith, all, own, depth)
-        where
-          listed : (i : ℕ) → (is_among i s.activity.areas ≡ true) ⊎ IsOpenedByRelease s i →
-              is_among (0 + i) s.activity.areas ≡ true
-          listed i b =
-              let at : i ≡ 0 + i = omega arith in
-              subst (λ (k : ℕ). is_among k s.activity.areas ≡ true) at (by b)
-            where
-              by : (is_among i s.activity.areas ≡ true) ⊎ IsOpenedByRelease s i → is_among i s.activity.areas ≡ true
-              by (inl m) = m
-              by (inr r) =
-                  let none : started_at s.releases r.place ≡ None = o.turns.outside phase r.place in
-                  let some : started_at s.releases r.place ≡ Some r.release = r.is_there in
-                  absurd (cc)

@@ -2,8 +2,6 @@
 use Rattle.std.specs.Prelude.{Option, Some, None}
 use Rattle.std.proofs.Common.{◌≡◌, ◌∙◌, ℕ, true, List, ◌∷◌, ap, subst}
 use Rattle.scj_rules.specs.Words.{holds}
-use Rattle.scj_rules.specs.declared.typing.Scope.{Scope}
-use Rattle.scj_rules.specs.Contexts.{Declarations}
 use Rattle.scj_tree.specs.Forest.{Forest}
 use Rattle.accepted_laws.specs.Kinds.{Kind}
 use Rattle.accepted_laws.specs.Programs.{IsAcceptedProgram}
@@ -11,17 +9,17 @@ use Rattle.scj_model.specs.declared.operations.Op.{Op}
 use Rattle.scj_model.specs.declared.plans.ReadingRow.{ReadingRow}
 use Rattle.scj_model.specs.Code.{Code, code_of}
 use Rattle.scj_model.specs.Choice.{by_list, by_priority}
-use Rattle.scj_model.specs.Effects.{AsksRegistration, Calls, Effect}
+use Rattle.scj_model.specs.Effects.{AsksRegistration, Calls, Effect, Makes}
 use Rattle.scj_model.specs.Plan.{Plan}
-use Rattle.scj_model.specs.Reached.{Arrived, Moment, Reached}
+use Rattle.scj_model.specs.Reached.{Arrived, Reached}
 use Rattle.scj_model.specs.Run.{effect_at, environment}
 use Rattle.scj_model.specs.Safety.{is_of_open_area}
 use Rattle.scj_model.specs.State.{Activity, Frame, Job, Object, State, activity_of, area_at, is_open_area}
 use Rattle.scj_model.proofs.Following.{by_some_list, fair_listed, priority_is_fair}
 use Rattle.scope_flow.specs.Facts.{Facts}
 use Rattle.scope_flow.specs.Signatures.{Signature}
-use Rattle.frame_sound.specs.EffectsFine.{EffectFine, Fine}
-use Rattle.frame_sound.specs.Fine.{FramesFine, GivenFits, IsOnList, JobFine, ListFine, MemoryFine, Ready, WaitsFor, held_option, list_of}
+use Rattle.frame_sound.specs.EffectsFine.{EffectFine}
+use Rattle.frame_sound.specs.Fine.{FramesFine, GivenFits, IsOnList, ListFine, MemoryFine, Ready, WaitsFor, held_option, list_of}
 use Rattle.frame_sound.specs.Places.{denote, world_of}
 use Rattle.frame_sound.proofs.NextOperation.{next_fine}
 use Rattle.mission_sound.specs.Bases.{areas_of}
@@ -41,6 +39,7 @@ module _ (code : Code) (facts : Facts code) (rows : List ReadingRow) (s : State)
   named : (class : ℕ) (sig : Signature) (f : Frame) (e : Effect) → EffectFine code (world_of s) list class sig f e →
       NamesLiveObjects s e
   named class sig f (Calls h g) x = λ r t. on_list_live r (x.begins.home.on_list r t)
+  named class sig f (Makes h made slots) x = list_open s list fine h.area x.goes.ready.home.now_on_list
   named class sig f (AsksRegistration h r) x = on_list_live r x.1.there
   named class sig f _ x = tt
 

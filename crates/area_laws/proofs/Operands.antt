@@ -1,6 +1,6 @@
 -- The object of the sequencer's operation lies in immortal memory, which is open.
 use Rattle.std.specs.Prelude.{Option, Some, None, slice_get}
-use Rattle.std.proofs.Common.{◌≡◌, ◌∙◌, ℕ, true, List, [], ◌∷◌, ap, sym, subst}
+use Rattle.std.proofs.Common.{◌≡◌, ◌∙◌, ℕ, true, List, [], ◌∷◌, ap}
 use Rattle.scj_rules.specs.Words.{holds}
 use Rattle.scj_tree.specs.Forest.{Forest}
 use Rattle.scj_model.specs.declared.operations.SeqOp.{SeqOp}

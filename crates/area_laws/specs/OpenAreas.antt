@@ -6,7 +6,7 @@ use Rattle.scj_model.specs.declared.operations.SeqOp.{SeqOp}
 use Rattle.scj_model.specs.declared.operations.SeqOp.TheVariants.{ConstructSafelet, InitializeApplication, GetSequencer, GetNextMission, OpenMission, Initialize, CleanUp}
 use Rattle.scj_model.specs.State.{Activity, Frame, MemoryArea, State, is_open_area}
 use Rattle.scj_model.specs.Memory.{closed}
-use Rattle.scj_model.specs.Effects.{AsksRegistration, Calls, Effect}
+use Rattle.scj_model.specs.Effects.{AsksRegistration, Calls, Effect, Makes}
 use Rattle.scj_model.specs.Safety.{is_of_open_area}
 
 -- the areas on the job's list are open, and so is the one in which its highest frame makes objects
@@ -43,8 +43,10 @@ operand_of (Initialize r) = Some r
 operand_of (CleanUp r) = Some r
 operand_of _ = None
 
--- an effect names no object of a closed area: that on which a method is called, and the handler that is to be registered
+-- an effect names no object of a closed area: that on which a method is called, and the handler that is to be
+-- registered; and what it makes lies in an open one
 abbrev pub NamesLiveObjects : State → Effect → Type 0
 NamesLiveObjects s (Calls h g) = (r : ℕ) → g.this ≡ Some r → is_of_open_area s r ≡ true
+NamesLiveObjects s (Makes h class slots) = is_open_area s h.area ≡ true
 NamesLiveObjects s (AsksRegistration h r) = is_of_open_area s r ≡ true
 NamesLiveObjects s _ = Unit {0}

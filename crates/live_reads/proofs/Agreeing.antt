@@ -6,8 +6,7 @@ use Rattle.scj_base.specs.declared.values.Value.TheVariants.{Bool as Truth}
 use Rattle.scj_model.specs.declared.operations.Op.{Op}
 use Rattle.scj_model.specs.declared.operations.Op.TheVariants.{Push as PUSH, This as THIS, Load as LOAD, Get as GET, GetStatic as GETSTATIC, Length as LENGTH, Elem as ELEM, Unary as UNARY, Bin as BIN, And as AND, Or as OR, Alloc as ALLOC, Construct as CONSTRUCT, AllocArray as ALLOCARRAY, Call as CALL, CallStatic as CALLSTATIC, Cast as CAST, Enter as ENTER, ExecuteIn as EXECUTEIN, Same as SAME, SetCeiling as SETCEILING, Print as PRINT, Read as READ, Register as REGISTER, Release as RELEASE, Terminate as TERMINATE, Zero as ZERO, Store as STORE, Put as PUT, PutStatic as PUTSTATIC, PutElem as PUTELEM, If as IF, Loop as LOOP, LeaveWith as LEAVEWITH, Leave as LEAVE, Drop as DROP, Init as INIT, Super as SUPER, Params as PARAMS}
 use Rattle.scj_model.specs.Code.{Code, binding, part}
-use Rattle.scj_model.specs.State.{Object, Frame, object_at}
-use Rattle.scj_model.specs.Safety.{references}
+use Rattle.scj_model.specs.State.{Object, Frame}
 use Rattle.scj_rules.specs.Words.{◌>>=◌}
 use Rattle.scj_rules.specs.Layout.{literal_written}
 use Rattle.scj_model.specs.Memory.{literal_value}

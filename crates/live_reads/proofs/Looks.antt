@@ -5,7 +5,7 @@ use Rattle.std.proofs.Common.{◌≡◌, ◌∙◌, ℕ, zero, suc, Bool, true, 
 use Rattle.scj_base.specs.declared.values.Value.{Value}
 use Rattle.scj_base.specs.declared.values.Value.TheVariants.{Int, Bool as Truth, Null, At}
 use Rattle.scj_model.specs.Code.{Code}
-use Rattle.scj_model.specs.State.{Object, Frame, object_at}
+use Rattle.scj_model.specs.State.{Object, Frame}
 use Rattle.scj_base.specs.declared.faults.RunFault.TheVariants.{ArrayIndex, NegativeSize, ClassCast}
 use Rattle.scj_rules.specs.Classes.{is_sub}
 use Rattle.scj_rules.specs.ScopeRules.{defined_by_chain}

@@ -1,5 +1,5 @@
 -- What a unit does besides its operation leaves each job with few frames too, so no run comes to a state with more.
-use Rattle.std.proofs.Common.{◌≡◌, ℕ, ◌≤◌, Bool, true, false, not, ◌&&◌, List, [], ◌∷◌, ◌++◌, length, Option, Some, None, if◌then◌else◌, refl, sym, subst, arith}
+use Rattle.std.proofs.Common.{◌≡◌, ℕ, ◌≤◌, not, ◌&&◌, List, [], ◌∷◌, length, Option, Some, None, refl, subst, arith}
 use Rattle.std.specs.Prelude.{option_map, slice_get}
 use Rattle.scj_base.specs.declared.values.Value.{Value}
 use Rattle.scj_rules.specs.Words.{◌>>=◌}
@@ -10,18 +10,18 @@ use Rattle.scj_model.specs.declared.plans.Fire.{Fire}
 use Rattle.scj_model.specs.declared.plans.ReadingRow.{ReadingRow}
 use Rattle.scj_model.specs.Code.{Code}
 use Rattle.scj_model.specs.Plan.{Plan}
-use Rattle.scj_model.specs.State.{Activity, IdleTurn, Job, Release, ReleaseAt, State, TheSequencer, Turn, TurnOf, activity_in, activity_of, is_exec}
+use Rattle.scj_model.specs.State.{Activity, IdleTurn, Release, ReleaseAt, State, TheSequencer, Turn, TurnOf, activity_in, activity_of, is_exec}
 use Rattle.scj_model.specs.Memory.{closed}
 use Rattle.scj_model.specs.Steps.{Step, for_each, silently, telling, then_try}
 use Rattle.scj_model.specs.Apply.{release_taken}
 use Rattle.scj_model.specs.Sequencer.{BeginsExecution, BeginsMission, ClosesMission, Continues, EndsExecution, LacksMission, LacksSequencer, SeqEffect, SkipsExecution, TakesMission, TakesSafelet, TakesSequencer, Transition, after_operation, goes_to, gone_to, has_started, innermost, phase_after, seq_applied, transition_done}
 use Rattle.scj_model.specs.Arrivals.{arrivals, due_handlers, executes_since, fired, fired_at, fired_handler, fires_due}
 use Rattle.scj_model.specs.Choice.{Policy}
-use Rattle.scj_model.specs.Run.{acts, empty_state, next_unit, sequencer_turn, turn_acts, turn_taken}
+use Rattle.scj_model.specs.Run.{acts, empty_state, turn_acts, turn_taken}
 use Rattle.scj_model.specs.Reached.{Moment, Reached}
 use Rattle.scj_model.proofs.Reaching.{gives_some, gives_told, reached_keeps}
 use Rattle.run_sizes.specs.Depths.{FramesAreFew}
-use Rattle.run_sizes.proofs.DeepEffects.{FewIf, few_bind, few_either, few_mapped, few_ref_op, few_taken, few_turn, no_step}
+use Rattle.run_sizes.proofs.DeepEffects.{FewIf, few_bind, few_either, few_mapped, few_ref_op, few_taken, few_turn}
 use Rattle.run_sizes.proofs.DeepSteps.{FewAfter, FewFrames, few_after_close, few_fault, rows_got}
 
 -- ---- the choice and the operation

@@ -1,11 +1,11 @@
 -- The steps of which operations are made leave each job with few frames.
-use Rattle.std.proofs.Common.{◌≡◌, ◌∙◌, ℕ, zero, suc, ◌+◌, ◌<◌, ◌≤◌, nat_lt, Bool, true, false, not, List, [], ◌∷◌, ◌++◌, length, map, Option, Some, None, if◌then◌else◌, refl, ap, sym, subst, arith}
+use Rattle.std.proofs.Common.{◌≡◌, ◌∙◌, ℕ, zero, suc, ◌<◌, ◌≤◌, nat_lt, Bool, true, false, not, List, [], ◌∷◌, ◌++◌, length, map, Option, Some, None, if◌then◌else◌, refl, ap, sym, subst, arith}
 use Rattle.std.specs.Prelude.{slice_get, slice_set}
 use Rattle.std.proofs.lemmas.Bool.Decides.{nat_tests}
 use Rattle.scj_base.specs.declared.places.Pos.{Pos}
 use Rattle.scj_base.specs.declared.faults.RunFault.{RunFault}
 use Rattle.scj_base.specs.declared.values.Value.{Value}
-use Rattle.scj_model.specs.State.{Frame, Activity, ReleaseStatus, Waits, Started, Ended, Dropped, Release, Job, TheSequencer, ReleaseAt, State, activity_in, changed, is_waiting, with_activity}
+use Rattle.scj_model.specs.State.{Frame, Activity, Waits, Started, Ended, Dropped, Release, Job, TheSequencer, ReleaseAt, State, activity_in, changed, is_waiting, with_activity}
 use Rattle.scj_model.specs.Memory.{closed, has_room, has_store_for, with_area, with_object}
 use Rattle.scj_model.specs.Steps.{Step, allocating, closed_all, fault_in, job_ended, opening}
 use Rattle.scj_model.specs.Apply.{dropped_release, is_full, returned, with_frame}

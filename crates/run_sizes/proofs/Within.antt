@@ -1,5 +1,5 @@
 -- What a unit does besides its operation makes nothing, so a run makes as much as it has operations.
-use Rattle.std.proofs.Common.{◌≡◌, ◌∙◌, ℕ, ◌+◌, ◌≤◌, Bool, true, false, not, ◌&&◌, List, [], ◌∷◌, ◌++◌, length, Option, Some, None, if◌then◌else◌, refl, ap, arith}
+use Rattle.std.proofs.Common.{◌≡◌, ℕ, not, ◌&&◌, List, [], ◌∷◌, ◌++◌, Option, Some, None, refl, arith}
 use Rattle.std.specs.Prelude.{option_map, slice_get}
 use Rattle.scj_base.specs.declared.values.Value.{Value}
 use Rattle.scj_rules.specs.Words.{◌>>=◌}
@@ -16,7 +16,7 @@ use Rattle.scj_model.specs.Apply.{release_taken}
 use Rattle.scj_model.specs.Sequencer.{BeginsExecution, BeginsMission, ClosesMission, Continues, EndsExecution, LacksMission, LacksSequencer, SeqEffect, SkipsExecution, TakesMission, TakesSafelet, TakesSequencer, Transition, after_operation, goes_to, gone_to, has_started, innermost, phase_after, seq_applied, transition_done}
 use Rattle.scj_model.specs.Arrivals.{arrivals, due_handlers, executes_since, fired, fired_at, fired_handler, fires_due}
 use Rattle.scj_model.specs.Choice.{Policy}
-use Rattle.scj_model.specs.Run.{acts, empty_state, next_unit, sequencer_turn, turn_acts, turn_taken}
+use Rattle.scj_model.specs.Run.{acts, empty_state, next_unit, turn_acts, turn_taken}
 use Rattle.scj_model.specs.Reached.{Arrived, Between, Moment, Operated, Reached}
 use Rattle.scj_model.proofs.Reaching.{reached_keeps}
 use Rattle.scj_model.proofs.Units.{acts_keep_unit, arrivals_keep_unit, phase_keeps_unit}
