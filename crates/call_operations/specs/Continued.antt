@@ -1,16 +1,16 @@
 -- How operations go on once their last operands are taken: parts of their definitions, which the functions that do them
 -- cite.
-use Rattle.std.specs.Prelude.{ℕ, Bool, List, [], ◌∷◌, Option, Some, None, if◌then◌else◌}
+use Rattle.std.specs.Prelude.{ℕ, Bool, List, [], ◌∷◌, Some, None, if◌then◌else◌}
 use Rattle.scj_base.specs.declared.values.Value.{Value}
 use Rattle.scj_base.specs.declared.values.Value.TheVariants.{Int}
 use Rattle.scj_rules.specs.declared.views.Body.{Body}
 use Rattle.scj_rules.specs.Bodies.{body_of}
 use Rattle.scj_rules.specs.ScopeRules.{defined_by_chain}
 use Rattle.scj_model.specs.Code.{Code}
-use Rattle.scj_model.specs.State.{Object, Frame}
+use Rattle.scj_model.specs.State.{Frame}
 use Rattle.scj_model.specs.Effects.{Effect, Calls, Goes, Opens, SetsHidden, as_object, as_reference, given, new_frame, pop}
 use Rattle.scj_model.specs.Operations.{Environment, right_parameters, with_run}
-use Rattle.run_memory.specs.Contents.{Contents}
+use Rattle.region_heap.specs.Contents.{Contents}
 use Rattle.job_frames.specs.EffectsSeen.{world}
 
 -- what an operation sees that asks for objects alone, at whatever the ports read

@@ -9,7 +9,7 @@ ghost use Rattle.job_frames.specs.Frames.{frame_of};
 
 use crate::{areas, calls, constructors, objects, params, services};
 use job_frames::{Code, Effect, Frame};
-use run_memory::RunMemory;
+use region_heap::RegionHeap;
 use run_plan::Plan;
 use scj_base::Memory;
 use scj_model::Op;
@@ -19,7 +19,7 @@ use std::alloc::Global;
 #[derive(Clone, Copy)]
 pub struct World<'a> {
     /// The objects and the static fields.
-    pub memory: &'a RunMemory,
+    pub memory: &'a RegionHeap,
     /// What the ports read.
     pub plan: &'a Plan,
     /// The unit.

@@ -12,14 +12,14 @@ ghost use Rattle.call_operations.specs.Continued.{entering, objects_of, running}
 
 use crate::asked::{private_scope, run_of};
 use job_frames::{Code, Effect, Frame, NewFrame};
-use run_memory::RunMemory;
+use region_heap::RegionHeap;
 use scj_base::{AreaId, Memory, NodeId, Ref, RunFault, Value};
 use std::alloc::Global;
 
 /// The call of `run` on an object in a new area of so many bytes, inside the caller's.
 fn opens(
     code: &Code<'_>,
-    memory: &RunMemory,
+    memory: &RegionHeap,
     frame: &Frame,
     id: NodeId,
     r: Ref,
@@ -51,7 +51,7 @@ fn opens(
 }
 
 /// `enterPrivateMemory`.
-pub fn enter(code: &Code<'_>, memory: &RunMemory, frame: &mut Frame, id: NodeId) -> Effect
+pub fn enter(code: &Code<'_>, memory: &RegionHeap, frame: &mut Frame, id: NodeId) -> Effect
     ensures does { (rows : List Row) (unit : ℕ) →
         Does (code_of code.now)
         (enter_op (code_of code.now) (world memory.now rows unit) (frame_of (code_of code.now) frame.old) id)
@@ -88,7 +88,7 @@ pub fn enter(code: &Code<'_>, memory: &RunMemory, frame: &mut Frame, id: NodeId)
 fn runs_in(
     alloc: Global,
     code: &Code<'_>,
-    memory: &RunMemory,
+    memory: &RegionHeap,
     id: NodeId,
     place: Ref,
     r: Ref,
@@ -121,7 +121,7 @@ fn runs_in(
 pub fn execute_in(
     alloc: Global,
     code: &Code<'_>,
-    memory: &RunMemory,
+    memory: &RegionHeap,
     frame: &mut Frame,
     id: NodeId,
 ) -> Effect
@@ -154,7 +154,7 @@ pub fn execute_in(
 }
 
 /// The area of the object that a value names, and none where it is null; nothing where it is no reference.
-fn area_of(memory: &RunMemory, value: Value) -> Option<Option<AreaId>>
+fn area_of(memory: &RegionHeap, value: Value) -> Option<Option<AreaId>>
     ensures { (rows : List Row) (unit : ℕ) (next : Option ℕ → Seen) → with_area (world memory.now rows unit) value next
         ≡ (elim result [ None ↦ Stuck | Some area ↦ next area ]) }
 {
@@ -166,7 +166,7 @@ fn area_of(memory: &RunMemory, value: Value) -> Option<Option<AreaId>>
 }
 
 /// Whether the objects that two values name lie in one area, and neither is null; nothing where one is no reference.
-fn lie_in_one_area(memory: &RunMemory, first: Value, second: Value) -> Option<bool>
+fn lie_in_one_area(memory: &RegionHeap, first: Value, second: Value) -> Option<bool>
     ensures { (rows : List Row) (unit : ℕ) (next : Bool → Seen) → with_area (world memory.now rows unit) first (λ a.
         with_area (world memory.now rows unit) second (λ b. next (are_one_area a b)))
         ≡ (elim result [ None ↦ Stuck | Some is_one ↦ next is_one ]) }
@@ -180,7 +180,7 @@ fn lie_in_one_area(memory: &RunMemory, first: Value, second: Value) -> Option<bo
 }
 
 /// `allocInSame`.
-pub fn same(memory: &RunMemory, frame: &mut Frame) -> Result<Effect, Memory>
+pub fn same(memory: &RegionHeap, frame: &mut Frame) -> Result<Effect, Memory>
     ensures does { (code : CodeOfRun) (rows : List Row) (unit : ℕ) → IfOk result (λ effect.
         Does code (same_op (world memory.now rows unit) (frame_of code frame.old)) effect frame.new) }
     ensures works { frame.new.works ≡ frame.old.works }

@@ -10,7 +10,7 @@ ghost use Rattle.call_operations.specs.Continued.{calling, objects_of};
 
 use crate::asked::body_of;
 use job_frames::{Code, Effect, Frame, NewFrame};
-use run_memory::RunMemory;
+use region_heap::RegionHeap;
 use scj_base::{Memory, MethodId, NodeId, RunFault, Value};
 use std::alloc::Global;
 use value_operations::readings::{argument_count_at, method_at, static_method_at};
@@ -18,7 +18,7 @@ use value_operations::readings::{argument_count_at, method_at, static_method_at}
 /// The call of a method on the last operand, with these arguments.
 fn call_on(
     code: &Code<'_>,
-    memory: &RunMemory,
+    memory: &RegionHeap,
     frame: &mut Frame,
     id: NodeId,
     method: MethodId,
@@ -63,7 +63,7 @@ fn call_on(
 pub fn call(
     alloc: Global,
     code: &Code<'_>,
-    memory: &RunMemory,
+    memory: &RegionHeap,
     frame: &mut Frame,
     id: NodeId,
 ) -> Result<Effect, Memory>

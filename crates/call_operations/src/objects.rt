@@ -25,11 +25,7 @@ fn new_object(alloc: Global, code: &Code<'_>, class: ClassId) -> Result<Effect, 
         (Makes (frame_of (code_of code.now) frame) class (new_slots (code_of code.now).program class)) effect frame) }
 {
     let slots = new_slots(alloc, code.layout(), class)?;
-    Ok(Effect::Makes {
-        class,
-        hidden: slots.hidden,
-        values: slots.values,
-    })
+    Ok(Effect::Makes { class, slots })
 }
 
 /// A new object of the class that a `new` names.

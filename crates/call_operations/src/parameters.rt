@@ -11,7 +11,7 @@ ghost use Rattle.scj_model.specs.Operations.{is_priority, periodic_parameters, t
 ghost use Rattle.job_frames.specs.EffectsSeen.{Does};
 ghost use Rattle.job_frames.specs.declared.frames.Frame.{Frame as StoredFrame};
 ghost use Rattle.job_frames.specs.Frames.{frame_of};
-ghost use Rattle.run_memory.specs.Contents.{hidden_slots};
+ghost use Rattle.region_heap.specs.Contents.{hidden_slots};
 ghost use Rattle.call_operations.specs.Continued.{keeping, passing};
 ghost use Rattle.call_operations.specs.Periodic.{keeping_periodic};
 

@@ -9,7 +9,7 @@ ghost use Rattle.scj_model.specs.Operations.{is_priority, print_op, read_op, reg
 ghost use Rattle.job_frames.specs.EffectsSeen.{Does, world};
 ghost use Rattle.job_frames.specs.declared.frames.Frame.{Frame as StoredFrame};
 ghost use Rattle.job_frames.specs.Frames.{frame_of};
-ghost use Rattle.run_memory.specs.Contents.{Contents};
+ghost use Rattle.region_heap.specs.Contents.{Contents};
 
 use crate::numbers::{is_port, is_priority};
 use job_frames::{Code, Effect, Frame};

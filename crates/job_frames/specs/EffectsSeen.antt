@@ -1,6 +1,6 @@
 -- What an operation of the code does: an effect without its frames, which stand elsewhere, and the effect of the
 -- definitions that it is.
-use Rattle.std.specs.Prelude.{◌≡◌, ℕ, List, [], ◌++◌, slice_get}
+use Rattle.std.specs.Prelude.{◌≡◌, ℕ, List, []}
 use Rattle.scj_model.specs.declared.plans.ReadingRow.{ReadingRow}
 use Rattle.scj_model.specs.Code.{Code}
 use Rattle.scj_model.specs.Reading.{reading}
@@ -8,7 +8,7 @@ use Rattle.scj_model.specs.State.{Frame}
 use Rattle.scj_model.specs.Memory.{new_elements}
 use Rattle.scj_model.specs.Effects.{Effect, Goes, Prints, Makes, Stores, StoresStatic, SetsHidden, SetsCeiling, Calls, Opens, Leaves, AsksRegistration, AsksRelease, AsksTermination, Faults, Stuck}
 use Rattle.scj_model.specs.Operations.{Environment}
-use Rattle.run_memory.specs.Contents.{Contents, hidden_slots}
+use Rattle.region_heap.specs.Contents.{Contents, hidden_slots, live_object}
 use Rattle.job_frames.specs.declared.effects.Effect.{Effect as Coded}
 use Rattle.job_frames.specs.declared.effects.Effect.TheVariants as coded
 use Rattle.job_frames.specs.Frames.{StoredFrame, frame_of, frame_called}
@@ -17,7 +17,7 @@ use Rattle.job_frames.specs.Frames.{StoredFrame, frame_of, frame_called}
 unfoldable pub effect_seen : Code → Coded → Frame → Effect
 effect_seen code coded.Goes f = Goes f
 effect_seen code (coded.Prints label value) f = Prints f label value
-effect_seen code (coded.Makes class hidden values) f = Makes f class (hidden_slots hidden.items ++ values.items)
+effect_seen code (coded.Makes class slots) f = Makes f class slots.items
 effect_seen code (coded.MakesArray class kind count) f = Makes f class (new_elements kind count)
 effect_seen code (coded.Stores r slot value) f = Stores f r slot value
 effect_seen code (coded.StoresStatic place value) f = StoresStatic f place value
@@ -36,12 +36,12 @@ effect_seen code coded.Stuck f = Stuck
 pub record Does (code : Code) (what : Effect) (effect : Coded) (frame : StoredFrame) : Type 0 where
   pub is : what ≡ effect_seen code effect (frame_of code frame)
 
--- what an operation sees besides its frame: the objects and static fields of a memory, and what the ports read in a
--- unit
+-- what an operation sees besides its frame: the objects of open areas and the static fields of a memory, and what the
+-- ports read in a unit
 abbrev pub world : Contents → List ReadingRow → ℕ → Environment
 world m rows unit =
     record {
-      object_at = (λ r. slice_get m.objects r);
+      object_at = (λ r. live_object m r);
       statics = m.statics;
       reading = (λ port. reading rows port unit);
     }

@@ -14,11 +14,10 @@ pub enum Effect {
         label: NodeId,
         value: i32,
     },
-    /// It makes an object in its area, with these hidden fields and these values of the others.
+    /// It makes an object in its area, with these slots, of which the hidden fields are the first.
     Makes {
         class: ClassId,
-        hidden: Vec<u64>,
-        values: Vec<Value>,
+        slots: Vec<Value>,
     },
     /// It makes an array of so many elements in its area. They are listed when the area is known to have room for them.
     MakesArray {

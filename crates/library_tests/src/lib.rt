@@ -8,4 +8,8 @@ mod generating;
 #[cfg(test)]
 mod growing;
 #[cfg(test)]
+mod heaps;
+#[cfg(test)]
+mod open_areas;
+#[cfg(test)]
 mod outside;

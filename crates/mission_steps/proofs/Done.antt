@@ -12,7 +12,7 @@ use Rattle.scj_model.specs.Sequencer.{ClosesMission, EndsExecution, TakesMission
 use Rattle.scj_model.specs.declared.operations.SeqOp.TheVariants.{CleanUp}
 use Rattle.scj_model.specs.declared.phases.Phase.TheVariants.{Cleanup}
 use Rattle.scj_rules.specs.Classes.{is_empty}
-use Rattle.run_memory.specs.Contents.{Contents, with_memory}
+use Rattle.region_heap.specs.Contents.{Contents, with_memory}
 use Rattle.run_releases.specs.Rows.{StoredReleases, release_seen}
 use Rattle.run_releases.specs.Releases.{mission_begun}
 use Rattle.run_state.specs.declared.states.RunState.{RunState}

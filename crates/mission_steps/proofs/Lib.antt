@@ -7,4 +7,5 @@ pub mod OwnOperations
 pub mod Places
 pub mod Registering
 pub mod Releasing
+pub mod Standing
 pub mod Starting

@@ -4,9 +4,11 @@ ghost use Rattle.std.specs.Prelude.{◌≡◌, ◌+◌, List, IfOk};
 ghost use Rattle.scj_tree.specs.declared.nodes.Node.{Node as SyntaxNode};
 ghost use Rattle.scj_model.specs.Code.{Code as CodeOfRun, code_of};
 ghost use Rattle.scj_model.specs.Apply.{class_name_at};
-ghost use Rattle.scj_model.specs.Sequencer.{BeginsExecution, BeginsMission, ClosesMission, LacksSequencer, TakesMission, place_of_object, seq_applied, transition_done};
+ghost use Rattle.scj_model.specs.Sequencer.{BeginsExecution, BeginsMission, ClosesMission, LacksSequencer, TakesMission, innermost, place_of_object, seq_applied, transition_done};
 ghost use Rattle.run_state.specs.Seen.{AreAllBegun, state_of};
+ghost use Rattle.run_state.specs.Standing.{ClosesLast, IsLive};
 ghost use Rattle.run_state.specs.Steps.{IsStep};
+ghost use Rattle.mission_steps.specs.Standing.{CanFollow};
 ghost use Rattle.mission_steps.specs.Transitions.{effect_seen, transition_seen};
 
 use crate::looks::{class_name, class_of, class_place};
@@ -20,6 +22,7 @@ use scj_model::Event;
 
 /// Where the class of an object is named; nowhere, if there is no such object.
 fn place_of_object(code: &Code<'_>, state: &RunState, r: Ref) -> Pos
+    requires { IsLive state.now.memory r }
     ensures { result ≡ place_of_object (code_of code.now) (state_of (code_of code.now) state.now) r }
 {
     match class_of(&state.memory, r) {
@@ -39,6 +42,7 @@ fn lack_sequencer(
     safelet: Ref,
     told: &mut Vec<Event>,
 ) -> Result<(), Memory>
+    requires { IsLive state.old.memory safelet }
     ensures { AreAllBegun (code_of code.now).program.nodes state.old →
         IfOk result
         (λ _. IsStep (code_of code.now)
@@ -52,6 +56,7 @@ fn lack_sequencer(
 
 /// The name of an object's class; the empty one, if there is no such object.
 fn class_name_at(code: &Code<'_>, state: &RunState, r: Ref) -> Name
+    requires { IsLive state.now.memory r }
     ensures { result ≡ class_name_at (code_of code.now) (state_of (code_of code.now) state.now) r }
 {
     match class_of(&state.memory, r) {
@@ -67,6 +72,7 @@ fn begin_mission(
     mission: Ref,
     told: &mut Vec<Event>,
 ) -> Result<(), Memory>
+    requires { IsLive state.old.memory mission }
     ensures { AreAllBegun (code_of code.now).program.nodes state.old →
         IfOk result
         (λ _. IsStep (code_of code.now)
@@ -86,6 +92,7 @@ fn begin_mission(
 
 /// The mission leaves neither memory nor handlers.
 fn close_mission(state: &mut RunState)
+    requires { ClosesLast state.old.memory (innermost state.old.activity.areas) }
     ensures closed { (code : CodeOfRun) →
         state_of code state.new ≡ (seq_applied code (state_of code state.old) ClosesMission).state }
     ensures begun { (nodes : List SyntaxNode) → AreAllBegun nodes state.old → AreAllBegun nodes state.new }
@@ -139,6 +146,7 @@ fn seq_applied(
     effect: SeqEffect,
     told: &mut Vec<Event>,
 ) -> Result<(), Memory>
+    requires { CanFollow state.old.memory state.old.activity.areas (effect_seen effect) }
     ensures { AreAllBegun (code_of code.now).program.nodes state.old →
         IfOk result
         (λ _. IsStep (code_of code.now)
@@ -189,6 +197,7 @@ pub(crate) fn transition_done(
     transition: Transition,
     told: &mut Vec<Event>,
 ) -> Result<(), Memory>
+    requires { CanFollow state.old.memory state.old.activity.areas (effect_seen transition.effect) }
     ensures { AreAllBegun (code_of code.now).program.nodes state.old →
         IfOk result
         (λ _. IsStep (code_of code.now)

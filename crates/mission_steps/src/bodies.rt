@@ -1,14 +1,10 @@
 //! Bodies that the framework calls: their frames, and the slots of the safelet, which the framework makes.
 
-ghost use Rattle.std.specs.Prelude.{◌≡◌, ◌++◌, [], ◌∷◌, IfOk, Some, None};
-ghost use Rattle.scj_rules.specs.Classes.{hidden_fields};
-ghost use Rattle.scj_rules.specs.Contexts.{declarations_of};
+ghost use Rattle.std.specs.Prelude.{◌≡◌, [], ◌∷◌, IfOk, Some, None};
 ghost use Rattle.scj_model.specs.Code.{code_of};
 ghost use Rattle.scj_model.specs.Effects.{new_frame};
 ghost use Rattle.scj_model.specs.Memory.{new_slots};
 ghost use Rattle.job_frames.specs.Frames.{AreBegun, frames_of};
-ghost use Rattle.run_memory.specs.Contents.{hidden_slots};
-ghost use Rattle.object_slots.specs.Slots.{hidden_start};
 
 use job_frames::{Code, Frame, FrameStack, NewFrame};
 use object_slots::new_slots;
@@ -61,15 +57,8 @@ pub(crate) fn new_object(
     class: ClassId,
 ) -> Result<NewObject, Memory>
     ensures class { IfOk result (λ object. object.class ≡ class) }
-    ensures slots { IfOk result (λ object. new_slots (code_of code.now).program class ≡ hidden_slots object.hidden.items
-        ++ object.values.items) }
-    ensures hidden { IfOk result
-        (λ object. object.hidden.items ≡ hidden_start (hidden_fields (declarations_of code.now).classes class)) }
+    ensures slots { IfOk result (λ object. object.slots.items ≡ new_slots (code_of code.now).program class) }
 {
     let slots = new_slots(alloc, code.layout(), class)?;
-    Ok(NewObject {
-        class,
-        hidden: slots.hidden,
-        values: slots.values,
-    })
+    Ok(NewObject { class, slots })
 }

@@ -3,6 +3,7 @@
 #![tactic(auto)]
 
 mod applied;
+mod areas;
 mod bodies;
 mod life;
 mod looks;

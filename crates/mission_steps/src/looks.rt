@@ -6,9 +6,10 @@ ghost use Rattle.scj_rules.specs.ScopeRules.{defined_by_chain};
 ghost use Rattle.scj_model.specs.Code.{code_of};
 ghost use Rattle.scj_model.specs.State.{Object as ObjectOfRun};
 ghost use Rattle.scj_model.specs.Apply.{class_name};
+ghost use Rattle.run_state.specs.Standing.{IsLive};
 
 use job_frames::Code;
-use run_memory::RunMemory;
+use region_heap::RegionHeap;
 use scj_base::{ClassId, Name, Pos, Ref, ScopeId};
 use scj_rules::Body;
 
@@ -71,7 +72,8 @@ pub(crate) fn class_name(code: &Code<'_>, class: ClassId) -> Name
 }
 
 /// The class of an object, if there is one.
-pub(crate) fn class_of(memory: &RunMemory, r: Ref) -> Option<ClassId>
+pub(crate) fn class_of(memory: &RegionHeap, r: Ref) -> Option<ClassId>
+    requires { IsLive memory.now r }
     ensures { result ≡ option_map (λ (o : ObjectOfRun). o.class) (slice_get memory.now.objects r) }
 {
     match memory.object(r) {

@@ -1,88 +1,28 @@
 //! The sequencer's own operations (JSR 302: Safelet, MissionSequencer, Mission).
 
-ghost use Rattle.std.specs.Prelude.{◌≡◌, ◌≤◌, List, IfOk, length};
+ghost use Rattle.std.specs.Prelude.{◌≡◌, ◌≤◌, ◌<◌, ◌^◌, ℕ, true, List, IfOk, length};
 ghost use Rattle.scj_model.specs.declared.events.Event.{Event as EventOfRun};
 ghost use Rattle.scj_model.specs.declared.operations.SeqOp.TheVariants.{AllocSafelet, ConstructSafelet, OpenImmortal, OpenMission};
-ghost use Rattle.scj_rules.specs.Bodies.{class_place};
-ghost use Rattle.scj_model.specs.Code.{Code as CodeOfRun, code_of};
-ghost use Rattle.scj_model.specs.Sequencer.{area_opened, body_called, method_called, safelet_made, sequencer_op};
+ghost use Rattle.scj_rules.specs.Words.{is_among};
+ghost use Rattle.region_heap.specs.Contents.{is_open_area, open_count};
+ghost use Rattle.scj_model.specs.Code.{code_of};
+ghost use Rattle.scj_model.specs.Sequencer.{body_called, method_called, sequencer_op};
 ghost use Rattle.run_state.specs.Seen.{AreAllBegun, state_of};
-ghost use Rattle.run_state.specs.Steps.{IsStep, IsTry};
+ghost use Rattle.run_state.specs.Standing.{HasNumbers, IsLive};
+ghost use Rattle.run_state.specs.Steps.{IsTry};
+ghost use Rattle.mission_steps.specs.Standing.{IsOnLive};
 
-use crate::bodies::{OwnCall, first_frames, new_object};
+use crate::areas::{make_safelet, open_inside};
+use crate::bodies::{OwnCall, first_frames};
 use crate::looks::{
     body_named, class_of, class_place, constructor, private_scope, safelet, size_of,
 };
 use job_frames::Code;
-use run_state::ends::halted;
-use run_state::memory::{make_object, open_area};
-use run_state::{NewArea, RunState};
-use scj_base::{AreaId, ClassId, Memory, Name, Pos, Ref, RunFault, ScopeId, Value};
+use run_state::RunState;
+use scj_base::{Memory, Name, Ref, ScopeId};
 use scj_model::{Event, SeqOp};
 use scj_rules::Body;
 use std::alloc::Global;
-
-/// An area is opened inside the innermost one of the sequencer's. The sequencer has it from now on.
-fn open_inside(
-    state: &mut RunState,
-    place: Pos,
-    scope: ScopeId,
-    bytes: u32,
-    told: &mut Vec<Event>,
-) -> Result<(), Memory>
-    ensures { (code : CodeOfRun) → AreAllBegun code.program.nodes state.old →
-        IfOk result
-        (λ _. IsStep code (area_opened (state_of code state.old) place scope bytes) state.new told.old.items
-        told.new.items) }
-{
-    let parent = state.activity.areas.innermost();
-    match open_area(
-        state,
-        NewArea {
-            scope,
-            parent,
-            bytes: bytes as u64,
-        },
-    )? {
-        Some(area) => {
-            state.activity.areas.push(area)?;
-            state.outcome = Some(Value::Null);
-            Ok(())
-        }
-        None => {
-            halted(state, place, RunFault::StoreFull, told)?;
-            Ok(())
-        }
-    }
-}
-
-/// The safelet is made in an area. Its reference is the value of the operation.
-fn make_safelet(
-    alloc: Global,
-    code: &Code<'_>,
-    state: &mut RunState,
-    class: ClassId,
-    area: AreaId,
-    told: &mut Vec<Event>,
-) -> Result<(), Memory>
-    ensures { AreAllBegun (code_of code.now).program.nodes state.old →
-        IfOk result
-        (λ _. IsStep (code_of code.now)
-        (safelet_made (code_of code.now) (state_of (code_of code.now) state.old)
-        (class_place (code_of code.now).program class) class area) state.new told.old.items told.new.items) }
-{
-    let object = new_object(alloc, code, class)?;
-    match make_object(state, area, object)? {
-        Some(r) => {
-            state.outcome = Some(Value::At(r));
-            Ok(())
-        }
-        None => {
-            halted(state, class_place(code, class), RunFault::MemoryFull, told)?;
-            Ok(())
-        }
-    }
-}
 
 /// Opens immortal memory.
 fn open_immortal(
@@ -90,6 +30,8 @@ fn open_immortal(
     state: &mut RunState,
     told: &mut Vec<Event>,
 ) -> Result<bool, Memory>
+    requires numbers { HasNumbers state.old.memory }
+    requires few { open_count state.old.memory < 1794 }
     ensures { AreAllBegun (code_of code.now).program.nodes state.old →
         IfOk result
         (λ answer. IsTry (code_of code.now)
@@ -119,6 +61,8 @@ fn alloc_safelet(
     state: &mut RunState,
     told: &mut Vec<Event>,
 ) -> Result<bool, Memory>
+    requires areas { (a : ℕ) → is_among a state.old.activity.areas ≡ true → is_open_area state.old.memory a ≡ true }
+    requires numbers { length state.old.memory.objects < 2 ^ 31 }
     ensures { AreAllBegun (code_of code.now).program.nodes state.old →
         IfOk result
         (λ answer. IsTry (code_of code.now)
@@ -142,6 +86,9 @@ fn open_mission(
     r: Ref,
     told: &mut Vec<Event>,
 ) -> Result<bool, Memory>
+    requires live { IsLive state.old.memory r }
+    requires numbers { HasNumbers state.old.memory }
+    requires few { open_count state.old.memory < 1794 }
     ensures { AreAllBegun (code_of code.now).program.nodes state.old →
         IfOk result
         (λ answer. IsTry (code_of code.now)
@@ -192,6 +139,7 @@ fn call_body(
 
 /// Calls an object's constructor.
 fn construct(alloc: Global, code: &Code<'_>, state: &mut RunState, r: Ref) -> Result<bool, Memory>
+    requires { IsLive state.old.memory r }
     ensures { (told : List EventOfRun) → AreAllBegun (code_of code.now).program.nodes state.old →
         IfOk result
         (λ answer. IsTry (code_of code.now)
@@ -216,7 +164,8 @@ fn call_method(
     r: Ref,
     name: &[u8],
 ) -> Result<bool, Memory>
-    requires { length name.now ≤ 64 }
+    requires live { IsLive state.old.memory r }
+    requires name { length name.now ≤ 64 }
     ensures { (told : List EventOfRun) → AreAllBegun (code_of code.now).program.nodes state.old →
         IfOk result
         (λ answer. IsTry (code_of code.now)
@@ -241,6 +190,10 @@ fn operate(
     operation: SeqOp,
     told: &mut Vec<Event>,
 ) -> Result<bool, Memory>
+    requires live { IsOnLive state.old.memory operation }
+    requires areas { (a : ℕ) → is_among a state.old.activity.areas ≡ true → is_open_area state.old.memory a ≡ true }
+    requires numbers { HasNumbers state.old.memory }
+    requires few { open_count state.old.memory < 1794 }
     ensures { AreAllBegun (code_of code.now).program.nodes state.old →
         IfOk result
         (λ answer. IsTry (code_of code.now)
@@ -276,6 +229,10 @@ pub fn sequencer_op(
     told: &mut Vec<Event>,
 ) -> Result<bool, Memory>
     requires begun { AreAllBegun code.now.nodes state.old }
+    requires live { IsOnLive state.old.memory state.old.operation }
+    requires areas { (a : ℕ) → is_among a state.old.activity.areas ≡ true → is_open_area state.old.memory a ≡ true }
+    requires numbers { HasNumbers state.old.memory }
+    requires few { open_count state.old.memory < 1794 }
     ensures { IfOk result
         (λ answer. IsTry (code_of code.now)
         (sequencer_op (code_of code.now) (state_of (code_of code.now) state.old) state.old.operation) answer state.new

@@ -1,11 +1,15 @@
 //! What follows the operation of a unit.
 
-ghost use Rattle.std.specs.Prelude.{◌≡◌, ◌||◌, IfOk};
+ghost use Rattle.std.specs.Prelude.{◌≡◌, ◌||◌, false, IfOk, Some};
+ghost use Rattle.scj_base.specs.declared.values.Value.{Value as ValueOfRun};
 ghost use Rattle.scj_rules.specs.Classes.{is_empty};
 ghost use Rattle.scj_model.specs.Code.{code_of};
-ghost use Rattle.scj_model.specs.Sequencer.{after_execution, after_operation, phase_after};
+ghost use Rattle.scj_model.specs.State.{is_exec};
+ghost use Rattle.scj_model.specs.Sequencer.{after_execution, after_operation, innermost, phase_after};
 ghost use Rattle.run_state.specs.Seen.{AreAllBegun, state_of};
+ghost use Rattle.run_state.specs.Standing.{ClosesLast};
 ghost use Rattle.run_state.specs.Steps.{IsTry};
+ghost use Rattle.mission_steps.specs.Standing.{IsOnLive};
 
 use crate::applied::transition_done;
 use crate::life::is_exec;
@@ -40,6 +44,8 @@ fn after_operation(
     value: Value,
     told: &mut Vec<Event>,
 ) -> Result<bool, Memory>
+    requires live { IsOnLive state.old.memory state.old.operation }
+    requires closes { ClosesLast state.old.memory (innermost state.old.activity.areas) }
     ensures { AreAllBegun (code_of code.now).program.nodes state.old →
         IfOk result
         (λ answer. IsTry (code_of code.now)
@@ -92,6 +98,9 @@ pub fn phase_after(
     told: &mut Vec<Event>,
 ) -> Result<bool, Memory>
     requires begun { AreAllBegun code.now.nodes state.old }
+    requires live { IsOnLive state.old.memory state.old.operation }
+    requires closes { (value : ValueOfRun) → is_exec state.old.phase ≡ false → state.old.outcome ≡ Some value →
+        ClosesLast state.old.memory (innermost state.old.activity.areas) }
     ensures { IfOk result
         (λ answer. IsTry (code_of code.now) (phase_after (code_of code.now) (state_of (code_of code.now) state.old))
         answer state.new told.old.items told.new.items) }

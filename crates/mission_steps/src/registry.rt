@@ -6,7 +6,7 @@ ghost use Rattle.scj_model.specs.Code.{code_of};
 ghost use Rattle.scj_model.specs.Registry.{aperiodic_of, handler_number, handler_row, has_period, hidden_number, is_aperiodic, kind_by, new_row};
 
 use job_frames::Code;
-use run_memory::Object;
+use region_heap::Object;
 use scj_base::{ClassId, Memory, Ref};
 use scj_model::{HandlerKind, HandlerRow};
 
@@ -111,7 +111,7 @@ pub(crate) fn handler_row(registry: &[HandlerRow], handler: u8) -> Option<Handle
 
 /// The hidden field of a handler object at a slot, and 0 where it has no such field.
 #[tactic(auto, unfolding(scj_model::specs::Registry::hidden_number, scj_model::specs::Code::code_of))]
-fn hidden_number(code: &Code<'_>, object: &Object, slot: u32) -> u64
+fn hidden_number(code: &Code<'_>, object: &Object<'_>, slot: u32) -> u64
     ensures { result ≡ hidden_number (code_of code.now).program object.now slot }
 {
     if slot < code.layout().hidden(object.class()) {
@@ -145,7 +145,7 @@ fn kind_by(has_period: bool, period: u64) -> HandlerKind
 }
 
 /// The row of a handler object.
-pub(crate) fn new_row(code: &Code<'_>, at: Ref, object: &Object) -> Result<HandlerRow, Memory>
+pub(crate) fn new_row(code: &Code<'_>, at: Ref, object: &Object<'_>) -> Result<HandlerRow, Memory>
     ensures { IfOk result (λ row. row ≡ new_row (code_of code.now).program at object.now) }
 {
     let priority = hidden_number(code, object, 0);

@@ -9,6 +9,7 @@ ghost use Rattle.scj_model.specs.Apply.{class_name, registered};
 ghost use Rattle.scj_model.specs.Registry.{new_row};
 ghost use Rattle.job_frames.specs.Frames.{AreBegun, activity_seen};
 ghost use Rattle.run_state.specs.Seen.{AreAllBegun, job_seen, state_of};
+ghost use Rattle.run_state.specs.Standing.{CloseInOrder, IsLive};
 ghost use Rattle.run_state.specs.Steps.{IsApplied, IsStep};
 ghost use Rattle.mission_steps.specs.Asked.{newly_registered};
 
@@ -29,12 +30,13 @@ const MOST_HANDLERS: usize = 64;
 
 /// The row of a handler object, if there is such an object.
 fn row_of(code: &Code<'_>, state: &RunState, r: Ref) -> Result<Option<HandlerRow>, Memory>
+    requires { IsLive state.now.memory r }
     ensures { IfOk result
         (λ row. row ≡ option_map (new_row (code_of code.now).program r) (slice_get state.now.memory.objects r)) }
 {
     match state.memory.object(r) {
         Some(object) => {
-            let row = new_row(code, r, object)?;
+            let row = new_row(code, r, &object)?;
             Ok(Some(row))
         }
         None => Ok(None),
@@ -108,6 +110,7 @@ fn register(
     row: HandlerRow,
     told: &mut Vec<Event>,
 ) -> Result<(), Memory>
+    requires { CloseInOrder state.old.memory activity.frames }
     ensures { (r : ℕ) (o : ObjectOfRun) → row ≡ new_row (code_of code.now).program r o →
         AreAllBegun (code_of code.now).program.nodes state.old →
         AreBegun (code_of code.now).program.nodes activity.frames →
@@ -145,6 +148,8 @@ pub fn asks_registration(
 ) -> Result<bool, Memory>
     requires begun { AreAllBegun code.now.nodes state.old }
     requires frames { AreBegun code.now.nodes activity.frames }
+    requires closes { CloseInOrder state.old.memory activity.frames }
+    requires live { IsLive state.old.memory r }
     ensures { IfOk result
         (λ answer. IsApplied (code_of code.now) state.old acting activity (λ f. AsksRegistration f r) answer state.new
         told.old.items told.new.items) }

@@ -1,12 +1,16 @@
 //! START: the first operation of a release (JSR 302: ManagedEventHandler, handleAsyncEvent).
 
-ghost use Rattle.std.specs.Prelude.{◌≡◌, ◌∷◌, [], IfOk, None, Some};
+ghost use Rattle.std.specs.Prelude.{◌≡◌, ◌∷◌, ◌<◌, [], IfOk, None, Some};
+ghost use Rattle.scj_model.specs.declared.handlers.HandlerRow.{HandlerRow as RowOfRun};
 ghost use Rattle.scj_model.specs.Code.{code_of};
 ghost use Rattle.scj_model.specs.State.{Release as ReleaseOfRun};
+ghost use Rattle.scj_model.specs.Registry.{handler_row};
 ghost use Rattle.scj_model.specs.Effects.{new_frame};
 ghost use Rattle.scj_model.specs.Run.{start_op, started_with};
+ghost use Rattle.region_heap.specs.Contents.{open_count};
 ghost use Rattle.job_frames.specs.Frames.{AreBegun, activity_seen};
 ghost use Rattle.run_state.specs.Seen.{AreAllBegun, state_of};
+ghost use Rattle.run_state.specs.Standing.{HasNumbers};
 ghost use Rattle.run_state.specs.Steps.{IsStep, IsTry};
 
 use crate::bodies::{OwnCall, first_frames};
@@ -88,6 +92,8 @@ fn started_with(
     start: &Start,
     told: &mut Vec<Event>,
 ) -> Result<(), Memory>
+    requires numbers { HasNumbers state.old.memory }
+    requires few { open_count state.old.memory < 1794 }
     ensures { AreAllBegun (code_of code.now).program.nodes state.old →
         IfOk result
         (λ _. IsStep (code_of code.now)
@@ -104,7 +110,7 @@ fn started_with(
             parent,
             bytes: start.row.bytes,
         },
-    )? {
+    ) {
         Some(area) => {
             let activity = begun(alloc, code, areas, start, area)?;
             put_back(state, Job::Release(start.place), activity)?;
@@ -137,6 +143,9 @@ pub fn start_op(
     told: &mut Vec<Event>,
 ) -> Result<bool, Memory>
     requires begun { AreAllBegun code.now.nodes state.old }
+    requires numbers { HasNumbers state.old.memory }
+    requires few { (row : RowOfRun) → handler_row state.old.registry.items handler ≡ Some row →
+        open_count state.old.memory < 1794 }
     ensures { (r : ReleaseOfRun) → r.handler ≡ handler →
         IfOk result
         (λ answer. IsTry (code_of code.now)

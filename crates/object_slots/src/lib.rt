@@ -3,4 +3,4 @@
 
 pub mod slots;
 
-pub use slots::{NewSlots, new_slots};
+pub use slots::new_slots;

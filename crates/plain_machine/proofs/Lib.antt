@@ -1,8 +1,11 @@
+pub mod AreaLaws
 pub mod BehindLaws
 pub mod EndLaws
 pub mod LastLaws
+pub mod LawfulRuns
 pub mod PartLaws
 pub mod PrintLaws
+pub mod ReachedRuns
 pub mod StaticLaws
 pub mod StepLaws
 pub mod TextLaws

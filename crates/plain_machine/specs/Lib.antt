@@ -1,4 +1,5 @@
 pub mod Ends
+pub mod Lawful
 pub mod Machines
 pub mod Printing
 pub mod Runs

@@ -4,6 +4,10 @@ use Rattle.scj_io.specs.Puts.{SinkRun}
 use Rattle.scj_tree.specs.Forest.{Forest}
 use Rattle.scj_model.specs.Plan.{Plan}
 use Rattle.scj_model.specs.Run.{has_ended}
+use Rattle.scj_model.specs.State.{State}
+use Rattle.region_heap.specs.declared.open_areas.Area.{Area}
+use Rattle.region_heap.specs.OpenAreas.{open_areas}
+use Rattle.plain_machine.specs.Lawful.{IsLawful}
 use Rattle.plain_machine.specs.Printing.{PrinterSeen}
 use Rattle.plain_machine.specs.Told.{BreaksOffFrom, PutsRest, PutsUnit}
 use Rattle.plain_machine.specs.UnderWay.{IsBetween, IsLast, IsNeverStuck, run_at}
@@ -33,13 +37,18 @@ having_spent n m = record m { spent = n }
 abbrev pub over_after : ℕ → MachineSeen → MachineSeen
 over_after n m = record m { spent = n; is_live = false }
 
--- a machine's parts are those of one program, whose run is never stuck, and a live one stands where the reference
--- machine stands
+-- the areas that are open in a state, in the order in which they were opened
+abbrev pub areas_in : State → List Area
+areas_in s = open_areas s.objects 0 s.areas
+
+-- a machine's parts are those of one program, whose run is never stuck and keeps the laws that the machine counts on,
+-- and a live one stands where the reference machine stands
 pub record IsMachine (program classes : Forest) (plan : Plan) (printer : PrinterSeen) (at : UnderWay) (is_live : Bool) :
     Type 0 where
   pub same : classes ≡ program
   pub printed : printer.program ≡ program
   pub never : IsNeverStuck program plan
+  pub lawful : IsLawful program plan
   pub stands : is_live ≡ true → IsBetween program plan at
 
 -- whether a further step comes

@@ -1,13 +1,21 @@
 //! A machine that runs a program unit by unit.
 
-ghost use Rattle.std.specs.Prelude.{◌≡◌, length, true, Bool, IfOk, IfErr};
+ghost use Rattle.std.specs.Prelude.{◌≡◌, length, slice_get, true, Bool, IfOk, IfErr};
 ghost use Rattle.scj_io.specs.Puts.{sink_run};
-ghost use Rattle.plain_machine.specs.Machines.{IsBroken, Steps, goes_on};
+ghost use Rattle.plain_machine.specs.Machines.{IsBroken, Steps, areas_in, goes_on};
+ghost use Rattle.plain_machine.specs.UnderWay.{run_at};
 
 use crate::printers::Printer;
 use crate::runs::RunStop;
 use crate::steps::{Progress, one_step};
 use crate::under_way::{UnderWay, begin};
+use area_laws::{
+    areas_close_as_the_last, effects_name_live_objects, few_areas_are_open,
+    jobs_stand_in_open_areas, operations_are_on_live_objects,
+};
+use live_reads::operation_reads_live;
+use region_heap::Area;
+use run_sizes::grows_by_units;
 use scj_base::{Files, Memory};
 use scj_io::Sink;
 use scope_sound::laws::law_safe;
@@ -65,6 +73,14 @@ impl<'a> Machine<'a> {
     {
         let checked = setting.code.checked();
         law_safe(checked);
+        jobs_stand_in_open_areas(checked);
+        areas_close_as_the_last(checked);
+        few_areas_are_open(checked);
+        operations_are_on_live_objects(checked);
+        effects_name_live_objects(checked);
+        grows_by_units();
+        operation_reads_live();
+        let _units = setting.plan.units();
         let printer = Printer::make(alloc, checked, files)?;
         let at = begin(alloc, setting.code, setting.plan)?;
         Ok(Machine {
@@ -87,6 +103,14 @@ impl<'a> Machine<'a> {
         ensures { result ≡ self.now.spent }
     {
         self.at.state.unit
+    }
+
+    /// The open area at a place in the order of opening, if so many are open. Of a machine that isn't live nothing is said.
+    pub fn area(&self, i: usize) -> Option<Area>
+        ensures { self.now.is_live ≡ true → result
+            ≡ slice_get (areas_in (run_at self.now.program self.now.plan self.now.spent).state) i }
+    {
+        self.at.state.memory.area(i)
     }
 
     /// Spends one unit, and puts a line for each thing that it tells. Where the units of the plan are spent already, it

@@ -6,6 +6,7 @@ ghost use Rattle.scj_model.specs.declared.events.Event.TheVariants.{Stopped as S
 ghost use Rattle.scj_model.specs.State.{is_over};
 ghost use Rattle.scj_model.specs.TraceText.{line_of};
 ghost use Rattle.plain_machine.specs.Ends.{end_of};
+ghost use Rattle.plain_machine.specs.Lawful.{IsLawful};
 ghost use Rattle.plain_machine.specs.Printing.{BreaksOffIn};
 ghost use Rattle.plain_machine.specs.Told.{BreaksOffFrom};
 ghost use Rattle.plain_machine.specs.UnderWay.{GoesTo, IsBetween, IsNeverStuck, StepsTo};
@@ -79,6 +80,7 @@ pub(crate) fn one_step<K: Sink>(
     requires same { setting.classes.now ≡ setting.code.now }
     requires printed { printer.old.program ≡ setting.code.now }
     requires never { IsNeverStuck setting.code.now setting.plan.now }
+    requires lawful { IsLawful setting.code.now setting.plan.now }
     requires between { IsBetween setting.code.now setting.plan.now at.old }
     ensures same { printer.new ≡ printer.old }
     ensures ok { IfOk result

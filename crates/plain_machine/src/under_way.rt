@@ -4,11 +4,12 @@ ghost use Rattle.std.specs.Prelude.{◌≡◌, IfOk};
 ghost use Rattle.scj_model.specs.Code.{code_of};
 ghost use Rattle.scj_model.specs.Run.{empty_state};
 ghost use Rattle.run_state.specs.Seen.{AreAllBegun, state_of};
+ghost use Rattle.plain_machine.specs.Lawful.{IsLawful};
 ghost use Rattle.plain_machine.specs.UnderWay.{HasSpent, IsBetween, IsNeverStuck};
 
 use crate::statics::first_statics;
 use job_frames::{Activity, Code};
-use run_memory::RunMemory;
+use region_heap::RegionHeap;
 use run_plan::Plan;
 use run_releases::Releases;
 use run_state::RunState;
@@ -37,7 +38,7 @@ fn empty_state(alloc: Global, code: &Code<'_>, plan: &Plan) -> Result<RunState, 
 {
     let statics = first_statics(alloc, code)?;
     Ok(RunState {
-        memory: RunMemory::new(alloc, plan.store(), statics),
+        memory: RegionHeap::make(alloc, plan.store(), statics)?,
         releases: Releases::new(alloc),
         registry: Vec::new(alloc),
         activity: Activity::empty(alloc),
@@ -71,6 +72,7 @@ pub(crate) fn begin(alloc: Global, code: &Code<'_>, plan: &Plan) -> Result<Under
 pub(crate) fn spend(alloc: Global, setting: Setting<'_>, at: &mut UnderWay) -> Result<(), Memory>
     requires same { setting.classes.now ≡ setting.code.now }
     requires never { IsNeverStuck setting.code.now setting.plan.now }
+    requires lawful { IsLawful setting.code.now setting.plan.now }
     requires between { IsBetween setting.code.now setting.plan.now at.old }
     ensures { IfOk result (λ _. HasSpent setting.entry.code.now setting.entry.plan.now at.old.state.unit at.new) }
 {

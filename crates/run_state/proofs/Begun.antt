@@ -3,7 +3,7 @@ use Rattle.std.specs.Prelude.{Option, Some, None, slice_get, slice_set}
 use Rattle.std.proofs.Common.{◌≡◌, ℕ, zero, suc, List, [], ◌∷◌, ◌++◌, subst, sym, refl}
 use Rattle.scj_tree.specs.declared.nodes.Node.{Node}
 use Rattle.scj_model.specs.State.{changed}
-use Rattle.run_memory.proofs.ChangedLists.{changed_there, changed_nowhere}
+use Rattle.run_state.proofs.Changed.{changed_there, changed_nowhere}
 use Rattle.run_releases.specs.declared.rows.Release.{Release}
 use Rattle.run_state.specs.Seen.{IsBegunStatus, AreReleasesBegun}
 

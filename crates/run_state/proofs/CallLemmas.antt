@@ -1,5 +1,5 @@
 -- Calls by their cases, and a frame on top of others.
-use Rattle.std.specs.Prelude.{Bool, true, false, not, Option, Some, None, is_some, nat_lt, slice_get, unwrap_or}
+use Rattle.std.specs.Prelude.{Bool, true, false, not, Option, Some, None, is_some, nat_lt, slice_get, unwrap_or, if◌then◌else◌}
 use Rattle.std.proofs.Common.{◌≡◌, ◌∙◌, ℕ, suc, List, ◌∷◌, ◌++◌, length, refl, ap, sym, arith}
 use Rattle.std.proofs.lemmas.Bool.{le-ltb, lt-ltb, ltb-false, ltb-true}
 use Rattle.std.proofs.lemmas.List.{length-map}
@@ -7,7 +7,11 @@ use Rattle.scj_base.specs.declared.places.Pos.{Pos}
 use Rattle.scj_base.specs.declared.faults.RunFault.TheVariants.{ScopedCycle, CeilingViolation, DepthFull}
 use Rattle.scj_model.specs.declared.events.Event.{Event}
 use Rattle.scj_model.specs.Code.{Code}
+use Rattle.scj_rules.specs.declared.views.Body.{Body}
+use Rattle.scj_rules.specs.declared.views.Body.TheVariants.{Written, Empty}
+use Rattle.scj_rules.specs.Bodies.{is_synchronized_body}
 use Rattle.scj_rules.specs.Words.{◌>>=◌}
+use Rattle.region_heap.specs.Contents.{Contents, live_object}
 use Rattle.scj_model.specs.State.{Frame, Activity, Job, Object, State, object_at, with_activity}
 use Rattle.scj_model.specs.Effects.{monitor_of}
 use Rattle.scj_model.specs.Memory.{area_with_scope}
@@ -18,6 +22,7 @@ use Rattle.job_frames.specs.declared.frames.Frame.{Frame as StoredFrame}
 use Rattle.job_frames.specs.Frames.{activity_seen, below, frame_of, frames_of}
 use Rattle.run_state.specs.Calls.{call_entered, call_opened}
 use Rattle.run_state.specs.Tops.{moved_in, with_saved}
+use Rattle.run_state.specs.Standing.{IsOnLiveObject}
 use Rattle.run_state.specs.Steps.{HasOnTop}
 
 -- ---- a frame on top
@@ -172,3 +177,22 @@ module _ (code : Code) (s : State) (g : Frame) where
   ceiling_there r object e n =
       ap (λ (x : Option Object). x >>= (λ (o : Object). Some o.ceiling)) n
       ∙ ap (λ (m : Option ℕ). m >>= object_at s >>= (λ (o : Object). Some o.ceiling)) e
+
+-- the object whose monitor the highest frame enters is found, since it lies in an open area
+pub live_monitor : (code : Code) (m : Contents) (activity : StoredActivity) (f : StoredFrame) (r : ℕ) →
+    IsOnLiveObject m activity → Some f ≡ slice_get activity.frames 0 → Some r ≡ monitor_of code (frame_of code f) →
+    live_object m r ≡ slice_get m.objects r
+unfolding monitor_of
+live_monitor code m activity f r live top e = live f r (sym top) (this_of f.body e)
+  where
+    by : (b : Bool) → Some r ≡ (if b then f.this else None) → f.this ≡ Some r
+    by true h = sym h
+    by false h = absurd (cc)
+
+    this_of : (b : Body) →
+        Some r ≡ (elim b [
+          | Written node ↦ if is_synchronized_body code.program node then f.this else None
+          | Empty ↦ None
+        ]) → f.this ≡ Some r
+    this_of (Written node) h = by (is_synchronized_body code.program node) h
+    this_of Empty h = absurd (cc)

@@ -9,13 +9,14 @@ use Rattle.scj_model.specs.declared.events.Event.{Event}
 use Rattle.scj_model.specs.declared.events.Event.TheVariants.{Fault, End}
 use Rattle.scj_model.specs.Code.{Code}
 use Rattle.scj_model.specs.State.{Activity, Release as ReleaseOfRun, ReleaseAt, State, Ended as EndedSeen, with_status as state_with_status}
-use Rattle.scj_model.specs.Memory.{closed}
 use Rattle.scj_model.specs.Steps.{Step, closed_all, fault_in, job_ended, of_release}
 use Rattle.job_frames.specs.declared.activities.Activity.{Activity as StoredActivity}
 use Rattle.job_frames.specs.declared.frames.Frame.{Frame as StoredFrame}
 use Rattle.job_frames.specs.Frames.{activity_seen, frames_of}
 use Rattle.job_frames.proofs.Reversed.{last_first}
-use Rattle.run_memory.specs.Contents.{Contents, with_memory}
+use Rattle.region_heap.specs.Contents.{Contents, with_memory}
+use Rattle.run_state.specs.Standing.{CloseInOrder, ClosesLast, after_close}
+use Rattle.run_state.proofs.Standing.{closed_is}
 use Rattle.run_releases.specs.declared.rows.ReleaseStatus.{ReleaseStatus}
 use Rattle.run_releases.specs.declared.rows.ReleaseStatus.TheVariants.{Ended}
 use Rattle.run_releases.specs.Rows.{StoredReleases, release_seen, status_seen, with_status}
@@ -29,14 +30,15 @@ use Rattle.run_state.proofs.Rows.{changed_map}
 -- ---- areas that are closed
 
 pub closed_last : (code : Code) (s : State) (was now : Contents) (rest below : List StoredFrame) (f : StoredFrame) →
-    rest ≡ below ++ f ∷ [] → ((t : State) → closed (with_memory t was) f.opened ≡ with_memory t now) →
+    rest ≡ below ++ f ∷ [] → now ≡ after_close was f.opened →
     closed_all (with_memory s was) (frames_of code (reverse rest))
     ≡ closed_all (with_memory s now) (frames_of code (reverse below))
 unfolding closed_all
 closed_last code s was now rest below f e h =
     ap (λ (fs : List StoredFrame). closed_all (with_memory s was) (frames_of code (reverse fs))) e
     ∙ (ap (λ (fs : List StoredFrame). closed_all (with_memory s was) (frames_of code fs)) (last_first below f)
-    ∙ ap (λ (t : State). closed_all t (frames_of code (reverse below))) (h s))
+    ∙ ap (λ (t : State). closed_all t (frames_of code (reverse below)))
+    (closed_is s was f.opened ∙ ap (λ (m : Contents). with_memory s m) (sym h)))
 
 take_one : (xs : List StoredFrame) (n : ℕ) (x : StoredFrame) → slice_get xs n ≡ Some x → take (suc n) xs ≡ take n xs
     ++ x ∷ []
@@ -111,8 +113,7 @@ module _ (code : Code) (st : RunState) (n : ℕ) (rs : StoredReleases) (first la
 -- one place further down
 pub closed_next : (code : Code) (s : State) (was now : Contents) (frames : List StoredFrame) (left : ℕ) →
     left < length frames →
-    ((f : StoredFrame) → Some f ≡ slice_get frames left → (t : State) →
-    closed (with_memory t was) f.opened ≡ with_memory t now) →
+    ((f : StoredFrame) → Some f ≡ slice_get frames left → now ≡ after_close was f.opened) →
     closed_all (with_memory s was) (frames_of code (reverse (take (suc left) frames)))
     ≡ closed_all (with_memory s now) (frames_of code (reverse (take left frames)))
 closed_next code s was now frames left within h = go (slice_get frames left) refl
@@ -123,3 +124,24 @@ closed_next code s was now frames left within h = go (slice_get frames left) ref
     go None e = absurd (got_none frames left within e)
     go (Some f) e = closed_last code s was now (take (suc left) frames) (take left frames) f (take_one frames left f e)
         (h f (sym e))
+
+-- the last of these frames is closed first
+reversed_more : (frames : List StoredFrame) (left : ℕ) (f : StoredFrame) → slice_get frames left ≡ Some f →
+    reverse (take (suc left) frames) ≡ f ∷ reverse (take left frames)
+reversed_more frames left f e = ap reverse (take_one frames left f e) ∙ last_first (take left frames) f
+
+pub closes_top : (m : Contents) (frames : List StoredFrame) (left : ℕ) (f : StoredFrame) →
+    slice_get frames left ≡ Some f → CloseInOrder m (reverse (take (suc left) frames)) → ClosesLast m f.opened
+closes_top m frames left f e h =
+    (subst (λ (fs : List StoredFrame). CloseInOrder m fs) (reversed_more frames left f e) h).0
+
+pub closes_next : (was now : Contents) (frames : List StoredFrame) (left : ℕ) → left < length frames →
+    ((f : StoredFrame) → Some f ≡ slice_get frames left → now ≡ after_close was f.opened) →
+    CloseInOrder was (reverse (take (suc left) frames)) → CloseInOrder now (reverse (take left frames))
+closes_next was now frames left within h c = go (slice_get frames left) refl
+  where
+    go : (o : Option StoredFrame) → slice_get frames left ≡ o → CloseInOrder now (reverse (take left frames))
+    go None e = absurd (got_none frames left within e)
+    go (Some f) e =
+        subst (λ (m : Contents). CloseInOrder m (reverse (take left frames))) (sym (h f (sym e)))
+        (subst (λ (fs : List StoredFrame). CloseInOrder was fs) (reversed_more frames left f e) c).1

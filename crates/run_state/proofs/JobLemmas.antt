@@ -8,7 +8,7 @@ use Rattle.scj_model.specs.State.{Release as ReleaseOfRun, ReleaseAt, Started as
 use Rattle.scj_model.specs.Run.{no_activity}
 use Rattle.job_frames.specs.declared.activities.Activity.{Activity as StoredActivity}
 use Rattle.job_frames.specs.Frames.{AreBegun, activity_seen, empty_activity}
-use Rattle.run_memory.proofs.ChangedLists.{changed_there}
+use Rattle.run_state.proofs.Changed.{changed_there}
 use Rattle.run_releases.specs.declared.rows.Release.{Release}
 use Rattle.run_releases.specs.declared.rows.ReleaseStatus.{ReleaseStatus}
 use Rattle.run_releases.specs.declared.rows.ReleaseStatus.TheVariants.{Waits, Started, Ended, Dropped}

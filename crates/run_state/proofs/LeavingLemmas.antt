@@ -12,7 +12,7 @@ use Rattle.scj_model.specs.Apply.{frame_left, returned, tell_priority, without}
 use Rattle.job_frames.specs.declared.activities.Activity.{Activity as StoredActivity}
 use Rattle.job_frames.specs.declared.frames.Frame.{Frame as StoredFrame}
 use Rattle.job_frames.specs.Frames.{activity_seen, below, frame_of, frames_of, with_operand}
-use Rattle.run_memory.specs.Contents.{Contents, with_memory}
+use Rattle.region_heap.specs.Contents.{Contents, with_memory}
 use Rattle.run_state.specs.declared.states.RunState.{RunState}
 use Rattle.run_state.specs.Seen.{state_of}
 use Rattle.run_state.specs.Calls.{settled}

@@ -1,6 +1,7 @@
 pub mod Applying
 pub mod Begun
 pub mod CallLemmas
+pub mod Changed
 pub mod EndLemmas
 pub mod JobLemmas
 pub mod LeavingLemmas
@@ -9,6 +10,7 @@ pub mod OpeningLemmas
 pub mod RoomLemmas
 pub mod Rows
 pub mod SeenLemmas
+pub mod Standing
 pub mod StepLemmas
 pub mod TellLemmas
 pub mod TopEffects

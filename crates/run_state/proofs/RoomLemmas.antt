@@ -31,6 +31,21 @@ module _ (s : State) (job : Job) (activity : Activity) (place : Pos) where
     same = λ e. absurd (cc);
   }
 
+  -- a state that is as it was
+  pub store_full_after : (scope : ℕ) (parent : Option ℕ) (bytes : ℕ) (after : State) → has_store_for s bytes ≡ false →
+      after ≡ s →
+      GoesOn s (opening s job activity place scope parent bytes) (fault_in s job activity place StoreFull) None after
+  unfolding opening
+  store_full_after scope parent bytes after h e =
+      record { there = λ next n f. absurd (cc); missing = λ next f. rw h refl; same = λ f. e }
+
+  pub memory_full_after : (class area : ℕ) (slots : List Value) (after : State) →
+      has_room s area (length slots) ≡ false → after ≡ s →
+      GoesOn s (allocating s job activity place class area slots) (fault_in s job activity place MemoryFull) None after
+  unfolding allocating
+  memory_full_after class area slots after h e =
+      record { there = λ next n f. absurd (cc); missing = λ next f. rw h refl; same = λ f. e }
+
   pub memory_full : (class area : ℕ) (slots : List Value) → has_room s area (length slots) ≡ false →
       GoesOn s (allocating s job activity place class area slots) (fault_in s job activity place MemoryFull) None s
   unfolding allocating

@@ -2,7 +2,7 @@
 use Rattle.std.specs.Prelude.{Option, Some, None, slice_get, slice_set, map, option_map}
 use Rattle.std.proofs.Common.{◌≡◌, ◌∙◌, ℕ, zero, suc, List, [], ◌∷◌, refl, ap, sym}
 use Rattle.scj_model.specs.State.{changed}
-use Rattle.run_memory.proofs.ChangedLists.{changed_there, changed_nowhere}
+use Rattle.run_state.proofs.Changed.{changed_there, changed_nowhere}
 
 module _ {A B : Type 0} where
   pub get_map : (g : A → B) (xs : List A) (n : ℕ) → slice_get (map g xs) n ≡ option_map g (slice_get xs n)

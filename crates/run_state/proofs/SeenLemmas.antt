@@ -5,7 +5,7 @@ use Rattle.scj_model.specs.declared.events.Event.{Event}
 use Rattle.scj_model.specs.Code.{Code}
 use Rattle.scj_model.specs.State.{Release as ReleaseOfRun, ReleaseAt}
 use Rattle.scj_model.specs.Steps.{of_release}
-use Rattle.run_memory.specs.Contents.{Contents, with_memory}
+use Rattle.region_heap.specs.Contents.{Contents, with_memory}
 use Rattle.run_releases.specs.declared.rows.Release.{Release}
 use Rattle.run_releases.specs.Rows.{StoredReleases, release_seen, with_releases}
 use Rattle.run_state.specs.declared.states.RunState.{RunState}

@@ -12,7 +12,7 @@ use Rattle.scj_model.specs.Apply.{applied, with_frame}
 use Rattle.job_frames.specs.declared.activities.Activity.{Activity as StoredActivity}
 use Rattle.job_frames.specs.declared.frames.Frame.{Frame as StoredFrame}
 use Rattle.job_frames.specs.Frames.{activity_seen, frame_of, frames_of}
-use Rattle.run_memory.specs.Contents.{Contents}
+use Rattle.region_heap.specs.Contents.{Contents}
 use Rattle.run_state.specs.declared.states.Acting.{Acting}
 use Rattle.run_state.specs.declared.states.RunState.{RunState}
 use Rattle.run_state.specs.Seen.{AreAllBegun, job_seen, state_of}

@@ -1,4 +1,5 @@
 pub mod Calls
 pub mod Seen
+pub mod Standing
 pub mod Steps
 pub mod Tops

@@ -1,15 +1,16 @@
 //! Calls: what comes of a new frame on top of the others (JSR 302: priority ceiling emulation).
 
-ghost use Rattle.std.specs.Prelude.{◌≡◌, ◌∷◌, ◌<◌, List, IfOk, OnOk, nat_lt};
+ghost use Rattle.std.specs.Prelude.{◌≡◌, ◌∷◌, ◌<◌, List, IfOk, OnOk, length, nat_lt};
 ghost use Rattle.scj_tree.specs.declared.nodes.Node.{Node as SyntaxNode};
 ghost use Rattle.scj_model.specs.Code.{Code as CodeOfRun, code_of};
 ghost use Rattle.scj_model.specs.State.{Frame as FrameOfRun};
 ghost use Rattle.scj_model.specs.Steps.{fault_in};
 ghost use Rattle.scj_model.specs.Apply.{called, ceiling_entered, is_full};
 ghost use Rattle.job_frames.specs.declared.activities.Activity.{Activity as StoredActivity};
-ghost use Rattle.job_frames.specs.Frames.{AreBegun, activity_seen, frame_called, frames_of};
+ghost use Rattle.job_frames.specs.Frames.{AreBegun, activity_seen, below, frame_called, frames_of};
 ghost use Rattle.run_state.specs.Seen.{AreAllBegun, job_seen, state_of};
 ghost use Rattle.run_state.specs.Calls.{call_entered};
+ghost use Rattle.run_state.specs.Standing.{CloseInOrder, IsOnLiveObject};
 ghost use Rattle.run_state.specs.Steps.{HasOnTop, IsStep};
 
 use crate::ends::fault_in;
@@ -45,7 +46,8 @@ pub fn put_on_top(
 
 /// Whether the job had as many frames as it may have before there was the one on top.
 pub(crate) fn was_full(activity: &Activity) -> bool
-    ensures { (code : CodeOfRun) (g : FrameOfRun) (before : StoredActivity) → HasOnTop code g before activity.now →
+    ensures deep { result ≡ nat_lt 64 (length activity.now.frames) }
+    ensures full { (code : CodeOfRun) (g : FrameOfRun) (before : StoredActivity) → HasOnTop code g before activity.now →
         result ≡ is_full (frames_of code before.frames) }
 {
     activity.frames.depth() > MOST_FRAMES
@@ -59,6 +61,7 @@ pub(crate) fn refused(
     fault: RunFault,
     told: &mut Vec<Event>,
 ) -> Result<(), Memory>
+    requires { CloseInOrder state.old.memory (below activity.frames) }
     ensures { (code : CodeOfRun) (g : FrameOfRun) (before : StoredActivity) → HasOnTop code g before activity →
         AreAllBegun code.program.nodes state.old →
         IfOk result
@@ -73,6 +76,7 @@ pub(crate) fn refused(
 
 /// The ceiling of the monitor that the frame on top enters, if it enters one.
 fn ceiling_on_top(code: &Code<'_>, state: &RunState, activity: &Activity) -> Option<u8>
+    requires { IsOnLiveObject state.now.memory activity.now }
     ensures { (g : FrameOfRun) (before : StoredActivity) → HasOnTop (code_of code.now) g before activity.now →
         result ≡ ceiling_entered (code_of code.now) (state_of (code_of code.now) state.now) g }
 {
@@ -136,6 +140,8 @@ pub fn called(
 ) -> Result<(), Memory>
     requires begun { AreAllBegun code.now.nodes state.old }
     requires frames { AreBegun code.now.nodes activity.frames }
+    requires closes { CloseInOrder state.old.memory (below activity.frames) }
+    requires live { IsOnLiveObject state.old.memory activity }
     ensures { (g : FrameOfRun) (before : StoredActivity) → HasOnTop (code_of code.now) g before activity →
         IfOk result
         (λ _. IsStep (code_of code.now)

@@ -10,6 +10,7 @@ ghost use Rattle.job_frames.specs.Frames.{AreBegun};
 ghost use Rattle.run_state.specs.declared.states.Acting.{Acting as ActingOfRun};
 ghost use Rattle.run_state.specs.declared.states.RunState.{RunState as StateOfRun};
 ghost use Rattle.run_state.specs.Seen.{AreAllBegun};
+ghost use Rattle.run_state.specs.Standing.{CloseInOrder};
 ghost use Rattle.run_state.specs.Steps.{IsApplied};
 
 use crate::ends::fault_in;
@@ -65,6 +66,7 @@ pub fn leaves(
     value: Option<Value>,
     told: &mut Vec<Event>,
 ) -> Result<(), Memory>
+    requires { CloseInOrder state.old.memory activity.frames }
     ensures { (code : Code) → AreAllBegun code.program.nodes state.old → AreBegun code.program.nodes activity.frames →
         IfOk result
         (λ _. IsApplied code state.old acting activity (λ f. Leaves f value) true state.new told.old.items
@@ -82,6 +84,7 @@ pub fn faults(
     fault: RunFault,
     told: &mut Vec<Event>,
 ) -> Result<(), Memory>
+    requires { CloseInOrder state.old.memory activity.frames }
     ensures { (code : Code) → AreAllBegun code.program.nodes state.old →
         IfOk result
         (λ _. IsApplied code state.old acting activity (λ f. Faults fault) true state.new told.old.items

@@ -3,28 +3,28 @@
 ghost use Rattle.std.specs.Prelude.{◌≡◌, ◌∷◌, ◌++◌, [], IfOk, None, Some, option_copied, reverse, slice_get};
 ghost use Rattle.scj_model.specs.Code.{Code};
 ghost use Rattle.scj_model.specs.State.{Activity as ActivityOfRun, ReleaseAt, State, TheSequencer};
-ghost use Rattle.scj_model.specs.Memory.{closed};
 ghost use Rattle.scj_model.specs.Steps.{closed_all, fault_in, job_ended};
 ghost use Rattle.job_frames.specs.declared.frames.Frame.{Frame as StoredFrame};
 ghost use Rattle.job_frames.specs.Frames.{AreBegun, activity_seen, frames_of};
-ghost use Rattle.run_memory.specs.Contents.{with_memory};
+ghost use Rattle.region_heap.specs.Contents.{with_memory};
 ghost use Rattle.run_state.specs.Seen.{AreAllBegun, job_seen, state_of};
+ghost use Rattle.run_state.specs.Standing.{CloseInOrder, ClosesLast, after_close};
 ghost use Rattle.run_state.specs.Steps.{IsStep};
 
 use crate::states::{Acting, Job, RunState};
 use crate::told::{tell, tell_end, tell_two};
 use job_frames::{Activity, Frame};
-use run_memory::RunMemory;
+use region_heap::RegionHeap;
 use scj_base::{AreaId, Memory, Pos, RunFault, Value};
 use scj_model::{Event, Phase, SeqOp};
 
 /// Closes an area that was opened, if there is one.
-#[tactic(auto, unfolding(scj_model::specs::Memory::closed))]
-pub fn close_opened(memory: &mut RunMemory, opened: Option<AreaId>)
-    ensures { (s : State) → closed (with_memory s memory.old) opened ≡ with_memory s memory.new }
+pub fn close_opened(memory: &mut RegionHeap, opened: Option<AreaId>)
+    requires { ClosesLast memory.old opened }
+    ensures { memory.new ≡ after_close memory.old opened }
 {
     match opened {
-        Some(area) => memory.close(area),
+        Some(area) => memory.close_top(area),
         None => {}
     }
 }
@@ -37,9 +37,10 @@ fn frame_at(frames: &[Frame], place: usize) -> Option<&Frame>
 }
 
 /// Closes the area that the frame at a place opened.
-fn close_of(memory: &mut RunMemory, frames: &[Frame], place: usize)
-    ensures { (f : StoredFrame) → Some f ≡ slice_get frames.now place → (s : State) →
-        closed (with_memory s memory.old) f.opened ≡ with_memory s memory.new }
+fn close_of(memory: &mut RegionHeap, frames: &[Frame], place: usize)
+    requires { (f : StoredFrame) → Some f ≡ slice_get frames.now place → ClosesLast memory.old f.opened }
+    ensures { (f : StoredFrame) → Some f ≡ slice_get frames.now place →
+        memory.new ≡ after_close memory.old f.opened }
 {
     if let Some(frame) = frame_at(frames, place) {
         close_opened(memory, frame.opened);
@@ -47,7 +48,8 @@ fn close_of(memory: &mut RunMemory, frames: &[Frame], place: usize)
 }
 
 /// Closes the areas that frames opened. The highest frame is the last one.
-fn close_all(memory: &mut RunMemory, frames: &[Frame])
+fn close_all(memory: &mut RegionHeap, frames: &[Frame])
+    requires { CloseInOrder memory.old (reverse frames.now) }
     ensures { (code : Code) (s : State) → closed_all (with_memory s memory.old) (frames_of code (reverse frames.now))
         ≡ with_memory s memory.new }
 {
@@ -103,6 +105,7 @@ fn release_broken(
     fault: RunFault,
     told: &mut Vec<Event>,
 ) -> Result<(), Memory>
+    requires { CloseInOrder state.old.memory activity.now.frames }
     ensures { (code : Code) → AreAllBegun code.program.nodes state.old →
         IfOk result
         (λ _. IsStep code
@@ -125,6 +128,7 @@ pub fn fault_in(
     fault: RunFault,
     told: &mut Vec<Event>,
 ) -> Result<(), Memory>
+    requires { CloseInOrder state.old.memory activity.now.frames }
     ensures { (code : Code) → AreAllBegun code.program.nodes state.old →
         IfOk result
         (λ _. IsStep code

@@ -8,6 +8,7 @@ ghost use Rattle.scj_model.specs.Apply.{frame_left, returned, without};
 ghost use Rattle.job_frames.specs.declared.frames.Frame.{Frame as StoredFrame};
 ghost use Rattle.job_frames.specs.Frames.{AreBegun, activity_seen, frame_of, frames_of};
 ghost use Rattle.run_state.specs.Seen.{AreAllBegun, job_seen, state_of};
+ghost use Rattle.run_state.specs.Standing.{CloseInOrder, IsOpenedByTop};
 ghost use Rattle.run_state.specs.Steps.{IsStep};
 ghost use Rattle.run_state.specs.Calls.{settled};
 
@@ -46,7 +47,8 @@ fn left_by(activity: &Activity) -> Result<Left, Memory>
 
 /// The area that the highest frame opened.
 fn opened_by(activity: &Activity) -> Result<Option<AreaId>, Memory>
-    ensures { (f : StoredFrame) (below : List StoredFrame) → activity.now.frames ≡ f ∷ below →
+    ensures top { IfOk result (λ opened. IsOpenedByTop activity.now.frames opened) }
+    ensures opened { (f : StoredFrame) (below : List StoredFrame) → activity.now.frames ≡ f ∷ below →
         IfOk result (λ opened. opened ≡ f.opened) }
 {
     match activity.frames.top() {
@@ -124,6 +126,7 @@ pub fn frame_left(
     value: Option<Value>,
     told: &mut Vec<Event>,
 ) -> Result<(), Memory>
+    requires { CloseInOrder state.old.memory activity.frames }
     ensures { (code : Code) (f : StoredFrame) (below : List StoredFrame) → activity.frames ≡ f ∷ below →
         AreAllBegun code.program.nodes state.old → AreBegun code.program.nodes activity.frames →
         IfOk result

@@ -1,6 +1,8 @@
 //! Calls in a new area (JSR 302: ManagedMemory).
 
-ghost use Rattle.std.specs.Prelude.{◌≡◌, ◌∷◌, List, IfOk, OnOk, Some, is_some};
+ghost use Rattle.std.specs.Prelude.{◌≡◌, ◌∷◌, ◌<◌, ℕ, true, List, IfOk, OnOk, Some, is_some};
+ghost use Rattle.scj_rules.specs.Words.{is_among};
+ghost use Rattle.region_heap.specs.Contents.{is_open_area, open_count};
 ghost use Rattle.scj_tree.specs.declared.nodes.Node.{Node as SyntaxNode};
 ghost use Rattle.scj_model.specs.Code.{Code};
 ghost use Rattle.scj_model.specs.State.{Frame as FrameOfRun};
@@ -8,9 +10,10 @@ ghost use Rattle.scj_model.specs.Memory.{area_with_scope};
 ghost use Rattle.scj_model.specs.Steps.{opening};
 ghost use Rattle.scj_model.specs.Apply.{opened_in};
 ghost use Rattle.job_frames.specs.declared.activities.Activity.{Activity as StoredActivity};
-ghost use Rattle.job_frames.specs.Frames.{AreBegun, activity_seen, frames_of};
+ghost use Rattle.job_frames.specs.Frames.{AreBegun, activity_seen, below, frames_of};
 ghost use Rattle.run_state.specs.Seen.{AreAllBegun, job_seen, state_of};
 ghost use Rattle.run_state.specs.Calls.{call_opened};
+ghost use Rattle.run_state.specs.Standing.{CloseInOrder, HasNumbers, StandsIn, below_top};
 ghost use Rattle.run_state.specs.Steps.{HasOnTop, IsStep};
 
 use crate::calls::{refused, was_full};
@@ -24,6 +27,7 @@ use scj_model::Event;
 
 /// Whether the job has an area of this scope open.
 fn is_cycle(state: &RunState, activity: &Activity, scope: ScopeId) -> bool
+    requires { (a : ℕ) → is_among a activity.now.areas ≡ true → is_open_area state.now.memory a ≡ true }
     ensures { (code : Code) → result ≡ is_some (area_with_scope (state_of code state.now) scope activity.now.areas) }
 {
     state
@@ -69,6 +73,9 @@ fn opened_on_top(
     area: NewArea,
     told: &mut Vec<Event>,
 ) -> Result<(), Memory>
+    requires numbers { HasNumbers state.old.memory }
+    requires few { open_count state.old.memory < 1794 }
+    requires closes { CloseInOrder state.old.memory (below activity.frames) }
     ensures { (code : Code) (g : FrameOfRun) (before : StoredActivity) → HasOnTop code g before activity →
         AreAllBegun code.program.nodes state.old → AreBegun code.program.nodes activity.frames →
         IfOk result
@@ -76,7 +83,7 @@ fn opened_on_top(
         (frames_of code before.frames) acting.place g area.scope area.parent area.bytes) state.new told.old.items
         told.new.items) }
 {
-    match open_area(state, area)? {
+    match open_area(state, area) {
         Some(opened) => {
             move_in(&mut activity, opened)?;
             put_back(state, acting.job, activity)?;
@@ -98,6 +105,8 @@ pub fn opened_in(
     bytes: u64,
     told: &mut Vec<Event>,
 ) -> Result<(), Memory>
+    requires numbers { HasNumbers state.old.memory }
+    requires stands { StandsIn state.old.memory (below_top activity) }
     ensures { (code : Code) (g : FrameOfRun) (before : StoredActivity) → HasOnTop code g before activity →
         AreAllBegun code.program.nodes state.old → AreBegun code.program.nodes activity.frames →
         IfOk result

@@ -1,7 +1,7 @@
 //! The state of a run, and who acts in it.
 
 use job_frames::Activity;
-use run_memory::RunMemory;
+use region_heap::RegionHeap;
 use run_releases::Releases;
 use scj_base::{AreaId, ClassId, Pos, Ref, ScopeId, Value};
 use scj_model::{HandlerRow, Phase, SeqOp};
@@ -50,10 +50,8 @@ pub struct NewArea {
 pub struct NewObject {
     /// Its class.
     pub class: ClassId,
-    /// The hidden fields of a handler.
-    pub hidden: Vec<u64>,
-    /// The other slots, or the elements.
-    pub values: Vec<Value>,
+    /// Its slots, of which the hidden fields of a handler are the first.
+    pub slots: Vec<Value>,
 }
 
 /// An array that is to be made.
@@ -71,7 +69,7 @@ pub struct NewArray {
 #[derive(Drop)]
 pub struct RunState {
     /// The areas, objects and static fields.
-    pub memory: RunMemory,
+    pub memory: RegionHeap,
     /// All releases.
     pub releases: Releases,
     /// The handlers of the mission.

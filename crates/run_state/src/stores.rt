@@ -1,15 +1,16 @@
 //! Effects on the memory, each done to the state, and the activity put back.
 
-ghost use Rattle.std.specs.Prelude.{◌≡◌, ◌∷◌, ◌++◌, true, List, IfOk};
+ghost use Rattle.std.specs.Prelude.{◌≡◌, ◌∷◌, ◌^◌, ◌<◌, true, List, None, IfOk, length};
 ghost use Rattle.scj_model.specs.declared.events.Event.{Event as EventOfRun};
 ghost use Rattle.scj_model.specs.Code.{Code};
 ghost use Rattle.scj_model.specs.Memory.{new_elements};
 ghost use Rattle.scj_model.specs.Effects.{Makes, SetsCeiling, SetsHidden, Stores, StoresStatic};
-ghost use Rattle.run_memory.specs.Contents.{hidden_slots};
+ghost use Rattle.region_heap.specs.Contents.{hidden_slots};
 ghost use Rattle.job_frames.specs.declared.frames.Frame.{Frame as StoredFrame};
 ghost use Rattle.job_frames.specs.Frames.{AreBegun, activity_seen, frame_of, frames_of};
 ghost use Rattle.run_state.specs.Seen.{AreAllBegun, job_seen, state_of};
 ghost use Rattle.run_state.specs.Calls.{made_or_full};
+ghost use Rattle.run_state.specs.Standing.{CloseInOrder, IsAreaOfTop, IsTopOpen};
 ghost use Rattle.run_state.specs.Steps.{IsApplied, IsStep};
 
 use crate::ends::fault_in;
@@ -19,7 +20,6 @@ use crate::states::{Acting, Job, NewArray, NewObject, RunState};
 use job_frames::Activity;
 use scj_base::{AreaId, Memory, Ref, RunFault, Value};
 use scj_model::Event;
-use std::alloc::Global;
 
 /// It stores a value into a slot or an element.
 pub fn stores(
@@ -35,7 +35,7 @@ pub fn stores(
         IfOk result
         (λ _. IsApplied code state.old acting activity (λ f. Stores f r slot value) true state.new told told) }
 {
-    state.memory.set_slot(r, slot, value)?;
+    state.memory.set_slot(r, slot, value);
     put_back(state, acting.job, activity)?;
     Ok(())
 }
@@ -72,7 +72,7 @@ pub fn sets_hidden(
         (λ _. IsApplied code state.old acting activity (λ f. SetsHidden f r (hidden_slots hidden.items)) true state.new
         told told) }
 {
-    state.memory.set_hidden(r, hidden)?;
+    state.memory.set_hidden(r, &hidden)?;
     put_back(state, acting.job, activity)?;
     Ok(())
 }
@@ -86,6 +86,7 @@ pub fn sets_ceiling(
     ceiling: u8,
     told: &mut Vec<Event>,
 ) -> Result<(), Memory>
+    requires { CloseInOrder state.old.memory activity.frames }
     ensures { (code : Code) → AreAllBegun code.program.nodes state.old → AreBegun code.program.nodes activity.frames →
         IfOk result
         (λ _. IsApplied code state.old acting activity (λ f. SetsCeiling f r ceiling) true state.new told.old.items
@@ -106,7 +107,8 @@ pub fn sets_ceiling(
 
 /// The area in which the highest frame makes objects.
 fn area_of(activity: &Activity) -> Result<AreaId, Memory>
-    ensures { (f : StoredFrame) (below : List StoredFrame) → activity.now.frames ≡ f ∷ below →
+    ensures top { IfOk result (λ area. IsAreaOfTop activity.now.frames area) }
+    ensures area { (f : StoredFrame) (below : List StoredFrame) → activity.now.frames ≡ f ∷ below →
         IfOk result (λ area. area ≡ f.area) }
 {
     match activity.frames.top() {
@@ -123,6 +125,7 @@ fn made(
     made: Option<Ref>,
     told: &mut Vec<Event>,
 ) -> Result<(), Memory>
+    requires { made ≡ None → CloseInOrder state.old.memory activity.frames }
     ensures { (code : Code) → AreAllBegun code.program.nodes state.old → AreBegun code.program.nodes activity.frames →
         (f : StoredFrame) (below : List StoredFrame) → activity.frames ≡ f ∷ below →
         IfOk result
@@ -150,34 +153,39 @@ pub fn makes(
     object: NewObject,
     told: &mut Vec<Event>,
 ) -> Result<(), Memory>
+    requires open { IsTopOpen state.old.memory activity.frames }
+    requires closes { CloseInOrder state.old.memory activity.frames }
+    requires numbers { length state.old.memory.objects < 2 ^ 31 }
     ensures { (code : Code) → AreAllBegun code.program.nodes state.old → AreBegun code.program.nodes activity.frames →
         IfOk result
         (λ _. IsApplied code state.old acting activity
-        (λ f. Makes f object.class (hidden_slots object.hidden.items ++ object.values.items)) true state.new
+        (λ f. Makes f object.class object.slots.items) true state.new
         told.old.items told.new.items) }
 {
     let area = area_of(&activity)?;
-    let found = make_object(state, area, object)?;
+    let found = make_object(state, area, &object);
     made(state, acting, activity, found, told)?;
     Ok(())
 }
 
 /// It makes an array in its area.
 pub fn makes_array(
-    alloc: Global,
     state: &mut RunState,
     acting: Acting,
     activity: Activity,
     array: NewArray,
     told: &mut Vec<Event>,
 ) -> Result<(), Memory>
+    requires open { IsTopOpen state.old.memory activity.frames }
+    requires closes { CloseInOrder state.old.memory activity.frames }
+    requires numbers { length state.old.memory.objects < 2 ^ 31 }
     ensures { (code : Code) → AreAllBegun code.program.nodes state.old → AreBegun code.program.nodes activity.frames →
         IfOk result
         (λ _. IsApplied code state.old acting activity (λ f. Makes f array.class (new_elements array.kind array.count))
         true state.new told.old.items told.new.items) }
 {
     let area = area_of(&activity)?;
-    let found = make_array(alloc, state, area, array)?;
+    let found = make_array(state, area, array);
     made(state, acting, activity, found, told)?;
     Ok(())
 }

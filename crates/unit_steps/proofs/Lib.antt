@@ -10,6 +10,7 @@ pub mod NextOperation
 pub mod OwnActivity
 pub mod ReleaseActivity
 pub mod RunsOn
+pub mod Standing
 pub mod StatusSet
 pub mod Turning
 pub mod UnderWay

@@ -6,9 +6,9 @@ use Rattle.scj_model.specs.declared.events.Event.{Event}
 use Rattle.scj_model.specs.declared.operations.Op.{Op}
 use Rattle.scj_model.specs.declared.plans.ReadingRow.{ReadingRow}
 use Rattle.scj_model.specs.Code.{Code}
-use Rattle.scj_model.specs.State.{Activity, Job as JobOfRun, TheSequencer, ReleaseAt, State, with_activity}
+use Rattle.scj_model.specs.State.{Activity, State, with_activity}
 use Rattle.scj_model.specs.Operations.{Environment, effect_of}
-use Rattle.scj_model.specs.Run.{environment, frame_op, no_activity, place_of_op}
+use Rattle.scj_model.specs.Run.{effect_at, frame_op, no_activity, place_of_op}
 use Rattle.work_cursor.specs.Works.{rest}
 use Rattle.work_cursor.specs.Room.{IsBegun}
 use Rattle.job_frames.specs.declared.effects.Effect.{Effect as Coded}
@@ -75,18 +75,6 @@ taken_is code found taken activity e h =
 pub not_taken : (found : Option Activity) (activity : Activity) → None ≡ found → found ≡ Some activity → ⊥
 not_taken found activity e h = let k : None ≡ Some activity = e ∙ h in cc
 
--- an operation sees the same where the activity of a job is taken out
-world_without : (rows : List ReadingRow) (s : State) (job : JobOfRun) (a : Activity) →
-    environment rows (with_activity s job a) ≡ environment rows s
-unfolding with_activity
-world_without rows s TheSequencer a = refl
-world_without rows s (ReleaseAt place) a = refl
-
-world_seen : (code : Code) (rows : List ReadingRow) (st : RunState) →
-    world st.memory rows st.unit ≡ environment rows (state_of code st)
-unfolding state_of
-world_seen code rows st = refl
-
 module _ (code : Code) (rows : List ReadingRow) (s : State) where
   -- no operation is left
   pub nothing_led : (job : Job) (st : RunState) (taken : StoredActivity) (activity : Activity)
@@ -102,22 +90,17 @@ module _ (code : Code) (rows : List ReadingRow) (s : State) where
   pub operation_led : (acting : Acting) (was st : RunState) (taken : StoredActivity) (activity : Activity)
       (frames : List StoredFrame) (answer : Bool) (before after : List Event) (op : Op) (effect : Coded) →
       activity_seen code taken ≡ activity →
-      IsNextOnTop code (world was.memory rows was.unit) op effect taken.frames frames →
+      (next : IsNextOnTop code (world was.memory rows was.unit) op effect taken.frames frames) →
+      effect_at code rows s (frame_of code next.top) op next.done.left
+      ≡ effect_seen code effect (frame_of code next.changed) →
       acting.place ≡ place_of_op code op →
       state_of code was ≡ with_activity s (job_seen acting.job) no_activity →
       IsApplied code was acting (record taken { frames = frames }) (effect_seen code effect) answer st before after →
       IsLedTry code (frame_op code rows s (job_seen acting.job) activity) answer st before after
-  operation_led acting was st taken activity frames answer before after op effect e next place without applied =
-      let sees : environment rows s ≡ world was.memory rows was.unit =
-      sym (world_seen code rows was
-      ∙ (ap (λ (x : State). environment rows x) without
-      ∙ world_without rows s (job_seen acting.job) no_activity)) in
+  operation_led acting was st taken activity frames answer before after op effect e next has place without applied =
       subst (λ (x : Activity). IsLedTry code (frame_op code rows s (job_seen acting.job) x) answer st before after) e
       (operation_joined code rows s acting was st taken
       (let left : StoredActivity = record taken { frames = frames } in left) next.top next.changed (below taken.frames)
       op next.done.left (effect_seen code effect) answer before after next.was
       (ap (λ (fs : List StoredFrame). (let left : StoredActivity = record taken { frames = fs } in left)) next.is)
-      next.done.next next.done.opened
-      (ap (λ (x : Environment). effect_of code x (record (frame_of code next.top) { rest = next.done.left }) op) sees
-      ∙ next.done.does)
-      place without applied)
+      next.done.next next.done.opened has place without applied)

@@ -3,3 +3,4 @@ pub mod Arriving
 pub mod Led
 pub mod Moves
 pub mod Next
+pub mod Standing

@@ -1,12 +1,14 @@
 //! What an effect does to the state.
 
-ghost use Rattle.std.specs.Prelude.{◌≡◌, IfOk, [], true};
+ghost use Rattle.std.specs.Prelude.{◌≡◌, ℕ, IfOk, [], Some, true};
 ghost use Rattle.scj_model.specs.Code.{code_of};
 ghost use Rattle.scj_model.specs.Effects.{Calls, Opens};
 ghost use Rattle.job_frames.specs.EffectsSeen.{effect_seen};
 ghost use Rattle.job_frames.specs.Frames.{AreBegun, frame_called};
 ghost use Rattle.run_state.specs.Seen.{AreAllBegun};
+ghost use Rattle.run_state.specs.Standing.{CloseInOrder, HasNumbers, IsLive, StandsIn};
 ghost use Rattle.run_state.specs.Steps.{IsApplied};
+ghost use Rattle.unit_steps.specs.Standing.{EffectStands};
 
 use job_frames::{Activity, Code, Effect, NewFrame};
 use mission_steps::{asks_registration, asks_release, asks_termination};
@@ -32,6 +34,8 @@ fn calls(
 ) -> Result<(), Memory>
     requires begun { AreAllBegun code.now.nodes state.old }
     requires frames { AreBegun code.now.nodes activity.frames }
+    requires closes { CloseInOrder state.old.memory activity.frames }
+    requires live { (r : ℕ) → call.this ≡ Some r → IsLive state.old.memory r }
     ensures { IfOk result
         (λ _. IsApplied (code_of code.now) state.old acting activity
         (λ f. Calls f (frame_called (code_of code.now) call arguments.items)) true state.new told.old.items
@@ -57,6 +61,8 @@ fn opens(
 ) -> Result<(), Memory>
     requires begun { AreAllBegun code.now.nodes state.old }
     requires frames { AreBegun code.now.nodes activity.frames }
+    requires stands { StandsIn state.old.memory activity }
+    requires numbers { HasNumbers state.old.memory }
     ensures { IfOk result
         (λ _. IsApplied (code_of code.now) state.old acting activity
         (λ f. Opens f (frame_called (code_of code.now) call []) scope bytes) true state.new told.old.items
@@ -82,6 +88,9 @@ pub(crate) fn apply(
 ) -> Result<bool, Memory>
     requires begun { AreAllBegun code.now.nodes state.old }
     requires frames { AreBegun code.now.nodes activity.frames }
+    requires stands { StandsIn state.old.memory activity }
+    requires numbers { HasNumbers state.old.memory }
+    requires effect { EffectStands state.old.memory activity effect }
     ensures { IfOk result
         (λ answer. IsApplied (code_of code.now) state.old acting activity (effect_seen (code_of code.now) effect) answer
         state.new told.old.items told.new.items) }
@@ -95,22 +104,14 @@ pub(crate) fn apply(
             prints(state, acting, activity, label, value, told)?;
             Ok(true)
         }
-        Effect::Makes {
-            class,
-            hidden,
-            values,
-        } => {
-            let object = NewObject {
-                class,
-                hidden,
-                values,
-            };
+        Effect::Makes { class, slots } => {
+            let object = NewObject { class, slots };
             makes(state, acting, activity, object, told)?;
             Ok(true)
         }
         Effect::MakesArray { class, kind, count } => {
             let array = NewArray { class, kind, count };
-            makes_array(alloc, state, acting, activity, array, told)?;
+            makes_array(state, acting, activity, array, told)?;
             Ok(true)
         }
         Effect::Stores { r, slot, value } => {

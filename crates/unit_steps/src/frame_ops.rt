@@ -9,8 +9,10 @@ ghost use Rattle.work_cursor.specs.Works.{rest};
 ghost use Rattle.job_frames.specs.EffectsSeen.{world as environment};
 ghost use Rattle.job_frames.specs.Frames.{AreBegun};
 ghost use Rattle.run_state.specs.Seen.{AreAllBegun, job_seen, state_of};
+ghost use Rattle.run_state.specs.Standing.{HasNumbers};
 ghost use Rattle.unit_steps.specs.Led.{IsLedTry};
 ghost use Rattle.unit_steps.specs.Next.{IsNext, IsNextOnTop, top_rest};
+ghost use Rattle.unit_steps.specs.Standing.{JobStands};
 
 use crate::applied::apply;
 use crate::places::place_of;
@@ -90,6 +92,8 @@ pub(crate) fn frame_op(
     told: &mut Vec<Event>,
 ) -> Result<bool, Memory>
     requires begun { AreAllBegun code.now.nodes state.old }
+    requires numbers { HasNumbers state.old.memory }
+    requires stands { JobStands (code_of code.now) plan.now.readings state.old (job_seen job) }
     ensures { (activity : ActivityOfRun) → activity_of (state_of (code_of code.now) state.old)
         (job_seen job) ≡ Some activity →
         IfOk result

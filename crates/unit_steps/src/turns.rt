@@ -1,17 +1,21 @@
 //! Who acts in a unit.
 
-ghost use Rattle.std.specs.Prelude.{◌≡◌, ◌∷◌, ◌++◌, [], IfOk, OnOk, Some, option_map};
-ghost use Rattle.scj_rules.specs.Words.{holds};
+ghost use Rattle.std.specs.Prelude.{◌≡◌, ◌∷◌, ◌++◌, ◌<◌, ℕ, true, [], IfOk, OnOk, Some, option_map};
+ghost use Rattle.scj_rules.specs.Words.{holds, is_among};
 ghost use Rattle.scj_model.specs.declared.events.Event.TheVariants.{Run as RunEvent};
 ghost use Rattle.scj_model.specs.Code.{Code as CodeOfRun, code_of};
 ghost use Rattle.scj_model.specs.Choice.{by_priority};
 ghost use Rattle.scj_model.specs.Run.{acts, is_same_turn, ref_op, sequencer_turn, tell_turn, turn_acts, turn_taken};
-ghost use Rattle.scj_model.specs.State.{ReleaseAt};
+ghost use Rattle.scj_model.specs.State.{ReleaseAt, TheSequencer, TurnOf};
 ghost use Rattle.scj_model.specs.Steps.{of_release};
 ghost use Rattle.run_state.specs.Seen.{AreAllBegun, state_of, turn_seen};
+ghost use Rattle.run_state.specs.Standing.{HasNumbers};
 ghost use Rattle.run_state.specs.Steps.{IsStep};
 ghost use Rattle.unit_steps.specs.Led.{IsLedTry};
 ghost use Rattle.unit_steps.specs.Moves.{move_at, move_by};
+ghost use Rattle.unit_steps.specs.Standing.{ActsStand, JobStands, StartStands};
+ghost use Rattle.mission_steps.specs.Standing.{IsOnLive};
+ghost use Rattle.region_heap.specs.Contents.{is_open_area, open_count};
 
 use crate::frame_ops::frame_op;
 use job_frames::Code;
@@ -33,6 +37,11 @@ fn sequencer_turn(
     told: &mut Vec<Event>,
 ) -> Result<bool, Memory>
     requires begun { AreAllBegun code.now.nodes state.old }
+    requires numbers { HasNumbers state.old.memory }
+    requires few { open_count state.old.memory < 1794 }
+    requires live { IsOnLive state.old.memory state.old.operation }
+    requires areas { (a : ℕ) → is_among a state.old.activity.areas ≡ true → is_open_area state.old.memory a ≡ true }
+    requires job { JobStands (code_of code.now) plan.now.readings state.old TheSequencer }
     ensures { IfOk result
         (λ answer. IsLedTry (code_of code.now)
         (sequencer_turn (code_of code.now) plan.now.readings (state_of (code_of code.now) state.old)) answer state.new
@@ -90,6 +99,9 @@ fn release_turn(
     told: &mut Vec<Event>,
 ) -> Result<bool, Memory>
     requires begun { AreAllBegun code.now.nodes state.old }
+    requires numbers { HasNumbers state.old.memory }
+    requires start { StartStands state.old place }
+    requires job { JobStands (code_of code.now) plan.now.readings state.old (ReleaseAt place) }
     ensures { IfOk result
         (λ answer. IsLedTry (code_of code.now)
         (ref_op (code_of code.now) plan.now.readings (state_of (code_of code.now) state.old) (ReleaseAt place)) answer
@@ -193,7 +205,8 @@ fn tell_other_turn(state: &RunState, turn: Turn, told: &mut Vec<Event>) -> Resul
 
 /// A turn is told where the last one was another.
 fn turn_taken(state: &mut RunState, turn: Turn, told: &mut Vec<Event>) -> Result<(), Memory>
-    ensures { (code : CodeOfRun) → AreAllBegun code.program.nodes state.old →
+    ensures same { IfOk result (λ _. state.new ≡ record state.old { last_choice = Some turn }) }
+    ensures step { (code : CodeOfRun) → AreAllBegun code.program.nodes state.old →
         IfOk result
         (λ _. IsStep code (turn_taken (state_of code state.old) (turn_seen turn)) state.new told.old.items
         told.new.items) }
@@ -213,6 +226,10 @@ fn turn_acts(
     told: &mut Vec<Event>,
 ) -> Result<bool, Memory>
     requires begun { AreAllBegun code.now.nodes state.old }
+    requires numbers { HasNumbers state.old.memory }
+    requires start { (place : ℕ) → turn_seen turn ≡ TurnOf place → StartStands state.old place }
+    requires job { (place : ℕ) → turn_seen turn ≡ TurnOf place →
+        JobStands (code_of code.now) plan.now.readings state.old (ReleaseAt place) }
     ensures { IfOk result
         (λ answer. IsLedTry (code_of code.now)
         (turn_acts (code_of code.now) plan.now.readings (turn_seen turn) (state_of (code_of code.now) state.old))
@@ -246,6 +263,7 @@ pub(crate) fn acts(
     told: &mut Vec<Event>,
 ) -> Result<bool, Memory>
     requires begun { AreAllBegun code.now.nodes state.old }
+    requires stands { ActsStand (code_of code.now) plan.now.readings state.old }
     ensures { IfOk result
         (λ answer. IsLedTry (code_of code.now)
         (acts (code_of code.now) plan.now.readings by_priority (state_of (code_of code.now) state.old)) answer

@@ -1,13 +1,18 @@
 //! Units of execution.
 
-ghost use Rattle.std.specs.Prelude.{◌≡◌, List, IfOk, OnOk, true};
+ghost use Rattle.std.specs.Prelude.{◌≡◌, List, IfOk, OnOk, Some, true};
 ghost use Rattle.scj_tree.specs.declared.nodes.Node.{Node as SyntaxNode};
 ghost use Rattle.scj_model.specs.Code.{Code as CodeOfRun, code_of};
 ghost use Rattle.scj_model.specs.Choice.{by_priority};
-ghost use Rattle.scj_model.specs.Run.{next_unit, one_unit};
+ghost use Rattle.scj_model.specs.Run.{acts, next_unit, one_unit};
+ghost use Rattle.scj_model.specs.Arrivals.{arrivals};
+ghost use Rattle.scj_model.specs.Steps.{Step};
 ghost use Rattle.run_plan.specs.Index.{fires_before};
+ghost use Rattle.run_state.specs.declared.states.RunState.{RunState as StateOfRun};
 ghost use Rattle.run_state.specs.Seen.{AreAllBegun, state_of};
+ghost use Rattle.unit_steps.specs.Alike.{IsAlike};
 ghost use Rattle.unit_steps.specs.Led.{IsLedTry};
+ghost use Rattle.unit_steps.specs.Standing.{ActsStand, PhaseStands};
 
 use crate::arrivals::arrivals;
 use crate::turns::acts;
@@ -55,6 +60,13 @@ pub fn one_unit(
     requires same { setting.classes.now ≡ setting.code.now }
     requires past { past.old ≡ fires_before setting.plan.now state.old.unit }
     requires begun { AreAllBegun setting.code.now.nodes state.old }
+    requires arrived { (st : StateOfRun) → state_of (code_of setting.code.now) st
+        ≡ (arrivals (code_of setting.code.now) setting.plan.now (state_of (code_of setting.code.now) state.old)).state →
+        ActsStand (code_of setting.code.now) setting.plan.now.readings st }
+    requires operated { (st : StateOfRun) (step : Step) → acts (code_of setting.code.now) setting.plan.now.readings
+        by_priority
+        (arrivals (code_of setting.code.now) setting.plan.now (state_of (code_of setting.code.now) state.old)).state
+        ≡ Some step → IsAlike step.state (state_of (code_of setting.code.now) st) → PhaseStands st }
     ensures led { IfOk result
         (λ answer. IsLedTry (code_of setting.entry.code.now)
         (one_unit (code_of setting.entry.code.now) setting.entry.plan.now by_priority

@@ -8,11 +8,12 @@ ghost use Rattle.scj_model.specs.Code.{code_of};
 ghost use Rattle.scj_model.specs.State.{Object as Listed};
 ghost use Rattle.scj_model.specs.Effects.{Faults, Stores, given, pushes};
 ghost use Rattle.scj_model.specs.Operations.{elem_op, index_in, length_op, put_elem_op};
+ghost use Rattle.region_heap.specs.Contents.{live_object};
 ghost use Rattle.job_frames.specs.Frames.{frame_of};
 ghost use Rattle.job_frames.specs.EffectsSeen.{Does, world};
 
 use job_frames::{Code, Effect, Frame};
-use run_memory::{Object, RunMemory};
+use region_heap::{Object, RegionHeap};
 use scj_base::{Memory, Ref, RunFault, Value};
 
 /// A length as an int.
@@ -28,13 +29,13 @@ fn int_of(length: usize) -> Result<i32, Memory>
 /// The length of the array of a reference.
 fn length_of(
     code: &Code<'_>,
-    memory: &RunMemory,
+    memory: &RegionHeap,
     frame: &mut Frame,
     r: Ref,
 ) -> Result<Effect, Memory>
     ensures does { IfOk result (λ effect.
         Does (code_of code.now)
-        (given (slice_get memory.now.objects r) (λ (o : Listed).
+        (given (live_object memory.now r) (λ (o : Listed).
         pushes (frame_of (code_of code.now) frame.old) (Int (pos (length o.slots)))))
         effect frame.new) }
     ensures works { frame.new.works ≡ frame.old.works }
@@ -48,7 +49,7 @@ fn length_of(
 }
 
 /// LENGTH: the length of an array.
-pub fn length(code: &Code<'_>, memory: &RunMemory, frame: &mut Frame) -> Result<Effect, Memory>
+pub fn length(code: &Code<'_>, memory: &RegionHeap, frame: &mut Frame) -> Result<Effect, Memory>
     ensures does { (rows : List Row) (unit : ℕ) → IfOk result (λ effect.
         Does (code_of code.now) (length_op (world memory.now rows unit) (frame_of (code_of code.now) frame.old))
         effect frame.new) }
@@ -68,7 +69,7 @@ pub fn length(code: &Code<'_>, memory: &RunMemory, frame: &mut Frame) -> Result<
 }
 
 /// The number of an element of an array, if there is one.
-fn index_in(array: &Object, index: i32) -> Option<usize>
+fn index_in(array: &Object<'_>, index: i32) -> Option<usize>
     ensures { result ≡ index_in array.now.slots index }
 {
     if index < 0 {
@@ -81,14 +82,14 @@ fn index_in(array: &Object, index: i32) -> Option<usize>
 /// The element of an array.
 fn elem_of(
     code: &Code<'_>,
-    memory: &RunMemory,
+    memory: &RegionHeap,
     frame: &mut Frame,
     r: Ref,
     index: i32,
 ) -> Result<Effect, Memory>
     ensures does { IfOk result (λ effect.
         Does (code_of code.now)
-        (given (slice_get memory.now.objects r) (λ (o : Listed). elim (index_in o.slots index) [
+        (given (live_object memory.now r) (λ (o : Listed). elim (index_in o.slots index) [
           | None ↦ Faults ArrayIndex
           | Some k ↦ given (slice_get o.slots k) (λ value. pushes (frame_of (code_of code.now) frame.old) value)
         ]))
@@ -99,7 +100,7 @@ fn elem_of(
     let Some(array) = memory.object(r) else {
         return Ok(Effect::Stuck);
     };
-    let Some(k) = index_in(array, index) else {
+    let Some(k) = index_in(&array, index) else {
         return Ok(Effect::Faults {
             fault: RunFault::ArrayIndex,
         });
@@ -112,7 +113,7 @@ fn elem_of(
 }
 
 /// ELEM: an element of an array.
-pub fn elem(code: &Code<'_>, memory: &RunMemory, frame: &mut Frame) -> Result<Effect, Memory>
+pub fn elem(code: &Code<'_>, memory: &RegionHeap, frame: &mut Frame) -> Result<Effect, Memory>
     ensures does { (rows : List Row) (unit : ℕ) → IfOk result (λ effect.
         Does (code_of code.now) (elem_op (world memory.now rows unit) (frame_of (code_of code.now) frame.old))
         effect frame.new) }
@@ -140,14 +141,14 @@ pub fn elem(code: &Code<'_>, memory: &RunMemory, frame: &mut Frame) -> Result<Ef
 /// What an assignment to the element of an array stores.
 fn put_elem_of(
     code: &Code<'_>,
-    memory: &RunMemory,
+    memory: &RegionHeap,
     frame: &Frame,
     r: Ref,
     index: i32,
     value: Value,
 ) -> Effect
     ensures does { Does (code_of code.now)
-        (given (slice_get memory.now.objects r) (λ (o : Listed). elim (index_in o.slots index) [
+        (given (live_object memory.now r) (λ (o : Listed). elim (index_in o.slots index) [
           | None ↦ Faults ArrayIndex
           | Some k ↦ Stores (frame_of (code_of code.now) frame.now) r k value
         ]))
@@ -156,7 +157,7 @@ fn put_elem_of(
     let Some(array) = memory.object(r) else {
         return Effect::Stuck;
     };
-    match index_in(array, index) {
+    match index_in(&array, index) {
         None => Effect::Faults {
             fault: RunFault::ArrayIndex,
         },
@@ -165,7 +166,7 @@ fn put_elem_of(
 }
 
 /// PUTELEM: the assignment to an element.
-pub fn put_elem(code: &Code<'_>, memory: &RunMemory, frame: &mut Frame) -> Effect
+pub fn put_elem(code: &Code<'_>, memory: &RegionHeap, frame: &mut Frame) -> Effect
     ensures does { (rows : List Row) (unit : ℕ) →
         Does (code_of code.now) (put_elem_op (world memory.now rows unit) (frame_of (code_of code.now) frame.old))
         result frame.new }

@@ -1,12 +1,13 @@
 //! Assignments (JLS 15.26, 4.12.5).
 
-ghost use Rattle.std.specs.Prelude.{◌≡◌, ℕ, List, slice_get};
+ghost use Rattle.std.specs.Prelude.{◌≡◌, ℕ, List};
 ghost use Rattle.scj_rules.specs.Layout.{slot_of};
 ghost use Rattle.scj_model.specs.declared.plans.ReadingRow.{ReadingRow as Row};
 ghost use Rattle.scj_model.specs.Code.{code_of};
 ghost use Rattle.scj_model.specs.State.{Object as Listed};
 ghost use Rattle.scj_model.specs.Effects.{Stores, given};
 ghost use Rattle.scj_model.specs.Operations.{init_op, put_op, put_static_op, store_op, zero_op};
+ghost use Rattle.region_heap.specs.Contents.{live_object};
 ghost use Rattle.job_frames.specs.Frames.{frame_of};
 ghost use Rattle.job_frames.specs.EffectsSeen.{Does, world};
 
@@ -16,7 +17,7 @@ use crate::readings::{
 };
 use job_frames::{Code, Effect, Frame};
 use object_layout::kind_of_type;
-use run_memory::RunMemory;
+use region_heap::RegionHeap;
 use scj_base::{FieldId, NodeId, Ref, RunFault, Value};
 use value_operators::default_of;
 
@@ -60,14 +61,14 @@ pub fn store(code: &Code<'_>, frame: &mut Frame, id: NodeId) -> Effect
 /// What an assignment to a field of an object stores.
 fn put_into(
     code: &Code<'_>,
-    memory: &RunMemory,
+    memory: &RegionHeap,
     frame: &Frame,
     r: Ref,
     field: FieldId,
     value: Value,
 ) -> Effect
     ensures { Does (code_of code.now)
-        (given (slice_get memory.now.objects r) (λ (o : Listed).
+        (given (live_object memory.now r) (λ (o : Listed).
         given (slot_of (code_of code.now).program o.class field) (λ slot.
         Stores (frame_of (code_of code.now) frame.now) r slot value)))
         result frame.now }
@@ -86,7 +87,7 @@ fn put_into(
 }
 
 /// PUT: the assignment to an instance field.
-pub fn put(code: &Code<'_>, memory: &RunMemory, frame: &mut Frame, id: NodeId) -> Effect
+pub fn put(code: &Code<'_>, memory: &RegionHeap, frame: &mut Frame, id: NodeId) -> Effect
     ensures does { (rows : List Row) (unit : ℕ) →
         Does (code_of code.now)
         (put_op (code_of code.now) (world memory.now rows unit) (frame_of (code_of code.now) frame.old) id)
@@ -136,7 +137,7 @@ pub fn put_static(code: &Code<'_>, frame: &mut Frame, id: NodeId) -> Effect
 }
 
 /// INIT: the literal of a field of the object that is constructed (JLS 12.5).
-pub fn init(code: &Code<'_>, memory: &RunMemory, frame: &Frame, id: NodeId) -> Effect
+pub fn init(code: &Code<'_>, memory: &RegionHeap, frame: &Frame, id: NodeId) -> Effect
     ensures { (rows : List Row) (unit : ℕ) →
         Does (code_of code.now)
         (init_op (code_of code.now) (world memory.now rows unit) (frame_of (code_of code.now) frame.now) id)

@@ -7,12 +7,13 @@ ghost use Rattle.scj_model.specs.Code.{code_of};
 ghost use Rattle.scj_model.specs.State.{Object as Listed};
 ghost use Rattle.scj_model.specs.Effects.{given, pushes};
 ghost use Rattle.scj_model.specs.Operations.{get_op, get_static_op, load_op, push_op, this_op};
+ghost use Rattle.region_heap.specs.Contents.{live_object};
 ghost use Rattle.job_frames.specs.Frames.{frame_of};
 ghost use Rattle.job_frames.specs.EffectsSeen.{Does, world};
 
 use crate::readings::{field_at, literal_at, local_at, slot_of, static_at, static_place};
 use job_frames::{Code, Effect, Frame};
-use run_memory::RunMemory;
+use region_heap::RegionHeap;
 use scj_base::{FieldId, Memory, NodeId, Ref, RunFault, Value};
 
 /// PUSH: the value of a literal.
@@ -65,14 +66,14 @@ pub fn load(code: &Code<'_>, frame: &mut Frame, id: NodeId) -> Result<Effect, Me
 /// The value of a field of an object becomes an operand.
 fn get_from(
     code: &Code<'_>,
-    memory: &RunMemory,
+    memory: &RegionHeap,
     frame: &mut Frame,
     r: Ref,
     field: FieldId,
 ) -> Result<Effect, Memory>
     ensures does { IfOk result (λ effect.
         Does (code_of code.now)
-        (given (slice_get memory.now.objects r) (λ (o : Listed).
+        (given (live_object memory.now r) (λ (o : Listed).
         given (slot_of (code_of code.now).program o.class field) (λ slot.
         given (slice_get o.slots slot) (λ value. pushes (frame_of (code_of code.now) frame.old) value))))
         effect frame.new) }
@@ -95,7 +96,7 @@ fn get_from(
 /// GET: the value of an instance field.
 pub fn get(
     code: &Code<'_>,
-    memory: &RunMemory,
+    memory: &RegionHeap,
     frame: &mut Frame,
     id: NodeId,
 ) -> Result<Effect, Memory>
@@ -124,7 +125,7 @@ pub fn get(
 /// GETSTATIC: the value of a static field.
 pub fn get_static(
     code: &Code<'_>,
-    memory: &RunMemory,
+    memory: &RegionHeap,
     frame: &mut Frame,
     id: NodeId,
 ) -> Result<Effect, Memory>

@@ -1,6 +1,6 @@
 //! Operations on operands: the operators and casts (JLS 15.15 to 15.22).
 
-ghost use Rattle.std.specs.Prelude.{◌≡◌, ℕ, List, IfOk, slice_get, if◌then◌else◌};
+ghost use Rattle.std.specs.Prelude.{◌≡◌, ℕ, List, IfOk, if◌then◌else◌};
 ghost use Rattle.scj_base.specs.declared.faults.RunFault.TheVariants.{ClassCast};
 ghost use Rattle.scj_base.specs.declared.values.Value.TheVariants.{At};
 ghost use Rattle.scj_rules.specs.Classes.{is_sub};
@@ -9,12 +9,13 @@ ghost use Rattle.scj_model.specs.Code.{code_of};
 ghost use Rattle.scj_model.specs.State.{Object as Listed};
 ghost use Rattle.scj_model.specs.Effects.{Faults, given, pushes};
 ghost use Rattle.scj_model.specs.Operations.{bin_op, cast_op, unary_op};
+ghost use Rattle.region_heap.specs.Contents.{live_object};
 ghost use Rattle.job_frames.specs.Frames.{frame_of};
 ghost use Rattle.job_frames.specs.EffectsSeen.{Does, world};
 
 use crate::readings::{class_at, is_sub, operator_at};
 use job_frames::{Code, Effect, Frame};
-use run_memory::RunMemory;
+use region_heap::RegionHeap;
 use scj_base::{ClassId, Memory, NodeId, Ref, RunFault, Value};
 use value_operators::{binary, divides_by_zero};
 
@@ -72,14 +73,14 @@ pub fn bin(code: &Code<'_>, frame: &mut Frame, id: NodeId) -> Result<Effect, Mem
 /// The cast of an object to a class.
 fn cast_to(
     code: &Code<'_>,
-    memory: &RunMemory,
+    memory: &RegionHeap,
     frame: &mut Frame,
     r: Ref,
     class: ClassId,
 ) -> Result<Effect, Memory>
     ensures does { IfOk result (λ effect.
         Does (code_of code.now)
-        (given (slice_get memory.now.objects r) (λ (o : Listed).
+        (given (live_object memory.now r) (λ (o : Listed).
         if is_sub (code_of code.now).program.classes o.class class
         then pushes (frame_of (code_of code.now) frame.old) (At r) else Faults ClassCast))
         effect frame.new) }
@@ -101,7 +102,7 @@ fn cast_to(
 /// CAST: a reference is asked to be of a class.
 pub fn cast(
     code: &Code<'_>,
-    memory: &RunMemory,
+    memory: &RegionHeap,
     frame: &mut Frame,
     id: NodeId,
 ) -> Result<Effect, Memory>

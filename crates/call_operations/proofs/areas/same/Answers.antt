@@ -6,7 +6,7 @@ use Rattle.scj_model.specs.declared.plans.ReadingRow.{ReadingRow}
 use Rattle.scj_model.specs.State.{Frame}
 use Rattle.scj_model.specs.Effects.{Effect, Goes, pushes}
 use Rattle.scj_model.specs.Operations.{are_one_area, with_area}
-use Rattle.run_memory.specs.Contents.{Contents}
+use Rattle.region_heap.specs.Contents.{Contents}
 use Rattle.job_frames.specs.EffectsSeen.{effect_seen, world}
 use Rattle.job_frames.specs.declared.frames.Frame.{Frame as StoredFrame}
 use Rattle.job_frames.specs.Frames.{frame_of}

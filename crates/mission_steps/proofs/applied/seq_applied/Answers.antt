@@ -62,3 +62,12 @@ returns-in_ok-tell-in-EndsExecution c = rw c.in-EndsExecution.is (λ begun. reco
   told = c.in_ok-tell-in-EndsExecution.ensures;
   begun = begun;
 })
+
+pub lack_sequencer-requires : goal.lack_sequencer-requires
+lack_sequencer-requires c = rw c.in-LacksSequencer.is at c.requires
+
+pub begin_mission-requires : goal.begin_mission-requires
+begin_mission-requires c = rw c.in-BeginsMission.is at c.requires
+
+pub close_mission-requires : goal.close_mission-requires
+close_mission-requires c = rw c.in-ClosesMission.is at c.requires

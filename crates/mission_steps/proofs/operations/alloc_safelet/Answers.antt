@@ -4,6 +4,7 @@ use Rattle.run_state.specs.Seen.{state_of}
 use Rattle.run_state.proofs.StepLemmas.{try_of}
 use Rattle.mission_steps.proofs.Going.{no_step}
 use Rattle.mission_steps.proofs.OwnOperations.{no_area, no_safelet_made, safelet_allocated}
+use Rattle.mission_steps.proofs.Standing.{innermost_among}
 use Rattle.mission_steps.proofs.operations.alloc_safelet.Goals as goal
 
 pub returns-in_default : goal.returns-in_default
@@ -28,3 +29,8 @@ returns c = λ begun.
     (safelet_allocated (code_of c.args.code.now) (state_of (code_of c.args.code.now) c.args.state.now) c.in-Some.class
     c.in-Some-innermost.area (sym c.in-Some.ensures) (sym c.in-Some-innermost.ensures))
     (c.in_ok-make_safelet.ensures begun)
+
+pub make_safelet-requires-clause-open : goal.make_safelet-requires-clause-open
+make_safelet-requires-clause-open c =
+    c.requires.areas c.in-Some-innermost.area
+    (innermost_among c.args.state.now.activity.areas c.in-Some-innermost.area c.in-Some-innermost.ensures)

@@ -45,3 +45,27 @@ pub returns-in-Finished : goal.returns-in-Finished
 unfolding sequencer_op
 returns-in-Finished c = rw c.in-Finished.is (λ begun.
     no_step (code_of c.args.code.now) c.args.state.now c.args.told.now.items c.args.told.now.items None refl)
+
+pub alloc_safelet-requires-clause-numbers : goal.alloc_safelet-requires-clause-numbers
+alloc_safelet-requires-clause-numbers c = c.requires.numbers.objects
+
+pub construct-requires : goal.construct-requires
+construct-requires c = rw c.in-ConstructSafelet.is at c.requires.live
+
+pub open_mission-requires-clause-live : goal.open_mission-requires-clause-live
+open_mission-requires-clause-live c = rw c.in-OpenMission.is at c.requires.live
+
+pub call_method-requires-clause-live : goal.call_method-requires-clause-live
+call_method-requires-clause-live c = rw c.in-InitializeApplication.is at c.requires.live
+
+pub call_method-requires-in-GetSequencer-clause-live : goal.call_method-requires-in-GetSequencer-clause-live
+call_method-requires-in-GetSequencer-clause-live c = rw c.in-GetSequencer.is at c.requires.live
+
+pub call_method-requires-in-GetNextMission-clause-live : goal.call_method-requires-in-GetNextMission-clause-live
+call_method-requires-in-GetNextMission-clause-live c = rw c.in-GetNextMission.is at c.requires.live
+
+pub call_method-requires-in-Initialize-clause-live : goal.call_method-requires-in-Initialize-clause-live
+call_method-requires-in-Initialize-clause-live c = rw c.in-Initialize.is at c.requires.live
+
+pub call_method-requires-in-CleanUp-clause-live : goal.call_method-requires-in-CleanUp-clause-live
+call_method-requires-in-CleanUp-clause-live c = rw c.in-CleanUp.is at c.requires.live

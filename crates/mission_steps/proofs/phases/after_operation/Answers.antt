@@ -1,4 +1,4 @@
-use Rattle.std.proofs.Common.{◌∙◌, ap, option_map, Option}
+use Rattle.std.proofs.Common.{◌∙◌, ap, option_map, Option, sym}
 use Rattle.scj_model.specs.Code.{code_of}
 use Rattle.scj_model.specs.Sequencer.{transition_done}
 use Rattle.run_state.specs.Seen.{state_of}
@@ -7,6 +7,7 @@ use Rattle.mission_steps.specs.declared.transitions.Transition.{Transition}
 use Rattle.mission_steps.specs.Transitions.{transition_seen}
 use Rattle.mission_steps.proofs.Done.{follows}
 use Rattle.mission_steps.proofs.Going.{no_step}
+use Rattle.mission_steps.proofs.Standing.{can_follow}
 use Rattle.mission_steps.proofs.phases.after_operation.Goals as goal
 
 pub returns-in_ok-transition_done-in-Some : goal.returns-in_ok-transition_done-in-Some
@@ -30,3 +31,10 @@ returns-in-None c = λ begun.
     ∙ ap (λ (found : Option Transition). option_map
     (transition_done (code_of c.args.code.now) (state_of (code_of c.args.code.now) c.args.state.now))
     (option_map transition_seen found)) c.in-None.is)
+
+pub transition_done-requires : goal.transition_done-requires
+transition_done-requires c =
+    can_follow c.args.state.now.memory c.args.state.now.activity.areas (transition_seen c.in-Some.next)
+    c.args.state.now.mission_sequencer c.skips_execution-skips.result c.args.state.now.operation c.args.value
+    c.requires.live c.requires.closes
+    (sym c.what_follows.ensures ∙ ap (λ (found : Option Transition). option_map transition_seen found) c.in-Some.is)

@@ -32,3 +32,6 @@ returns c =
     (after_done (code_of c.args.code.now) (state_of (code_of c.args.code.now) c.args.state.now) c.in-Some.value
     (sym c.is_exec.ensures ∙ c.if-is_exec.false) c.in-Some.is)
     (c.in_ok-went-2.ensures (begun_in c.args.code.now c.args.state.now c.requires.begun))
+
+pub after_operation-requires-clause-closes : goal.after_operation-requires-clause-closes
+after_operation-requires-clause-closes c = c.requires.closes c.in-Some.value (sym c.is_exec.ensures ∙ c.if-is_exec.false) c.in-Some.is

@@ -50,3 +50,8 @@ returns c = λ r e.
     (ap (λ (name : List ℕ). body_named (code_of c.args.code.now).program c.in-Some.row.class name) (sym c.new.ensures)
     ∙ sym c.in-Some-body_named.ensures))
     (c.in_ok-started_with.ensures (begun_in c.args.code.now c.args.state.now c.requires.begun))
+
+pub started_with-requires-clause-few : goal.started_with-requires-clause-few
+started_with-requires-clause-few c =
+    c.requires.few c.in-Some.row
+    (sym (c.in-Some.ensures ∙ ap (λ (rows : List HandlerRow). handler_row rows c.args.handler) c.as_slice.ensures.value))

@@ -1,4 +1,4 @@
-use Rattle.std.proofs.Common.{Some, None, subst}
+use Rattle.std.proofs.Common.{Some, None, subst, sym}
 use Rattle.scj_base.specs.declared.places.Pos.{Pos}
 use Rattle.scj_base.specs.declared.faults.RunFault.TheVariants.{StoreFull}
 use Rattle.scj_rules.specs.Bodies.{class_place}
@@ -9,6 +9,7 @@ use Rattle.scj_model.specs.Run.{no_activity}
 use Rattle.job_frames.specs.declared.activities.Activity.{Activity as StoredActivity}
 use Rattle.job_frames.specs.Frames.{activity_seen}
 use Rattle.run_state.specs.Seen.{state_of}
+use Rattle.run_state.specs.Standing.{CloseInOrder}
 use Rattle.run_state.specs.Steps.{IsStep}
 use Rattle.mission_steps.proofs.Openings.{is_private, not_started, started_there}
 use Rattle.mission_steps.proofs.starts.started_with.Goals as goal
@@ -22,9 +23,9 @@ returns-in_ok-put_back-in-Some c = λ begun.
     c.args.told.now.items
     (is_private (code_of c.args.code.now) c.args.state.now c.args.start.now.place c.args.start.now.row
     c.args.start.now.scope c.args.start.now.body
-    c.innermost-parent.result c.in_ok-area.field-0 (Some c.in-Some.area)
+    c.innermost-parent.result c.open_area.result (Some c.in-Some.area)
     (state_of (code_of c.args.code.now) c.open_area.new.state) c.innermost-parent.ensures c.in-Some.is
-    (c.in_ok-area.ensures.opened (code_of c.args.code.now) (ReleaseAt c.args.start.now.place) no_activity
+    (c.open_area.ensures.opened (code_of c.args.code.now) (ReleaseAt c.args.start.now.place) no_activity
     (class_place (code_of c.args.code.now).program c.args.start.now.row.class)))
     c.in_ok-areas.ensures c.in_ok-activity-in-Some.ensures.seen
     (c.in_ok-put_back-in-Some.ensures.put (code_of c.args.code.now))
@@ -39,9 +40,9 @@ returns-in_ok-fault_in-in-None c = λ begun.
     c.open_area.new.state c.fault_in.new.state c.args.told.now.items c.fault_in.new.told.items
     (is_private (code_of c.args.code.now) c.args.state.now c.args.start.now.place c.args.start.now.row
     c.args.start.now.scope c.args.start.now.body
-    c.innermost-parent.result c.in_ok-area.field-0 None
+    c.innermost-parent.result c.open_area.result None
     (state_of (code_of c.args.code.now) c.open_area.new.state) c.innermost-parent.ensures c.in-None.is
-    (c.in_ok-area.ensures.opened (code_of c.args.code.now) (ReleaseAt c.args.start.now.place) no_activity
+    (c.open_area.ensures.opened (code_of c.args.code.now) (ReleaseAt c.args.start.now.place) no_activity
     (class_place (code_of c.args.code.now).program c.args.start.now.row.class)))
     (subst (λ (place : Pos). IsStep (code_of c.args.code.now)
     (fault_in (state_of (code_of c.args.code.now) c.open_area.new.state) (ReleaseAt c.args.start.now.place) no_activity
@@ -52,3 +53,8 @@ returns-in_ok-fault_in-in-None c = λ begun.
     c.args.told.now.items c.fault_in.new.told.items) c.empty.ensures
     (c.in_ok-fault_in-in-None.ensures (code_of c.args.code.now)
     (c.open_area.ensures.begun (code_of c.args.code.now).program.nodes begun))))
+
+pub fault_in-requires : goal.fault_in-requires
+fault_in-requires c =
+    subst (λ (activity : StoredActivity). CloseInOrder c.open_area.new.state.memory activity.frames)
+    (sym c.empty.ensures) tt

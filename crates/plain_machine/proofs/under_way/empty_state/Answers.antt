@@ -10,6 +10,6 @@ unfolding AreReleasesBegun
 returns-clause-begun c =
     record {
       sequencer = subst (λ (a : StoredActivity). AreBegun c.args.code.now.nodes a.frames) (sym c.empty.ensures) tt;
-      releases = subst (λ (rs : StoredReleases). AreReleasesBegun c.args.code.now.nodes rs.rows) (sym c.new-2.ensures)
+      releases = subst (λ (rs : StoredReleases). AreReleasesBegun c.args.code.now.nodes rs.rows) (sym c.new.ensures)
           tt;
     }

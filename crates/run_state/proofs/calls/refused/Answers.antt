@@ -1,12 +1,17 @@
-use Rattle.std.proofs.Common.{◌≡◌, ◌∙◌, List, ap, subst}
+use Rattle.std.proofs.Common.{◌≡◌, ◌∙◌, List, ap, subst, sym}
 use Rattle.scj_model.specs.Steps.{fault_in}
 use Rattle.job_frames.specs.declared.activities.Activity.{Activity as StoredActivity}
 use Rattle.job_frames.specs.declared.frames.Frame.{Frame as StoredFrame}
 use Rattle.job_frames.specs.Frames.{activity_seen}
 use Rattle.run_state.specs.Seen.{job_seen, state_of}
+use Rattle.run_state.specs.Standing.{CloseInOrder}
 use Rattle.run_state.specs.Steps.{IsStep}
 use Rattle.run_state.proofs.CallLemmas.{without_top}
 use Rattle.run_state.proofs.calls.refused.Goals as goal
+
+pub fault_in-requires : goal.fault_in-requires
+fault_in-requires c =
+    subst (λ (fs : List StoredFrame). CloseInOrder c.args.state.now.memory fs) (sym c.drop_top.ensures) c.requires
 
 pub returns : goal.returns
 returns c = λ code g before h begun.

@@ -1,10 +1,15 @@
-use Rattle.std.proofs.Common.{List, ap, sym, ◌∙◌}
+use Rattle.std.proofs.Common.{List, ap, subst, sym, ◌∙◌}
 use Rattle.scj_model.specs.Steps.{closed_all}
 use Rattle.job_frames.specs.declared.frames.Frame.{Frame as StoredFrame}
 use Rattle.job_frames.specs.Frames.{frames_of}
-use Rattle.run_memory.specs.Contents.{with_memory}
+use Rattle.region_heap.specs.Contents.{with_memory}
+use Rattle.run_state.specs.Standing.{CloseInOrder}
 use Rattle.run_state.proofs.EndLemmas.{release_at_fault}
 use Rattle.run_state.proofs.ends.release_broken.Goals as goal
+
+pub close_all-requires : goal.close_all-requires
+close_all-requires c =
+    subst (λ (fs : List StoredFrame). CloseInOrder c.args.state.now.memory fs) (sym c.in_order.ensures) c.requires
 
 pub returns : goal.returns
 returns c = λ code begun.

@@ -1,29 +1,25 @@
-use Rattle.std.specs.Prelude.{true, false}
-use Rattle.std.proofs.Common.{◌≡◌, ◌∙◌, ◌++◌, ℕ, ap, rules, sym}
-use Rattle.scj_model.specs.Memory.{has_room}
-use Rattle.run_memory.specs.Contents.{Contents, hidden_slots}
+use Rattle.std.proofs.Common.{ap, sym}
+use Rattle.region_heap.specs.Contents.{Contents}
 use Rattle.run_state.specs.declared.states.RunState.{RunState}
 use Rattle.run_state.specs.Seen.{state_of}
-use Rattle.run_state.proofs.RoomLemmas.{memory_full, object_there}
+use Rattle.run_state.proofs.RoomLemmas.{memory_full_after, object_there}
 use Rattle.run_state.proofs.memory.make_object.Goals as goal
 
-pub returns-then-not-has_room-clause-made : goal.returns-then-not-has_room-clause-made
+pub returns-in-Ok-clause-made : goal.returns-in-Ok-clause-made
 unfolding state_of
-returns-then-not-has_room-clause-made c = λ code job activity place.
-    let full : c.has_room.result ≡ false = search rules in
-    memory_full (state_of code c.args.state.now) job activity place c.args.object.class c.args.area
-    (hidden_slots c.args.object.hidden.items ++ c.args.object.values.items)
-    (ap (λ (n : ℕ). has_room (state_of code c.args.state.now) c.args.area n) (sym c.in_ok-count.ensures)
-    ∙ (sym (c.has_room.ensures.answer (state_of code c.args.state.now)) ∙ full))
-
-pub returns-clause-made : goal.returns-clause-made
-unfolding state_of
-returns-clause-made c = λ code job activity place.
-    let room : c.has_room.result ≡ true = search rules in
-    object_there (state_of code c.args.state.now) job activity place c.args.object.class c.args.area
-    (hidden_slots c.args.object.hidden.items ++ c.args.object.values.items) c.in_ok-made.made _
-    (ap (λ (n : ℕ). has_room (state_of code c.args.state.now) c.args.area n) (sym c.in_ok-count.ensures)
-    ∙ (sym (c.has_room.ensures.answer (state_of code c.args.state.now)) ∙ room))
-    c.in_ok-made.ensures.number
+returns-in-Ok-clause-made c = λ code job activity place.
+    object_there (state_of code c.args.state.now) job activity place c.args.object.now.class c.args.area
+    c.args.object.now.slots.items c.in-Ok.made _
+    (sym (rw c.deref.ensures.value at (c.in-Ok.ensures.room (state_of code c.args.state.now))))
+    c.in-Ok.ensures.number
     (ap (λ (m : Contents). state_of code (let st : RunState = record c.args.state.now { memory = m } in st))
-    c.in_ok-made.ensures.made)
+    (rw c.deref.ensures.value at c.in-Ok.ensures.made))
+
+pub returns-in-Err-clause-made : goal.returns-in-Err-clause-made
+unfolding state_of
+returns-in-Err-clause-made c = λ code job activity place.
+    memory_full_after (state_of code c.args.state.now) job activity place c.args.object.now.class c.args.area
+    c.args.object.now.slots.items _
+    (sym (rw c.deref.ensures.value at (c.in-Err.ensures.room (state_of code c.args.state.now))))
+    (ap (λ (m : Contents). state_of code (let st : RunState = record c.args.state.now { memory = m } in st))
+    c.in-Err.ensures.err)

@@ -6,6 +6,7 @@ use Rattle.job_frames.specs.Frames.{activity_seen, frames_of}
 use Rattle.run_state.specs.Seen.{job_seen, state_of}
 use Rattle.run_state.specs.Calls.{call_opened}
 use Rattle.run_state.proofs.CallLemmas.{opened_in_cycle, opened_in_full, opened_in_new}
+use Rattle.run_state.proofs.Standing.{fewer_below}
 use Rattle.run_state.proofs.StepLemmas.{same_step}
 use Rattle.run_state.proofs.openings.opened_in.Goals as goal
 
@@ -28,7 +29,7 @@ returns-then-was_full c = λ code g before h begun frames.
     (frames_of code before.frames) c.args.acting.place g c.args.scope c.args.bytes
     (ap (λ (a : StoredActivity). is_some (area_with_scope (state_of code c.args.state.now) c.args.scope a.areas))
     (sym h.whole) ∙ (sym (c.is_cycle.ensures code) ∙ other))
-    (sym (c.was_full.ensures code g before h) ∙ full))
+    (sym (c.was_full.ensures.full code g before h) ∙ full))
     (c.in_ok-refused-2.ensures code g before h begun)
 
 pub returns : goal.returns
@@ -40,8 +41,13 @@ returns c = λ code g before h begun frames.
     (frames_of code before.frames) c.args.acting.place g c.args.scope c.args.bytes
     (ap (λ (a : StoredActivity). is_some (area_with_scope (state_of code c.args.state.now) c.args.scope a.areas))
     (sym h.whole) ∙ (sym (c.is_cycle.ensures code) ∙ other))
-    (sym (c.was_full.ensures code g before h) ∙ few)
+    (sym (c.was_full.ensures.full code g before h) ∙ few)
     ∙ ap (λ (parent : Option ℕ). call_opened (state_of code c.args.state.now) (job_seen c.args.acting.job)
     (activity_seen code before) (frames_of code before.frames) c.args.acting.place g c.args.scope parent c.args.bytes)
     (sym (c.area_on_top-parent.ensures code g before h)))
     (c.in_ok-opened_on_top.ensures code g before h begun frames)
+
+pub opened_on_top-requires-clause-few : goal.opened_on_top-requires-clause-few
+opened_on_top-requires-clause-few c =
+    let fits : c.was_full.result ≡ false = search rules in
+    c.requires.stands.few (fewer_below c.args.activity.frames (sym c.was_full.ensures.deep ∙ fits))

@@ -1,10 +1,17 @@
-use Rattle.std.proofs.Common.{◌∙◌, ap, sym}
+use Rattle.std.proofs.Common.{◌∙◌, ap, subst, sym}
 use Rattle.std.proofs.lemmas.List.{append-nil}
 use Rattle.scj_model.specs.State.{Activity, with_activity}
-use Rattle.job_frames.specs.Frames.{activity_seen, frames_of}
+use Rattle.job_frames.specs.Frames.{activity_seen, below, frames_of}
+use Rattle.run_state.specs.declared.states.RunState.{RunState}
+use Rattle.run_state.specs.Standing.{CloseInOrder}
 use Rattle.run_state.specs.Seen.{job_seen, state_of}
 use Rattle.run_state.proofs.OpeningLemmas.{opened_step, unopened_step}
 use Rattle.run_state.proofs.openings.opened_on_top.Goals as goal
+
+pub refused-requires : goal.refused-requires
+refused-requires c =
+    subst (λ (st : RunState). CloseInOrder st.memory (below c.args.activity.frames))
+    (sym (c.open_area.ensures.err c.in-None.is)) c.requires.closes
 
 pub returns-in_ok-put_back-in-Some : goal.returns-in_ok-put_back-in-Some
 returns-in_ok-put_back-in-Some c = λ code g before h begun frames.
@@ -13,7 +20,7 @@ returns-in_ok-put_back-in-Some c = λ code g before h begun frames.
     (state_of code c.open_area.new.state) c.put_back.new.state c.args.told.now.items c.args.told.now.items
     c.in-Some.opened
     (rw c.in-Some.is at
-    (c.in_ok-opened.ensures.opened code (job_seen c.args.acting.job)
+    (c.open_area.ensures.opened code (job_seen c.args.acting.job)
     (activity_seen code before) c.args.acting.place))
     (record {
       state = c.in_ok-put_back-in-Some.ensures.put code ∙ ap (λ (a : Activity).
@@ -30,6 +37,6 @@ returns-in_ok-refused-in-None c = λ code g before h begun frames.
     (frames_of code before.frames) c.args.acting.place g c.args.area.scope c.args.area.parent c.args.area.bytes
     (state_of code c.open_area.new.state) c.refused.new.state c.args.told.now.items c.refused.new.told.items
     (rw c.in-None.is at
-    (c.in_ok-opened.ensures.opened code (job_seen c.args.acting.job)
+    (c.open_area.ensures.opened code (job_seen c.args.acting.job)
     (activity_seen code before) c.args.acting.place))
     (c.in_ok-refused-in-None.ensures code g before h (c.open_area.ensures.begun code.program.nodes begun))

@@ -7,6 +7,9 @@ use Rattle.run_state.specs.Calls.{made_or_full}
 use Rattle.run_state.proofs.MakingLemmas.{operand_on_top}
 use Rattle.run_state.proofs.stores.made.Goals as goal
 
+pub fault_in-requires : goal.fault_in-requires
+fault_in-requires c = c.requires c.in-None.is
+
 pub returns-in_ok-put_back-in-Some : goal.returns-in_ok-put_back-in-Some
 unfolding made_or_full
 returns-in_ok-put_back-in-Some c = λ code begun frames f below e.

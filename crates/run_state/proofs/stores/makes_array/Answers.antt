@@ -1,14 +1,28 @@
+use Rattle.std.proofs.Common.{◌∙◌, ℕ, ap, subst, sym}
 use Rattle.scj_model.specs.Memory.{new_elements}
-use Rattle.run_state.specs.Seen.{job_seen}
+use Rattle.region_heap.specs.Contents.{is_open_area}
 use Rattle.job_frames.specs.Frames.{activity_seen}
+use Rattle.run_state.specs.declared.states.RunState.{RunState}
+use Rattle.run_state.specs.Seen.{job_seen}
+use Rattle.run_state.specs.Standing.{CloseInOrder}
 use Rattle.run_state.proofs.MakingLemmas.{made_applied}
 use Rattle.run_state.proofs.stores.makes_array.Goals as goal
+
+pub make_array-found-requires-clause-open : goal.make_array-found-requires-clause-open
+make_array-found-requires-clause-open c =
+    let top = c.in_ok-area.ensures.top in
+    ap (λ (a : ℕ). is_open_area c.args.state.now.memory a) top.area_is ∙ c.requires.open top.frame top.is
+
+pub made-requires : goal.made-requires
+made-requires c = λ e.
+    subst (λ (st : RunState). CloseInOrder st.memory c.args.activity.frames) (sym (c.make_array-found.ensures.err e))
+    c.requires.closes
 
 pub returns : goal.returns
 returns c = λ code begun frames.
     made_applied code c.args.state.now c.args.acting c.args.activity c.args.array.class c.in_ok-area.area
-    (new_elements c.args.array.kind c.args.array.count) c.in_ok-found.found c.make_array.new.state
-    c.made.new.state c.args.told.now.items c.made.new.told.items c.in_ok-area.ensures
-    (c.in_ok-found.ensures.made code (job_seen c.args.acting.job) (activity_seen code c.args.activity)
+    (new_elements c.args.array.kind c.args.array.count) c.make_array-found.result c.make_array-found.new.state c.made.new.state c.args.told.now.items c.made.new.told.items
+    c.in_ok-area.ensures.area
+    (c.make_array-found.ensures.made code (job_seen c.args.acting.job) (activity_seen code c.args.activity)
     c.args.acting.place)
-    (λ f below e. c.in_ok-made.ensures code (c.make_array.ensures.begun code.program.nodes begun) frames f below e)
+    (λ f below e. c.in_ok-made.ensures code (c.make_array-found.ensures.begun code.program.nodes begun) frames f below e)

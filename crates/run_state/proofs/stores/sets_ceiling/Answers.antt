@@ -5,7 +5,7 @@ use Rattle.scj_model.specs.Steps.{fault_in}
 use Rattle.scj_model.specs.Effects.{SetsCeiling}
 use Rattle.scj_model.specs.Apply.{applied, with_ceiling}
 use Rattle.job_frames.specs.Frames.{activity_seen}
-use Rattle.run_memory.specs.Contents.{Contents}
+use Rattle.region_heap.specs.Contents.{Contents}
 use Rattle.run_state.specs.declared.states.RunState.{RunState}
 use Rattle.run_state.specs.Seen.{job_seen, state_of}
 use Rattle.run_state.proofs.StepLemmas.{applied_as, applied_on_memory, memory_begun}

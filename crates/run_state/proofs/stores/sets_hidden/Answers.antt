@@ -1,6 +1,6 @@
-use Rattle.std.proofs.Common.{ap, refl}
+use Rattle.std.proofs.Common.{◌∙◌, ℕ, List, ap, refl}
 use Rattle.scj_model.specs.Apply.{applied, with_first}
-use Rattle.run_memory.specs.Contents.{Contents, hidden_slots}
+use Rattle.region_heap.specs.Contents.{Contents, changing_object, hidden_slots}
 use Rattle.run_state.specs.declared.states.RunState.{RunState}
 use Rattle.run_state.specs.Seen.{state_of}
 use Rattle.run_state.proofs.StepLemmas.{applied_on_memory, memory_begun}
@@ -20,7 +20,9 @@ returns c = λ code told begun frames.
           (state_of code c.args.state.now).objects;
     }) (λ f below. refl)
     (ap (λ (m : Contents). state_of code (let st : RunState = record c.args.state.now { memory = m } in st))
-    c.in_ok-set_hidden.ensures.ok)
+    (c.in_ok-set_hidden.ensures.set
+    ∙ ap (λ (ns : List ℕ). changing_object c.args.state.now.memory c.args.r (with_first (hidden_slots ns)))
+    c.deref.ensures.value))
     (c.in_ok-put_back.ensures.put code)
     (c.in_ok-put_back.ensures.begun code.program.nodes
     (memory_begun code.program.nodes c.args.state.now c.set_hidden.new.self begun) frames)

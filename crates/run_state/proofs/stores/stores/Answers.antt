@@ -1,7 +1,7 @@
 use Rattle.std.proofs.Common.{ap, refl}
 use Rattle.scj_model.specs.Apply.{applied}
 use Rattle.scj_model.specs.Memory.{with_slot}
-use Rattle.run_memory.specs.Contents.{Contents}
+use Rattle.region_heap.specs.Contents.{Contents}
 use Rattle.run_state.specs.declared.states.RunState.{RunState}
 use Rattle.run_state.specs.Seen.{state_of}
 use Rattle.run_state.proofs.StepLemmas.{applied_on_memory, memory_begun}
@@ -16,7 +16,7 @@ returns c = λ code told begun frames.
     c.set_slot.new.self c.put_back.new.state told
     (with_slot (state_of code c.args.state.now) c.args.r c.args.slot c.args.value) (λ f below. refl)
     (ap (λ (m : Contents). state_of code (let st : RunState = record c.args.state.now { memory = m } in st))
-    c.in_ok-set_slot.ensures.ok)
+    c.set_slot.ensures)
     (c.in_ok-put_back.ensures.put code)
     (c.in_ok-put_back.ensures.begun code.program.nodes
     (memory_begun code.program.nodes c.args.state.now c.set_slot.new.self begun) frames)

@@ -141,3 +141,42 @@ returns-in-Stuck c =
     (c.is_stuck.ensures.applied (code_of c.args.code.now) c.args.state.now c.args.state.now c.args.acting
     c.args.activity c.args.told.now.items
     c.args.told.now.items)
+
+pub makes-requires-clause-open : goal.makes-requires-clause-open
+makes-requires-clause-open c = rw c.in-Makes.is at c.requires.effect
+
+pub makes-requires-clause-closes : goal.makes-requires-clause-closes
+makes-requires-clause-closes c = c.requires.stands.closes
+
+pub makes-requires-clause-numbers : goal.makes-requires-clause-numbers
+makes-requires-clause-numbers c = c.requires.numbers.objects
+
+pub makes_array-requires-clause-open : goal.makes_array-requires-clause-open
+makes_array-requires-clause-open c = rw c.in-MakesArray.is at c.requires.effect
+
+pub makes_array-requires-clause-closes : goal.makes_array-requires-clause-closes
+makes_array-requires-clause-closes c = c.requires.stands.closes
+
+pub makes_array-requires-clause-numbers : goal.makes_array-requires-clause-numbers
+makes_array-requires-clause-numbers c = c.requires.numbers.objects
+
+pub sets_ceiling-requires : goal.sets_ceiling-requires
+sets_ceiling-requires c = c.requires.stands.closes
+
+pub leaves-requires : goal.leaves-requires
+leaves-requires c = c.requires.stands.closes
+
+pub faults-requires : goal.faults-requires
+faults-requires c = c.requires.stands.closes
+
+pub calls-requires-clause-closes : goal.calls-requires-clause-closes
+calls-requires-clause-closes c = c.requires.stands.closes
+
+pub calls-requires-clause-live : goal.calls-requires-clause-live
+calls-requires-clause-live c = rw c.in-Calls.is at c.requires.effect
+
+pub asks_registration-requires-clause-closes : goal.asks_registration-requires-clause-closes
+asks_registration-requires-clause-closes c = c.requires.stands.closes
+
+pub asks_registration-requires-clause-live : goal.asks_registration-requires-clause-live
+asks_registration-requires-clause-live c = rw c.in-AsksRegistration.is at c.requires.effect

@@ -6,6 +6,7 @@ use Rattle.run_state.specs.Steps.{HasOnTop}
 use Rattle.run_state.proofs.TopEffects.{opens_applied}
 use Rattle.mission_steps.proofs.FramesBegun.{frames_begun_in}
 use Rattle.mission_steps.proofs.Going.{begun_in}
+use Rattle.unit_steps.proofs.Standing.{stands_below}
 use Rattle.unit_steps.proofs.applied.opens.Goals as goal
 
 pub returns : goal.returns
@@ -22,3 +23,9 @@ returns c =
     (begun_in c.args.code.now c.args.state.now c.requires.begun)
     (frames_begun_in c.args.code.now c.put_on_top.new.activity.frames
     (c.in_ok-put_on_top.ensures.begun c.requires.frames)))
+
+pub opened_in-requires-clause-stands : goal.opened_in-requires-clause-stands
+opened_in-requires-clause-stands c =
+    stands_below (code_of c.args.code.now)
+    (frame_called (code_of c.args.code.now) c.args.call c.new-none.result.items) c.args.activity
+    c.put_on_top.new.activity c.in_ok-put_on_top.ensures.put c.args.state.now.memory c.requires.stands

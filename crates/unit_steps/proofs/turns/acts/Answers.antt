@@ -1,9 +1,15 @@
-use Rattle.std.proofs.Common.{◌∙◌, sym}
+use Rattle.std.specs.Prelude.{Some}
+use Rattle.std.proofs.Common.{◌∙◌, ap, subst, sym}
 use Rattle.scj_model.specs.Code.{code_of}
 use Rattle.scj_model.specs.Run.{turn_acts, turn_taken}
+use Rattle.scj_model.specs.State.{ReleaseAt, Turn as TurnSeen}
+use Rattle.run_state.specs.declared.states.RunState.{RunState}
 use Rattle.run_state.specs.Seen.{state_of, turn_seen}
+use Rattle.run_state.specs.Standing.{HasNumbers}
+use Rattle.unit_steps.specs.Standing.{JobStands, StartStands}
 use Rattle.mission_steps.proofs.Going.{begun_in}
 use Rattle.unit_steps.proofs.Composed.{then_led}
+use Rattle.unit_steps.proofs.Standing.{job_with_turn, start_with_turn}
 use Rattle.unit_steps.proofs.Turning.{chosen_acts, led_as, sequencer_acts}
 use Rattle.unit_steps.proofs.UnderWay.{begun_by}
 use Rattle.unit_steps.proofs.turns.acts.Goals as goal
@@ -17,12 +23,32 @@ returns-then-not-is_exec c =
     (state_of (code_of c.args.code.now) c.args.state.now) (sym c.is_exec.ensures ∙ c.if-not-is_exec.true))
     c.in_ok-went.ensures
 
-pub turn_acts-requires : goal.turn_acts-requires
-turn_acts-requires c = record {
-  begun = begun_by c.args.code.now c.turn_taken.new.state
-      (c.in_ok-turn_taken.ensures (code_of c.args.code.now)
-      (begun_in c.args.code.now c.args.state.now c.requires.begun)).begun;
+pub sequencer_turn-requires : goal.sequencer_turn-requires
+sequencer_turn-requires c = record {
+  begun = c.requires.begun;
+  numbers = c.requires.stands.numbers;
+  few = c.requires.stands.few (sym c.is_exec.ensures ∙ c.if-not-is_exec.true);
+  live = c.requires.stands.live;
+  areas = c.requires.stands.areas;
+  job = c.requires.stands.sequencer (sym c.is_exec.ensures ∙ c.if-not-is_exec.true);
 }
+
+pub turn_acts-requires : goal.turn_acts-requires
+turn_acts-requires c =
+    let code = code_of c.args.code.now in
+    let same = sym c.in_ok-turn_taken.ensures.same in
+    record {
+      numbers = subst (λ (st : RunState). HasNumbers st.memory) same c.requires.stands.numbers;
+      start = λ place e. subst (λ (st : RunState). StartStands st place) same
+          (start_with_turn c.args.state.now place (Some c.turn_of-turn.result)
+          (c.requires.stands.start place (sym (c.turn_of-turn.ensures code) ∙ ap (λ (turn : TurnSeen). Some turn) e)));
+      job = λ place e. subst (λ (st : RunState). JobStands code c.args.plan.now.readings st (ReleaseAt place)) same
+          (job_with_turn code c.args.plan.now.readings c.args.state.now (ReleaseAt place) (Some c.turn_of-turn.result)
+          (c.requires.stands.release place (sym (c.turn_of-turn.ensures code) ∙ ap (λ (turn : TurnSeen). Some turn) e)));
+      begun = begun_by c.args.code.now c.turn_taken.new.state
+          (c.in_ok-turn_taken.ensures.step (code_of c.args.code.now)
+          (begun_in c.args.code.now c.args.state.now c.requires.begun)).begun;
+    }
 
 pub returns : goal.returns
 unfolding state_of
@@ -37,6 +63,6 @@ returns c =
     (turn_taken (state_of (code_of c.args.code.now) c.args.state.now) (turn_seen c.turn_of-turn.result))
     (turn_acts (code_of c.args.code.now) c.args.plan.now.readings (turn_seen c.turn_of-turn.result))
     c.turn_taken.new.state
-    (c.in_ok-turn_taken.ensures (code_of c.args.code.now)
+    (c.in_ok-turn_taken.ensures.step (code_of c.args.code.now)
     (begun_in c.args.code.now c.args.state.now c.requires.begun))
     c.in_ok-went-2.ensures)

@@ -2,6 +2,7 @@ use Rattle.std.proofs.Common.{refl}
 use Rattle.scj_model.specs.Code.{code_of}
 use Rattle.job_frames.specs.Frames.{activity_seen}
 use Rattle.unit_steps.proofs.Joins.{led_itself, none_there}
+use Rattle.unit_steps.proofs.Standing.{start_few}
 use Rattle.unit_steps.proofs.Turning.{goes_on_with, led_as, nothing_done, starts_by}
 use Rattle.unit_steps.proofs.turns.release_turn.Goals as goal
 
@@ -27,3 +28,7 @@ returns-in-Nothing c =
     none_there (code_of c.args.code.now) _ c.args.state.now c.args.told.now.items c.args.told.now.items
     (nothing_done (code_of c.args.code.now) c.args.plan.now.readings c.args.state.now c.args.place
     c.in-Nothing.ensures) refl
+
+pub start_op-requires-clause-few : goal.start_op-requires-clause-few
+start_op-requires-clause-few c = λ row e.
+    start_few c.args.state.now c.args.place c.in-Starts.handler row c.requires.start c.in-Starts.ensures e

@@ -3,9 +3,9 @@ use Rattle.scj_model.specs.Run.{turn_taken}
 use Rattle.run_state.specs.Seen.{state_of}
 use Rattle.unit_steps.proofs.turns.turn_taken.Goals as goal
 
-pub returns : goal.returns
+pub returns-clause-step : goal.returns-clause-step
 unfolding turn_taken state_of
-returns c = λ code begun. record {
+returns-clause-step c = λ code begun. record {
   state = refl;
   told = c.in_ok-tell_other_turn.ensures code;
   begun = record { sequencer = begun.sequencer; releases = begun.releases };

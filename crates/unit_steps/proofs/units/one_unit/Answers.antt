@@ -2,10 +2,12 @@ use Rattle.std.proofs.Common.{◌∙◌, ℕ, ap, sym, subst}
 use Rattle.scj_tree.specs.Forest.{Forest}
 use Rattle.scj_model.specs.Code.{code_of}
 use Rattle.scj_model.specs.Choice.{by_priority}
+use Rattle.scj_model.specs.Run.{acts}
+use Rattle.scj_model.specs.State.{State}
 use Rattle.run_plan.specs.Index.{fires_before}
 use Rattle.run_state.specs.Seen.{AreAllBegun}
 use Rattle.unit_steps.proofs.UnderWay.{begun_by}
-use Rattle.unit_steps.proofs.UnitParts.{arrived_in, begun_there, goes_to_next, stuck_at_once, stuck_then, unit_counted}
+use Rattle.unit_steps.proofs.UnitParts.{arrived_in, begun_there, goes_to_next, led_there, stuck_at_once, stuck_then, unit_counted}
 use Rattle.unit_steps.proofs.units.one_unit.Goals as goal
 
 pub arrivals-requires-clause-begun : goal.arrivals-requires-clause-begun
@@ -18,6 +20,10 @@ acts-requires c = record {
       (arrived_in c.args.setting.code.now c.args.setting.classes.now c.args.setting.plan.now c.args.state.now
       c.arrivals.new.state c.args.told.now.items c.arrivals.new.told.items c.requires.same
       c.in_ok-arrivals.ensures.arrived).begun;
+  stands = c.requires.arrived c.arrivals.new.state
+      (arrived_in c.args.setting.code.now c.args.setting.classes.now c.args.setting.plan.now c.args.state.now
+      c.arrivals.new.state c.args.told.now.items c.arrivals.new.told.items c.requires.same
+      c.in_ok-arrivals.ensures.arrived).state;
 }
 
 pub returns-then-not-acted-clause-led : goal.returns-then-not-acted-clause-led
@@ -30,11 +36,23 @@ returns-then-not-acted-clause-led c =
     c.in_ok-acted.acted c.in_ok-acted.ensures c.if-not-acted.true
 
 pub phase_after-requires : goal.phase_after-requires
-phase_after-requires c = record {
-  begun = begun_by c.args.setting.code.now c.acts.new.state
-      (begun_there (code_of c.args.setting.code.now) _ c.in_ok-acted.acted c.acts.new.state
-      c.arrivals.new.told.items c.acts.new.told.items c.if-not-acted.false c.in_ok-acted.ensures);
-}
+phase_after-requires c =
+    let code = code_of c.args.setting.code.now in
+    let there = led_there code _ c.in_ok-acted.acted c.acts.new.state c.arrivals.new.told.items c.acts.new.told.items
+    c.if-not-acted.false c.in_ok-acted.ensures in
+    let arrived = (arrived_in c.args.setting.code.now c.args.setting.classes.now c.args.setting.plan.now
+    c.args.state.now c.arrivals.new.state c.args.told.now.items c.arrivals.new.told.items c.requires.same
+    c.in_ok-arrivals.ensures.arrived).state in
+    let stands = c.requires.operated c.acts.new.state there.0
+    (ap (λ (s : State). acts code c.args.setting.plan.now.readings by_priority s) (sym arrived) ∙ there.1)
+    there.2.alike in
+    record {
+      live = stands.live;
+      closes = stands.closes;
+      begun = begun_by c.args.setting.code.now c.acts.new.state
+          (begun_there (code_of c.args.setting.code.now) _ c.in_ok-acted.acted c.acts.new.state
+          c.arrivals.new.told.items c.acts.new.told.items c.if-not-acted.false c.in_ok-acted.ensures);
+    }
 
 pub returns-then-not-followed-clause-led : goal.returns-then-not-followed-clause-led
 returns-then-not-followed-clause-led c =

@@ -1,0 +1,86 @@
+//! Areas that the sequencer opens for itself, and the safelet that it makes in one (JSR 302: Safelet, Mission).
+
+ghost use Rattle.std.specs.Prelude.{◌≡◌, ◌<◌, ◌^◌, true, IfOk, length};
+ghost use Rattle.scj_rules.specs.Bodies.{class_place};
+ghost use Rattle.scj_model.specs.Code.{Code as CodeOfRun, code_of};
+ghost use Rattle.scj_model.specs.Sequencer.{area_opened, safelet_made};
+ghost use Rattle.region_heap.specs.Contents.{is_open_area, open_count};
+ghost use Rattle.run_state.specs.Seen.{AreAllBegun, state_of};
+ghost use Rattle.run_state.specs.Standing.{HasNumbers};
+ghost use Rattle.run_state.specs.Steps.{IsStep};
+
+use crate::bodies::new_object;
+use crate::looks::class_place;
+use job_frames::Code;
+use run_state::ends::halted;
+use run_state::memory::{make_object, open_area};
+use run_state::{NewArea, RunState};
+use scj_base::{AreaId, ClassId, Memory, Pos, RunFault, ScopeId, Value};
+use scj_model::Event;
+use std::alloc::Global;
+
+/// An area is opened inside the innermost one of the sequencer's. The sequencer has it from now on.
+pub(crate) fn open_inside(
+    state: &mut RunState,
+    place: Pos,
+    scope: ScopeId,
+    bytes: u32,
+    told: &mut Vec<Event>,
+) -> Result<(), Memory>
+    requires numbers { HasNumbers state.old.memory }
+    requires few { open_count state.old.memory < 1794 }
+    ensures { (code : CodeOfRun) → AreAllBegun code.program.nodes state.old →
+        IfOk result
+        (λ _. IsStep code (area_opened (state_of code state.old) place scope bytes) state.new told.old.items
+        told.new.items) }
+{
+    let parent = state.activity.areas.innermost();
+    match open_area(
+        state,
+        NewArea {
+            scope,
+            parent,
+            bytes: bytes as u64,
+        },
+    ) {
+        Some(area) => {
+            state.activity.areas.push(area)?;
+            state.outcome = Some(Value::Null);
+            Ok(())
+        }
+        None => {
+            halted(state, place, RunFault::StoreFull, told)?;
+            Ok(())
+        }
+    }
+}
+
+/// The safelet is made in an area. Its reference is the value of the operation.
+pub(crate) fn make_safelet(
+    alloc: Global,
+    code: &Code<'_>,
+    state: &mut RunState,
+    class: ClassId,
+    area: AreaId,
+    told: &mut Vec<Event>,
+) -> Result<(), Memory>
+    requires open { is_open_area state.old.memory area ≡ true }
+    requires numbers { length state.old.memory.objects < 2 ^ 31 }
+    ensures { AreAllBegun (code_of code.now).program.nodes state.old →
+        IfOk result
+        (λ _. IsStep (code_of code.now)
+        (safelet_made (code_of code.now) (state_of (code_of code.now) state.old)
+        (class_place (code_of code.now).program class) class area) state.new told.old.items told.new.items) }
+{
+    let object = new_object(alloc, code, class)?;
+    match make_object(state, area, &object) {
+        Some(r) => {
+            state.outcome = Some(Value::At(r));
+            Ok(())
+        }
+        None => {
+            halted(state, class_place(code, class), RunFault::MemoryFull, told)?;
+            Ok(())
+        }
+    }
+}

@@ -1,0 +1,10 @@
+pub mod Contents
+pub mod History
+pub mod Kept
+pub mod MovedRows
+pub mod OpenAreas
+pub mod Refusals
+pub mod Rows
+pub mod Spaces
+pub mod Words
+pub mod Written

@@ -1,9 +1,0 @@
-use Rattle.std.specs.Prelude.{◌≡◌, reverse, take}
-use Rattle.scj_model.specs.State.{State}
-use Rattle.scj_model.specs.Memory.{area_with_scope}
-use Rattle.run_memory.specs.Contents.{with_memory}
-use Rattle.run_memory.proofs.memories.RunMemory.area_with_scope.Given as goal
-
-abbrev pub invariant-loop-area : goal.invariant-loop-area
-invariant-loop-area l = (s : State) → l.found ≡ area_with_scope (with_memory s l.self) l.scope
-    (reverse (take l.area-index l.opened))
