@@ -57,9 +57,6 @@ tell() {
     echo "$line: $answer"
 }
 
-# The most memory that a call has at once, in bytes.
-peak() { echo $(($(/usr/bin/time -f %M "$@" 2>&1 >/dev/null | tail -1) * 1024)); }
-
 # Tells the time of a hostile shape and its growth, and sets `spent`. A call that takes longer than a minute is ended.
 tell_hostile() {
     local answer line
@@ -140,6 +137,10 @@ far_overrides 27000
 many_locals 80000
 many_parameters 40000
 far_scopes 140000
+guards 20000
+guard_nests 20000
+guarded_stores 80000
+undone_guards 120000
 SHAPES
 before=0
 tell_hostile top_calls $((15 * 200000))
@@ -155,5 +156,5 @@ done <<'SHAPES'
 names colliding
 fields colliding_fields
 SHAPES
-for shape in semicolons blocks sums literals negations assignments nots long_sum; do tell_memory "$shape" 1048576; done
+for shape in semicolons empty_guard blocks sums literals negations assignments nots long_sum; do tell_memory "$shape" 1048576; done
 exit "$missed"

@@ -29,12 +29,19 @@ In these something else is asked COUNT times:
     many_locals     locals, more than a limit allows               many_parameters parameters of two methods, one overridden
     far_scopes      what lies in the first of 200 scopes
 
+These ask COUNT times whether two objects lie in one memory area, or have COUNT statements behind 59 such questions, in
+bodies that are as high as they may be:
+
+    guards          guards side by side                            guard_nests     guards in one another
+    guarded_stores  stores that the outermost guard allows         undone_guards   assignments that undo all but that one
+
 And these have COUNT bytes, about, with as many nodes as they can have:
 
     semicolons      empty statements                               nots            signs of one unary expression
     sums            sums that are as high as they may be           negations       unary expressions that are that high
     long_sum        one sum                                        assignments     assignments
     blocks          empty blocks                                   literals        sums of literals
+    empty_guard     empty statements behind a guard
 """
 
 import os
@@ -235,6 +242,26 @@ def far_scopes(count):
     return classes
 
 
+def guarded(count, before, statement, behind=""):
+    """Classes of methods, each of which has so many statements at most, of parameters that may lie anywhere."""
+    parameters = ", ".join(f"@Scope(UNKNOWN) B {name}" for name in "abcd")
+    most = 1_000 if before else 5_000
+    return [class_of("B", "B next; ")] + [
+        class_of(f"C{n}", f"static void m({parameters}) {{\n{before}{statement * min(most, count - first)}{behind}}} ")
+        for n, first in enumerate(range(0, count, most))
+    ]
+
+
+def guard_nests(count):
+    nest = "if (ManagedMemory.allocInSame(a, b)) " * 60 + "a.next = b;\n"
+    return guarded(count // 60, "", nest)
+
+
+def in_nest(statement):
+    before = "".join(f"if (ManagedMemory.allocInSame({names})) " for names in ["a, b"] + ["c, d"] * 58)
+    return lambda count: guarded(count, before + "{\n", statement, "}\n")
+
+
 def dense(piece):
     """A method of a statement, as often as it has room."""
     before, behind = "class C { int x; boolean b; void m() {\n", "} }\n"
@@ -275,10 +302,15 @@ SHAPES = {
     "many_locals": many_locals,
     "many_parameters": many_parameters,
     "far_scopes": far_scopes,
+    "guards": lambda count: guarded(count, "", "if (ManagedMemory.allocInSame(a, b)) a.next = b;\n"),
+    "guard_nests": guard_nests,
+    "guarded_stores": in_nest("a.next = b;\n"),
+    "undone_guards": in_nest("c = d;\n"),
     "colliding": lambda count: empty_classes(colliding(count)),
     "colliding_fields": lambda count: class_of_fields(colliding(count)),
     "semicolons": dense(";"),
     "blocks": dense("{}"),
+    "empty_guard": long("if (ManagedMemory.allocInSame(this, this))", ";", ""),
     "sums": dense("x=x" + "+x" * 50 + ";"),
     "literals": dense("x=1" + "+1" * 50 + ";"),
     "negations": dense("b=" + "!" * 50 + "b;"),

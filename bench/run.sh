@@ -1,7 +1,8 @@
 #!/usr/bin/env bash
 # How fast accepted programs run: four loops of 1,000,000 and of 10,000,000 units, beside CPython and Java's interpreter on
-# the same loops where these are there. An operation is a unit of the run, for all three. Makes its files in a folder of
-# its own, which it removes.
+# the same loops where these are there. An operation is a unit of the run, for all three. Then how much memory is taken
+# by runs that make and drop objects all along, and by a release that is over. Makes its files in a folder of its own,
+# which it removes.
 set -u
 . "$(dirname "$0")/timing.sh"
 
@@ -18,9 +19,17 @@ make() {
     rm -rf "$work/loop"
     mkdir "$work/loop"
     python3 "$top/bench/run_sources.py" "$1" "$2" "$work/loop" || exit 1
-    if [ -n "$compiler" ]; then
+    if [ -n "$compiler" ] && [ -f "$work/loop/Loop.java" ]; then
         env -u GLIBC_TUNABLES javac -proc:none -d "$work/loop" "$work/loop/Loop.java" || exit 1
     fi
+}
+
+# The most memory that the loop has at once, the least of so many runs: by chance more pages of the program itself are
+# there.
+taken() {
+    local i
+    for ((i = 0; i < $1; i++)); do peak "$program" run --plan "$work/loop/plan.toml" "$work/loop/A.java"; done |
+        sort -n | head -1
 }
 
 ours() { "$program" run --plan "$work/loop/plan.toml" "$work/loop/A.java"; }
@@ -73,9 +82,35 @@ tell() {
     before=$spent
 }
 
+# Tells how much memory a run takes that enters so many private memories, and how much one that enters fewer.
+tell_areas() {
+    local count few many=0
+    for count in "$2" "$3"; do
+        make "$1" "$count"
+        few=$many
+        many=$(taken 5)
+        ours | grep -q " print entered $count\$" || miss "$count private memories in a run"
+    done
+    echo "$1: at most $many bytes with $3 private memories, $few with $2"
+    [ $((100 * many)) -le $((101 * few)) ] || miss "at most 1% more"
+}
+
+# Tells how much memory is taken by a release that is over. There is one in each ten units.
+tell_releases() {
+    local few many
+    make releases 1000000
+    few=$(taken 1)
+    make releases 10000000
+    many=$(taken 1)
+    echo "releases: at most $few bytes with 100000, $many with 1000000, $(per $((many - few)) 900000 1) bytes a release"
+}
+
 begin_bench
 for loop in arithmetic calls handlers releases; do
     before=0
     for units in 1000000 10000000; do tell "$loop" "$units"; done
 done
+tell_areas areas 300 300000
+tell_areas arrays 3 300
+tell_releases
 exit "$missed"

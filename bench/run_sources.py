@@ -8,6 +8,12 @@ loop.py and Loop.java, for a run of COUNT units.
 
 The first two print the same number in all three. In the others CPython and Java make the calls that the machine makes,
 without choosing whom to call. CPython wraps to 32 bits where a number may not fit.
+
+For two loops it writes A.java and plan.toml alone: one release enters a private memory COUNT times, in a run of
+10,000,000 units, and prints how often it did.
+
+    areas        two objects in each
+    arrays       an array of 6,000,000 elements in each, which fills it; the store has no byte more than the areas
 """
 
 import pathlib
@@ -31,11 +37,12 @@ MISSION = """@DefineScope(name="M", parent="IMMORTAL") class Main extends Missio
 @Scope("M") @DefineScope(name="P", parent="M") class H extends PeriodicEventHandler {
  int n; int k;
  H(int p, int s, int q) { super(new PriorityParameters(p), new PeriodicParameters(
-   new RelativeTime(s / 1000, s %% 1000 * 1000), new RelativeTime(q / 1000, q %% 1000 * 1000)), new StorageParameters(0));
+   new RelativeTime(s / 1000, s %% 1000 * 1000), new RelativeTime(q / 1000, q %% 1000 * 1000)), new StorageParameters(%d));
   k = p; }
  public void handleAsyncEvent() { %s }
 }
 """
+PLAN = "version = 1\nunits = %d\nstore = %d\n"
 JAVA = """class Loop {
  public static void main(String[] words) { %s }
 }
@@ -129,6 +136,15 @@ ONE_SUM_PYTHON = """        a = 1
 # The units between two releases of one of the 64 handlers; each release takes 68.
 ROUND = 4400
 
+# One release, which enters a private memory again and again, and what it does there.
+ENTERED = """In r = new In(); int i = 0; while (i < %d) { ManagedMemory.enterPrivateMemory(%d, r); i = i + 1; }
+  Trace.print("entered", r.n);"""
+INNER = """@DefineScope(name="Q", parent="P") class In implements Runnable { int n; public void run() { %s } }
+class Box { int v; Box next; }
+"""
+BOXES = "Box a = new Box(); a.next = new Box(); n = n + 1;"
+ELEMENTS = "int[] a = new int[6000000]; a[5999999] = n + 1; n = a[5999999];"
+
 
 def turned(units, turn, loop, classes, python):
     """As many turns of a loop, each of so many units, as there is time for, and a print of what they come to."""
@@ -145,12 +161,24 @@ def released(units, handlers, body, python, start, period):
         handlers, start, period)
     rounds = units // period
     return {
-        "A.java": FRONT % ("", 1, "return new Main();") + MISSION % (begin, body),
+        "A.java": FRONT % ("", 1, "return new Main();") + MISSION % (begin, 0, body),
         "Loop.java": HANDLER_JAVA % body + JAVA % (CALLED_JAVA % (handlers, rounds)),
         "loop.py": CALLED_PYTHON % (python, handlers, rounds)}
 
 
+def entered(count, size, body):
+    """A private memory of so many bytes, entered so many times in one release. The other areas have 20,024 bytes."""
+    once = ENTERED % (count, size)
+    return {
+        "A.java": FRONT % ("", 1, "return new Main();") + MISSION % ("new H(5, 0, 0).register();", 24, once) + INNER % body,
+        "plan.toml": PLAN % (10_000_000, 20_024 + size)}
+
+
 def made(loop, units):
+    if loop == "areas":
+        return entered(units, 2 * 32, BOXES)
+    if loop == "arrays":
+        return entered(units, 8 * (2 + 6_000_000), ELEMENTS)
     if loop == "arithmetic":
         return turned(units, 28, ARITHMETIC, "", ARITHMETIC_PYTHON)
     if loop == "calls":
@@ -162,8 +190,7 @@ def made(loop, units):
 
 def main():
     loop, units, folder = sys.argv[1], int(sys.argv[2]), pathlib.Path(sys.argv[3])
-    texts = made(loop, units)
-    texts["plan.toml"] = "version = 1\nunits = %d\nstore = 100000\n" % units
+    texts = {"plan.toml": PLAN % (units, 100_000), **made(loop, units)}
     for name, text in texts.items():
         (folder / name).write_text(text)
 

@@ -22,6 +22,14 @@ begin_bench() {
 # A quotient, to so many places: per DIVIDEND DIVISOR PLACES.
 per() { awk "BEGIN { printf \"%.$3f\", $1 / $2 }"; }
 
+# The most memory that a call has at once, in bytes. Where it can be had, addresses are the same in each call: by their
+# places some pages more or fewer are used.
+peak() {
+    local fixed=()
+    if setarch -R true 2>/dev/null; then fixed=(setarch -R); fi
+    echo $(($("${fixed[@]}" /usr/bin/time -f %M "$@" 2>&1 >/dev/null | tail -1) * 1024))
+}
+
 # The least of several runs of a command, in microseconds.
 least() {
     local runs=$1 best=0 begin end spent i

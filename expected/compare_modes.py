@@ -1,19 +1,24 @@
 #!/usr/bin/env python3
-"""Compares what a program answers in the modes audit, respond, confirm, faults and migrate with the slow versions beside
-this file.
+"""Compares what a program answers in the modes audit, respond, confirm, faults, migrate, check and run with the slow
+versions beside this file.
 
     compare_modes.py PROGRAM audit      each trace of the table `runs` with its plan, and each with a line removed,
                                         doubled, swapped with its neighbour, and changed in a number, and with misses
                                         that come elsewhere
-    compare_modes.py PROGRAM responses  2,000 files of rows, made from a seed, with bounds that are claimed
+    compare_modes.py PROGRAM responses  2,000 files of rows, made from a seed, with bounds that are claimed, and 500 of
+                                        large numbers
     compare_modes.py PROGRAM faults     the programs of the table `runs`, each with two literals replaced
     compare_modes.py PROGRAM migrations the runs of the table `runs` by their plans, migrated
+    compare_modes.py PROGRAM guards     3,000 programs with scopes that are unknown, made from a seed, each as it is and
+                                        without the lines that break rules: the reports, and the traces of the latter
     compare_modes.py PROGRAM plans      4,000 texts that are nearly plans, made from a seed: what is told of each, by
                                         tools/planning/texts.py, and what is printed of the right ones
 
 PROGRAM is called as `./scj` is. It prints how many answers were compared, and each that is another one; the exit
 status is then 1. It is no part of the gate.
 """
+import collections
+import multiprocessing
 import pathlib
 import random
 import re
@@ -21,12 +26,14 @@ import subprocess
 import sys
 import tempfile
 
+import guarded_texts
 import phrases
 import plan_texts
 import slow_audit
 import slow_faults
 import slow_machine
 import slow_responses
+import slow_rules
 import table_files
 import tomllib
 
@@ -35,7 +42,9 @@ from planning.texts import read_toml, verdict
 
 SEED = 20261201
 ROW_FILES = 2000
+HARD_ROW_FILES = 500
 PLAN_TEXTS = 4000
+GUARDED_PROGRAMS = 3000
 LITERALS = ["0", "1", "28", "29", "255", "256", "300", "999000", "999001", "1000000", "(- 1)", "2147483647"]
 
 
@@ -142,22 +151,69 @@ def rows_of(chance):
         }
 
 
+def hard_rows_of(chance):
+    """Rows with large costs and gaps, whose loads together are hardly below 1, or above."""
+    size = chance.choice([3, 10, 30, 64])
+    shares = [chance.random() for _ in range(size)]
+    load = chance.choice([0.9, 0.99, 0.999, 0.999999, 1.0, 1.001]) / sum(shares)
+    lowest = chance.choice([2, 100, 10_000, 1_000_000])
+    for share in shares:
+        priority, gap = chance.randint(1, 28), int(lowest * (10_000_000 / lowest) ** chance.random())
+        cost = max(1, int(gap * share * load))
+        yield {
+            "priority": priority,
+            "cost": cost,
+            "gap": gap,
+            "section": chance.choice([0, 0, cost // 100, cost]),
+            "ceiling": chance.randint(priority, 28),
+        }
+
+
+def answers(comparison, what, rows, search):
+    """Compares what is answered to rows, with bounds by chance near the right ones; what there is of bounds."""
+    chance, counts = random.Random(what), collections.Counter()
+    for place, row in enumerate(rows):
+        bound = search(rows, place)
+        row["bound"] = chance.choice([bound or 0, bound or 0, (bound or 1) - 1, (bound or 0) + 1, row["gap"], 0])
+        row["bound"] = min(row["bound"], 10_000_000)
+    text = "version = 1\n"
+    for row in rows:
+        text += "[[handler]]\n" + "".join(f"{key} = {value}\n" for key, value in row.items())
+    comparison.put("rows.toml", text)
+    wanted = list(slow_responses.respond(rows, search))
+    answer = comparison.call("respond", "--plan", "rows.toml")
+    comparison.compare(f"rows {what}", answer, "".join(line + "\n" for line in wanted))
+    verdict = slow_responses.confirm(rows)
+    comparison.compare(f"claims {what}", comparison.call("confirm", "--plan", "rows.toml"), verdict + "\n")
+    counts["tables"] += 1
+    counts["tables whose claims are right"] += verdict == "yes"
+    for line in wanted:
+        words = line.split()
+        counts["rows with a bound" if words[1] == "bound" else "rows without one"] += 1
+        if words[1] == "bound":
+            counts["bounds with a block"] += words[4] != "0"
+            counts["bounds with work of others"] += words[8] != "0"
+    return counts
+
+
+def show(counts):
+    print(", ".join(f"{count} {what}" for what, count in sorted(counts.items())))
+
+
 def responses(comparison):
-    chance = random.Random(SEED)
+    chance, counts = random.Random(SEED), collections.Counter()
     for number in range(ROW_FILES):
-        rows = list(rows_of(chance))
-        for place, row in enumerate(rows):
-            bound = slow_responses.least(rows, place)
-            row["bound"] = chance.choice([bound or 0, bound or 0, (bound or 1) - 1, (bound or 0) + 1, row["gap"], 0])
-        text = "version = 1\n"
-        for row in rows:
-            text += "[[handler]]\n" + "".join(f"{key} = {value}\n" for key, value in row.items())
-        comparison.put("rows.toml", text)
-        wanted = "".join(line + "\n" for line in slow_responses.respond(rows))
-        comparison.compare(f"rows {number}", comparison.call("respond", "--plan", "rows.toml"), wanted)
-        comparison.compare(
-            f"claims {number}", comparison.call("confirm", "--plan", "rows.toml"), slow_responses.confirm(rows) + "\n"
-        )
+        counts += answers(comparison, f"{number}", list(rows_of(chance)), slow_responses.least)
+    show(counts)
+    counts = collections.Counter()
+    for number in range(HARD_ROW_FILES):
+        rows = list(hard_rows_of(chance))
+        try:
+            counts += answers(comparison, f"{number} of large numbers", rows, slow_responses.climbed)
+        except slow_responses.TooLong:
+            counts["tables left out"] += 1
+    print("Of large numbers:")
+    show(counts)
 
 
 def replace_literals(chance, files):
@@ -184,6 +240,61 @@ def faults(comparison):
             continue
         wanted = "".join(f"{names[f]}:{line}:{column}: {fault}\n" for (f, line, column), fault in found)
         comparison.compare(name, comparison.call("faults", *names), f"{wanted}faults {len(found)}\n")
+
+
+class CountingMachine(slow_machine.Machine):
+    """A slow machine that counts what allocInSame answers."""
+
+    def do_same(self, job, frame, about):
+        super().do_same(job, frame, about)
+        self.note(f"answers that are {str(frame.operands[-1]).lower()}")
+
+
+def asking(checker):
+    """How many `if`s of an accepted program ask of two subjects, and how many of them an assignment undoes."""
+    counts = collections.Counter()
+    for c in checker.users:
+        for m in c.members:
+            if m.kind != "field" and m.body:
+                body = slow_rules.Body(checker, c, m)
+                body.types()
+                for node in slow_rules.below(m.body):
+                    if node.kind == "if" and body.asks(node):
+                        counts["guards" if body.guard(node) else "guards that are undone"] += 1
+    return counts
+
+
+def guarded(number):
+    """A program as it is and mended, the report of the one and the trace of the other, and counts."""
+    chance = random.Random(SEED + number)
+    whole = guarded_texts.text(chance)
+    report, right = guarded_texts.mended("G.java", whole)
+    if chance.random() < 0.1:
+        whole = guarded_texts.with_wrong_head(chance, whole)
+        report = slow_rules.lines(["G.java"], [whole])
+    machine = CountingMachine(["G.java"], [right], tomllib.loads(guarded_texts.PLAN))
+    trace = machine.run()
+    counts = asking(machine.program.rules)
+    counts.update({what: count for what, count in machine.counts.items() if what.startswith("answers")})
+    return whole, report, right, trace, counts
+
+
+def guards(comparison):
+    counts = collections.Counter()
+    comparison.put("plan.toml", guarded_texts.PLAN)
+    with multiprocessing.Pool(4) as pool:
+        made = pool.imap(guarded, range(GUARDED_PROGRAMS), 8)
+        for number, (whole, report, right, trace, some) in enumerate(made):
+            comparison.put("G.java", whole)
+            answer = comparison.call("check", "G.java")
+            comparison.compare(f"program {number}", answer, "".join(line + "\n" for line in report))
+            comparison.put("G.java", right)
+            comparison.compare(f"mended {number}", comparison.call("check", "G.java"), "accepted\n")
+            answer = comparison.call("run", "--plan", "plan.toml", "G.java")
+            comparison.compare(f"run {number}", answer, "".join(line + "\n" for line in trace))
+            counts.update(some)
+            counts.update(line.split()[1] for line in report[:-1])
+    show(counts)
 
 
 def new_table(plan):
@@ -216,7 +327,14 @@ def plans(comparison):
 
 
 def main():
-    kinds = {"audit": audits, "responses": responses, "faults": faults, "migrations": migrations, "plans": plans}
+    kinds = {
+        "audit": audits,
+        "responses": responses,
+        "faults": faults,
+        "guards": guards,
+        "migrations": migrations,
+        "plans": plans,
+    }
     if len(sys.argv) != 3 or sys.argv[2] not in kinds:
         sys.exit(__doc__)
     comparison = Comparison(sys.argv[1])

@@ -3,8 +3,8 @@
     python3 make_changes.py      writes them as the last two cases of the reports of crates/scj_tables
 
 Each change is one that the grammar allows: a name in the place of another one, an annotation or a word more or less,
-another literal, type or operator, arguments, a `return`, a super call or a superclass less. In guarded.java, which has scopes that are unknown, they are
-also a guard's condition in another form, and assignments in its first part.
+another literal, type or operator, arguments, a `return`, a super call or a superclass less. In guarded.java, which has
+scopes that are unknown, they are also a guard's condition in another form, and assignments in its first part.
 """
 
 import os

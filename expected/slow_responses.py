@@ -39,9 +39,27 @@ def least(rows, place):
     return None
 
 
-def respond(rows):
+class TooLong(Exception):
+    """A search took more steps than were allowed."""
+
+
+def climbed(rows, place, steps=2000):
+    """The same for large numbers: from units that don't serve it goes on to the demand in them, since what is asked for
+    in more units isn't less."""
+    units = 1
+    for _ in range(steps):
+        asked = demand(rows, place, units)
+        if asked <= units:
+            return units
+        if asked > rows[place]["gap"]:
+            return None
+        units = asked
+    raise TooLong
+
+
+def respond(rows, search=least):
     for place, row in enumerate(rows):
-        units = least(rows, place)
+        units = search(rows, place)
         if units is None:
             yield f"{place + 1} none"
         else:

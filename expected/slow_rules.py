@@ -1198,15 +1198,18 @@ class Body:
         v = self.meanings[n] if n.kind == "name" else None
         return v if v is not None and not isinstance(v, str) and v.kind in ("local", "param") else None
 
-    def guard(self, s):
-        """The two operands of a guard; None where the `if` is none."""
+    def asks(self, s):
+        """The two operands of which an `if` asks whether they lie in one area; None where it doesn't."""
         if s.c.kind != "call" or self.meanings.get(s.c) is not BUILTIN["ManagedMemory"]["allocInSame"]:
             return None
         a, b = [self.operand(x) for x in s.c.args]
-        if a is None or b is None:
-            return None
+        return None if a is None or b is None else (a, b)
+
+    def guard(self, s):
+        """The two operands of a guard; None where the `if` is none."""
+        asked = self.asks(s)
         assigned = [self.operand(x.target) for x in below(s.a) if x.kind == "assign"]
-        return None if a in assigned or b in assigned else (a, b)
+        return None if asked is None or any(operand in assigned for operand in asked) else asked
 
     def guarded(self, target, value):
         if target.kind == "name":

@@ -3,6 +3,8 @@ import re
 
 WORDS = set("abstract assert boolean break byte case catch char class const continue default do double else enum extends false final finally float for goto if implements import instanceof int interface long native new null package private protected public return short static strictfp super switch synchronized this throw throws transient true try void volatile while".split())
 SIGNS = sorted("{ } ( ) [ ] ; , . @ = == != < > <= >= + - * / % ! && || & | ^ ~ << >> >>> ? : ++ -- += -= *= /= %= &= |= ^= <<= >>= >>>= -> :: ...".split(), key=len, reverse=True)
+BLANKS, NAME, NUMBER = re.compile(r"[ \t\r\f]+"), re.compile(r"[A-Za-z_$][A-Za-z0-9_$]*"), re.compile(r"[0-9]+")
+SIGN = re.compile("|".join(map(re.escape, SIGNS)))
 
 
 class Node:
@@ -21,7 +23,7 @@ def lex(file, text):
             start = at
             continue
         if c in " \t\r\f":
-            at += 1
+            at = BLANKS.match(text, at).end()
             continue
         if text.startswith("//", at):
             at = text.find("\n", at)
@@ -37,12 +39,12 @@ def lex(file, text):
             at = end
             continue
         pos = (file, line, at - start + 1)
-        m = re.compile(r"[A-Za-z_$][A-Za-z0-9_$]*").match(text, at)
+        m = NAME.match(text, at)
         if m:
             out.append(("word" if m.group() in WORDS else "name", m.group(), pos))
             at = m.end()
             continue
-        m = re.compile(r"[0-9]+").match(text, at)
+        m = NUMBER.match(text, at)
         if m:
             out.append(("num", m.group(), pos))
             at = m.end()
@@ -52,13 +54,11 @@ def lex(file, text):
             out.append(("text", text[at + 1:end], pos))
             at = end + 1
             continue
-        for sign in SIGNS:
-            if text.startswith(sign, at):
-                out.append(("sign", sign, pos))
-                at += len(sign)
-                break
-        else:
+        m = SIGN.match(text, at)
+        if m is None:
             raise Exception("bad byte %r" % c)
+        out.append(("sign", m.group(), pos))
+        at = m.end()
     out.append(("end", "", (file, line, at - start + 1)))
     return out
 

@@ -49,20 +49,22 @@ class Log {
   }
 }
 
-// Every millisecond: sums up three samples, which lie in the memory of the release, and keeps the sum if it is high.
+// Every millisecond: sums up three samples, which lie in the memory of the release and come from a pool of its own, and
+// keeps the sum if it is high.
 @Scope("Watching") @DefineScope(name="Sampling", parent="Watching")
 class Sampler extends PeriodicEventHandler {
   Log log;
 
   Sampler(Log log) {
-    super(new PriorityParameters(12), new PeriodicParameters(new RelativeTime(0, 0), new RelativeTime(1, 0)), new StorageParameters(120));
+    super(new PriorityParameters(12), new PeriodicParameters(new RelativeTime(0, 0), new RelativeTime(1, 0)), new StorageParameters(168));
     this.log = log;
   }
 
   public void handleAsyncEvent() {
+    Pool room = new Pool(3);
     Chain samples = new Chain();
     for (int i = 0; i < 3; i++) {
-      Reading sample = new Reading();
+      Reading sample = room.take();
       sample.value = Device.read(1);
       Chains.push(samples, sample);
     }
@@ -71,7 +73,9 @@ class Sampler extends PeriodicEventHandler {
       if (log.keep(sum)) Trace.print("kept", sum); else Trace.print("full", sum);
     }
     // A sample of this release can't become one of the mission's: it would be gone with the release.
-    if (log.pool.give(samples.pop())) Trace.print("wrong", sum);
+    Reading sample = samples.pop();
+    if (log.pool.give(sample)) Trace.print("wrong", sum);
+    if (!room.give(sample)) Trace.print("lost", sum);
   }
 }
 
