@@ -49,7 +49,8 @@ EDITS = {
     "S5": "scope_tree/mission_below_a_mission scope_tree/wrong_parent_as_wrong_class",
     "S6": "scope_tree/scope_written_is_missing",
     "A1": "annotation_rules/annotated_variables_passed_over "
-    "annotation_rules/contradiction_as_unknown",
+    "annotation_rules/contradiction_as_unknown annotation_rules/result_may_be_unknown "
+    "static_scopes/field_may_be_unknown",
     "A2": "annotation_rules/other_scope_in_a_subclass",
     "A3": "static_scopes/field_may_lie_inside",
     "A4": "static_scopes/field_may_lie_inside",
@@ -62,7 +63,10 @@ EDITS = {
     "E2": "runs_in_check/caller_refused static_scopes/method_runs_with_its_object",
     "E3": "runs_in_check/caller_value_into_an_own_field runs_in_check/this_not_replaced static_scopes/null_fits_nothing",
     "E4": "runs_in_check/caller_value_into_an_own_field",
-    "E5": "runs_in_check/caller_value_into_an_own_field",
+    "E5": "runs_in_check/caller_value_into_an_own_field static_scopes/unknown_fits_all "
+    "static_scopes/lost_fits_lost static_scopes/this_of_unknown_is_unknown "
+    "runs_in_check/guard_guards_its_else runs_in_check/assignment_leaves_guard "
+    "runs_in_check/one_subject_is_enough runs_in_check/field_of_immortal_is_in_this",
     "E6": "runs_in_check/caller_value_into_an_own_field",
     "E7": "runs_in_check/entered_from_anywhere",
     "E8": "runs_in_check/executed_in_any_area",

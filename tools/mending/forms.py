@@ -18,6 +18,9 @@ NAME = r"[A-Za-z_$][\w$]*"
 # How many lexemes around a place are looked at, how many bytes behind it, and how many digits of a number.
 AROUND, BEHIND, DIGITS = 60, 400, 100
 STATIC = ("Trace", "Device", "Services", "ManagedMemory")
+# The framework's static methods, with their classes.
+CALLED = {"enterPrivateMemory": "ManagedMemory", "executeInAreaOf": "ManagedMemory", "allocInSame": "ManagedMemory", "setCeiling": "Services", "read": "Device", "print": "Trace"}
+METHODS = [*CALLED, "register", "release", "requestTermination"]
 KNOWN = """Object Runnable Safelet Mission MissionSequencer PeriodicEventHandler AperiodicEventHandler Trace Device Services
 ManagedMemory int boolean void long PriorityParameters PeriodicParameters AperiodicParameters StorageParameters
 RelativeTime""".split()
@@ -65,6 +68,7 @@ def facts_of(finding, source, classes):
     }
     facts |= number_facts(facts["at"], facts["rest"])
     facts |= value_facts(source, at, owner, member, classes)
+    facts |= unknown_facts(source, at, member, classes)
     facts |= name_facts(source, at, finding, owner, member, classes)
     return facts, around(source, at)
 
@@ -165,6 +169,73 @@ def target_facts(source, at, owner, classes):
     return {"target": name, "target_kind": kind, "target_type": field[0] if field else ""}
 
 
+def unknown_facts(source, at, member, classes):
+    """What is known of the area of a value, of the object in which it is stored, and of the object of the call whose
+    argument it is: `lies`, `holder_lies` and `receiver_lies` are `unknown` of a variable that may lie anywhere, and `lost`
+    of what lies where such an object does."""
+    words = source.words
+    begin = at + 1 if words[at : at + 1] in (["="], ["return"]) else at
+    whole = names_at(words, begin)
+    target = names_at(words, target_at(words, at)) if words[at : at + 1] == ["="] else []
+    holder = target if at and words[at - 1] == "]" else target[:-1]
+    called = names_at(words, call_at(words, at) - 1)
+    return {
+        "whole": ".".join(whole),
+        "object": ".".join(whole[:-1]),
+        "lies": lies(whole, member, classes),
+        "lies_in": member.scopes.get("".join(whole[:1]), "") if member and len(whole) == 1 else "",
+        "holder": ".".join(holder),
+        "holder_lies": lies(holder, member, classes),
+        "receiver": ".".join(called[:-1]),
+        "called": "".join(called[-1:]),
+        "receiver_lies": lies(called[:-1], member, classes),
+        "framework_class": CALLED.get("".join(words[at : at + 1]), ""),
+    }
+
+
+def names_at(words, at):
+    """The names parted by dots around a place, from the first of them on."""
+    found = []
+    if not (0 <= at < len(words) and (re.fullmatch(NAME, words[at]))):
+        return found
+    while at > 1 and words[at - 1] == "." and re.fullmatch(NAME, words[at - 2]):
+        at -= 2
+    while at < len(words) and re.fullmatch(NAME, words[at]):
+        found.append(words[at])
+        at += 2 if words[at + 1 : at + 2] == ["."] else len(words)
+    return found
+
+
+def target_at(words, at):
+    """The place of the name before a `=`, or of that of the array whose element stands there."""
+    at -= 1
+    if 0 <= at < len(words) and words[at] == "]":
+        while at > 0 and words[at] != "[":
+            at -= 1
+        at -= 1
+    return at
+
+
+def call_at(words, at):
+    """The place of the `(` of the call in whose arguments something stands, or of none."""
+    depth = 0
+    for place in range(min(at, len(words)) - 1, -1, -1):
+        depth += {")": 1, "(": -1}.get(words[place], 0)
+        if depth < 0 or words[place] in (";", "{", "}"):
+            return place if depth < 0 else -1
+    return -1
+
+
+def lies(names, member, classes):
+    """Whether what names parted by dots say may lie anywhere, or where such an object lies."""
+    if not member or not names or member.scopes.get(names[0]) != "UNKNOWN":
+        return ""
+    if len(names) == 1:
+        return "unknown"
+    field = classes.field((member.parameters | member.locals).get(names[0], ""), names[1])
+    return "" if len(names) == 2 and field and (field[1] or field[2] not in ("", "THIS")) else "lost"
+
+
 def name_facts(source, at, finding, owner, member, classes):
     """What a name could have been, and where it is declared."""
     name = source.lexemes[at].text if at < len(source.lexemes) else ""
@@ -177,7 +248,7 @@ def name_facts(source, at, finding, owner, member, classes):
     every = {it for a_class in classes.by_name.values() for it in a_class.members}
     fields = {it for a_class in classes.by_name.values() for it in a_class.fields}
     scopes = {it.defines for it in classes.by_name.values() if it.defines}
-    pools = {"C2": known, "C9": known, "T1": variables | known, "T4": fields, "T5": every, "S2": scopes, "A1": scopes, "A7": scopes}
+    pools = {"C2": known, "C9": known, "T1": variables | known, "T4": fields, "T5": every | set(METHODS), "S2": scopes, "A1": scopes, "A7": scopes}
     pool = pools.get(finding.rule, set()) - {name}
     near = difflib.get_close_matches(name.strip('"'), sorted(pool), 1, 0.75)
     found = {"guess": near[0] if near else "", "is_local": "yes" if member and name in member.locals else ""}

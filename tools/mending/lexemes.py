@@ -14,6 +14,9 @@ LEXEME = re.compile(
 )
 FRAMEWORK = "Mission MissionSequencer PeriodicEventHandler AperiodicEventHandler Runnable Safelet".split()
 PRIMITIVE = ("int", "boolean", "void", "long")
+# What stands before the name of a variable that says where it lies, and in how many lexemes.
+SCOPED = re.compile(r'@ Scope \( (?:Scope \. )?"?(\w+)"? \)(?: final)? [\w$]+(?: \[ \]| < [\w$]+ >)?$')
+MARK = 16
 RESERVED = """abstract assert boolean break byte case catch char class const continue default do double else enum extends
 false final finally float for goto if implements import instanceof int interface long native new null package private
 protected public return short static strictfp super switch synchronized this throw throws transient true try void
@@ -42,7 +45,8 @@ class Class:
 
 
 class Member:
-    """A method or constructor: its name and result, its parameters with types, and the locals of its body."""
+    """A method or constructor: its name and result, its parameters with types, the locals of its body, and the scopes
+    that are written on these."""
 
     def __init__(self, head, owner):
         words = bare(head)
@@ -55,11 +59,18 @@ class Member:
         self.is_constructor = self.name == owner.name
         self.is_static = any(it.text == "static" for it in words[:at])
         self.marks = annotations([it.text for it in head[: head.index(self.first)]])
-        self.parameters, self.locals = {}, {}
+        self.parameters, self.locals, self.scopes = {}, {}, {}
         rest = words[at + 1 :]
         for before, it, after in zip(rest, rest[1:], rest[2:]):
             if it.kind == "name" and after.text in (",", ")") and (before.kind == "name" or before.text == "]"):
                 self.parameters[it.text] = type_before(rest, rest.index(it))
+                self.note_scope(head, head.index(it))
+
+    def note_scope(self, lexemes, at):
+        """Notes where a variable lies whose name stands there, if that is written."""
+        found = SCOPED.search(" ".join(it.text for it in lexemes[max(0, at - MARK) : at]))
+        if found:
+            self.scopes.setdefault(lexemes[at].text, found[1])
 
 
 def type_before(words, at):
@@ -106,6 +117,7 @@ class Source:
     def __init__(self, data):
         self.text = data.decode("latin-1")
         self.lexemes = [Lexeme(it[0], it.start(), it.lastgroup) for it in LEXEME.finditer(self.text) if it.lastgroup != "blank"]
+        self.words = [it.text for it in self.lexemes]
         self.ends = [it.at + len(it.text) for it in self.lexemes]
         self.begins = [0] + [it.end() for it in re.finditer("\n", self.text)]
         line = 0
@@ -170,6 +182,7 @@ class Source:
         is_type = before.kind == "name" and before.text not in RESERVED or before.text in ("int", "boolean", "]", "byte", "short", "long")
         if it.kind == "name" and is_type and after in ("=", ";", ",", ":", "[") and it.text not in RESERVED:
             member.locals.setdefault(it.text, type_before(self.lexemes[max(0, at - 8) : at + 1], min(at, 8)))
+            member.note_scope(self.lexemes, at)
 
     def index(self, line, column):
         """The number of the lexeme at a place, or of the one behind it; or how many there are."""
