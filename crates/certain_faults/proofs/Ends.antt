@@ -186,14 +186,14 @@ module _ (code : Code) (world : Environment) (f : Frame) (id superclass : ℕ)
 -- ---- the parts of a node stand before it
 
 module _ (code : Code) (id : ℕ) where
-  below_is : (x : ℕ) → x < id → left_below code id x ≡ left_by code x
+  pub below_is : (x : ℕ) → x < id → left_below code id x ≡ left_by code x
   below_is x l = go (nat_lt x id) refl
     where
       go : (b : Bool) → nat_lt x id ≡ b → (if b then left_by code x else Forgets) ≡ left_by code x
       go true e = refl
       go false e = absurd (let no : x < id = l in grind (arith, nat_tests))
 
-  all_is : (xs : List ℕ) (s : Stack) → AllBelow id xs →
+  pub all_is : (xs : List ℕ) (s : Stack) → AllBelow id xs →
       with_all (left_below code id) xs s ≡ with_all (left_by code) xs s
   unfolding AllBelow
   all_is [] s h = refl
@@ -213,7 +213,7 @@ module _ (code : Code) (behind : BehindChildren code.program) (world : Environme
 
   module _ (id : ℕ) where
     -- the arguments are what is known of them
-    arguments_are : (op : Op) (xs : List ℕ) → asked code op ≡ with_parts code id (part code arguments_of id) →
+    pub arguments_are : (op : Op) (xs : List ℕ) → asked code op ≡ with_parts code id (part code arguments_of id) →
         part code arguments_of id ≡ Some xs → AllBelow id xs → Less (asked code op) s →
         Operands (with_all (left_by code) xs nothing) f.operands
     arguments_are op xs e are h l =

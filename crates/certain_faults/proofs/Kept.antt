@@ -19,6 +19,7 @@ use Rattle.scj_model.specs.Apply.{with_frame, with_first, with_ceiling, applied,
 use Rattle.reference_sound.proofs.Closing.{one_closes}
 use Rattle.certain_faults.proofs.Frames.{Explained, Waits, Fine}
 use Rattle.certain_faults.proofs.Jobs.{Jobs, jobs_still, jobs_of, jobs_on, jobs_ended, jobs_faulted, Lead, leads, none_leads, released_jobs, asked_jobs}
+use Rattle.certain_faults.proofs.Passes.{Passes}
 
 module _ (code : Code) (G : Body → Bool → Type 0) where
   -- the frames of a job: each frame under another one waits for that one's body
@@ -244,7 +245,7 @@ module _ (code : Code) (G : Body → Bool → Type 0) where
             (not (nat_lt (length s.registry) most_handlers))
             _ _)
 
-    pub effect_kept : (e : Effect) → KeepsBody body e → Fine code G e → Kept e
+    pub effect_kept : (e : Effect) → KeepsBody body e → Fine code G (Passes code) (Unit {0}) e → Kept e
     unfolding applied
     effect_kept (Goes h) b x = leads Frames _ (goes_on s held h b x.is)
     effect_kept (Prints h label value) b x = leads Frames _ (goes_on s held h b x.is)

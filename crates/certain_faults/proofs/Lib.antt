@@ -6,6 +6,7 @@ pub mod Jobs
 pub mod Kept
 pub mod Meets
 pub mod NumberLemmas
+pub mod OneOperand
 pub mod OwnOperations
 pub mod PassLemmas
 pub mod Passes

@@ -1,22 +1,23 @@
 -- The operations that are left of a frame meet what is known of their operands: what each operation makes of that, and
 -- that the operations of nodes, one after the other, go through.
-use Rattle.std.specs.Prelude.{Option, Some, None}
-use Rattle.std.proofs.Common.{◌≡◌, ℕ, List, [], ◌∷◌, ◌++◌, Bool, true, false, inl, refl, sym, subst, append_assoc, if◌then◌else◌}
+use Rattle.std.specs.Prelude.{Option, Some, None, flat_map}
+use Rattle.std.proofs.Common.{◌≡◌, ℕ, List, [], ◌∷◌, ◌++◌, Bool, true, false, inl, refl, sym, subst, append_assoc, if◌then◌else◌, inr, ◌∙◌, ◌⊎◌}
 use Rattle.scj_tree.specs.declared.nodes.Node.{Node}
-use Rattle.scj_tree.specs.declared.nodes.Node.TheVariants.{Call as CallNode, NewArray, SuperCall}
+use Rattle.scj_tree.specs.declared.nodes.Node.TheVariants.{Call as CallNode, NewArray, SuperCall, New}
 use Rattle.scj_tree.specs.Recursion.{below}
 use Rattle.scj_model.specs.declared.operations.Op.{Op}
 use Rattle.scj_model.specs.declared.operations.Op.TheVariants.{Push as PUSH, This as THIS, Load as LOAD, Get as GET, GetStatic as GETSTATIC, Length as LENGTH, Elem as ELEM, Unary as UNARY, Bin as BIN, And as AND, Or as OR, Alloc as ALLOC, Construct as CONSTRUCT, AllocArray as ALLOCARRAY, Call as CALL, CallStatic as CALLSTATIC, Cast as CAST, Enter as ENTER, Same as SAME, SetCeiling as SETCEILING, Read as READ, Params as PARAMS}
 use Rattle.scj_model.specs.Code.{Code, binding, part}
 use Rattle.scj_model.specs.Memory.{literal_value}
-use Rattle.scj_model.specs.Ops.{leaves_value, right_operand}
+use Rattle.scj_model.specs.Ops.{leaves_value, right_operand, ops_of}
 use Rattle.scj_model.specs.Operations.{operator_of, argument_count}
 use Rattle.certain_faults.specs.declared.known.Known.{Known}
-use Rattle.certain_faults.specs.declared.known.Known.TheVariants.{Unknown, Object}
+use Rattle.certain_faults.specs.declared.known.Known.TheVariants.{Unknown, Object, Exactly}
 use Rattle.certain_faults.specs.declared.known.Left.{Left}
 use Rattle.certain_faults.specs.declared.known.Left.TheVariants.{Forgets, Zero, One, Two, Four}
 use Rattle.certain_faults.specs.Known.{unary_known, binary_known, left_by_literal, left_by}
 use Rattle.certain_faults.proofs.Stacks.{Stack, nothing, put, taken, dropped, with_left, with_all, NoMore, Less, less_nothing, less_then, less_top, less_put, less_taken, less_dropped, less_left, unary_no_more, binary_no_more}
+use Rattle.scj_base.specs.declared.values.Value.TheVariants.{At}
 
 -- ---- parts of nodes
 
@@ -67,7 +68,7 @@ behind_right _ s = nothing
 
 abbrev pub behind_arguments : Option ℕ → Stack → Stack
 behind_arguments None s = nothing
-behind_arguments (Some count) s = dropped count s
+behind_arguments (Some count) s = put Object (taken (dropped count s))
 
 -- what a call gives, if anything, comes in the place of the arguments and of the object
 abbrev pub with_result : Bool → Stack → Stack
@@ -123,7 +124,9 @@ right_less (Four a b c d) s t h = less_nothing nothing
 
 arguments_less : (o : Option ℕ) (s t : Stack) → Less s t → Less (behind_arguments o s) (behind_arguments o t)
 arguments_less None s t h = less_nothing nothing
-arguments_less (Some count) s t h = less_dropped count s t h
+arguments_less (Some count) s t h =
+    less_put Object (taken (dropped count s)) (taken (dropped count t))
+    (less_taken (dropped count s) (dropped count t) (less_dropped count s t h))
 
 result_less : (gives : Bool) (s t : Stack) → Less s t → Less (with_result gives s) (with_result gives t)
 result_less true s t h = less_put Unknown s t h
@@ -140,6 +143,40 @@ static_call_less : (gives : Bool) (o : Option ℕ) (s t : Stack) → Less s t �
 static_call_less gives None s t h = less_nothing nothing
 static_call_less gives (Some count) s t h =
     result_less gives (dropped count s) (dropped count t) (less_dropped count s t h)
+
+-- ---- what is to be known behind operations
+
+-- nothing, or that this operand is a reference to this object
+abbrev pub Mark : Type 0
+Mark = Option (ℕ × ℕ)
+
+abbrev pub HasMark : Mark → Stack → Type 0
+HasMark None s = Unit {0}
+HasMark (Some m) s = s m.0 ≡ Exactly (At m.1)
+
+pub mark_less : (m : Mark) (s t : Stack) → Less s t → HasMark m s → HasMark m t
+mark_less None s t h k = tt
+mark_less (Some m) s t h k = of (h.is m.0)
+  where
+    of : NoMore (s m.0) (t m.0) → t m.0 ≡ Exactly (At m.1)
+    of (inl e) = absurd (let none : Unknown ≡ Exactly (At m.1) = sym e ∙ k in cc (none))
+    of (inr e) = sym e ∙ k
+
+-- the arguments of a `new`
+unfoldable pub made_with : Node → Option (List ℕ)
+made_with (New place name_place name arguments) = Some arguments
+made_with _ = None
+
+-- a `new` stands before its arguments and the call of its constructor
+pub record BeginsNew (code : Code) (id : ℕ) (rest : List Op) : Type 0 where
+  pub arguments : List ℕ
+  pub are : part code made_with id ≡ Some arguments
+  pub more : List Op
+  pub is : rest ≡ flat_map (below [] id (ops_of code)) arguments ++ CONSTRUCT id ∷ more
+
+abbrev pub Begins : Code → Op → List Op → Type 0
+Begins code (ALLOC id) rest = BeginsNew code id rest
+Begins code _ rest = Unit {0}
 
 module _ (code : Code) where
   pub step_less : (op : Op) (s t : Stack) → Less s t → Less (step code op s) (step code op t)
@@ -175,36 +212,64 @@ module _ (code : Code) where
 
   -- ---- operations in a row
 
-  abbrev pub Passes : List Op → Stack → Type 0
-  Passes [] s = Unit {0}
-  Passes (op ∷ rest) s = Less (asked code op) s × Passes rest (step code op s)
+  -- behind them the mark is known
+  abbrev pub PassesTo : Mark → List Op → Stack → Type 0
+  PassesTo m [] s = HasMark m s
+  PassesTo m (op ∷ rest) s = Less (asked code op) s × Begins code op rest × PassesTo m rest (step code op s)
 
-  pub passes_less : (rest : List Op) (s t : Stack) → Less s t → Passes rest s → Passes rest t
-  passes_less [] s t h p = tt
-  passes_less (op ∷ rest) s t h p = (
+  abbrev pub Passes : List Op → Stack → Type 0
+  Passes rest s = PassesTo None rest s
+
+  pub passes_less : (m : Mark) (rest : List Op) (s t : Stack) → Less s t → PassesTo m rest s → PassesTo m rest t
+  passes_less m [] s t h p = mark_less m s t h p
+  passes_less m (op ∷ rest) s t h p = (
     less_then (asked code op) s t p.0 h,
-    passes_less rest (step code op s) (step code op t) (step_less op s t h) p.1,
+    p.1,
+    passes_less m rest (step code op s) (step code op t) (step_less op s t h) p.2,
   )
 
   -- operations behind which this is known, where that is known before them
   pub record Runs (xs : List Op) (s t : Stack) : Type 0 where
-    pub is : (rest : List Op) → Passes rest t → Passes (xs ++ rest) s
+    pub is : (m : Mark) (rest : List Op) → PassesTo m rest t → PassesTo m (xs ++ rest) s
 
   pub runs_none : (s : Stack) → Runs [] s s
-  runs_none s = record { is = λ rest h. h }
+  runs_none s = record { is = λ m rest h. h }
 
-  pub runs_op : (op : Op) (s : Stack) → Less (asked code op) s → Runs (op ∷ []) s (step code op s)
-  runs_op op s l = record { is = λ rest h. (l, h) }
+  -- an operation that begins no `new`
+  abbrev pub IsAnywhere : Op → Type 0
+  IsAnywhere op = (rest : List Op) → Begins code op rest
+
+  pub runs_op : (op : Op) (s : Stack) → Less (asked code op) s → IsAnywhere op → Runs (op ∷ []) s (step code op s)
+  runs_op op s l a = record { is = λ m rest h. (l, a rest, h) }
 
   pub runs_then : (xs ys : List Op) (s t u : Stack) → Runs xs s t → Runs ys t u → Runs (xs ++ ys) s u
   runs_then xs ys s t u a b =
       record {
-        is = λ rest h. subst (λ (zs : List Op). Passes zs s) (sym (append_assoc xs ys rest))
-            (a.is (ys ++ rest) (b.is rest h));
+        is = λ m rest h. subst (λ (zs : List Op). PassesTo m zs s) (sym (append_assoc xs ys rest))
+            (a.is m (ys ++ rest) (b.is m rest h));
       }
 
   pub runs_less : (xs : List Op) (s t u : Stack) → Less t u → Runs xs s u → Runs xs s t
-  runs_less xs s t u l a = record { is = λ rest h. a.is rest (passes_less rest t u l h) }
+  runs_less xs s t u l a = record { is = λ m rest h. a.is m rest (passes_less m rest t u l h) }
+
+  -- a `new`, by its arguments and the call of its constructor
+  pub runs_new : (id : ℕ) (arguments : List ℕ) (s t : Stack) → part code made_with id ≡ Some arguments →
+      Less (asked code (ALLOC id)) s →
+      Runs (flat_map (below [] id (ops_of code)) arguments ++ CONSTRUCT id ∷ []) (step code (ALLOC id) s) t →
+      Runs (ALLOC id ∷ (flat_map (below [] id (ops_of code)) arguments ++ CONSTRUCT id ∷ [])) s t
+  runs_new id arguments s t are l a =
+      record {
+        is = λ m rest h. (
+          l,
+          record {
+            arguments = arguments;
+            are = are;
+            more = rest;
+            is = append_assoc (flat_map (below [] id (ops_of code)) arguments) (CONSTRUCT id ∷ []) rest;
+          },
+          a.is m rest h,
+        );
+      }
 
   -- wherever they begin, and with nothing known behind them
   pub record Any (xs : List Op) : Type 0 where
@@ -219,9 +284,9 @@ module _ (code : Code) where
   pub any_then : (xs ys : List Op) → Any xs → Any ys → Any (xs ++ ys)
   any_then xs ys a b = record { is = λ s. runs_then xs ys s nothing nothing (a.is s) (b.is nothing) }
 
-  pub any_op : (op : Op) → asked code op ≡ nothing → Any (op ∷ [])
-  any_op op e =
-      any_of (op ∷ []) (λ s. (step code op s, runs_op op s (subst (λ t. Less t s) (sym e) (less_nothing s))))
+  pub any_op : (op : Op) → asked code op ≡ nothing → IsAnywhere op → Any (op ∷ [])
+  any_op op e a =
+      any_of (op ∷ []) (λ s. (step code op s, runs_op op s (subst (λ t. Less t s) (sym e) (less_nothing s)) a))
 
   pub any_if : (b : Bool) (xs ys : List Op) → Any xs → Any ys → Any (if b then xs else ys)
   any_if true xs ys a c = a

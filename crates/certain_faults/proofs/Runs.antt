@@ -42,9 +42,9 @@ use Rattle.reference_sound.proofs.Passes.{highest_ready}
 use Rattle.scope_sound.specs.Sound.{HasFacts, SoundAt}
 use Rattle.scope_sound.proofs.InAnyOrder.{reached_is_sound}
 use Rattle.scope_sound.proofs.Operated.{operated}
-use Rattle.certain_faults.proofs.Passes.{Passes, arguments_of}
+use Rattle.certain_faults.proofs.Passes.{Passes, arguments_of, passes_less}
 use Rattle.certain_faults.proofs.RunsOfNodes.{ClassesAskNothing}
-use Rattle.certain_faults.proofs.Frames.{new_explained, operation_fine}
+use Rattle.certain_faults.proofs.Frames.{new_explained, operation_fine, pass_in_front}
 use Rattle.certain_faults.proofs.GivenAsBound.{GivesSo, given_as_bound}
 use Rattle.certain_faults.proofs.Jobs.{Jobs, jobs_still, Lead, leads, none_leads, any_leads, told_leads}
 use Rattle.certain_faults.proofs.Kept.{Frames, KeepsBody, effect_kept}
@@ -89,7 +89,7 @@ module _ (code : Code) where
 
   module _ (w : World) (list : List ℕ) (f : Frame) (rest : List Op) (c : ℕ) (sig : Signature)
       (runs : Runs code.program f.body c sig) where
-    keeps_body : (e : Effect) → EffectIsFine code w list c sig (record f { rest = rest }) e →
+    pub keeps_body : (e : Effect) → EffectIsFine code w list c sig (record f { rest = rest }) e →
         KeepsBody code (GivesSo code) f.body e
     keeps_body (Goes h) x = x.is.same.body
     keeps_body (Prints h label value) x = x.is.same.body
@@ -152,10 +152,11 @@ module _ (code : Code) (facts : Facts code) (bare : ClassesAskNothing code) (row
           (effect_at code rows s f op rest)
           (next_fine code facts (world_of s).areas (environment rows s) (list_of base (f ∷ below)) fine.0.class
           fine.0.sig f op rest fine.1 memory.heap memory.statics again))
-          (operation_fine code (GivesSo code) bare rest (environment rows s) (record f { rest = rest })
-          mine.0.stack (record { same = refl; shadows = mine.0.shadows }) op passes.1
+          (operation_fine code (GivesSo code) (Passes code) (Unit {0}) bare rest (passes_less code None rest)
+          (environment rows s) (record f { rest = rest })
+          mine.0.stack (record { same = refl; shadows = mine.0.shadows }) op passes.2
           (given_as_bound code facts (environment rows s) (world_of s) memory.heap refl (list_of base (f ∷ below))
-          fine.0.class fine.0.sig f rest op again))
+          fine.0.class fine.0.sig f rest op again) (pass_in_front code bare rest op))
 
   pub frame_jobs : JobFine code (world_of s) base activity → Lead (All code) (frame_op code rows s job activity)
   unfolding frame_op
@@ -166,7 +167,7 @@ module _ (code : Code) (facts : Facts code) (bare : ClassesAskNothing code) (row
 fresh : (code : Code) → ClassesAskNothing code → (body : Body) (called_at this : Option ℕ) (area : ℕ)
     (opened : Option ℕ) → All code (record (new_frame code body called_at this area []) { opened = opened } ∷ [])
 fresh code bare body called_at this area opened =
-    let x = new_explained code (GivesSo code) bare body called_at this area [] in
+    let x = new_explained code (GivesSo code) (Passes code) (Unit {0}) bare body called_at this area [] in
     (record { stack = x.stack; passes = x.passes; shadows = x.shadows }, tt)
 
 module _ (code : Code) (facts : Facts code) (bare : ClassesAskNothing code) (rows : List ReadingRow) where

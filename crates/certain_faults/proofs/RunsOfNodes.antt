@@ -31,7 +31,7 @@ use Rattle.certain_faults.specs.declared.known.Left.{Left}
 use Rattle.certain_faults.specs.declared.known.Left.TheVariants.{Forgets, Zero, One, Two, Four}
 use Rattle.certain_faults.specs.Known.{unary_known, binary_known, is_conditional, operator_known, in_place_of, in_place_of_two, left_by_name, left_by_access, leaves_one, all_leave_one, end_to_end, left_by_part, left_by_new, leaves_receiver, left_by_method, left_by_read, left_by_same, left_by_builtin, left_by_call, left_by_node, next_left, left_by}
 use Rattle.certain_faults.proofs.Stacks.{Stack, nothing, put, taken, dropped, with_left, with_all, Less, less_same, less_nothing, less_left, less_all}
-use Rattle.certain_faults.proofs.Passes.{array_length, arguments_of, left_below, part_left, with_parts, asked, unary_by, binary_by, behind_right, behind_arguments, with_result, behind_call, behind_static_call, step, Runs, runs_none, runs_op, runs_then, runs_less, Any, any_of, any_none, any_then, any_op, any_if}
+use Rattle.certain_faults.proofs.Passes.{array_length, arguments_of, left_below, part_left, with_parts, asked, unary_by, binary_by, behind_right, behind_arguments, with_result, behind_call, behind_static_call, step, Runs, runs_none, runs_op, runs_then, runs_less, Any, any_of, any_none, any_then, any_op, any_if, IsAnywhere, made_with, runs_new}
 
 -- a class has no arguments of its own
 pub record ClassesAskNothing (code : Code) : Type 0 where
@@ -152,32 +152,33 @@ module _ (code : Code) (bare : ClassesAskNothing code) (id : ℕ) where
 
     -- an operation behind those of a part, of two parts, and of several
     behind : (xs : List Op) (op : Op) (s t : Stack) → Runs code xs s t → Less (asked code op) t →
-        Runs code (xs ++ op ∷ []) s (step code op t)
-    behind xs op s t a l = runs_then code xs (op ∷ []) s t (step code op t) a (runs_op code op t l)
+        IsAnywhere code op → Runs code (xs ++ op ∷ []) s (step code op t)
+    behind xs op s t a l w = runs_then code xs (op ∷ []) s t (step code op t) a (runs_op code op t l w)
 
-    any_behind : (xs : List Op) (op : Op) → Any code xs → asked code op ≡ nothing → Any code (xs ++ op ∷ [])
-    any_behind xs op a e = any_then code xs (op ∷ []) a (any_op code op e)
+    any_behind : (xs : List Op) (op : Op) → Any code xs → asked code op ≡ nothing → IsAnywhere code op →
+        Any code (xs ++ op ∷ [])
+    any_behind xs op a e w = any_then code xs (op ∷ []) a (any_op code op e w)
 
     -- an operation of the framework asks for what is known of its arguments
-    asked_behind : (op : Op) (xs : List ℕ) → asked code op ≡ with_parts code id (Some xs) → (s : Stack) →
-        Runs code (flat_map ops xs ++ op ∷ []) s (step code op (with_all left xs s))
-    asked_behind op xs e s =
+    asked_behind : (op : Op) (xs : List ℕ) → asked code op ≡ with_parts code id (Some xs) → IsAnywhere code op →
+        (s : Stack) → Runs code (flat_map ops xs ++ op ∷ []) s (step code op (with_all left xs s))
+    asked_behind op xs e w s =
         behind (flat_map ops xs) op s (with_all left xs s) (all_run xs s)
-        (subst (λ t. Less t (with_all left xs s)) (sym e) (less_all left xs nothing s (less_nothing s)))
+        (subst (λ t. Less t (with_all left xs s)) (sym e) (less_all left xs nothing s (less_nothing s))) w
 
-    any_asked : (op : Op) (xs : List ℕ) → asked code op ≡ with_parts code id (Some xs) →
+    any_asked : (op : Op) (xs : List ℕ) → asked code op ≡ with_parts code id (Some xs) → IsAnywhere code op →
         Any code (flat_map ops xs ++ op ∷ [])
-    any_asked op xs e =
-        any_of code (flat_map ops xs ++ op ∷ []) (λ s. (step code op (with_all left xs s), asked_behind op xs e s))
+    any_asked op xs e w =
+        any_of code (flat_map ops xs ++ op ∷ []) (λ s. (step code op (with_all left xs s), asked_behind op xs e w s))
 
     -- ---- values
 
     name_runs : (b : Binding) (s : Stack) → Runs code (name_ops id b) s (with_left (left_by_name b) s)
     unfolding name_ops left_by_name with_left step asked
-    name_runs (Local k) s = runs_op code (LOAD id) s (less_nothing s)
+    name_runs (Local k) s = runs_op code (LOAD id) s (less_nothing s) (λ r. tt)
     name_runs (Field k) s =
-        behind (THIS id ∷ []) (GET id) s (put Object s) (runs_op code (THIS id) s (less_nothing s)) (less_nothing _)
-    name_runs (Static k) s = runs_op code (GETSTATIC id) s (less_nothing s)
+        behind (THIS id ∷ []) (GET id) s (put Object s) (runs_op code (THIS id) s (less_nothing s) (λ r. tt)) (less_nothing _) (λ r. tt)
+    name_runs (Static k) s = runs_op code (GETSTATIC id) s (less_nothing s) (λ r. tt)
     name_runs Plain s = (any_none code).is s
     name_runs Length s = (any_none code).is s
     name_runs (ClassNamed class) s = (any_none code).is s
@@ -190,12 +191,12 @@ module _ (code : Code) (bare : ClassesAskNothing code) (id : ℕ) where
     unfolding access_ops left_by_access step asked with_left
     access_runs object (Field k) s =
         runs_less code (ops object ++ GET id ∷ []) s _ _ (one_less (left object) (λ a. Unknown) (λ t. Unknown) s (λ a. refl))
-        (behind (ops object) (GET id) s (with_left (left object) s) (parts object s) (less_nothing _))
+        (behind (ops object) (GET id) s (with_left (left object) s) (parts object s) (less_nothing _) (λ r. tt))
     access_runs object Length s =
         runs_less code (ops object ++ LENGTH id ∷ []) s _ _
         (one_less (left object) (λ a. Unknown) (λ t. Unknown) s (λ a. refl))
-        (behind (ops object) (LENGTH id) s (with_left (left object) s) (parts object s) (less_nothing _))
-    access_runs object (Static k) s = runs_op code (GETSTATIC id) s (less_nothing s)
+        (behind (ops object) (LENGTH id) s (with_left (left object) s) (parts object s) (less_nothing _) (λ r. tt))
+    access_runs object (Static k) s = runs_op code (GETSTATIC id) s (less_nothing s) (λ r. tt)
     access_runs object Plain s = (any_none code).is s
     access_runs object (Local k) s = (any_none code).is s
     access_runs object (ClassNamed class) s = (any_none code).is s
@@ -212,7 +213,7 @@ module _ (code : Code) (bare : ClassesAskNothing code) (id : ℕ) where
         (two_less (left array) (left index) (λ a b. Unknown) (λ t. Unknown) s (λ a b. refl))
         (runs_then code (ops array) (ops index ++ ELEM id ∷ []) s (with_left (left array) s) _ (parts array s)
         (behind (ops index) (ELEM id) (with_left (left array) s) (with_left (left index) (with_left (left array) s))
-        (parts index (with_left (left array) s)) (less_nothing _)))
+        (parts index (with_left (left array) s)) (less_nothing _) (λ r. tt)))
 
     unary_runs : (operator operand : ℕ) → part code operator_of id ≡ Some operator → (s : Stack) →
         Runs code (ops operand ++ UNARY id ∷ []) s (with_left (in_place_of (left operand) (unary_known operator)) s)
@@ -221,7 +222,7 @@ module _ (code : Code) (bare : ClassesAskNothing code) (id : ℕ) where
         runs_less code (ops operand ++ UNARY id ∷ []) s _ _
         (one_less (left operand) (unary_known operator) (λ t. unary_by (part code operator_of id) (t 0)) s
         (λ a. sym (ap (λ (o : Option ℕ). unary_by o a) e)))
-        (behind (ops operand) (UNARY id) s (with_left (left operand) s) (parts operand s) (less_nothing _))
+        (behind (ops operand) (UNARY id) s (with_left (left operand) s) (parts operand s) (less_nothing _) (λ r. tt))
 
     new_array_runs : (size : ℕ) → part code array_length id ≡ Some size → (s : Stack) →
         Runs code (ops size ++ ALLOCARRAY id ∷ []) s (with_left (in_place_of (left size) (λ a. Object)) s)
@@ -231,7 +232,7 @@ module _ (code : Code) (bare : ClassesAskNothing code) (id : ℕ) where
         (one_less (left size) (λ a. Object) (λ t. Object) s (λ a. refl))
         (behind (ops size) (ALLOCARRAY id) s (with_left (left size) s) (parts size s)
         (subst (λ (o : Option ℕ). Less (with_left (part_left code id o) nothing) (with_left (left size) s)) (sym e)
-        (less_left (left size) nothing s (less_nothing s))))
+        (less_left (left size) nothing s (less_nothing s))) (λ r. tt))
 
     cast_runs : (operand : ℕ) (s : Stack) →
         Runs code (ops operand ++ CAST id ∷ []) s (with_left (in_place_of (left operand) (λ a. Unknown)) s)
@@ -239,11 +240,11 @@ module _ (code : Code) (bare : ClassesAskNothing code) (id : ℕ) where
     cast_runs operand s =
         runs_less code (ops operand ++ CAST id ∷ []) s _ _
         (one_less (left operand) (λ a. Unknown) (λ t. Unknown) s (λ a. refl))
-        (behind (ops operand) (CAST id) s (with_left (left operand) s) (parts operand s) (less_nothing _))
+        (behind (ops operand) (CAST id) s (with_left (left operand) s) (parts operand s) (less_nothing _) (λ r. tt))
 
     literal_runs : (s : Stack) → Runs code (PUSH id ∷ []) s (step code (PUSH id) s)
     unfolding asked
-    literal_runs s = runs_op code (PUSH id) s (less_nothing s)
+    literal_runs s = runs_op code (PUSH id) s (less_nothing s) (λ r. tt)
 
     -- ---- operators on two operands
 
@@ -262,7 +263,7 @@ module _ (code : Code) (bare : ClassesAskNothing code) (id : ℕ) where
           runs_less code (ops l ++ AND id ∷ []) s _ _
           (subst (λ (o : Option ℕ). Less (target s) (behind_right (part_left code id o) (with_left (left l) s)))
           (sym is_right) (short_less (left l) (left r) (operator_known operator) s (conditional e)))
-          (behind (ops l) (AND id) s (with_left (left l) s) (parts l s) (less_nothing _))
+          (behind (ops l) (AND id) s (with_left (left l) s) (parts l s) (less_nothing _) (λ r. tt))
 
       or_runs : is_conditional operator ≡ true → (s : Stack) → Runs code (ops l ++ OR id ∷ []) s (target s)
       unfolding step asked
@@ -270,7 +271,7 @@ module _ (code : Code) (bare : ClassesAskNothing code) (id : ℕ) where
           runs_less code (ops l ++ OR id ∷ []) s _ _
           (subst (λ (o : Option ℕ). Less (target s) (behind_right (part_left code id o) (with_left (left l) s)))
           (sym is_right) (short_less (left l) (left r) (operator_known operator) s (conditional e)))
-          (behind (ops l) (OR id) s (with_left (left l) s) (parts l s) (less_nothing _))
+          (behind (ops l) (OR id) s (with_left (left l) s) (parts l s) (less_nothing _) (λ r. tt))
 
       plain : is_conditional operator ≡ false → (a b : Known) → operator_known operator a b ≡ binary_known operator a b
       unfolding operator_known
@@ -289,7 +290,7 @@ module _ (code : Code) (bare : ClassesAskNothing code) (id : ℕ) where
           (parts r (with_left (left l) s))
           (subst (λ (o : Option ℕ). Less (with_left (part_left code id o) nothing)
           (with_left (left r) (with_left (left l) s))) (sym is_right)
-          (less_left (left r) nothing (with_left (left l) s) (less_nothing _)))))
+          (less_left (left r) nothing (with_left (left l) s) (less_nothing _))) (λ r. tt)))
 
       binary_runs : (s : Stack) → Runs code (binary_ops ops id operator l r) s (target s)
       unfolding binary_ops
@@ -306,35 +307,36 @@ module _ (code : Code) (bare : ClassesAskNothing code) (id : ℕ) where
     -- ---- new objects
 
     object_runs : (arguments : List ℕ) (class : ℕ) → part code argument_count id ≡ Some (length arguments) →
-        (s : Stack) →
+        part code made_with id ≡ Some arguments → (s : Stack) →
         Runs code ((ALLOC id ∷ flat_map ops arguments) ++ CONSTRUCT id ∷ []) s
         (with_left (if all_leave_one left arguments then One Object else Forgets) s)
     unfolding step asked with_left
-    object_runs arguments class e s = go (all_leave_one left arguments) refl
+    object_runs arguments class e are s = go (all_leave_one left arguments) refl
       where
-        made : Runs code (ALLOC id ∷ flat_map ops arguments) s (with_all left arguments (put Object s))
-        made =
-            runs_then code (ALLOC id ∷ []) (flat_map ops arguments) s (put Object s)
-            (with_all left arguments (put Object s)) (runs_op code (ALLOC id) s (less_nothing s))
-            (all_run arguments (put Object s))
+        -- the object is there again, as it was
+        again : Stack
+        again = put Object (taken (dropped (length arguments) (with_all left arguments (put Object s))))
+
+        built : Runs code (flat_map ops arguments ++ CONSTRUCT id ∷ []) (put Object s)
+            (put Object (taken (dropped (length arguments) (with_all left arguments (put Object s)))))
+        built =
+            subst (λ (o : Option ℕ). Runs code (flat_map ops arguments ++ CONSTRUCT id ∷ []) (put Object s)
+            (behind_arguments o (with_all left arguments (put Object s)))) e
+            (behind (flat_map ops arguments) (CONSTRUCT id) (put Object s) (with_all left arguments (put Object s))
+            (all_run arguments (put Object s)) (less_nothing (with_all left arguments (put Object s))) (λ r. tt))
 
         all : Runs code ((ALLOC id ∷ flat_map ops arguments) ++ CONSTRUCT id ∷ []) s
-            (dropped (length arguments) (with_all left arguments (put Object s)))
-        all =
-            subst (λ (o : Option ℕ). Runs code ((ALLOC id ∷ flat_map ops arguments) ++ CONSTRUCT id ∷ []) s
-            (behind_arguments o (with_all left arguments (put Object s)))) e
-            (behind (ALLOC id ∷ flat_map ops arguments) (CONSTRUCT id) s (with_all left arguments (put Object s)) made
-            (less_nothing (with_all left arguments (put Object s))))
+            (put Object (taken (dropped (length arguments) (with_all left arguments (put Object s)))))
+        all = runs_new code id arguments s again are (less_nothing s) built
 
         go : (b : Bool) → all_leave_one left arguments ≡ b →
             Runs code ((ALLOC id ∷ flat_map ops arguments) ++ CONSTRUCT id ∷ []) s
             (with_left (if b then One Object else Forgets) s)
         go true k =
             subst (λ (t : Stack). Runs code ((ALLOC id ∷ flat_map ops arguments) ++ CONSTRUCT id ∷ []) s t)
-            (all_dropped left arguments (put Object s) k) all
+            (ap (λ (t : Stack). put Object (taken t)) (all_dropped left arguments (put Object s) k)) all
         go false k =
-            runs_less code ((ALLOC id ∷ flat_map ops arguments) ++ CONSTRUCT id ∷ []) s nothing
-            (dropped (length arguments) (with_all left arguments (put Object s))) (less_nothing _) all
+            runs_less code ((ALLOC id ∷ flat_map ops arguments) ++ CONSTRUCT id ∷ []) s nothing again (less_nothing _) all
 
     part_runs : (arguments : List ℕ) (s : Stack) →
         Runs code (flat_map ops arguments) s (with_left (left_by_part left arguments) s)
@@ -343,23 +345,23 @@ module _ (code : Code) (bare : ClassesAskNothing code) (id : ℕ) where
         (part_less left arguments s) (all_run arguments s)
 
     new_runs : (arguments : List ℕ) (b : Binding) → part code argument_count id ≡ Some (length arguments) →
-        (s : Stack) → Runs code (new_ops ops id arguments b) s (with_left (left_by_new left arguments b) s)
+        part code made_with id ≡ Some arguments → (s : Stack) → Runs code (new_ops ops id arguments b) s (with_left (left_by_new left arguments b) s)
     unfolding new_ops left_by_new
-    new_runs arguments (ClassNamed class) e s = object_runs arguments class e s
-    new_runs arguments Plain e s = part_runs arguments s
-    new_runs arguments (Local k) e s = part_runs arguments s
-    new_runs arguments (Field k) e s = part_runs arguments s
-    new_runs arguments (Static k) e s = part_runs arguments s
-    new_runs arguments Length e s = part_runs arguments s
-    new_runs arguments (Method t) e s = part_runs arguments s
-    new_runs arguments (StaticMethod t) e s = part_runs arguments s
-    new_runs arguments (Builtin t) e s = part_runs arguments s
+    new_runs arguments (ClassNamed class) e are s = object_runs arguments class e are s
+    new_runs arguments Plain e are s = part_runs arguments s
+    new_runs arguments (Local k) e are s = part_runs arguments s
+    new_runs arguments (Field k) e are s = part_runs arguments s
+    new_runs arguments (Static k) e are s = part_runs arguments s
+    new_runs arguments Length e are s = part_runs arguments s
+    new_runs arguments (Method t) e are s = part_runs arguments s
+    new_runs arguments (StaticMethod t) e are s = part_runs arguments s
+    new_runs arguments (Builtin t) e are s = part_runs arguments s
 
     -- ---- calls
 
     any_receiver : (object : Option ℕ) → Any code (receiver_ops ops id object)
     unfolding receiver_ops asked
-    any_receiver None = any_op code (THIS id) refl
+    any_receiver None = any_op code (THIS id) refl (λ r. tt)
     any_receiver (Some x) = any_part x
 
     module _ (object : Option ℕ) (arguments : List ℕ) (are : part code arguments_of id ≡ Some arguments) where
@@ -371,23 +373,23 @@ module _ (code : Code) (bare : ClassesAskNothing code) (id : ℕ) where
       unfolding builtin_ops asked
       any_builtin method =
           any_if code (method == managed_memory_enter_private_memory) _ _
-          (any_asked (ENTER id) arguments (asks (ENTER id) refl))
+          (any_asked (ENTER id) arguments (asks (ENTER id) refl) (λ r. tt))
           (any_if code (method == managed_memory_execute_in_area_of) _ _
-          (any_behind (flat_map ops arguments) (EXECUTEIN id) (any_all arguments) refl)
+          (any_behind (flat_map ops arguments) (EXECUTEIN id) (any_all arguments) refl (λ r. tt))
           (any_if code (method == managed_memory_alloc_in_same) _ _
-          (any_behind (flat_map ops arguments) (SAME id) (any_all arguments) refl)
+          (any_behind (flat_map ops arguments) (SAME id) (any_all arguments) refl (λ r. tt))
           (any_if code (method == services_set_ceiling) _ _
-          (any_asked (SETCEILING id) arguments (asks (SETCEILING id) refl))
+          (any_asked (SETCEILING id) arguments (asks (SETCEILING id) refl) (λ r. tt))
           (any_if code (method == trace_print) _ _
-          (any_behind (flat_map ops arguments) (PRINT id) (any_all arguments) refl)
+          (any_behind (flat_map ops arguments) (PRINT id) (any_all arguments) refl (λ r. tt))
           (any_if code (method == device_read) _ _
-          (any_asked (READ id) arguments (asks (READ id) refl))
+          (any_asked (READ id) arguments (asks (READ id) refl) (λ r. tt))
           (any_if code (method == mission_request_termination) _ _
-          (any_behind (receiver_ops ops id object) (TERMINATE id) (any_receiver object) refl)
+          (any_behind (receiver_ops ops id object) (TERMINATE id) (any_receiver object) refl (λ r. tt))
           (any_if code (method == aperiodic_handler_release) _ _
-          (any_behind (receiver_ops ops id object) (RELEASE id) (any_receiver object) refl)
+          (any_behind (receiver_ops ops id object) (RELEASE id) (any_receiver object) refl (λ r. tt))
           (any_if code (is_among method (periodic_handler_register ∷ aperiodic_handler_register ∷ [])) _ _
-          (any_behind (receiver_ops ops id object) (REGISTER id) (any_receiver object) refl) (any_none code)))))))))
+          (any_behind (receiver_ops ops id object) (REGISTER id) (any_receiver object) refl (λ r. tt)) (any_none code)))))))))
 
       read_less : (xs : List ℕ) (s : Stack) → Less (with_left (left_by_read left xs) s) (put Unknown (taken (with_all left xs s)))
       unfolding left_by_read with_left
@@ -401,7 +403,7 @@ module _ (code : Code) (bare : ClassesAskNothing code) (id : ℕ) where
       read_runs s =
           runs_less code (flat_map ops arguments ++ READ id ∷ []) s (with_left (left_by_read left arguments) s)
           (put Unknown (taken (with_all left arguments s))) (read_less arguments s)
-          (asked_behind (READ id) arguments (asks (READ id) refl) s)
+          (asked_behind (READ id) arguments (asks (READ id) refl) (λ r. tt) s)
 
       same_less : (xs : List ℕ) (s : Stack) →
           Less (with_left (left_by_same left xs) s) (put Unknown (taken (taken (with_all left xs s))))
@@ -418,7 +420,7 @@ module _ (code : Code) (bare : ClassesAskNothing code) (id : ℕ) where
           runs_less code (flat_map ops arguments ++ SAME id ∷ []) s (with_left (left_by_same left arguments) s)
           (put Unknown (taken (taken (with_all left arguments s)))) (same_less arguments s)
           (behind (flat_map ops arguments) (SAME id) s (with_all left arguments s) (all_run arguments s)
-          (less_nothing _))
+          (less_nothing _) (λ r. tt))
 
       builtin_runs : (method : ℕ) (s : Stack) →
           Runs code (builtin_ops ops id object arguments method) s (with_left (left_by_builtin left arguments method) s)
@@ -446,7 +448,7 @@ module _ (code : Code) (bare : ClassesAskNothing code) (id : ℕ) where
 
       receiver_runs : (o : Option ℕ) (s : Stack) → Runs code (receiver_ops ops id o) s (behind_receiver o s)
       unfolding receiver_ops step asked
-      receiver_runs None s = runs_op code (THIS id) s (less_nothing s)
+      receiver_runs None s = runs_op code (THIS id) s (less_nothing s) (λ r. tt)
       receiver_runs (Some x) s = parts x s
 
       static_less : (gives : Bool) (s : Stack) →
@@ -500,7 +502,7 @@ module _ (code : Code) (bare : ClassesAskNothing code) (id : ℕ) where
             (with_left (left_by_method left arguments t.gives) s)
             (step code (CALLSTATIC id) (with_all left arguments s)) less
             (behind (flat_map ops arguments) (CALLSTATIC id) s (with_all left arguments s) (all_run arguments s)
-            (less_nothing _))
+            (less_nothing _) (λ r. tt))
           where
             told : Stack
             told = with_left (left_by_method left arguments t.gives) s
@@ -526,7 +528,7 @@ module _ (code : Code) (bare : ClassesAskNothing code) (id : ℕ) where
             (receiver_runs object s)
             (behind (flat_map ops arguments) (CALL id) (behind_receiver object s)
             (with_all left arguments (behind_receiver object s)) (all_run arguments (behind_receiver object s))
-            (less_nothing _)))
+            (less_nothing _) (λ r. tt)))
           where
             told : Stack
             told = with_left (left_by_method left arguments (t.gives && leaves_receiver left object)) s
@@ -562,11 +564,11 @@ module _ (code : Code) (bare : ClassesAskNothing code) (id : ℕ) where
     any_super node arguments l (ClassNamed superclass) =
         any_if code (is_user_class superclass) _ _
         (any_behind (THIS node ∷ flat_map ops arguments) (SUPER node)
-        (any_then code (THIS node ∷ []) (flat_map ops arguments) (any_op code (THIS node) refl) (any_all arguments)) refl)
+        (any_then code (THIS node ∷ []) (flat_map ops arguments) (any_op code (THIS node) refl (λ r. tt)) (any_all arguments)) refl (λ r. tt))
         (any_if code (has_form superclass) _ _
         (any_of code (flat_map ops arguments ++ PARAMS node ∷ []) (λ s. (
           step code (PARAMS node) (with_all left arguments s),
-          behind (flat_map ops arguments) (PARAMS node) s (with_all left arguments s) (all_run arguments s) (l s),
+          behind (flat_map ops arguments) (PARAMS node) s (with_all left arguments s) (all_run arguments s) (l s) (λ r. tt),
         ))) (any_none code))
     any_super node arguments l Plain = any_none code
     any_super node arguments l (Local k) = any_none code
@@ -601,7 +603,7 @@ module _ (code : Code) (bare : ClassesAskNothing code) (id : ℕ) where
     unfolding asked
     any_literals [] = any_none code
     any_literals (f ∷ fs) =
-        any_then code (INIT f.node ∷ []) (map (λ (f : Declared). INIT f.node) fs) (any_op code (INIT f.node) refl)
+        any_then code (INIT f.node ∷ []) (map (λ (f : Declared). INIT f.node) fs) (any_op code (INIT f.node) refl (λ r. tt))
         (any_literals fs)
 
     any_first : (super_call : Option ℕ) (class : ℕ) →
@@ -626,24 +628,24 @@ module _ (code : Code) (bare : ClassesAskNothing code) (id : ℕ) where
         go (Some class) =
             any_then code _ _ (any_first super_call class)
             (any_then code _ _ (any_literals (fields_with_literal code.program class))
-            (any_behind body LEAVE a refl))
+            (any_behind body LEAVE a refl (λ r. tt)))
 
     -- ---- statements
 
     any_assign : (value : ℕ) (b : Binding) (target : Node) → Any code (assign_ops ops id value b target)
     unfolding assign_ops asked
-    any_assign value (Local k) (SimpleName place name) = any_behind (ops value) (STORE id) (any_part value) refl
+    any_assign value (Local k) (SimpleName place name) = any_behind (ops value) (STORE id) (any_part value) refl (λ r. tt)
     any_assign value (Field k) (SimpleName place name) =
         any_behind (THIS id ∷ ops value) (PUT id)
-        (any_then code (THIS id ∷ []) (ops value) (any_op code (THIS id) refl) (any_part value)) refl
+        (any_then code (THIS id ∷ []) (ops value) (any_op code (THIS id) refl (λ r. tt)) (any_part value)) refl (λ r. tt)
     any_assign value (Field k) (FieldAccess place name object) =
         any_then code (ops object) (ops value ++ PUT id ∷ []) (any_part object)
-        (any_behind (ops value) (PUT id) (any_part value) refl)
-    any_assign value (Static k) target = any_behind (ops value) (PUTSTATIC id) (any_part value) refl
+        (any_behind (ops value) (PUT id) (any_part value) refl (λ r. tt))
+    any_assign value (Static k) target = any_behind (ops value) (PUTSTATIC id) (any_part value) refl (λ r. tt)
     any_assign value b (Element place array index) =
         any_then code (ops array) (ops index ++ (ops value ++ PUTELEM id ∷ [])) (any_part array)
         (any_then code (ops index) (ops value ++ PUTELEM id ∷ []) (any_part index)
-        (any_behind (ops value) (PUTELEM id) (any_part value) refl))
+        (any_behind (ops value) (PUTELEM id) (any_part value) refl (λ r. tt)))
     any_assign value b target = any_none code
 
     any_assignment : (target value : ℕ) (o : Option Node) →
@@ -654,22 +656,22 @@ module _ (code : Code) (bare : ClassesAskNothing code) (id : ℕ) where
 
     any_return : (value : Option ℕ) → Any code (return_ops ops id value)
     unfolding return_ops asked
-    any_return None = any_op code LEAVE refl
-    any_return (Some value) = any_behind (ops value) (LEAVEWITH id) (any_part value) refl
+    any_return None = any_op code LEAVE refl (λ r. tt)
+    any_return (Some value) = any_behind (ops value) (LEAVEWITH id) (any_part value) refl (λ r. tt)
 
     any_method : (result_type : ℕ) (body : Option ℕ) → Any code (method_ops code ops result_type body)
     unfolding method_ops asked
     any_method result_type None = any_none code
     any_method result_type (Some body) =
         any_if code (is_same_type (type_at code.program.nodes result_type) void_type) _ _
-        (any_behind (ops body) LEAVE (any_part body) refl) (any_part body)
+        (any_behind (ops body) LEAVE (any_part body) refl (λ r. tt)) (any_part body)
 
     any_statement : (expression : ℕ) →
         Any code (ops expression ++ (if leaves_value (binding code expression) then DROP id ∷ [] else []))
     unfolding asked
     any_statement expression =
         any_then code (ops expression) _ (any_part expression)
-        (any_if code (leaves_value (binding code expression)) (DROP id ∷ []) [] (any_op code (DROP id) refl) (any_none code))
+        (any_if code (leaves_value (binding code expression)) (DROP id ∷ []) [] (any_op code (DROP id) refl (λ r. tt)) (any_none code))
 
     -- ---- all of them
 
@@ -679,12 +681,12 @@ module _ (code : Code) (bare : ClassesAskNothing code) (id : ℕ) where
 
     node_runs : (node : Node) → slice_get code.program.nodes id ≡ Some node → (s : Stack) →
         Runs code (node_ops code ops id node) s (with_left (left_by_node code left id node) s)
-    unfolding node_ops left_by_node step asked with_left operator_of right_operand array_length arguments_of argument_count
+    unfolding node_ops left_by_node step asked with_left operator_of right_operand array_length arguments_of argument_count made_with
     node_runs (Number place value is_negative) there s = literal_runs s
     node_runs (True place) there s = literal_runs s
     node_runs (False place) there s = literal_runs s
     node_runs (Null place) there s = literal_runs s
-    node_runs (This place) there s = runs_op code (THIS id) s (less_nothing s)
+    node_runs (This place) there s = runs_op code (THIS id) s (less_nothing s) (λ r. tt)
     node_runs (SimpleName place name) there s = name_runs (binding code id) s
     node_runs (FieldAccess place name object) there s = access_runs object (binding code id) s
     node_runs (Element place array index) there s = element_runs array index s
@@ -695,27 +697,28 @@ module _ (code : Code) (bare : ClassesAskNothing code) (id : ℕ) where
         binary_runs operator l r (read_part (Binary place operator l r) there operator_of)
         (read_part (Binary place operator l r) there right_operand) s
     node_runs (New place name_place name arguments) there s =
-        new_runs arguments (binding code id) (read_part (New place name_place name arguments) there argument_count) s
+        new_runs arguments (binding code id) (read_part (New place name_place name arguments) there argument_count)
+        (read_part (New place name_place name arguments) there made_with) s
     node_runs (NewArray place element size) there s =
         new_array_runs size (read_part (NewArray place element size) there array_length) s
     node_runs (Call place name object arguments) there s =
         call_runs object arguments (read_part (Call place name object arguments) there arguments_of)
         (read_part (Call place name object arguments) there argument_count) (binding code id) refl s
     node_runs (Cast place name_place name operand) there s = cast_runs operand s
-    node_runs (LocalNode place name flags declared_type) there s = (any_op code (ZERO id) refl).is s
+    node_runs (LocalNode place name flags declared_type) there s = (any_op code (ZERO id) refl (λ r. tt)).is s
     node_runs (LocalWithValue place name_place name flags declared_type value) there s =
-        (any_behind (ops value) (STORE id) (any_part value) refl).is s
+        (any_behind (ops value) (STORE id) (any_part value) refl (λ r. tt)).is s
     node_runs (Assign place target value) there s =
         (any_assignment target value (slice_get code.program.nodes target)).is s
     node_runs (ExpressionStatement place expression) there s = (any_statement expression).is s
     node_runs (Block place statements) there s = (any_all statements).is s
     node_runs (If place condition then_part else_part) there s =
-        (any_behind (ops condition) (IF id) (any_part condition) refl).is s
+        (any_behind (ops condition) (IF id) (any_part condition) refl (λ r. tt)).is s
     node_runs (While place condition body) there s =
-        (any_behind (ops condition) (LOOP id) (any_part condition) refl).is s
+        (any_behind (ops condition) (LOOP id) (any_part condition) refl (λ r. tt)).is s
     node_runs (For place first condition step body) there s =
         (any_then code (ops first) (ops condition ++ LOOP id ∷ []) (any_part first)
-        (any_behind (ops condition) (LOOP id) (any_part condition) refl)).is s
+        (any_behind (ops condition) (LOOP id) (any_part condition) refl (λ r. tt))).is s
     node_runs (Return place value) there s = (any_return value).is s
     node_runs (MethodNode place name flags result_type parameters body) there s = (any_method result_type body).is s
     node_runs (SuperCall place arguments) there s =

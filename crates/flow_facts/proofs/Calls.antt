@@ -1,5 +1,5 @@
 -- Calls: the method that is called, and calls of users' methods on objects.
-use Rattle.std.proofs.Common.{◌≡◌, ℕ, List, sym, ap, ◌∙◌, subst, Option, Some, None, false, option_and_then, slice_get}
+use Rattle.std.proofs.Common.{◌≡◌, ℕ, List, sym, ap, ◌∙◌, subst, Option, Some, None, false, option_and_then, slice_get, refl}
 use Rattle.scj_base.specs.declared.places.Pos.{Pos}
 use Rattle.scj_tree.specs.declared.nodes.Node.TheVariants.{Call}
 use Rattle.scj_tree.specs.Forest.{Forest, IsForest}
@@ -114,6 +114,7 @@ module _ (forest : Forest) (accepted : IsAccepted forest) (whole : IsForest fore
         target = _;
         is = x.binding;
         class = x.class;
+        is_on = refl;
         scope = x.scope;
         receiver_is = receiver_of b c id object x.class x.scope x.receiver;
         static = signature x.taken (kind_given_by p f) x.runs;

@@ -1,25 +1,28 @@
 -- The calls of the framework that run a `run`: `enterPrivateMemory` and `executeInAreaOf`.
-use Rattle.std.proofs.Common.{◌≡◌, ℕ, ◌+◌, ◌≤◌, nat_lt, List, [], ◌∷◌, refl, sym, ap, ◌∙◌, subst, arith, Option, Some, None, Bool, true, false, not, true≢false, ◌⊎◌, inl, inr, option_map, is_some, slice_get}
+use Rattle.std.proofs.Common.{◌≡◌, ℕ, ◌+◌, ◌≤◌, nat_lt, List, [], ◌∷◌, refl, sym, ap, ◌∙◌, subst, arith, Option, Some, None, Bool, true, false, not, true≢false, ◌==◌, ◌⊎◌, inl, inr, option_map, is_some, slice_get}
+use Rattle.std.specs.Prelude.{if◌then◌else◌, unwrap_or}
 use Rattle.std.proofs.lemmas.Bool.Decides.{nat_tests}
 use Rattle.std.proofs.lemmas.Option.{slice_get_within}
 use Rattle.scj_base.specs.Bytes.{is_same}
 use Rattle.scj_base.specs.declared.places.Pos.{Pos}
-use Rattle.scj_builtins.specs.Framework.{framework_classes, object as object_class, object_name, runnable, runnable_name, managed_memory_enter_private_memory, managed_memory_execute_in_area_of}
+use Rattle.scj_builtins.specs.Framework.{framework_classes, object as object_class, object_name, runnable, runnable_name, managed_memory, managed_memory_enter_private_memory, managed_memory_execute_in_area_of}
 use Rattle.scj_tree.specs.declared.nodes.Node.TheVariants.{Call}
 use Rattle.scj_tree.specs.Forest.{Forest, IsForest}
+use Rattle.scj_rules.specs.declared.typing.Receiver.{Receiver}
 use Rattle.scj_rules.specs.declared.typing.Scope.{Scope}
 use Rattle.scj_rules.specs.declared.typing.Scope.TheVariants.{Any, Caller, In}
 use Rattle.scj_rules.specs.declared.typing.Ty.{Ty}
 use Rattle.scj_rules.specs.declared.typing.Ty.TheVariants.{Int, Bool as Boolean, Void, NullTy, Label, Class as ClassTy, IntArray, BoolArray, ClassArray}
 use Rattle.scj_rules.specs.declared.views.Declared.{Declared}
 use Rattle.scj_rules.specs.declared.views.WrittenType.TheVariants.{Class as class_type}
-use Rattle.scj_rules.specs.Words.{is_among, holds}
+use Rattle.scj_rules.specs.Words.{is_among, holds, ◌>>=◌}
 use Rattle.scj_rules.specs.CheckedProgram.{IsReadFromTexts}
 use Rattle.scj_rules.specs.Classes.{FoundMethod, first_user_class, is_user_class, class_names, class_number, superclasses, all_interfaces, is_sub}
 use Rattle.scj_rules.specs.Contexts.{Declarations, declarations_of}
 use Rattle.scj_rules.specs.ScopeRules.{defined_by_chain}
 use Rattle.scj_rules.specs.StaticScopes.{runs_in}
-use Rattle.scj_rules.specs.Types.{type_written, assigns, method_called}
+use Rattle.scj_rules.specs.Bindings.{class_of_type, second_class, called_on}
+use Rattle.scj_rules.specs.Types.{type_written, assigns, class_of_receiver, method_called}
 use Rattle.scj_rules.specs.TypeRules.{Types, declared_type_of}
 use Rattle.scj_rules.specs.UseRules.{run_of}
 use Rattle.scj_rules.specs.Phases.{IsAccepted}
@@ -191,15 +194,29 @@ module _ (forest : Forest) (accepted : IsAccepted forest) (whole : IsForest fore
           t ≡ ClassTy class
       class_of t k = kind_class t (scope_at_node p y) class s k
 
+  -- the class on which such a call is bound is that of the object
+  entered_on : (r : Receiver) (f : FoundMethod) (arguments : List ℕ) (x y class : ℕ) (s : Scope) (t : Ty) →
+      arguments ≡ x ∷ (y ∷ []) → types y ≡ Some t → Judged p y (Some (reference (ClassTy class) s)) →
+      f.on ≡ managed_memory → called_on types r f arguments ≡ class
+  unfolding Judged called_on second_class class_of_type
+  entered_on r f arguments x y class s t are typed j memory =
+      ap (called_on types r f) are
+      ∙ ap (λ (on : ℕ). if on == managed_memory then unwrap_or (types y >>= class_of_type) on
+      else (if f.method.declared.modifiers.is_static then on else unwrap_or (class_of_receiver r) on)) memory
+      ∙ ap (λ (o : Option Ty). unwrap_or (o >>= class_of_type) managed_memory)
+      (typed ∙ ap (λ (z : Ty). Some z) (kind_class t (scope_at_node p y) class s
+      (sym (ap (λ o. kind_of o (scope_at_node p y)) typed) ∙ j)))
+
   pub enter_fact : (b c : ℕ) (sig : Signature) (id : ℕ) (place : Pos) (name : List ℕ) (object : Option ℕ)
       (arguments : List ℕ) (f : FoundMethod) (d e : Declared) → IsBody p b c sig →
       slice_get forest.nodes id ≡ Some (Call place name object arguments) → Inside p b c id →
-      method_called p types id object name ≡ Some f → f.method.builtin ≡ Some managed_memory_enter_private_memory
-      → CallParts forest accepted whole sorted b c id name object arguments → declared_type_of p d ≡ Some Int →
+      method_called p types id object name ≡ Some f → f.method.builtin ≡ Some managed_memory_enter_private_memory →
+      (x : CallParts forest accepted whole sorted b c id name object arguments) → declared_type_of p d ≡ Some Int →
       e.declared_type ≡ class_type runnable_name → Two forest accepted whole sorted arguments d e →
-      EnterFact code b c sig id managed_memory_enter_private_memory arguments None
+      f.on ≡ managed_memory →
+      EnterFact code b c sig id managed_memory_enter_private_memory (called_on types x.r f arguments) arguments None
   unfolding code_of
-  enter_fact b c sig id place name object arguments f d e body there inside method number_is x int run h =
+  enter_fact b c sig id place name object arguments f d e body there inside method number_is x int run h memory =
       let x2 = enter_facts forest accepted whole sorted b c id h.first h.second place name object f
       (there ∙ ap (λ xs. Some (Call place name object xs)) h.are) inside method number_is in
       let now : x2.now ≡ sig.runs_in = is_current forest accepted whole sorted b c sig x2.now body x2.is_now in
@@ -215,6 +232,7 @@ module _ (forest : Forest) (accepted : IsAccepted forest) (whole : IsForest fore
             (first_among forest accepted whole sorted h.first (h.second ∷ []) arguments h.are) h.first_typed int
             h.first_taken;
         class = x2.class;
+        is_on = entered_on x.r f arguments h.first h.second x2.class x2.scope h.u h.are h.second_typed given.judged memory;
         scope = x2.scope;
         object_is = value_of p b c id h.second (reference (ClassTy x2.class) x2.scope) given;
         entered = x2.entered;
@@ -270,12 +288,13 @@ module _ (forest : Forest) (accepted : IsAccepted forest) (whole : IsForest fore
   pub execute_fact : (b c id : ℕ) (place : Pos) (name : List ℕ) (object : Option ℕ) (arguments : List ℕ)
       (f : FoundMethod) (d e : Declared) → slice_get forest.nodes id ≡ Some (Call place name object arguments) →
       Inside p b c id → method_called p types id object name ≡ Some f →
-      f.method.builtin ≡ Some managed_memory_execute_in_area_of
-      → CallParts forest accepted whole sorted b c id name object arguments → d.declared_type ≡ class_type object_name →
-      e.declared_type ≡ class_type runnable_name → Two forest accepted whole sorted arguments d e →
-      ExecuteInFact code b c id managed_memory_execute_in_area_of arguments None
+      f.method.builtin ≡ Some managed_memory_execute_in_area_of →
+      (x : CallParts forest accepted whole sorted b c id name object arguments) →
+      d.declared_type ≡ class_type object_name → e.declared_type ≡ class_type runnable_name →
+      Two forest accepted whole sorted arguments d e → f.on ≡ managed_memory →
+      ExecuteInFact code b c id managed_memory_execute_in_area_of (called_on types x.r f arguments) arguments None
   unfolding code_of
-  execute_fact b c id place name object arguments f d e there inside method number_is x any run h =
+  execute_fact b c id place name object arguments f d e there inside method number_is x any run h memory =
       let x2 = execute_facts forest accepted whole sorted b c id h.first h.second place name object f
       (there ∙ ap (λ xs. Some (Call place name object xs)) h.are) inside method number_is in
       let given = x2.object_is in
@@ -301,6 +320,7 @@ module _ (forest : Forest) (accepted : IsAccepted forest) (whole : IsForest fore
         area = area.0;
         place_is = subst (λ s. HasValue p b c id h.first (Some (reference place_at.type s))) there_is place_at.is;
         class = x2.class;
+        is_on = entered_on x.r f arguments h.first h.second x2.class x2.scope h.u h.are h.second_typed given.judged memory;
         scope = x2.scope;
         object_is = value_of p b c id h.second (reference (ClassTy x2.class) x2.scope) given;
         each = λ on under concrete. executed x2.class area.0 on x2.run x2.is_run area.2 sub under concrete;

@@ -17,7 +17,7 @@ use Rattle.scj_rules.specs.Contexts.{Declarations, declarations_of}
 use Rattle.scj_rules.specs.ScopeRules.{is_handler}
 use Rattle.scj_rules.specs.Types.{type_written, call_receiver, called_method, class_of_receiver, is_callable}
 use Rattle.scj_rules.specs.TypeRules.{Types, declared_type_of}
-use Rattle.scj_rules.specs.Bindings.{target, user_method_binding, method_binding, plain_or, binding_of}
+use Rattle.scj_rules.specs.Bindings.{called_on, target, user_method_binding, method_binding, plain_or, binding_of}
 use Rattle.scj_rules.specs.Phases.{IsAccepted}
 use Rattle.scj_rules.proofs.ChainLemmas.{or_cases, or_left, or_right, among-cases, same_number}
 use Rattle.accepted_laws.specs.Judgements.{type_at_node, binding_at_node, Inside, Judged}
@@ -160,49 +160,50 @@ module _ (forest : Forest) (accepted : IsAccepted forest) (whole : IsForest fore
 
   -- ---- all of them
 
-  abbrev Cases : ℕ → ℕ → Signature → ℕ → Option ℕ → List ℕ → FrameworkMethod → Option Kind → Type 0
-  Cases b c sig id object arguments row o = BuiltinCases code b c sig id object arguments row.number o
+  abbrev Cases : ℕ → ℕ → Signature → ℕ → Option ℕ → List ℕ → FrameworkMethod → ℕ → Option Kind → Type 0
+  Cases b c sig id object arguments row on o = BuiltinCases code b c sig id object arguments row.number on o
 
   by_row : (b c : ℕ) (sig : Signature) (id : ℕ) (name : List ℕ) (object : Option ℕ) (arguments : List ℕ)
       (f : FoundMethod) (row : FrameworkMethod) (o : Option Kind) → IsBody p b c sig → IsCalled row →
-      Called b c id name object arguments f row → Judged p id o → Cases b c sig id object arguments row o
+      (x : Called b c id name object arguments f row) → Judged p id o →
+      Cases b c sig id object arguments row (called_on types x.parts.r f arguments) o
   unfolding framework_method parameter_list parameter_written result_written type_written
   by_row b c sig id name object arguments f row o body terminates x j =
-      subst (Cases b c sig id object arguments row)
+      subst (Cases b c sig id object arguments row (called_on types x.parts.r f arguments))
       (sym (judged_once p id o None j (nothing_judged forest accepted whole sorted is_read id x.given)))
       (inr (inr (inr (inr (inr (inl (refl, (received b c id name object arguments f row x refl).1)))))))
   by_row b c sig id name object arguments f row o body releases x j =
-      subst (Cases b c sig id object arguments row)
+      subst (Cases b c sig id object arguments row (called_on types x.parts.r f arguments))
       (sym (judged_once p id o None j (nothing_judged forest accepted whole sorted is_read id x.given)))
       (inr (inr (inr (inr (inr (inr (inl (refl, (received b c id name object arguments f row x refl).1))))))))
   by_row b c sig id name object arguments f row o body registers_periodic x j =
-      subst (Cases b c sig id object arguments row)
+      subst (Cases b c sig id object arguments row (called_on types x.parts.r f arguments))
       (sym (judged_once p id o None j (nothing_judged forest accepted whole sorted is_read id x.given)))
       (inr
       (inr (inr (inr (inr (inr (inr
       (inl (inl refl, registered b c id name object arguments f row x refl (inl refl))))))))))
   by_row b c sig id name object arguments f row o body registers_aperiodic x j =
-      subst (Cases b c sig id object arguments row)
+      subst (Cases b c sig id object arguments row (called_on types x.parts.r f arguments))
       (sym (judged_once p id o None j (nothing_judged forest accepted whole sorted is_read id x.given)))
       (inr
       (inr (inr (inr (inr (inr (inr
       (inl (inr refl, registered b c id name object arguments f row x refl (inr refl))))))))))
   by_row b c sig id name object arguments f row o body enters x j =
       let k = two forest accepted whole sorted arguments _ _ x.taken in
-      subst (Cases b c sig id object arguments row)
+      subst (Cases b c sig id object arguments row (called_on types x.parts.r f arguments))
       (sym (judged_once p id o None j (nothing_judged forest accepted whole sorted is_read id x.given)))
       (inl (enter_fact forest accepted whole sorted is_read b c sig id x.place name object arguments f _ _ body x.stands
-      x.inside x.method (number_is forest accepted whole sorted is_read f row x.is) x.parts refl refl k))
+      x.inside x.method (number_is forest accepted whole sorted is_read f row x.is) x.parts refl refl k x.on))
   by_row b c sig id name object arguments f row o body executes x j =
       let k = two forest accepted whole sorted arguments _ _ x.taken in
-      subst (Cases b c sig id object arguments row)
+      subst (Cases b c sig id object arguments row (called_on types x.parts.r f arguments))
       (sym (judged_once p id o None j (nothing_judged forest accepted whole sorted is_read id x.given)))
       (inr (inl
       (execute_fact forest accepted whole sorted is_read b c id x.place name object arguments f _ _ x.stands
-      x.inside x.method (number_is forest accepted whole sorted is_read f row x.is) x.parts refl refl k)))
+      x.inside x.method (number_is forest accepted whole sorted is_read f row x.is) x.parts refl refl k x.on)))
   by_row b c sig id name object arguments f row o body sets_ceiling x j =
       let k = two forest accepted whole sorted arguments _ _ x.taken in
-      subst (Cases b c sig id object arguments row)
+      subst (Cases b c sig id object arguments row (called_on types x.parts.r f arguments))
       (sym (judged_once p id o None j (nothing_judged forest accepted whole sorted is_read id x.given)))
       (inr (inr
       (inl
@@ -210,7 +211,7 @@ module _ (forest : Forest) (accepted : IsAccepted forest) (whole : IsForest fore
       k))))
   by_row b c sig id name object arguments f row o body prints x j =
       let k = two forest accepted whole sorted arguments _ _ x.taken in
-      subst (Cases b c sig id object arguments row)
+      subst (Cases b c sig id object arguments row (called_on types x.parts.r f arguments))
       (sym (judged_once p id o None j (nothing_judged forest accepted whole sorted is_read id x.given)))
       (inr (inr
       (inr
@@ -218,7 +219,7 @@ module _ (forest : Forest) (accepted : IsAccepted forest) (whole : IsForest fore
       (print_case forest accepted whole sorted is_read b c id name object arguments _ _ x.parts refl refl k)))))
   by_row b c sig id name object arguments f row o body reads x j =
       let k = one forest accepted whole sorted arguments _ x.taken in
-      subst (Cases b c sig id object arguments row)
+      subst (Cases b c sig id object arguments row (called_on types x.parts.r f arguments))
       (sym (judged_once p id o (Some number) j (int_judged forest accepted whole sorted id x.given)))
       (inr (inr
       (inr
@@ -226,7 +227,7 @@ module _ (forest : Forest) (accepted : IsAccepted forest) (whole : IsForest fore
       (inl (read_case forest accepted whole sorted is_read b c id name object arguments _ x.parts refl k))))))
   by_row b c sig id name object arguments f row o body compares x j =
       let k = two forest accepted whole sorted arguments _ _ x.taken in
-      subst (Cases b c sig id object arguments row)
+      subst (Cases b c sig id object arguments row (called_on types x.parts.r f arguments))
       (sym (judged_once p id o (Some truth) j (boolean_judged forest accepted whole sorted id x.given)))
       (inr (inr
       (inr
@@ -299,6 +300,6 @@ module _ (forest : Forest) (accepted : IsAccepted forest) (whole : IsForest fore
       record {
         target = target types x.r f arguments n;
         is = builtin_bound id n place name object arguments f x.r there x.is_receiver m number_of;
-        cases = subst (λ n. BuiltinCases code b c sig id object arguments n o) same
+        cases = subst (λ n. BuiltinCases code b c sig id object arguments n (called_on types x.r f arguments) o) same
             (by_row b c sig id name object arguments f k.row o body is_called called j);
       }

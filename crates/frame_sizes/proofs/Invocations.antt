@@ -127,45 +127,45 @@ module _ (code : Code) (at : Place code) (o : Option Kind) where
       (arguments code at (x ∷ []) (number ∷ []) (h, tt) r.1 d (omega arith)))
       (alone code at (suc d) (H x) (omega arith) r.1.0) tt
 
-  pub framed : (object : Option ℕ) (xs : List ℕ) (m : ℕ) → AllRoomy code at (optional object) → AllRoomy code at xs → Roomy code at 0 →
-      BuiltinCases code b c sig id object xs m o → Framed object xs m
+  pub framed : (object : Option ℕ) (xs : List ℕ) (m on : ℕ) → AllRoomy code at (optional object) → AllRoomy code at xs → Roomy code at 0 →
+      BuiltinCases code b c sig id object xs m on o → Framed object xs m
   unfolding builtin_ops after
-  framed object xs m q r z (inl f) =
+  framed object xs m on q r z (inl f) =
       subst (λ k. Framed object xs k) (sym f.is_method)
       (subst (λ ys. Framed object ys managed_memory_enter_private_memory) (sym f.are)
       (done_void code at _ o f.is_given
       (of_two f.size f.object _ _ (ENTER id) (subst (AllRoomy code at) f.are r) f.size_is f.object_is tt)))
-  framed object xs m q r z (inr (inl f)) =
+  framed object xs m on q r z (inr (inl f)) =
       subst (λ k. Framed object xs k) (sym f.is_method)
       (subst (λ ys. Framed object ys managed_memory_execute_in_area_of) (sym f.are)
       (done_void code at _ o f.is_given
       (of_two f.place f.object _ _ (EXECUTEIN id) (subst (AllRoomy code at) f.are r) f.place_is f.object_is tt)))
-  framed object xs m q r z (inr (inr (inl f))) =
+  framed object xs m on q r z (inr (inr (inl f))) =
       subst (λ k. Framed object xs k) (sym f.is_method)
       (subst (λ ys. Framed object ys services_set_ceiling) (sym f.are)
       (done_void code at _ o f.is_given
       (of_two f.object f.ceiling _ _ (SETCEILING id) (subst (AllRoomy code at) f.are r) f.object_is f.ceiling_is tt)))
-  framed object xs m q r z (inr (inr (inr (inl f)))) =
+  framed object xs m on q r z (inr (inr (inr (inl f)))) =
       subst (λ k. Framed object xs k) (sym f.is_method)
       (subst (λ ys. Framed object ys trace_print) (sym f.are)
       (done_void code at _ o f.is_given
       (of_print f.label f.value f.place f.text f.is_smaller f.is_text (subst (AllRoomy code at) f.are r) f.value_is)))
-  framed object xs m q r z (inr (inr (inr (inr (inl f))))) =
+  framed object xs m on q r z (inr (inr (inr (inr (inl f))))) =
       subst (λ k. Framed object xs k) (sym f.is_method)
       (subst (λ ys. Framed object ys device_read) (sym f.are)
       (done code at _ o _ f.is_given (of_one f.port _ (READ id) (subst (AllRoomy code at) f.are r) f.port_is tt)))
-  framed object xs m q r z (inr (inr (inr (inr (inr (inl f)))))) =
+  framed object xs m on q r z (inr (inr (inr (inr (inr (inl f)))))) =
       subst (λ k. Framed object xs k) (sym f.0) (of_receiver object (TERMINATE id) q z f.1 tt refl)
-  framed object xs m q r z (inr (inr (inr (inr (inr (inr (inl f))))))) =
+  framed object xs m on q r z (inr (inr (inr (inr (inr (inr (inl f))))))) =
       subst (λ k. Framed object xs k) (sym f.0) (of_receiver object (RELEASE id) q z f.1 tt refl)
-  framed object xs m q r z (inr (inr (inr (inr (inr (inr (inr (inl f)))))))) = go f.0
+  framed object xs m on q r z (inr (inr (inr (inr (inr (inr (inr (inl f)))))))) = go f.0
     where
       go : (m ≡ periodic_handler_register) ⊎ (m ≡ aperiodic_handler_register) → Framed object xs m
       go (inl e) =
           subst (λ k. Framed object xs k) (sym e) (of_receiver object (REGISTER id) q z f.1.receiver tt refl)
       go (inr e) =
           subst (λ k. Framed object xs k) (sym e) (of_receiver object (REGISTER id) q z f.1.receiver tt refl)
-  framed object xs m q r z (inr (inr (inr (inr (inr (inr (inr (inr f)))))))) =
+  framed object xs m on q r z (inr (inr (inr (inr (inr (inr (inr (inr f)))))))) =
       subst (λ k. Framed object xs k) (sym f.is_method)
       (subst (λ ys. Framed object ys managed_memory_alloc_in_same) (sym f.are)
       (done code at _ o _ f.is_given
@@ -176,4 +176,4 @@ module _ (code : Code) (at : Place code) (o : Option Kind) where
   unfolding call_ops
   builtin_brings object xs q r z f =
       subst (λ (y : Binding). Brings code (call_ops sub id object xs y) d (with_kind o d)) (sym f.is)
-      (framed object xs f.target.id q r z f.cases)
+      (framed object xs f.target.id f.target.on q r z f.cases)

@@ -1,9 +1,12 @@
 -- The operations of each call flow, where those of the nodes before it do.
 use Rattle.std.specs.Prelude.{Option, Some, None, is_some, slice_get, flat_map}
 use Rattle.std.proofs.Common.{◌≡◌, ℕ, List, [], ◌∷◌, ◌++◌, refl, sym, ◌∙◌, ap, subst, ◌⊎◌, inl, inr}
+use Rattle.scj_base.specs.declared.places.Pos.{Pos}
 use Rattle.scj_tree.specs.declared.nodes.Node.{Node}
 use Rattle.scj_tree.specs.declared.nodes.Node.TheVariants.{Call}
 use Rattle.scj_rules.specs.declared.typing.Binding.{Binding}
+use Rattle.scj_rules.specs.declared.typing.Binding.TheVariants.{Method, Builtin}
+use Rattle.scj_rules.specs.declared.typing.Target.{Target}
 use Rattle.scj_rules.specs.declared.typing.Scope.{Scope}
 use Rattle.scj_rules.specs.declared.typing.Scope.TheVariants.{Any, In}
 use Rattle.scj_rules.specs.declared.typing.Ty.TheVariants.{Class as ClassTy}
@@ -11,6 +14,7 @@ use Rattle.scj_rules.specs.declared.views.Body.TheVariants.{Written}
 use Rattle.scj_rules.specs.Contexts.{known_variables}
 use Rattle.accepted_laws.specs.Kinds.{Kind, number, truth, reference, seen_option}
 use Rattle.accepted_laws.specs.Judgements.{Among, Judged}
+use Rattle.accepted_laws.proofs.Tools.{some_inj}
 use Rattle.scj_model.specs.declared.operations.Op.{Op}
 use Rattle.scj_model.specs.declared.operations.Op.TheVariants.{Call as CALL, CallStatic as CALLSTATIC, Enter as ENTER, ExecuteIn as EXECUTEIN, Same as SAME, SetCeiling as SETCEILING, Print as PRINT, Read as READ, Register as REGISTER, Release as RELEASE, Terminate as TERMINATE}
 use Rattle.scj_model.specs.Code.{Code, binding}
@@ -31,6 +35,16 @@ seen_is_some : (home now : Scope) (o : Option Kind) → is_some (seen_option hom
 unfolding seen_option
 seen_is_some home now None = refl
 seen_is_some home now (Some k) = refl
+
+-- a node stands for one method
+bound_target : Binding → Option Target
+bound_target (Method t) = Some t
+bound_target _ = None
+
+method_on : (t u : Target) → Method t ≡ Method u → t.on ≡ u.on
+unfolding bound_target
+method_on t u e =
+    (let same : t ≡ u = some_inj t u (ap bound_target e) in ap (λ (x : Target). x.on) same)
 
 module _ (code : Code) (b c : ℕ) (sig : Signature) (id : ℕ) (sub : ℕ → List Op) (hyp : FlowsBelow code b c sig id sub) (o : Option Kind) (j : Judged code.program id o) (ls : List ℕ) (am : Among (known_variables code.program id) ls) (os : List Op) (s : List Kind) (a : After code b c sig o ls os s) where
   abbrev F : List Op → List ℕ → List Kind → Type 0
@@ -82,6 +96,7 @@ module _ (code : Code) (b c : ℕ) (sig : Signature) (id : ℕ) (sub : ℕ → L
               ap (at_reading argument_count) there
               ∙ ap (λ n. Some n) (as_many code b c sig id sub hyp xs r.kinds r.arguments_are);
           class = r.class;
+          is_on = λ t e. method_on t r.target (sym e ∙ r.is) ∙ r.is_on;
           scope = r.scope;
           receiver = object;
           is_receiver = ap (at_reading receiver_of) there;
@@ -146,15 +161,25 @@ module _ (code : Code) (b c : ℕ) (sig : Signature) (id : ℕ) (sub : ℕ → L
       (join2 code b c sig id sub hyp (flat_map sub ys) (op ∷ []) os ls s
       (arguments code b c sig id sub hyp ys ks are ls am (op ∷ os) s h))
 
-  enter_flow : (xs : List ℕ) (method : ℕ) → EnterFact code b c sig id method xs o →
-      F ((flat_map sub xs ++ ENTER id ∷ []) ++ os) ls s
+  enter_flow : (place : Pos) (name : List ℕ) (object : Option ℕ) (xs : List ℕ) (t : Target) →
+      slice_get code.program.nodes id ≡ Some (Call place name object xs) → binding code id ≡ Builtin t →
+      EnterFact code b c sig id t.id t.on xs o → F ((flat_map sub xs ++ ENTER id ∷ []) ++ os) ls s
   unfolding pushed
-  enter_flow xs method r =
+  enter_flow place name object xs t there is r =
       with_arguments xs _ r.are (number ∷ (reference (ClassTy r.class) r.scope ∷ [])) (r.size_is, (r.object_is, tt)) (ENTER id)
       (λ ms m. record {
         out = s;
         needed = record {
+          place = place;
+          name = name;
+          object = object;
+          size = r.size;
+          runnable = r.object;
+          is_there = there ∙ ap (λ zs. Some (Call place name object zs)) r.are;
+          target = t;
+          is = is;
           class = r.class;
+          is_on = r.is_on;
           scope = r.scope;
           takes = refl;
           entered = r.entered;
@@ -162,20 +187,24 @@ module _ (code : Code) (b c : ℕ) (sig : Signature) (id : ℕ) (sub : ℕ → L
           is_parent = r.is_parent;
           now = r.now;
           each = r.each;
+          is_value = r.object_is;
         };
         goes = next None r.is_given ms m;
       })
 
-  execute_flow : (xs : List ℕ) (method : ℕ) → ExecuteInFact code b c id method xs o →
+  execute_flow : (xs : List ℕ) (t : Target) → binding code id ≡ Builtin t → ExecuteInFact code b c id t.id t.on xs o →
       F ((flat_map sub xs ++ EXECUTEIN id ∷ []) ++ os) ls s
   unfolding pushed
-  execute_flow xs method r =
+  execute_flow xs t is r =
       with_arguments xs _ r.are (reference r.type (In r.area) ∷ (reference (ClassTy r.class) r.scope ∷ []))
       (r.place_is, (r.object_is, tt)) (EXECUTEIN id)
       (λ ms m. record {
         out = s;
         needed = record {
+          target = t;
+          is = is;
           class = r.class;
+          is_on = r.is_on;
           scope = r.scope;
           type = r.type;
           area = r.area;
@@ -294,29 +323,29 @@ module _ (code : Code) (b c : ℕ) (sig : Signature) (id : ℕ) (sub : ℕ → L
       F (builtin_ops sub id object xs is ++ os) ls s → F (builtin_ops sub id object xs method ++ os) ls s
   by_method object xs method is e h = subst (λ x. F (builtin_ops sub id object xs x ++ os) ls s) (sym e) h
 
-  builtin_cases : (place : _) (name : List ℕ) (object : Option ℕ) (xs : List ℕ) (method : ℕ) →
-      slice_get code.program.nodes id ≡ Some (Call place name object xs) →
-      BuiltinCases code b c sig id object xs method o → F (builtin_ops sub id object xs method ++ os) ls s
+  builtin_cases : (place : _) (name : List ℕ) (object : Option ℕ) (xs : List ℕ) (t : Target) →
+      slice_get code.program.nodes id ≡ Some (Call place name object xs) → binding code id ≡ Builtin t →
+      BuiltinCases code b c sig id object xs t.id t.on o → F (builtin_ops sub id object xs t.id ++ os) ls s
   unfolding builtin_ops
-  builtin_cases place name object xs method there (inl r) = by_method object xs method _ r.is_method (enter_flow xs method r)
-  builtin_cases place name object xs method there (inr (inl r)) =
-      by_method object xs method _ r.is_method (execute_flow xs method r)
-  builtin_cases place name object xs method there (inr (inr (inl r))) =
-      by_method object xs method _ r.is_method (ceiling_flow xs method r)
-  builtin_cases place name object xs method there (inr (inr (inr (inl r)))) =
-      by_method object xs method _ r.is_method (print_flow place name object xs method there r)
-  builtin_cases place name object xs method there (inr (inr (inr (inr (inl r))))) =
-      by_method object xs method _ r.is_method (read_flow xs method r)
-  builtin_cases place name object xs method there (inr (inr (inr (inr (inr (inl r)))))) =
-      by_method object xs method _ r.0 (terminate_flow object r.1)
-  builtin_cases place name object xs method there (inr (inr (inr (inr (inr (inr (inl r))))))) =
-      by_method object xs method _ r.0 (release_flow object r.1)
-  builtin_cases place name object xs method there (inr (inr (inr (inr (inr (inr (inr (inl (inl e, r))))))))) =
-      by_method object xs method _ e (register_flow object r)
-  builtin_cases place name object xs method there (inr (inr (inr (inr (inr (inr (inr (inl (inr e, r))))))))) =
-      by_method object xs method _ e (register_flow object r)
-  builtin_cases place name object xs method there (inr (inr (inr (inr (inr (inr (inr (inr r)))))))) =
-      by_method object xs method _ r.is_method (same_flow xs method r)
+  builtin_cases place name object xs t there is (inl r) = by_method object xs t.id _ r.is_method (enter_flow place name object xs t there is r)
+  builtin_cases place name object xs t there is (inr (inl r)) =
+      by_method object xs t.id _ r.is_method (execute_flow xs t is r)
+  builtin_cases place name object xs t there is (inr (inr (inl r))) =
+      by_method object xs t.id _ r.is_method (ceiling_flow xs t.id r)
+  builtin_cases place name object xs t there is (inr (inr (inr (inl r)))) =
+      by_method object xs t.id _ r.is_method (print_flow place name object xs t.id there r)
+  builtin_cases place name object xs t there is (inr (inr (inr (inr (inl r))))) =
+      by_method object xs t.id _ r.is_method (read_flow xs t.id r)
+  builtin_cases place name object xs t there is (inr (inr (inr (inr (inr (inl r)))))) =
+      by_method object xs t.id _ r.0 (terminate_flow object r.1)
+  builtin_cases place name object xs t there is (inr (inr (inr (inr (inr (inr (inl r))))))) =
+      by_method object xs t.id _ r.0 (release_flow object r.1)
+  builtin_cases place name object xs t there is (inr (inr (inr (inr (inr (inr (inr (inl (inl e, r))))))))) =
+      by_method object xs t.id _ e (register_flow object r)
+  builtin_cases place name object xs t there is (inr (inr (inr (inr (inr (inr (inr (inl (inr e, r))))))))) =
+      by_method object xs t.id _ e (register_flow object r)
+  builtin_cases place name object xs t there is (inr (inr (inr (inr (inr (inr (inr (inr r)))))))) =
+      by_method object xs t.id _ r.is_method (same_flow xs t.id r)
 
   pub call_flow : (place : _) (name : List ℕ) (object : Option ℕ) (xs : List ℕ) →
       slice_get code.program.nodes id ≡ Some (Call place name object xs) →
@@ -326,4 +355,4 @@ module _ (code : Code) (b c : ℕ) (sig : Signature) (id : ℕ) (sub : ℕ → L
   call_flow place name object xs there (inl r) = method_flow place name object xs there r
   call_flow place name object xs there (inr (inl r)) = static_flow place name object xs there r
   call_flow place name object xs there (inr (inr r)) =
-      by_binding (call_ops sub id object xs) _ r.is (builtin_cases place name object xs r.target.id there r.cases)
+      by_binding (call_ops sub id object xs) _ r.is (builtin_cases place name object xs r.target there r.is r.cases)

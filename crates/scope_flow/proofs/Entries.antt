@@ -1,6 +1,7 @@
 -- The operations of every body flow from its beginning, where its parameters are set.
-use Rattle.std.specs.Prelude.{Option, Some, None, slice_get, flat_map, map, ◌+◌, if◌then◌else◌}
+use Rattle.std.specs.Prelude.{Option, Some, None, slice_get, flat_map, map, ◌+◌, ◌==◌, ◌⊎◌, if◌then◌else◌}
 use Rattle.std.proofs.Common.{◌≡◌, ℕ, zero, suc, List, [], ◌∷◌, ◌++◌, Bool, true, false, refl, sym, ◌∙◌, ap, subst, arith, append_assoc, append-nil, true≢false, length, inl, inr}
+use Rattle.scj_builtins.specs.Framework.{periodic_handler}
 use Rattle.scj_tree.specs.declared.nodes.Node.{Node}
 use Rattle.scj_tree.specs.declared.nodes.Node.TheVariants.{Class, Method as MethodNode, Constructor, New}
 use Rattle.scj_tree.specs.Recursion.{below}
@@ -26,7 +27,7 @@ use Rattle.scj_model.specs.Ops.{node_ops, new_ops, super_ops, unwritten_super_op
 use Rattle.scj_model.specs.Operations.{bound_class, argument_count, super_count}
 use Rattle.scope_flow.specs.Signatures.{Signature, IsBody, parameters_of}
 use Rattle.scope_flow.specs.Flow.{Flow}
-use Rattle.scope_flow.specs.Needs.{pushed, stacked, numbers, parameter_count}
+use Rattle.scope_flow.specs.Needs.{pushed, stacked, numbers, parameter_count, super_call_of, IsSuperCall}
 use Rattle.scope_flow.specs.Facts.{Facts, AreSmaller, Numbers, one_number, form_part, AllNumbers, no_numbers, more_numbers, SuperCallFact, FormFact, SuperFact, WrittenSuperFact, UnwrittenSuperFact, OptionSuperFact, LiteralFacts, BodyFact, ConstructorFact, MethodFact, EntryFact}
 use Rattle.scope_flow.specs.ValueFacts.{HasObject}
 use Rattle.scope_flow.proofs.Known.{below_lt, among_self, among_trans}
@@ -87,7 +88,11 @@ module _ (code : Code) (facts : Facts code) (b c : ℕ) (sig : Signature) (body 
 
   -- ---- the super part: it stands before the rest, at a node whose variables are set
 
-  module _ (own : HasObject code.program b c) (runs : sig.runs_in ≡ own.home) (id : ℕ) (xs : List ℕ) (count : super_count code id ≡ length xs) (ls : List ℕ) (am : Among (known_variables code.program id) ls) (os : List Op) (next : (ms : List ℕ) → Among ls ms → F os ms []) where
+  no_arguments : (known xs : List ℕ) (n : ℕ) → AllNumbers code b c known xs n → xs ≡ [] → n ≡ 0
+  no_arguments known _ _ no_numbers e = refl
+  no_arguments known _ _ (more_numbers one rest) e = absurd (cc (e))
+
+  module _ (own : HasObject code.program b c) (runs : sig.runs_in ≡ own.home) (id : ℕ) (xs : List ℕ) (count : super_count code id ≡ length xs) (ls : List ℕ) (am : Among (known_variables code.program id) ls) (call : (xs ≡ []) ⊎ IsSuperCall code.program b id) (os : List Op) (next : (ms : List ℕ) → Among ls ms → F os ms []) where
     abbrev before : FlowsBelow code b c sig id (ops_of code)
     before = all_flow code facts b c sig body id
 
@@ -115,18 +120,38 @@ module _ (code : Code) (facts : Facts code) (b c : ℕ) (sig : Signature) (body 
           goes = next ms m;
         }))
 
-    form_flow : (superclass : ℕ) → binding code id ≡ ClassNamed superclass → FormFact code b c id xs superclass →
-        F (with_arguments (PARAMS id) ++ os) ls []
+    -- a form has numbers, so it is written
+    is_written : (superclass : ℕ) →
+        AllNumbers code b c (known_variables code.program id) xs (parameter_count superclass) →
+        IsSuperCall code.program b id
+    unfolding parameter_count
+    is_written superclass r = by call
+      where
+        counts : (t : Bool) (n : ℕ) → n ≡ (if t then 6 else 2) → n ≡ 0 → ⊥
+        counts true n e z = omega (arith, e, z)
+        counts false n e z = omega (arith, e, z)
+
+        by : (xs ≡ []) ⊎ IsSuperCall code.program b id → IsSuperCall code.program b id
+        by (inl e) =
+            absurd (counts (superclass == periodic_handler) (parameter_count superclass) refl
+            (no_arguments (known_variables code.program id) xs (parameter_count superclass) r e))
+        by (inr c) = c
+
+    form_flow : (superclass : ℕ) → binding code id ≡ ClassNamed superclass → is_user_class superclass ≡ false →
+        has_form superclass ≡ true → FormFact code b c id xs superclass → F (with_arguments (PARAMS id) ++ os) ls []
     unfolding bound_class
-    form_flow superclass is r =
+    form_flow superclass is framework form r =
         join2 code b c sig id (ops_of code) before (flat_map (ops_of code) xs) (PARAMS id ∷ []) os ls []
         (all_numbers_flow (known_variables code.program id) xs (parameter_count superclass) r.are ls am (PARAMS id ∷ os) []
         (λ ms m. record {
           out = [];
           needed = record {
+            is_written = is_written superclass r.are;
             for_object = own.for_object;
             superclass = superclass;
             is = ap bound_class is;
+            framework = framework;
+            form = form;
             hidden = r.hidden;
             takes = refl;
           };
@@ -146,7 +171,7 @@ module _ (code : Code) (facts : Facts code) (b c : ℕ) (sig : Signature) (body 
             own_fresh code b c sig id (ops_of code) before own ls (with_arguments (SUPER id) ++ os) [] id
             (subst (λ s. F (with_arguments (SUPER id) ++ os) ls (fresh c s ∷ [])) runs
             (called_flow r.superclass r.is (r.user e)))
-        go false true e f = form_flow r.superclass r.is (r.form e f)
+        go false true e f = form_flow r.superclass r.is e f (r.form e f)
         go false false e f = next ls (among_self ls)
 
   -- the operations of a super part by those of its arguments
@@ -225,12 +250,21 @@ module _ (code : Code) (facts : Facts code) (b c : ℕ) (sig : Signature) (body 
     abbrev start : List ℕ
     start = parameters_of code.program b
 
-    written_flow : (call : ℕ) → WrittenSuperFact code b c sig call → F (sub call ++ rest) start []
+    written_flow : (call : ℕ) → super_call_of body.node ≡ Some call → WrittenSuperFact code b c sig call →
+        F (sub call ++ rest) start []
     unfolding argument_count
-    written_flow call r =
+    written_flow call is_call r =
         subst (λ ys. F (ys ++ rest) start [])
         (sym (below_lt [] b (ops_of code) call r.smaller ∙ written_ops call r))
-        (super_flow own runs call r.arguments count start r.known rest next r.super_fact)
+        (super_flow own runs call r.arguments count start r.known
+        (inr (record {
+          node = body.node;
+          is_body = body.is_there;
+          is_call = is_call;
+          place = r.place;
+          arguments = r.arguments;
+          is_there = r.is_there;
+        })) rest next r.super_fact)
       where
         count : super_count code call ≡ length r.arguments
         count =
@@ -248,18 +282,20 @@ module _ (code : Code) (facts : Facts code) (b c : ℕ) (sig : Signature) (body 
         go (Some node) e =
             subst (λ ys. F (ys ++ rest) start []) (sym (same_super node sub [] refl (binding code node)))
             (super_flow own runs node [] (r node e).count start
-            (λ v h. absurd (true≢false (sym ((r node e).known v h)))) rest next (r node e).super_fact)
+            (λ v h. absurd (true≢false (sym ((r node e).known v h)))) (inl refl) rest next (r node e).super_fact)
 
-    super_part_flow : (o : Option ℕ) → OptionSuperFact code b c sig o →
+    super_part_flow : (o : Option ℕ) → ((call : ℕ) → o ≡ Some call → super_call_of body.node ≡ Some call) →
+        OptionSuperFact code b c sig o →
         F ((elim o [ None ↦ unwritten_super_ops code sub c | Some call ↦ sub call ]) ++ rest) start []
-    super_part_flow None r = unwritten_flow r
-    super_part_flow (Some call) r = written_flow call r
+    super_part_flow None is_call r = unwritten_flow r
+    super_part_flow (Some call) is_call r = written_flow call (is_call call refl) r
 
-  constructor_flow : (o : Option ℕ) → ConstructorFact code b c sig o → (xs : List Op) →
+  constructor_flow : (o : Option ℕ) → ((call : ℕ) → o ≡ Some call → super_call_of body.node ≡ Some call) →
+      ConstructorFact code b c sig o → (xs : List Op) →
       ((ls : List ℕ) → Among (parameters_of code.program b) ls → F (xs ++ LEAVE ∷ []) ls []) →
       F (constructor_ops code (below [] b (ops_of code)) b o xs) (parameters_of code.program b) []
   unfolding constructor_ops
-  constructor_flow o r xs h =
+  constructor_flow o is_call r xs h =
       subst
       (λ (k : Option ℕ). F (elim k [
         | None ↦ []
@@ -271,21 +307,22 @@ module _ (code : Code) (facts : Facts code) (b c : ℕ) (sig : Signature) (body 
       ]) (parameters_of code.program b) [])
       (sym r.is_class)
       (super_part_flow r.own r.runs (literal_ops code c ++ (xs ++ LEAVE ∷ []))
-      (λ ls am. rest_flow r.own r.gives r.literals xs ls (h ls am)) o r.super_fact)
+      (λ ls am. rest_flow r.own r.gives r.literals xs ls (h ls am)) o is_call r.super_fact)
 
-  entry_node : (n : Node) → EntryFact code b c sig n →
+  entry_node : (n : Node) → body.node ≡ n → EntryFact code b c sig n →
       F (node_ops code (below [] b (ops_of code)) b n) (parameters_of code.program b) []
-  unfolding EntryFact node_ops
-  entry_node (MethodNode place name flags result_type parameters (Some x)) r = method_flow result_type x r
-  entry_node (MethodNode place name flags result_type parameters None) r = absurd r
-  entry_node (Constructor place name flags parameters super_call x) r =
-      constructor_flow super_call r.0 (below [] b (ops_of code) x)
+  unfolding EntryFact node_ops super_call_of
+  entry_node (MethodNode place name flags result_type parameters (Some x)) e r = method_flow result_type x r
+  entry_node (MethodNode place name flags result_type parameters None) e r = absurd r
+  entry_node (Constructor place name flags parameters super_call x) e r =
+      constructor_flow super_call (λ call k. ap super_call_of e ∙ k) r.0 (below [] b (ops_of code) x)
       (λ ls am. body_flow x r.1 ls am (LEAVE ∷ []) (inr (λ ms m st. r.0.gives)))
-  entry_node (Class place name flags header members) r = constructor_flow None r [] (λ ls am. r.gives)
-  entry_node _ r = absurd r
+  entry_node (Class place name flags header members) e r =
+      constructor_flow None (λ call k. absurd (cc (k))) r [] (λ ls am. r.gives)
+  entry_node _ e r = absurd r
 
   -- a body begins with its parameters and without operands
   pub entry_flows : F (ops_of code b) (parameters_of code.program b) []
   entry_flows =
       subst (λ ys. F ys (parameters_of code.program b) []) (sym (ops_at code b body.node body.is_there))
-      (entry_node body.node (facts.entries b c sig body))
+      (entry_node body.node refl (facts.entries b c sig body))

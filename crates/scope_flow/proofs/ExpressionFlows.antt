@@ -13,7 +13,7 @@ use Rattle.scj_rules.specs.Words.{is_among}
 use Rattle.scj_rules.specs.Contexts.{known_variables}
 use Rattle.scj_rules.specs.Types.{conditional_operators}
 use Rattle.accepted_laws.specs.Kinds.{Kind, number, truth, reference, fresh, seen_kind}
-use Rattle.accepted_laws.specs.Judgements.{Among, Judged}
+use Rattle.accepted_laws.specs.Judgements.{Among, Inside, Judged}
 use Rattle.scj_model.specs.declared.operations.Op.{Op}
 use Rattle.scj_model.specs.declared.operations.Op.TheVariants.{Push as PUSH, Get as GET, GetStatic as GETSTATIC, Length as LENGTH, Elem as ELEM, Unary as UNARY, Bin as BIN, And as AND, Or as OR, Construct as CONSTRUCT, AllocArray as ALLOCARRAY, Cast as CAST}
 use Rattle.scj_model.specs.Code.{Code, binding, part}
@@ -312,15 +312,16 @@ module _ (code : Code) (b c : ℕ) (sig : Signature) (id : ℕ) (sub : ℕ → L
       IsScopeOfExpression code.program id sig.runs_in
   new_is class e = array_is (ClassTy class) e
 
-  pub new_flow : (place name_place : _) (name xs : List ℕ) →
+  pub new_flow : (place name_place : _) (name xs : List ℕ) → Inside code.program b c id →
       slice_get code.program.nodes id ≡ Some (New place name_place name xs) → NewFact code b c sig id xs o →
       F (new_ops sub id xs (binding code id) ++ os) ls s
   unfolding new_ops bound_class argument_count
-  new_flow place name_place name xs there r =
+  new_flow place name_place name xs inside there r =
       by_binding (new_ops sub id xs) _ r.is
       (record {
         out = fresh r.class sig.runs_in ∷ s;
         needed = record {
+          inside = inside;
           class = r.class;
           is = ap bound_class r.is;
           is_concrete = r.is_concrete;

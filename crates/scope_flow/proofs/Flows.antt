@@ -11,7 +11,7 @@ use Rattle.scj_rules.specs.declared.typing.Scope.TheVariants.{Any}
 use Rattle.scj_rules.specs.declared.views.Body.TheVariants.{Written}
 use Rattle.scj_rules.specs.Contexts.{known_variables}
 use Rattle.accepted_laws.specs.Kinds.{Kind, number, truth, yes, reference}
-use Rattle.accepted_laws.specs.Judgements.{Among, Judged}
+use Rattle.accepted_laws.specs.Judgements.{Among, Inside, Judged}
 use Rattle.scj_model.specs.declared.operations.Op.{Op}
 use Rattle.scj_model.specs.declared.operations.Op.TheVariants.{Push as PUSH}
 use Rattle.scj_model.specs.Code.{Code}
@@ -34,48 +34,48 @@ module _ (code : Code) (b c : ℕ) (sig : Signature) (id : ℕ) (sub : ℕ → L
       IsKindOfExpression code.program id k
   of_kind j k e s is = (k, subst (Judged code.program id) e j, is)
 
-  expression_node : (n : Node) → slice_get code.program.nodes id ≡ Some n → (o : Option Kind) →
+  expression_node : Inside code.program b c id → (n : Node) → slice_get code.program.nodes id ≡ Some n → (o : Option Kind) →
       Judged code.program id o → ExpressionFact code b c sig id n o → (ls : List ℕ) → Among (known_variables code.program id) ls →
       (os : List Op) (s : List Kind) → After code b c sig o ls os s →
       Flow code (Written b) c sig (node_ops code sub id n ++ os) ls s
   unfolding node_ops ExpressionFact kind_of_literal
-  expression_node (Number place v n) there o j r ls am os s a =
+  expression_node inside (Number place v n) there o j r ls am os s a =
       literal_flow code b c sig id sub hyp o j ls am os s a number
       (ap (λ (x : Option Node). elim x [ None ↦ None | Some y ↦ kind_of_literal y ]) there) number (inl refl) (of_kind j _ r)
       (behind code b c sig id sub hyp o _ r ls os s a ls (among_self ls))
-  expression_node (True place) there o j r ls am os s a =
+  expression_node inside (True place) there o j r ls am os s a =
       literal_flow code b c sig id sub hyp o j ls am os s a yes
       (ap (λ (x : Option Node). elim x [ None ↦ None | Some y ↦ kind_of_literal y ]) there) truth (inr (refl, refl)) (of_kind j _ r)
       (behind code b c sig id sub hyp o _ r ls os s a ls (among_self ls))
-  expression_node (False place) there o j r ls am os s a =
+  expression_node inside (False place) there o j r ls am os s a =
       literal_flow code b c sig id sub hyp o j ls am os s a truth
       (ap (λ (x : Option Node). elim x [ None ↦ None | Some y ↦ kind_of_literal y ]) there) truth (inl refl) (of_kind j _ r)
       (behind code b c sig id sub hyp o _ r ls os s a ls (among_self ls))
-  expression_node (Null place) there o j r ls am os s a =
+  expression_node inside (Null place) there o j r ls am os s a =
       literal_flow code b c sig id sub hyp o j ls am os s a (reference NullTy Any)
       (ap (λ (x : Option Node). elim x [ None ↦ None | Some y ↦ kind_of_literal y ]) there) (reference NullTy Any) (inl refl) (of_kind j _ r)
       (behind code b c sig id sub hyp o _ r ls os s a ls (among_self ls))
-  expression_node (ThisNode place) there o j r ls am os s a = this_flow code b c sig id sub hyp o j ls am os s a place r
-  expression_node (SimpleName place name) there o j r ls am os s a = name_flow code b c sig id sub hyp o j ls am os s a r
-  expression_node (Parenthesized place inner) there o j r ls am os s a =
+  expression_node inside (ThisNode place) there o j r ls am os s a = this_flow code b c sig id sub hyp o j ls am os s a place r
+  expression_node inside (SimpleName place name) there o j r ls am os s a = name_flow code b c sig id sub hyp o j ls am os s a r
+  expression_node inside (Parenthesized place inner) there o j r ls am os s a =
       expression code b c sig id sub hyp inner o r ls am os s a
-  expression_node (FieldAccess place name object) there o j r ls am os s a =
+  expression_node inside (FieldAccess place name object) there o j r ls am os s a =
       access_flow code b c sig id sub hyp o j ls am os s a object r
-  expression_node (Element place array index) there o j r ls am os s a =
+  expression_node inside (Element place array index) there o j r ls am os s a =
       element_flow code b c sig id sub hyp o j ls am os s a array index r
-  expression_node (Unary place operator operand) there o j r ls am os s a =
+  expression_node inside (Unary place operator operand) there o j r ls am os s a =
       unary_flow code b c sig id sub hyp o j ls am os s a place operator operand there r
-  expression_node (Binary place operator left right) there o j r ls am os s a =
+  expression_node inside (Binary place operator left right) there o j r ls am os s a =
       operator_flow code b c sig id sub hyp o j ls am os s a place operator left right there r
-  expression_node (New place name_place name xs) there o j r ls am os s a =
-      new_flow code b c sig id sub hyp o j ls am os s a place name_place name xs there r
-  expression_node (NewArray place element count) there o j r ls am os s a =
+  expression_node inside (New place name_place name xs) there o j r ls am os s a =
+      new_flow code b c sig id sub hyp o j ls am os s a place name_place name xs inside there r
+  expression_node inside (NewArray place element count) there o j r ls am os s a =
       new_array_flow code b c sig id sub hyp o j ls am os s a count r
-  expression_node (Cast place name_place name operand) there o j r ls am os s a =
+  expression_node inside (Cast place name_place name operand) there o j r ls am os s a =
       cast_flow code b c sig id sub hyp o j ls am os s a operand r
-  expression_node (Call place name object xs) there o j r ls am os s a =
+  expression_node inside (Call place name object xs) there o j r ls am os s a =
       call_flow code b c sig id sub hyp o j ls am os s a place name object xs there r
-  expression_node _ there o j r ls am os s a = absurd r
+  expression_node inside _ there o j r ls am os s a = absurd r
 
 -- ---- all nodes, by induction
 
@@ -130,7 +130,7 @@ module _ (code : Code) (facts : Facts code) (b c : ℕ) (sig : Signature) (body 
       as_value : ValueFlows code b c sig (ops_of code id) id
       as_value o inside judged ls am os s a =
           subst (λ xs. Flow code (Written b) c sig (xs ++ os) ls s) (sym (ops_at code id inside.here.0 inside.here.1))
-          (expression_node code b c sig id sub flows inside.here.0 inside.here.1 o judged
+          (expression_node code b c sig id sub flows inside inside.here.0 inside.here.1 o judged
           (facts.expressions b c sig id inside.here.0 o body inside inside.here.1 judged) ls am os s a)
 
       as_statement : StatementFlows code b c sig (ops_of code id) id

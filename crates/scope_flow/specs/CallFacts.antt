@@ -34,6 +34,7 @@ pub record CallFact (code : Code) (b c : ℕ) (sig : Signature) (id : ℕ) (obje
   pub target : Target
   pub is : binding code id ≡ Method target
   pub class : ℕ
+  pub is_on : target.on ≡ class
   pub scope : Scope
   pub receiver_is : ReceiverIs code.program b c id object class scope
   pub static : Signature
@@ -65,15 +66,16 @@ pub record StaticCallFact (code : Code) (b c : ℕ) (sig : Signature) (id : ℕ)
   pub is_given : gives ≡ seen_option Any sig.runs_in static.gives
   pub is_left : leaves_value (binding code id) ≡ is_some gives
 
--- ---- calls of the framework
+-- ---- calls of the framework. What is bound tells the class of the Runnable where memory is entered
 
-pub record EnterFact (code : Code) (b c : ℕ) (sig : Signature) (id method : ℕ) (arguments : List ℕ) (gives : Option Kind) : Type 0 where
+pub record EnterFact (code : Code) (b c : ℕ) (sig : Signature) (id method on : ℕ) (arguments : List ℕ) (gives : Option Kind) : Type 0 where
   pub is_method : method ≡ managed_memory_enter_private_memory
   pub size : ℕ
   pub object : ℕ
   pub are : arguments ≡ size ∷ (object ∷ [])
   pub size_is : HasValue code.program b c id size (Some number)
   pub class : ℕ
+  pub is_on : on ≡ class
   pub scope : Scope
   pub object_is : HasValue code.program b c id object (Some (reference (ClassTy class) scope))
   pub entered : ℕ
@@ -84,7 +86,7 @@ pub record EnterFact (code : Code) (b c : ℕ) (sig : Signature) (id method : �
       IsEntered code.program on entered
   pub is_given : gives ≡ None
 
-pub record ExecuteInFact (code : Code) (b c id method : ℕ) (arguments : List ℕ) (gives : Option Kind) : Type 0 where
+pub record ExecuteInFact (code : Code) (b c id method on : ℕ) (arguments : List ℕ) (gives : Option Kind) : Type 0 where
   pub is_method : method ≡ managed_memory_execute_in_area_of
   pub place : ℕ
   pub object : ℕ
@@ -93,6 +95,7 @@ pub record ExecuteInFact (code : Code) (b c id method : ℕ) (arguments : List �
   pub area : ℕ
   pub place_is : HasValue code.program b c id place (Some (reference type (In area)))
   pub class : ℕ
+  pub is_on : on ≡ class
   pub scope : Scope
   pub object_is : HasValue code.program b c id object (Some (reference (ClassTy class) scope))
   pub each : (on : ℕ) → is_sub code.program.classes on class ≡ true → IsConcrete code.program on →
@@ -157,11 +160,11 @@ pub record RegisterFact (code : Code) (b c id : ℕ) (object : Option ℕ) (give
 abbrev pub registering : List ℕ
 registering = periodic_handler_register ∷ (aperiodic_handler_register ∷ [])
 
--- by the number of the framework's method
-abbrev pub BuiltinCases : Code → ℕ → ℕ → Signature → ℕ → Option ℕ → List ℕ → ℕ → Option Kind → Type 0
-BuiltinCases code b c sig id object arguments method gives =
-    EnterFact code b c sig id method arguments gives
-    ⊎ (ExecuteInFact code b c id method arguments gives
+-- by the number of the framework's method, and the class that the binding tells
+abbrev pub BuiltinCases : Code → ℕ → ℕ → Signature → ℕ → Option ℕ → List ℕ → ℕ → ℕ → Option Kind → Type 0
+BuiltinCases code b c sig id object arguments method on gives =
+    EnterFact code b c sig id method on arguments gives
+    ⊎ (ExecuteInFact code b c id method on arguments gives
     ⊎ (SetCeilingFact code b c id method arguments gives
     ⊎ (PrintFact code b c id method arguments gives
     ⊎ (ReadFact code b c id method arguments gives
@@ -174,7 +177,7 @@ BuiltinCases code b c sig id object arguments method gives =
 pub record BuiltinFact (code : Code) (b c : ℕ) (sig : Signature) (id : ℕ) (object : Option ℕ) (arguments : List ℕ) (gives : Option Kind) : Type 0 where
   pub target : Target
   pub is : binding code id ≡ Builtin target
-  pub cases : BuiltinCases code b c sig id object arguments target.id gives
+  pub cases : BuiltinCases code b c sig id object arguments target.id target.on gives
 
 -- ---- all expressions: what a node that is judged so has
 

@@ -1,11 +1,15 @@
 -- What operations need and leave: of calls, of the framework, and of assignments.
-use Rattle.std.specs.Prelude.{◌≡◌, ℕ, true, false, ◌⊎◌, List, [], ◌∷◌, length, Option, Some, None, is_some}
+use Rattle.std.specs.Prelude.{◌≡◌, ℕ, true, false, ◌⊎◌, List, [], ◌∷◌, length, slice_get, Option, Some, None, is_some}
+use Rattle.scj_base.specs.declared.places.Pos.{Pos}
 use Rattle.scj_tree.specs.declared.nodes.Node.{Node}
 use Rattle.scj_tree.specs.declared.nodes.Node.TheVariants.{Call as CallNode}
+use Rattle.scj_rules.specs.declared.typing.Binding.TheVariants.{Method, Builtin}
+use Rattle.scj_rules.specs.declared.typing.Target.{Target}
 use Rattle.scj_rules.specs.declared.typing.Ty.{Ty}
 use Rattle.scj_rules.specs.declared.typing.Ty.TheVariants.{Class as ClassTy}
 use Rattle.scj_rules.specs.declared.typing.Scope.{Scope}
 use Rattle.scj_rules.specs.declared.typing.Scope.TheVariants.{Any, This, Caller, In}
+use Rattle.scj_rules.specs.declared.views.Body.{Body}
 use Rattle.scj_rules.specs.declared.views.Body.TheVariants.{Written}
 use Rattle.scj_rules.specs.Words.{◌>>=◌}
 use Rattle.scj_rules.specs.Classes.{is_sub}
@@ -20,7 +24,8 @@ use Rattle.scj_model.specs.Operations.{bound_field, bound_static, bound_class, b
 use Rattle.scope_flow.specs.Slots.{kind_of_elements, HasField, HasStatic}
 use Rattle.scope_flow.specs.Signatures.{Gives, Signature, IsBody, runs_for_object, IsConcrete, IsDispatched, IsEntered, IsExecuted, AreWithoutThis}
 use Rattle.scope_flow.specs.Pushers.{IsKindOfExpression, IsGivenBy, IsScopeOfReceiver}
-use Rattle.scope_flow.specs.Needs.{pushed, stacked, FieldTakes}
+use Rattle.scope_flow.specs.Needs.{FieldTakes, InNode, pushed, stacked}
+use Rattle.scope_flow.specs.ValueFacts.{HasValue}
 
 -- ---- calls: one leaves a value where its method has a result
 
@@ -35,6 +40,7 @@ pub record CallNeeds (code : Code) (c : ℕ) (sig : Signature) (id : ℕ) (s out
   pub arguments : List Kind
   pub count : part code argument_count id ≡ Some (length arguments)
   pub class : ℕ
+  pub is_on : (t : Target) → binding code id ≡ Method t → t.on ≡ class
   pub scope : Scope
   pub receiver : Option ℕ
   pub is_receiver : part code receiver_of id ≡ Some receiver
@@ -87,8 +93,18 @@ pub record CastNeeds (code : Code) (id : ℕ) (s out : List Kind) : Type 0 where
   pub by_expression : IsKindOfExpression code.program id (reference (ClassTy class) seen)
   pub leaves : out ≡ reference (ClassTy class) seen ∷ others
 
-pub record EnterNeeds (code : Code) (sig : Signature) (s out : List Kind) : Type 0 where
+-- the arguments stand in the node, and the second one is a value of the body
+pub record EnterNeeds (code : Code) (body : Body) (c : ℕ) (sig : Signature) (id : ℕ) (s out : List Kind) : Type 0 where
+  pub place : Pos
+  pub name : List ℕ
+  pub object : Option ℕ
+  pub size : ℕ
+  pub runnable : ℕ
+  pub is_there : slice_get code.program.nodes id ≡ Some (CallNode place name object (size ∷ (runnable ∷ [])))
+  pub target : Target
+  pub is : binding code id ≡ Builtin target
   pub class : ℕ
+  pub is_on : target.on ≡ class
   pub scope : Scope
   pub takes : s ≡ reference (ClassTy class) scope ∷ (number ∷ out)
   pub entered : ℕ
@@ -97,9 +113,13 @@ pub record EnterNeeds (code : Code) (sig : Signature) (s out : List Kind) : Type
   pub now : sig.runs_in ≡ In parent
   pub each : (c : ℕ) → is_sub code.program.classes c class ≡ true → IsConcrete code.program c →
       IsEntered code.program c entered
+  pub is_value : InNode body (λ b. HasValue code.program b c id runnable (Some (reference (ClassTy class) scope)))
 
-pub record ExecuteInNeeds (code : Code) (s out : List Kind) : Type 0 where
+pub record ExecuteInNeeds (code : Code) (id : ℕ) (s out : List Kind) : Type 0 where
+  pub target : Target
+  pub is : binding code id ≡ Builtin target
   pub class : ℕ
+  pub is_on : target.on ≡ class
   pub scope : Scope
   pub type : Ty
   pub area : ℕ

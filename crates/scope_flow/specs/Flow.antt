@@ -4,7 +4,6 @@ use Rattle.scj_tree.specs.declared.nodes.Node.{Node}
 use Rattle.scj_tree.specs.declared.nodes.Node.TheVariants.{While, For}
 use Rattle.scj_rules.specs.declared.typing.Scope.TheVariants.{This, Caller}
 use Rattle.scj_rules.specs.declared.views.Body.{Body}
-use Rattle.scj_rules.specs.declared.views.Body.TheVariants.{Written, Empty}
 use Rattle.scj_rules.specs.Words.{holds, ◌>>=◌}
 use Rattle.scj_rules.specs.Contexts.{Declarations}
 use Rattle.scj_rules.specs.TypeRules.{always_returns}
@@ -16,6 +15,7 @@ use Rattle.scj_model.specs.Ops.{if_parts}
 use Rattle.scj_model.specs.Operations.{bound_local, assigned}
 use Rattle.scope_flow.specs.Signatures.{Signature}
 use Rattle.scope_flow.specs.Guards.{SparesGuards}
+pub use Rattle.scope_flow.specs.Needs.{InNode}
 use Rattle.scope_flow.specs.Needs.{PushNeeds, ThisNeeds, IsVariable, LoadNeeds, GetNeeds, GetStaticNeeds, LengthNeeds, ElemNeeds, UnaryNeeds, BinNeeds, TakesTruth, IsValuePart, IsStatementPart, IsOptionPart, ShortNeeds, AllocNeeds, ConstructNeeds, SuperNeeds, AllocArrayNeeds, InitNeeds, ParamsNeeds}
 use Rattle.scope_flow.specs.CallNeeds.{CallNeeds, CallStaticNeeds, CastNeeds, EnterNeeds, ExecuteInNeeds, SameNeeds, SetCeilingNeeds, PrintNeeds, ReadNeeds, ReceiverNeeds, RegisterNeeds, PutNeeds, PutStaticNeeds, PutElemNeeds, DropNeeds}
 
@@ -91,11 +91,6 @@ pub record LeaveWithNeeds (p : Declarations) (sig : Signature) (s : List Kind) :
 
 -- ---- all operations, one line each, beside `node_ops` and `effect_of`: in a body of a class with a signature
 
--- what has no nodes of its own has no parts
-abbrev pub InNode : Body → (ℕ → Type 0) → Type 0
-InNode (Written b) P = P b
-InNode Empty P = ⊥
-
 abbrev pub Needs : Code → Body → ℕ → Signature → Op → List ℕ → List Kind → Goals → Type 0
 Needs code body c sig (PUSH id) ks s next = Steps (PushNeeds code id s) ks next
 Needs code body c sig (THIS id) ks s next = Steps (ThisNeeds code body c s) ks next
@@ -108,14 +103,14 @@ Needs code body c sig (UNARY id) ks s next = Steps (UnaryNeeds code id s) ks nex
 Needs code body c sig (BIN id) ks s next = Steps (BinNeeds code id s) ks next
 Needs code body c sig (AND id) ks s next = Steps (λ out. InNode body (λ b. ShortNeeds code b c id ks s out)) ks next
 Needs code body c sig (OR id) ks s next = Steps (λ out. InNode body (λ b. ShortNeeds code b c id ks s out)) ks next
-Needs code body c sig (ALLOC id) ks s next = Steps (AllocNeeds code sig id s) ks next
+Needs code body c sig (ALLOC id) ks s next = Steps (AllocNeeds code body c sig id s) ks next
 Needs code body c sig (CONSTRUCT id) ks s next = Steps (ConstructNeeds code sig id s) ks next
 Needs code body c sig (ALLOCARRAY id) ks s next = Steps (AllocArrayNeeds code sig id s) ks next
 Needs code body c sig (CALL id) ks s next = Steps (CallNeeds code c sig id s) ks next
 Needs code body c sig (CALLSTATIC id) ks s next = Steps (CallStaticNeeds code sig id s) ks next
 Needs code body c sig (CAST id) ks s next = Steps (CastNeeds code id s) ks next
-Needs code body c sig (ENTER id) ks s next = Steps (EnterNeeds code sig s) ks next
-Needs code body c sig (EXECUTEIN id) ks s next = Steps (ExecuteInNeeds code s) ks next
+Needs code body c sig (ENTER id) ks s next = Steps (EnterNeeds code body c sig id s) ks next
+Needs code body c sig (EXECUTEIN id) ks s next = Steps (ExecuteInNeeds code id s) ks next
 Needs code body c sig (SAME id) ks s next = Steps (SameNeeds s) ks next
 Needs code body c sig (SETCEILING id) ks s next = Steps (SetCeilingNeeds s) ks next
 Needs code body c sig (PRINT id) ks s next = Steps (PrintNeeds code id s) ks next

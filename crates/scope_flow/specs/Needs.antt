@@ -1,24 +1,26 @@
 -- What operations need and leave: of values, variables, operators, and of new objects. What an operation needs is a
 -- record, of the operands that are there and of those that it leaves.
-use Rattle.std.specs.Prelude.{◌≡◌, ℕ, zero, suc, ◌<◌, ◌==◌, ◌||◌, Bool, true, ◌⊎◌, List, [], ◌∷◌, length, slice_get, Option, Some, None, if◌then◌else◌, is_some}
+use Rattle.std.specs.Prelude.{◌≡◌, ℕ, zero, suc, ◌<◌, ◌==◌, ◌||◌, Bool, true, false, ◌⊎◌, List, [], ◌∷◌, length, slice_get, Option, Some, None, if◌then◌else◌, is_some}
 use Rattle.scj_base.specs.Vocabulary.{sign_equal, sign_not_equal, sign_minus, sign_not, sign_tilde}
 use Rattle.scj_builtins.specs.Framework.{mission_sequencer, periodic_handler}
 use Rattle.scj_base.specs.declared.places.Pos.{Pos}
 use Rattle.scj_tree.specs.declared.nodes.Node.{Node}
-use Rattle.scj_tree.specs.declared.nodes.Node.TheVariants.{Assign}
+use Rattle.scj_tree.specs.declared.nodes.Node.TheVariants.{Assign, Constructor, SuperCall}
 use Rattle.scj_rules.specs.declared.typing.Ty.{Ty}
 use Rattle.scj_rules.specs.declared.typing.Ty.TheVariants.{Class as ClassTy}
 use Rattle.scj_rules.specs.declared.typing.Scope.{Scope}
 use Rattle.scj_rules.specs.declared.typing.Scope.TheVariants.{This, Caller, In}
 use Rattle.scj_rules.specs.declared.views.Body.{Body}
+use Rattle.scj_rules.specs.declared.views.Body.TheVariants.{Written, Empty}
 use Rattle.scj_rules.specs.declared.views.SlotKind.{SlotKind}
 use Rattle.scj_rules.specs.Words.{is_among, ◌>>=◌}
-use Rattle.scj_rules.specs.Classes.{is_sub, hidden_fields}
+use Rattle.scj_rules.specs.Classes.{is_sub, is_user_class, hidden_fields}
 use Rattle.scj_rules.specs.Contexts.{Declarations, known_variables}
 use Rattle.scj_rules.specs.Guards.{is_guarded_store}
 use Rattle.scj_rules.specs.StaticScopes.{this_in}
 use Rattle.scj_rules.specs.Layout.{element_kind, literal_written}
 use Rattle.scj_rules.specs.Bodies.{constructor_body}
+use Rattle.scj_rules.specs.Types.{has_form}
 use Rattle.accepted_laws.specs.Kinds.{Kind, number, truth, yes, reference, fresh, kind_of_variable, seen_kind, unscoped, Fits, AllFit}
 use Rattle.accepted_laws.specs.Judgements.{type_at_node, Judged, Inside, Among}
 use Rattle.accepted_laws.specs.Sorts.{is_statement}
@@ -29,6 +31,11 @@ use Rattle.scj_model.specs.Arithmetic.{entry, int_operators, comparisons}
 use Rattle.scope_flow.specs.Slots.{array_type, kind_of_elements, kind_of_slot, HasField, HasStatic, kind_of_literal}
 use Rattle.scope_flow.specs.Pushers.{IsScopeOfExpression, IsKindOfExpression}
 use Rattle.scope_flow.specs.Signatures.{Signature, Runs, variables_in, runs_for_object, IsConcrete, LiesHere, SlotsReach}
+
+-- what has no nodes of its own has no parts
+abbrev pub InNode : Body → (ℕ → Type 0) → Type 0
+InNode (Written b) P = P b
+InNode Empty P = ⊥
 
 -- ---- operands: the last one is first
 
@@ -228,7 +235,9 @@ pub record ShortNeeds (code : Code) (b c id : ℕ) (known : List ℕ) (s out : L
 
 -- ---- new objects and arrays
 
-pub record AllocNeeds (code : Code) (sig : Signature) (id : ℕ) (s out : List Kind) : Type 0 where
+-- the node is one of the body
+pub record AllocNeeds (code : Code) (body : Body) (c : ℕ) (sig : Signature) (id : ℕ) (s out : List Kind) : Type 0 where
+  pub inside : InNode body (λ b. Inside code.program b c id)
   pub class : ℕ
   pub is : bound_class (binding code id) ≡ Some class
   pub is_concrete : IsConcrete code.program class
@@ -309,9 +318,25 @@ HasHidden p class count =
     (c slot : ℕ) → c < length p.classes → is_sub p.classes c class ≡ true → slot < count →
     (slot < hidden_fields p.classes c) × (kind_of_slot p c slot ≡ Some number)
 
+-- the super call with which a constructor begins, where it is written
+unfoldable pub super_call_of : Node → Option ℕ
+super_call_of (Constructor place name flags parameters super_call body) = super_call
+super_call_of _ = None
+
+pub record IsSuperCall (p : Declarations) (b id : ℕ) : Type 0 where
+  pub node : Node
+  pub is_body : slice_get p.nodes b ≡ Some node
+  pub is_call : super_call_of node ≡ Some id
+  pub place : Pos
+  pub arguments : List ℕ
+  pub is_there : slice_get p.nodes id ≡ Some (SuperCall place arguments)
+
 pub record ParamsNeeds (code : Code) (body : Body) (class : ℕ) (id : ℕ) (s out : List Kind) : Type 0 where
+  pub is_written : InNode body (λ b. IsSuperCall code.program b id)
   pub for_object : runs_for_object code.program body ≡ true
   pub superclass : ℕ
   pub is : bound_class (binding code id) ≡ Some superclass
+  pub framework : is_user_class superclass ≡ false
+  pub form : has_form superclass ≡ true
   pub hidden : HasHidden code.program class (hidden_count superclass)
   pub takes : s ≡ stacked (numbers (parameter_count superclass)) out
