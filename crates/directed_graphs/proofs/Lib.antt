@@ -1,0 +1,15 @@
+pub mod Closed
+pub mod Closing
+pub mod Emptying
+pub mod Entering
+pub mod Following
+pub mod Levels
+pub mod Merging
+pub mod Notes
+pub mod Noting
+pub mod OrderSteps
+pub mod Ordered
+pub mod Paths
+pub mod Rows
+pub mod Searching
+pub mod Walking

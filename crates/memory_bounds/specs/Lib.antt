@@ -1,0 +1,4 @@
+pub mod Accounting
+pub mod Bounded
+pub mod Theorem
+pub mod Weights

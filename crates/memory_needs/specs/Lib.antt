@@ -1,0 +1,17 @@
+pub mod Causes
+pub mod Chosen
+pub mod ClassShown
+pub mod Edges
+pub mod Formed
+pub mod Need
+pub mod ProgramTables
+pub mod Reach
+pub mod Room
+pub mod RowLists
+pub mod Rows
+pub mod Shown
+pub mod Sites
+pub mod Solved
+pub mod Stores
+pub mod Targets
+pub mod WellFormed
