@@ -1,6 +1,6 @@
 -- How the values of the code are seen, and what an answer must be.
 use Rattle.std.specs.Prelude.{◌≡◌, ◌≤◌, length, Result, MatchResult, Option, Some, None, List, map, option_map, string_bytes}
-use Rattle.command_line.specs.Job.{Given as GivenTexts, Job as JobOfWords, Check, Run, Show, Gen, Respond, Confirm, Faults, Audit, Migrate}
+use Rattle.command_line.specs.Job.{Given as GivenTexts, Job as JobOfWords, Check, Run, Show, Gen, Respond, Confirm, Faults, Audit, Migrate, Bounds}
 use Rattle.command_line.specs.Sizes.{IsSize}
 use Rattle.command_line.specs.declared.given.Given.{Given}
 use Rattle.command_line.specs.declared.jobs.Job.{Job}
@@ -19,6 +19,7 @@ job_seen (job.Confirm plan) = Confirm (string_bytes plan)
 job_seen (job.Faults sources) = Faults (map string_bytes sources.items)
 job_seen (job.Audit plan trace) = Audit (string_bytes plan) (string_bytes trace)
 job_seen (job.Migrate plan) = Migrate (string_bytes plan)
+job_seen (job.Bounds sources) = Bounds (map string_bytes sources.items)
 
 -- the job that is wanted is answered, and `Usage` only where none is; memory may run out in both
 abbrev pub AnswersJob : Option JobOfWords → Result Job WordsAnswer → Type 0
@@ -40,6 +41,7 @@ KeepsLimits (job.Confirm plan) = Unit {0}
 KeepsLimits (job.Faults sources) = IsFew sources.items
 KeepsLimits (job.Audit plan trace) = Unit {0}
 KeepsLimits (job.Migrate plan) = Unit {0}
+KeepsLimits (job.Bounds sources) = IsFew sources.items
 
 -- what the command found, as texts
 abbrev pub texts_of : Given → GivenTexts

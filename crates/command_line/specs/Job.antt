@@ -11,7 +11,8 @@ use Rattle.command_line.specs.Sizes.{size_of}
 -- check the files of these names; run their program by the plan in the file of the first name; show them; generate a
 -- program of this size and run it; bound the responses of the rows in the file of this name; confirm the bounds that
 -- stand beside them; list the faults of the files of these names that are certain; audit, by the plan in the file of
--- the first name, the trace in the file of the other; or print the plan in the file of this name as one of version 2
+-- the first name, the trace in the file of the other; print the plan in the file of this name as one of version 2; or
+-- bound the private memories of the program of the files of these names
 pub data Job : Type 0 where
   Check : List Text → Job
   Run : Text → List Text → Job
@@ -22,6 +23,7 @@ pub data Job : Type 0 where
   Faults : List Text → Job
   Audit : Text → Text → Job
   Migrate : Text → Job
+  Bounds : List Text → Job
 
 -- what the command finds in the words: MODE, FILE of `--plan`, N of `--size` and each SOURCE
 pub record Given : Type 0 where
@@ -103,6 +105,9 @@ audit_job g = if is_some g.size then None
 unfoldable pub migrate_job : Given → Option Job
 migrate_job g = option_map Migrate (plan_alone g)
 
+unfoldable pub bounds_job : Given → Option Job
+bounds_job g = option_map Bounds (sources_alone g)
+
 -- the job of each mode; there are no other modes
 unfoldable pub job_by_mode : Given → Option Job
 job_by_mode g = if bytes_eq g.mode (codes "check") then check_job g
@@ -113,7 +118,8 @@ job_by_mode g = if bytes_eq g.mode (codes "check") then check_job g
     else (if bytes_eq g.mode (codes "confirm") then confirm_job g
     else (if bytes_eq g.mode (codes "faults") then faults_job g
     else (if bytes_eq g.mode (codes "audit") then audit_job g
-    else (if bytes_eq g.mode (codes "migrate") then migrate_job g else None))))))))
+    else (if bytes_eq g.mode (codes "migrate") then migrate_job g
+    else (if bytes_eq g.mode (codes "bounds") then bounds_job g else None)))))))))
 
 -- ---- the job of the words
 

@@ -25,6 +25,8 @@ pub enum Job {
     Audit { plan: String, trace: String },
     /// Print the plan in the file of this name as one of version 2.
     Migrate { plan: String },
+    /// Bound the private memories of the files of these names, 1 to 16.
+    Bounds { sources: Vec<String> },
 }
 
 /// Why words give no job.

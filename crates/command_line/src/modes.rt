@@ -2,7 +2,7 @@
 
 ghost use Rattle.std.specs.Prelude.{◌≡◌, IfOk, map, string_bytes};
 ghost use Rattle.command_line.specs.Answers.{AnswersJob, KeepsLimits, texts_of};
-ghost use Rattle.command_line.specs.Job.{audit_job, check_job, confirm_job, faults_job, gen_job, job_by_mode, migrate_job, respond_job, run_job, show_job};
+ghost use Rattle.command_line.specs.Job.{audit_job, bounds_job, check_job, confirm_job, faults_job, gen_job, job_by_mode, migrate_job, respond_job, run_job, show_job};
 
 use crate::given::{
     Given, only_source, plan_alone, plan_in, size_alone, sources_alone, sources_in,
@@ -26,6 +26,7 @@ pub(crate) fn job_by_mode(alloc: Global, given: &Given<'_, '_>) -> Result<Job, W
         "faults" => faults_job(alloc, given),
         "audit" => audit_job(alloc, given),
         "migrate" => migrate_job(alloc, given),
+        "bounds" => bounds_job(alloc, given),
         _ => Err(WordsAnswer::Usage),
     }
 }
@@ -158,6 +159,19 @@ fn migrate_job(alloc: Global, given: &Given<'_, '_>) -> Result<Job, WordsAnswer>
     };
     let plan = String::from_str(alloc, plan)?;
     Ok(Job::Migrate { plan })
+}
+
+/// `bounds`: sources alone.
+#[tactic(auto, unfolding(crate::specs::Job::bounds_job))]
+fn bounds_job(alloc: Global, given: &Given<'_, '_>) -> Result<Job, WordsAnswer>
+    ensures job { AnswersJob (bounds_job (texts_of given.now)) result }
+    ensures limits { IfOk result KeepsLimits }
+{
+    let Some(sources) = sources_alone(given) else {
+        return Err(WordsAnswer::Usage);
+    };
+    let sources = to_strings(alloc, sources)?;
+    Ok(Job::Bounds { sources })
 }
 
 /// The texts, each as a text of its own.

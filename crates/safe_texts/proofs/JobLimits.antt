@@ -9,13 +9,14 @@ use Rattle.clap.specs.Walk.{is_empty}
 use Rattle.clap.specs.Words.{fault_of, matches_of}
 use Rattle.command_line.specs.Command.{command}
 use Rattle.command_line.specs.Sizes.{number_of, size_of}
-use Rattle.command_line.specs.Job.{Job, Check, Run, Show, Gen, Respond, Confirm, Faults, Audit, Migrate, Given, is_file_name, are_sources, sources_in, plan_in, sources_alone, only_source, plan_alone, size_alone, check_job, run_job, show_job, gen_job, respond_job, confirm_job, faults_job, audit_job, migrate_job, job_by_mode, given_in, job_in, job_of}
+use Rattle.command_line.specs.Job.{Job, Check, Run, Show, Gen, Respond, Confirm, Faults, Audit, Migrate, Bounds, Given, is_file_name, are_sources, sources_in, plan_in, sources_alone, only_source, plan_alone, size_alone, check_job, run_job, show_job, gen_job, respond_job, confirm_job, faults_job, audit_job, migrate_job, bounds_job, job_by_mode, given_in, job_in, job_of}
 
 unfoldable pub IsWithin : Job → Type 0
 IsWithin (Check names) = length names ≤ 16
 IsWithin (Run plan names) = length names ≤ 16
 IsWithin (Gen size) = size ≤ 250
 IsWithin (Faults names) = length names ≤ 16
+IsWithin (Bounds names) = length names ≤ 16
 IsWithin job = Unit {0}
 
 -- ---- what optional values are made of
@@ -99,7 +100,8 @@ module _ (g : Given) where
   -- ---- the modes
 
   mode_within : Sound IsWithin (job_by_mode g)
-  unfolding job_by_mode check_job run_job show_job gen_job respond_job confirm_job faults_job audit_job migrate_job IsWithin AtMost
+  unfolding job_by_mode check_job run_job show_job gen_job respond_job confirm_job faults_job audit_job migrate_job
+      bounds_job IsWithin AtMost
   mode_within =
       chosen_sound IsWithin (bytes_eq g.mode (codes "check")) _ _
       (λ e. mapped_sound IsWithin Check (sources_alone g) alone_few)
@@ -123,7 +125,9 @@ module _ (g : Given) where
       (λ plan. mapped_sound IsWithin (Audit plan) (only_source g) (any_sound _ _ (λ a. tt)))))
       (λ e. chosen_sound IsWithin (bytes_eq g.mode (codes "migrate")) _ _
       (λ e. mapped_sound IsWithin Migrate (plan_alone g) (any_sound _ _ (λ a. tt)))
-      (λ e. none_sound IsWithin)))))))))
+      (λ e. chosen_sound IsWithin (bytes_eq g.mode (codes "bounds")) _ _
+      (λ e. mapped_sound IsWithin Bounds (sources_alone g) alone_few)
+      (λ e. none_sound IsWithin))))))))))
 
 pub job_within : (words : List (List ℕ)) (job : Job) → job_of words ≡ Some job → IsWithin job
 unfolding job_of job_in Sound

@@ -12,10 +12,10 @@ use Rattle.scj_model.specs.Plan.{Plan}
 use Rattle.scj_model.specs.Safety.{IsSafe}
 use Rattle.source_gen.specs.Generated.{source_of}
 use Rattle.source_gen.proofs.Lengths.{source_is_short}
-use Rattle.command_line.specs.Job.{Job, Check, Run, Gen, Faults, job_of}
+use Rattle.command_line.specs.Job.{Job, Check, Run, Gen, Faults, Bounds, job_of}
 use Rattle.scj_cli.specs.Jobs.{files_of, sources_among, limits_of, one_limit}
 use Rattle.scj_cli.specs.Outcomes.{Outcome, Reported, Unplanned, Ran, ComesTo, breaks_rules, has_no_plan, runs, run_status}
-use Rattle.scj_cli.specs.Answers.{Answer, refused, accepted, ran, generated, faults_of_none, faults_listed}
+use Rattle.scj_cli.specs.Answers.{Answer, refused, accepted, ran, generated, faults_of_none, faults_listed, bounds_of_none, bounds_listed}
 use Rattle.scj_cli.specs.Endings.{Call, call_of, MayStand, none, next, Comes, answered, unread, overlong, out_of_memory, Ends, whole, fault_of_out, fault_of_err, cut_short, cut_short_untold, IsUnanswered}
 use Rattle.safe_texts.specs.SafeCalls.{sources_of, Accepts, HasSafeProgram}
 use Rattle.safe_texts.specs.SafePrograms.{AreShort, AreWithinLimits}
@@ -50,6 +50,8 @@ empty_report (Some (Gen size)) contents status out err (generated {outcome = out
     unbroken (Some (Gen size)) (source_of size ∷ []) _ outcome (λ x. x) (λ x. x) comes a
 empty_report (Some (Faults names)) contents Refused out err (faults_of_none l r) a = absurd a
 empty_report (Some (Faults names)) contents Done out err (faults_listed r reads is) a = r
+empty_report (Some (Bounds names)) contents Refused out err (bounds_of_none l r) a = absurd a
+empty_report (Some (Bounds names)) contents Done out err (bounds_listed r reads is) a = r
 empty_report job contents status out err answer a = absurd a
 
 -- ---- the sources are within the limits
@@ -94,6 +96,7 @@ sources_within : (shelf : ShelfRun) (job : Job) (contents : List (List ℕ)) (st
 unfolding IsWithin sources_of Accepts
 sources_within shelf (Check names) contents status few stand a = files_within shelf names contents few stand
 sources_within shelf (Faults names) contents status few stand a = files_within shelf names contents few stand
+sources_within shelf (Bounds names) contents status few stand a = files_within shelf names contents few stand
 sources_within shelf (Run plan names) contents status few stand a =
     record {
       few = omega (arith, few, taken_few (length names) contents);
@@ -113,6 +116,7 @@ never_unanswered (Some (Run plan names)) Halted a u = u
 never_unanswered (Some (Gen size)) Done a u = u
 never_unanswered (Some (Gen size)) Halted a u = u
 never_unanswered (Some (Faults names)) Done a u = u
+never_unanswered (Some (Bounds names)) Done a u = u
 never_unanswered job status a u = absurd a
 
 module _ (words : List (List ℕ)) (shelf : ShelfRun) (out err : SinkRun) where

@@ -15,11 +15,13 @@ use Rattle.certain_faults.specs.Report.{IsFaultReport}
 use Rattle.certain_faults.proofs.Reports.{one_fault_report}
 use Rattle.command_line.specs.Job.{Job, Migrate}
 use Rattle.scj_cli.specs.Answers.{Answer, IsSameAnswer, IsSameText, shown_text}
-use Rattle.scj_cli.specs.Answers.Answer.{no_job, refused, accepted, ran, show_unreadable, shown, generated, responded, confirmed, faults_of_none, faults_listed, audited, not_migrated, migrated}
+use Rattle.scj_cli.specs.Answers.Answer.{no_job, refused, accepted, ran, show_unreadable, shown, generated, responded, confirmed, faults_of_none, faults_listed, audited, not_migrated, migrated, bounds_of_none, bounds_listed}
 use Rattle.scj_cli.specs.Answers.IsSameText.{same, spellings}
 use Rattle.scj_cli.specs.Outcomes.{Outcome, Reported, Unplanned, ComesTo, breaks_rules, has_no_plan, runs, run_status, run_out, run_err, gen_out, plan_line}
 use Rattle.scj_cli.specs.FaultLists.{fault_list}
 use Rattle.scj_cli.specs.Reports.{report_text}
+use Rattle.scj_cli.specs.BoundLists.{IsBoundList}
+use Rattle.scj_cli.proofs.BoundLaws.{one_bound_list}
 
 one_forest : (contents : List (List ℕ)) (forest other : Forest) → Reads contents forest → Reads contents other →
     forest ≡ other
@@ -92,6 +94,14 @@ one_list contents forest other faults again reads reads_again report report_agai
     one_fault_report _ _ _ report (subst (λ (read : Forest). IsFaultReport (code_of read) again)
     (one_forest contents other forest reads_again reads) report_again)
 
+-- the bounds of texts that are read
+one_told : (contents names : List (List ℕ)) (forest other : Forest) (text again : List ℕ) → Reads contents forest →
+    Reads contents other → IsBoundList forest names text → IsBoundList other names again → text ≡ again
+one_told contents names forest other text again reads reads_again is is_again =
+    one_bound_list contents forest names text again reads is
+    (subst (λ (read : Forest). IsBoundList read names again)
+    (one_forest contents other forest reads_again reads) is_again)
+
 pub one_answer_of : {job : Option Job} {contents : List (List ℕ)} {status status_again : Status}
     {out err out_again err_again : List ℕ} → Answer job contents status out err →
     Answer job contents status_again out_again err_again →
@@ -127,3 +137,11 @@ one_answer_of (not_migrated is) (migrated is_again text) = plan_or_refusal _ _ _
 one_answer_of (migrated is text) (not_migrated is_again) = plan_or_refusal _ _ _ is_again is
 one_answer_of (migrated is text) (migrated is_again text_again) =
     same_plan_text (same_plan _ _ _ is is_again) text text_again
+one_answer_of (bounds_of_none {names = names} some report) (bounds_of_none some_again report_again) =
+    same_text (ap (λ (found : List Found). report_text names found) (one_report_of_texts report report_again))
+one_answer_of (bounds_of_none some report) (bounds_listed none reads is) =
+    some_found _ some (one_report_of_texts report none)
+one_answer_of (bounds_listed none reads is) (bounds_of_none some report) =
+    some_found _ some (one_report_of_texts report none)
+one_answer_of (bounds_listed none reads is) (bounds_listed none_again reads_again is_again) =
+    same_text (one_told _ _ _ _ _ _ reads reads_again is is_again)

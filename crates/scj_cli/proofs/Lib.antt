@@ -1,5 +1,6 @@
 pub mod AnswerLaws
 pub mod AuditLaws
+pub mod BoundLaws
 pub mod CauseLaws
 pub mod DeclaredLaws
 pub mod EndLaws

@@ -8,7 +8,7 @@ use Rattle.scj_rules.specs.Syntax.{Reads, BreaksSyntax}
 use Rattle.scj_rules.specs.Verdicts.{IsReportOf}
 use Rattle.scj_show.specs.Symbols.{text_of_file}
 use Rattle.source_gen.specs.Generated.{source_of, plan_of}
-use Rattle.command_line.specs.Job.{Job, Check, Run, Show, Gen, Respond, Confirm, Faults, Audit, Migrate}
+use Rattle.command_line.specs.Job.{Job, Check, Run, Show, Gen, Respond, Confirm, Faults, Audit, Migrate, Bounds}
 use Rattle.scj_model.specs.Code.{code_of}
 use Rattle.scj_model.specs.Plan.{Plan}
 use Rattle.certain_faults.specs.declared.found.CertainFault.{CertainFault}
@@ -17,6 +17,7 @@ use Rattle.response_times.specs.DeclaredOf.{declared_of_text}
 use Rattle.run_plan.specs.PlanOf.{Refusal, meaning_of_text, plan as means_plan, refused as means_none}
 use Rattle.run_plan.specs.NewTable.{IsTextOf, new_table}
 use Rattle.scj_cli.specs.Audits.{audit_status, audit_out, audit_err}
+use Rattle.scj_cli.specs.BoundLists.{IsBoundList}
 use Rattle.scj_cli.specs.DeclaredRows.{declared_status, respond_out, confirm_out, declared_err}
 use Rattle.scj_cli.specs.FaultLists.{fault_list}
 use Rattle.scj_cli.specs.Jobs.{sources_among, plan_among}
@@ -81,6 +82,12 @@ pub data Answer : Option Job → List (List ℕ) → Status → List ℕ → Lis
   migrated : {plan text again : List ℕ} {p : Plan} →
       meaning_of_text text ≡ means_plan p → IsTextOf (new_table p) again →
       Answer (Some (Migrate plan)) (text ∷ []) Done again []
+  bounds_of_none : {names contents : List (List ℕ)} {found : List Found} →
+      0 < length found → IsReportOf contents found →
+      Answer (Some (Bounds names)) contents Refused (report_text names found) []
+  bounds_listed : {names contents : List (List ℕ)} {forest : Forest} {text : List ℕ} →
+      IsReportOf contents [] → Reads contents forest → IsBoundList forest names text →
+      Answer (Some (Bounds names)) contents Done text []
 
 -- two texts on `out` of a job are the same; or they are two spellings of one migrated plan
 pub data IsSameText : Option Job → List ℕ → List ℕ → Type 0 where

@@ -1,7 +1,7 @@
 -- The files that a call reads.
 use Rattle.std.specs.Prelude.{ℕ, List, [], ◌∷◌, ◌++◌, length, take, slice_index_or, Option, Some, None, if◌then◌else◌}
 use Rattle.std.specs.Str.{bytes_eq}
-use Rattle.command_line.specs.Job.{Job, Check, Run, Show, Gen, Respond, Confirm, Faults, Audit, Migrate}
+use Rattle.command_line.specs.Job.{Job, Check, Run, Show, Gen, Respond, Confirm, Faults, Audit, Migrate, Bounds}
 
 -- the names of the files that a call reads, in this order: beside others the plan's comes last
 abbrev pub files_of : Option Job → List (List ℕ)
@@ -15,6 +15,7 @@ files_of (Some (Confirm plan)) = plan ∷ []
 files_of (Some (Faults names)) = names
 files_of (Some (Audit plan trace)) = trace ∷ plan ∷ []
 files_of (Some (Migrate plan)) = plan ∷ []
+files_of (Some (Bounds names)) = names
 
 -- of the contents of the files of a run, those of its sources, which have these names
 abbrev pub sources_among : List (List ℕ) → List (List ℕ) → List (List ℕ)

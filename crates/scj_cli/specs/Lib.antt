@@ -1,5 +1,6 @@
 pub mod Answers
 pub mod Audits
+pub mod BoundLists
 pub mod DeclaredRows
 pub mod Endings
 pub mod FaultLists

@@ -8,6 +8,7 @@ ghost use Rattle.scj_cli.specs.Modes.{IsAnswered, Stops, Tells};
 ghost use Rattle.scj_cli.specs.Endings.{Ends, call_of, IsExact, IsLongExactly, IsNeverAbsent};
 
 use crate::audits::audit;
+use crate::bounds::bounds;
 use crate::checks::check;
 use crate::confirmations::confirm;
 use crate::faults::faults;
@@ -106,6 +107,7 @@ fn answer<H: Shelf, K: Sink>(
         Ok(Job::Faults { sources }) => faults(alloc, &sources, shelf, out),
         Ok(Job::Audit { plan, trace }) => audit(alloc, &plan, &trace, shelf, out),
         Ok(Job::Migrate { plan }) => migrate(alloc, &plan, shelf, out),
+        Ok(Job::Bounds { sources }) => bounds(alloc, &sources, shelf, out),
         Err(WordsAnswer::Usage) => Err(Stop::Told(Refusal::Usage)),
         Err(WordsAnswer::Memory) => Err(Stop::Told(Refusal::OutOfMemory)),
     }

@@ -2,6 +2,8 @@
 #![tactic(auto)]
 
 mod audits;
+mod bound_lists;
+mod bounds;
 mod calls;
 mod checks;
 mod confirmations;
