@@ -50,6 +50,11 @@ no: check -5
 yes: check 5
 no: gen --size -1.5
 no: show
+no: bounds
+yes: bounds A -
+no: bounds --plan p A
+no: bounds --size 3 A
+no: bound A
 no: run --plan a b --size 3
 no: check --=x
 no: --plan

@@ -1,6 +1,6 @@
 #!/usr/bin/env python3
-"""Compares what a program answers in the modes audit, respond, confirm, faults, migrate, check and run with the slow
-versions beside this file.
+"""Compares what a program answers in the modes audit, respond, confirm, faults, bounds, migrate, check and run with the
+slow versions beside this file.
 
     compare_modes.py PROGRAM audit      each trace of the table `runs` with its plan, and each with a line removed,
                                         doubled, swapped with its neighbour, and changed in a number, and with misses
@@ -8,6 +8,7 @@ versions beside this file.
     compare_modes.py PROGRAM responses  2,000 files of rows, made from a seed, with bounds that are claimed, and 500 of
                                         large numbers
     compare_modes.py PROGRAM faults     the programs of the table `runs`, each with two literals replaced
+    compare_modes.py PROGRAM bounds     the same programs, each with two literals replaced
     compare_modes.py PROGRAM migrations the runs of the table `runs` by their plans, migrated
     compare_modes.py PROGRAM guards     3,000 programs with scopes that are unknown, made from a seed, each as it is and
                                         without the lines that break rules: the reports, and the traces of the latter
@@ -30,6 +31,7 @@ import guarded_texts
 import phrases
 import plan_texts
 import slow_audit
+import slow_bounds
 import slow_faults
 import slow_machine
 import slow_responses
@@ -242,6 +244,22 @@ def faults(comparison):
         comparison.compare(name, comparison.call("faults", *names), f"{wanted}faults {len(found)}\n")
 
 
+def bounds(comparison):
+    chance, counts = random.Random(SEED), collections.Counter()
+    for name, files, _, _ in cases():
+        replace_literals(chance, files)
+        names = sorted(files)
+        for file in names:
+            comparison.put(file, files[file])
+        try:
+            lines = slow_bounds.lines(names, [files[file] for file in names])
+        except (slow_machine.Refused, StopIteration, SyntaxError):
+            continue
+        comparison.compare(name, comparison.call("bounds", *names), "".join(line + "\n" for line in lines))
+        counts.update(line.split()[2] if " no " in line else "yes" for line in lines[:-1])
+    show(counts)
+
+
 class CountingMachine(slow_machine.Machine):
     """A slow machine that counts what allocInSame answers."""
 
@@ -331,6 +349,7 @@ def main():
         "audit": audits,
         "responses": responses,
         "faults": faults,
+        "bounds": bounds,
         "guards": guards,
         "migrations": migrations,
         "plans": plans,

@@ -8,7 +8,8 @@ The runs are those of runs/, whose traces were worked out by hand, and those of 
 traces stand beside them. The other cases are written here: plans that are refused, plans at each bound, words, and
 what goes wrong outside. What they have to print comes from docs/PLAN.md, by hand; the runs of the programs here are
 short enough to be counted, but for those of 64 handlers and of readings, which the slow machine tells. The bounds of
-declared rows and what is wrong in a changed trace were worked out by hand, too.
+declared rows, those of memory and what is wrong in a changed trace were worked out by hand, too; the bounds of the
+examples are those of the slow version.
 """
 import pathlib
 import re
@@ -16,6 +17,7 @@ import sys
 import tomllib
 
 sys.dont_write_bytecode = True
+import slow_bounds
 import slow_machine
 import table_files
 
@@ -793,6 +795,98 @@ def faults_outside(tables):
     tables.call("faults A.java D.java", [divides, "faults 1"], 0)
 
 
+# ---- bounds of memory
+
+
+def bounds(tables):
+    """The programs of bounds/, with what was worked out of each by hand, and the examples, by the slow version."""
+    for wanted in sorted((HERE / "bounds").glob("*.want")):
+        name = wanted.stem + ".java"
+        tables.case("bounds of " + name)
+        tables.file(name, (HERE / "bounds" / name).read_text())
+        tables.call("bounds " + name, wanted.read_text().splitlines(), 0)
+    for folder in sorted((HERE.parent / "examples").iterdir()):
+        name = "examples/" + folder.name
+        paths = ["%s/%s" % (name, path.name) for path in sorted(folder.glob("*.java"))]
+        tables.case("bounds of " + name, *("-< " + path for path in paths))
+        if folder.name.startswith("broken_"):
+            found = re.findall(r"^%s/\w+[.]java:\d+:\d+: .*$" % name, (folder / "README.md").read_text(), re.M)
+            tables.call("bounds " + " ".join(paths), found + ["refused %d" % len(found)], 1)
+        else:
+            lines = slow_bounds.lines(paths, [(HERE.parent / path).read_text() for path in paths])
+            tables.call("bounds " + " ".join(paths), lines, 0)
+
+
+# Two objects in a release's memory, of 48 bytes and of one byte less; two handlers of one class, which are interrupted
+# inside a private memory; and what the sequencer does by a store that no release lacks.
+BOUNDED = {
+    "two_boxes": (["H yes 48", "need 1944"], 1944, None),
+    "one_byte_less": (["H no TooSmall C.java:5:54", "need none"], None, None),
+    "two_handlers": (["W yes 24", "need 2248"], 2248, None),
+    "sequencers": (None, 1944, ["30 mission Main", "38 register 1 H 7", "43 fault StoreFull sequencers.java:15", "43 halted"]),
+    "nobody": (None, 600, ["30 mission Main", "36 fault StoreFull nobody.java:13", "36 halted"]),
+}
+
+
+def bounds_of_runs(tables):
+    """What is told of programs that are run, and their runs by the store that is told, as by their own plans or with
+    the trace that was worked out."""
+    for name, (lines, store, trace) in BOUNDED.items():
+        folder = HERE / "runs" / name
+        paths = sources(folder) if folder.exists() else [HERE / "bounds" / (name + ".java")]
+        names = " ".join(path.name for path in paths)
+        tables.case("bounds of the run " + name)
+        for path in paths:
+            tables.file(path.name, path.read_text())
+        if lines is not None:
+            tables.call("bounds " + names, lines, 0)
+        if store is not None:
+            plan = (folder / "plan.toml").read_text() if folder.exists() else PLAN
+            trace = trace or (folder / "trace").read_text().splitlines()
+            tables.plan(re.sub("store = .*", "store = %d" % store, plan), trace, status_of(trace), sources=names)
+
+
+ANOTHER_HANDLER = """@Scope("M") @DefineScope(name="PK", parent="M") class K extends AperiodicEventHandler {
+  K() { super(new PriorityParameters(9), new AperiodicParameters(), new StorageParameters(0)); }
+  public void handleAsyncEvent() { }
+}
+"""
+
+
+def bounds_outside(tables):
+    """Several files, words, and what goes wrong outside."""
+    tables.case("bounds of several files", "-< A.java")
+    for path in sources(HERE / "runs" / "two_boxes"):
+        tables.file(path.name, path.read_text())
+    tables.file("K.java", ANOTHER_HANDLER)
+    tables.file("L.java", ANOTHER_HANDLER.replace("K", "L").replace("{ }", "{ new Object(); }"))
+    tables.file("Q.java", "class Q { int a; int a; }\n")
+    tables.line("-* 1048577 long")
+    of_h, of_k, of_l = "H yes 48", "K yes 0", "L no TooSmall L.java:1:55"
+    for words, lines in [("A.java", ["need 64"]), ("B.java C.java K.java", [of_h, of_k, "need 1944"]),
+                         ("K.java B.java C.java", [of_k, of_h, "need 1944"]),
+                         ("-- L.java C.java K.java B.java", [of_l, of_h, of_k, "need none"])]:
+        tables.call("bounds " + words, lines, 0)
+    tables.call("bounds B.java Q.java C.java", ["Q.java:1:22: C4 field twice", "refused 1"], 1)
+    for words in "", " --plan A.java", " --plan A.java C.java", " --size 5 A.java", " " + "A.java " * 16 + "A.java":
+        tables.call("bounds" + words, [], 2, "usage")
+    tables.call("bound A.java", [], 2, "usage")
+    tables.call("bounds none A.java", [], 5, "read none")
+    tables.call("bounds A.java long none", [], 8, "too long long")
+    tables.line("! room 7")
+    tables.call("bounds A.java", [], 6)
+    tables.line("! room 8")
+    tables.call("bounds A.java", ["need 64"], 0)
+    tables.line("! out 1")
+    tables.call("bounds A.java", [], 6)
+    tables.call("bounds A.java Q.java", [], 6)
+    tables.line("! err 1")
+    tables.call("bounds none", [], 6)
+    tables.case("bounds, and a load fails", "-< A.java", "-- Q.java", "class Q { int a; }", "! load 2")
+    tables.call("bounds A.java Q.java", [], 5, "read Q.java")
+    tables.call("bounds A.java Q.java", ["need 64"], 0)
+
+
 # ---- audits
 
 
@@ -940,7 +1034,8 @@ def made():
     tables = Tables()
     for part in (hand_made, examples, broken_examples, generated, words, numbers, fires, second_fires, second_refusals,
                  readings, texts, large, migrations, migrations_outside, outside, order, limits, responses, no_rows,
-                 rows_outside, faults, faults_outside, audits, changed_traces, forms_of_lines, audits_outside):
+                 rows_outside, faults, faults_outside, bounds, bounds_of_runs, bounds_outside, audits, changed_traces,
+                 forms_of_lines, audits_outside):
         part(tables)
     return tables
 

@@ -1,0 +1,32 @@
+class App implements Safelet {
+  public MissionSequencer getSequencer() { return new Seq(); }
+  public long immortalMemorySize() { return 400; }
+  public void initializeApplication() { }
+}
+class Seq extends MissionSequencer {
+  Seq() { super(new PriorityParameters(5), new StorageParameters(0)); }
+  int n;
+  public Mission getNextMission() { if (n > 0) return null; n = n + 1; return new Main(); }
+}
+@DefineScope(name="M", parent="IMMORTAL") class Main extends Mission {
+  public long missionMemorySize() { return 1001; }
+  public void initialize() { new A().register(); new B().register(); new C().register(); new D().register(); }
+}
+class Box { int v; Box(int a) { v = a; } }
+@Scope("M") @DefineScope(name="PA", parent="M") class A extends AperiodicEventHandler {
+  A() { super(new PriorityParameters(7), new AperiodicParameters(), new StorageParameters(24)); }
+  public void handleAsyncEvent() { Box b = new Box(1); for (int i = 0; i < 3; i = i + 1) Trace.print("i", b.v + i); }
+}
+@Scope("M") @DefineScope(name="PB", parent="M") class B extends AperiodicEventHandler {
+  B() { super(new PriorityParameters(7), new AperiodicParameters(), new StorageParameters(240)); }
+  public void handleAsyncEvent() { for (int i = 0; i < 3; i = i + 1) { new Box(i); } }
+}
+@Scope("M") @DefineScope(name="PC", parent="M") class C extends AperiodicEventHandler {
+  C() { super(new PriorityParameters(7), new AperiodicParameters(), new StorageParameters(24)); }
+  public void handleAsyncEvent() { for (Box b = new Box(0); b.v < 3; b.v = b.v + 1) Trace.print("v", b.v); }
+}
+@Scope("M") @DefineScope(name="PD", parent="M") class D extends AperiodicEventHandler {
+  D() { super(new PriorityParameters(7), new AperiodicParameters(), new StorageParameters(240)); }
+  public void handleAsyncEvent() { int i = 0; while (i < 3) { i = i + next(); } }
+  @RunsIn("PD") int next() { return new Box(1).v; }
+}

@@ -1,0 +1,25 @@
+class App implements Safelet {
+  public MissionSequencer getSequencer() { return new Seq(); }
+  public long immortalMemorySize() { return 400; }
+  public void initializeApplication() { }
+}
+class Seq extends MissionSequencer {
+  Seq() { super(new PriorityParameters(5), new StorageParameters(0)); }
+  int n;
+  public Mission getNextMission() { if (n > 0) return null; n = n + 1; return new Main(); }
+}
+@DefineScope(name="M", parent="IMMORTAL") class Main extends Mission {
+  public long missionMemorySize() { return 1001; }
+  public void initialize() { new A().register(); new B().register(); }
+}
+class Box { int v; Box(int a) { v = a; } }
+@Scope("M") @DefineScope(name="PA", parent="M") class A extends AperiodicEventHandler {
+  A() { super(new PriorityParameters(7), new AperiodicParameters(), new StorageParameters(10)); }
+  public void handleAsyncEvent() { new Box(1);
+    ManagedMemory.enterPrivateMemory(1, new InA()); ManagedMemory.enterPrivateMemory(2, new InA()); }
+}
+@Scope("M") @DefineScope(name="PB", parent="M") class B extends AperiodicEventHandler {
+  B() { super(new PriorityParameters(7), new AperiodicParameters(), new StorageParameters(100 + 1)); }
+  public void handleAsyncEvent() { int[] a = new int[1 + 1]; int[] b = new int[2 + 2]; }
+}
+@DefineScope(name="QA", parent="PA") class InA implements Runnable { public void run() { new Box(1); } }

@@ -1,0 +1,40 @@
+class App implements Safelet {
+  public MissionSequencer getSequencer() { return new Seq(); }
+  public long immortalMemorySize() { return 400; }
+  public void initializeApplication() { }
+}
+class Seq extends MissionSequencer {
+  Seq() { super(new PriorityParameters(5), new StorageParameters(0)); }
+  int n;
+  public Mission getNextMission() { if (n > 0) return null; n = n + 1; return new Main(); }
+}
+@DefineScope(name="M", parent="IMMORTAL") class Main extends Mission {
+  public long missionMemorySize() { return 1001; }
+  public void initialize() { new A().register(); new B().register(); new C().register(); new D().register(); new E().register(); }
+}
+class Box { int v; Box(int a) { v = a; } }
+@Scope("M") @DefineScope(name="PA", parent="M") class A extends AperiodicEventHandler {
+  A() { super(new PriorityParameters(7), new AperiodicParameters(), new StorageParameters(100)); }
+  public void handleAsyncEvent() { down(3); }
+  @RunsIn("PA") void down(int a) { if (a > 0) down(a - 1); }
+}
+@Scope("M") @DefineScope(name="PB", parent="M") class B extends AperiodicEventHandler {
+  B() { super(new PriorityParameters(7), new AperiodicParameters(), new StorageParameters(100)); }
+  public void handleAsyncEvent() { even(3); }
+  @RunsIn("PB") boolean odd(int a) { return a > 0 && even(a - 1); }
+  @RunsIn("PB") boolean even(int a) { return a == 0 || odd(a - 1); }
+}
+@Scope("M") @DefineScope(name="PC", parent="M") class C extends AperiodicEventHandler {
+  C() { super(new PriorityParameters(7), new AperiodicParameters(), new StorageParameters(48)); }
+  public void handleAsyncEvent() { new Box(1); new Box(2); }
+}
+@Scope("M") @DefineScope(name="PD", parent="M") class D extends AperiodicEventHandler {
+  D() { super(new PriorityParameters(7), new AperiodicParameters(), new StorageParameters(0)); }
+  public void handleAsyncEvent() { for (int a = 3; a > 0; a = a - 1) Trace.print("a", a); }
+}
+@Scope("M") @DefineScope(name="PE", parent="M") class E extends AperiodicEventHandler {
+  E() { super(new PriorityParameters(7), new AperiodicParameters(), new StorageParameters(400)); }
+  public void handleAsyncEvent() { if (Device.read(1) > 0) new Low(); }
+}
+class Low extends High { }
+class High { High() { if (Device.read(1) > 0) new Low(); } }
