@@ -6,7 +6,7 @@ class Fast extends PeriodicEventHandler {
   Filter filter;
 
   Fast(Attitude attitude, Filter filter) {
-    super(new PriorityParameters(20), new PeriodicParameters(new RelativeTime(0, 0), new RelativeTime(5, 0)), new StorageParameters(160));
+    super(new PriorityParameters(20), new PeriodicParameters(new RelativeTime(0, 0), new RelativeTime(5, 0)), new StorageParameters(120));
     this.attitude = attitude;
     this.filter = filter;
   }
@@ -46,14 +46,14 @@ class Slow extends PeriodicEventHandler {
   Attitude attitude;
 
   Slow(Attitude attitude) {
-    super(new PriorityParameters(7), new PeriodicParameters(new RelativeTime(50, 0), new RelativeTime(100, 0)), new StorageParameters(500));
+    super(new PriorityParameters(7), new PeriodicParameters(new RelativeTime(50, 0), new RelativeTime(100, 0)), new StorageParameters(32));
     this.attitude = attitude;
   }
 
   // The long computation has a private memory inside the release's, emptied before the next step.
   public void handleAsyncEvent() {
     Trim trim = new Trim(attitude);
-    ManagedMemory.enterPrivateMemory(300, trim);
+    ManagedMemory.enterPrivateMemory(144, trim);
     attitude.trim(trim.error);
   }
 }

@@ -39,7 +39,7 @@ class Detector extends PeriodicEventHandler {
   Barrier barrier;
 
   Detector(Section section, Barrier barrier) {
-    super(new PriorityParameters(15), new PeriodicParameters(new RelativeTime(0, 0), new RelativeTime(10, 0)), new StorageParameters(64));
+    super(new PriorityParameters(15), new PeriodicParameters(new RelativeTime(0, 0), new RelativeTime(10, 0)), new StorageParameters(0));
     this.section = section;
     this.barrier = barrier;
   }
