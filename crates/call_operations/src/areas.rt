@@ -1,32 +1,34 @@
 //! The calls in other memory areas (JSR 302: ManagedMemory).
 
 ghost use Rattle.std.specs.Prelude.{◌≡◌, ℕ, Bool, List, IfOk, Option, None, Some};
-ghost use Rattle.scj_model.specs.declared.plans.ReadingRow.{ReadingRow as Row};
-ghost use Rattle.scj_model.specs.Code.{Code as CodeOfRun, code_of};
+ghost use Rattle.scj_model.specs.declared.plans.ReadingRow.{ReadingRow as Reading};
+ghost use Rattle.scj_model.specs.Code.{code_of};
 ghost use Rattle.scj_model.specs.Effects.{Effect as Seen, Stuck};
 ghost use Rattle.scj_model.specs.Operations.{enter_op, execute_in_op, are_one_area, same_op, with_area};
+ghost use Rattle.op_list.specs.Listed.{Listing};
 ghost use Rattle.job_frames.specs.EffectsSeen.{Does, world};
 ghost use Rattle.job_frames.specs.declared.frames.Frame.{Frame as StoredFrame};
 ghost use Rattle.job_frames.specs.Frames.{frame_of};
 ghost use Rattle.call_operations.specs.Continued.{entering, objects_of, running};
 
 use crate::asked::{private_scope, run_of};
-use job_frames::{Code, Effect, Frame, NewFrame};
+use job_frames::{Effect, Frame, NewFrame};
+use op_list::OpList;
 use region_heap::RegionHeap;
 use scj_base::{AreaId, Memory, NodeId, Ref, RunFault, Value};
 use std::alloc::Global;
 
 /// The call of `run` on an object in a new area of so many bytes, inside the caller's.
 fn opens(
-    code: &Code<'_>,
+    code: &OpList<'_>,
     memory: &RegionHeap,
     frame: &Frame,
     id: NodeId,
     r: Ref,
     bytes: u32,
 ) -> Effect
-    ensures { Does (code_of code.now)
-        (entering (code_of code.now) (objects_of memory.now) id r bytes (frame_of (code_of code.now) frame.now))
+    ensures { Does code.now
+        (entering (code_of code.now.program) (objects_of memory.now) id r bytes (frame_of code.now frame.now))
         result frame.now }
 {
     let Some(object) = memory.object(r) else {
@@ -51,12 +53,11 @@ fn opens(
 }
 
 /// `enterPrivateMemory`.
-pub fn enter(code: &Code<'_>, memory: &RegionHeap, frame: &mut Frame, id: NodeId) -> Effect
-    ensures does { (rows : List Row) (unit : ℕ) →
-        Does (code_of code.now)
-        (enter_op (code_of code.now) (world memory.now rows unit) (frame_of (code_of code.now) frame.old) id)
+pub fn enter(code: &OpList<'_>, memory: &RegionHeap, frame: &mut Frame, id: NodeId) -> Effect
+    ensures does { (rows : List Reading) (unit : ℕ) →
+        Does code.now
+        (enter_op (code_of code.now.program) (world memory.now rows unit) (frame_of code.now frame.old) id)
         result frame.new }
-    ensures works { frame.new.works ≡ frame.old.works }
     ensures opened { frame.new.opened ≡ frame.old.opened }
 {
     let Some(runnable) = frame.pop() else {
@@ -87,14 +88,14 @@ pub fn enter(code: &Code<'_>, memory: &RegionHeap, frame: &mut Frame, id: NodeId
 /// The call of `run` on an object in the area of another one.
 fn runs_in(
     alloc: Global,
-    code: &Code<'_>,
+    code: &OpList<'_>,
     memory: &RegionHeap,
     id: NodeId,
     place: Ref,
     r: Ref,
 ) -> Effect
-    ensures { (frame : StoredFrame) → Does (code_of code.now)
-        (running (code_of code.now) (objects_of memory.now) id place r (frame_of (code_of code.now) frame))
+    ensures { (frame : StoredFrame) → Does code.now
+        (running (code_of code.now.program) (objects_of memory.now) id place r (frame_of code.now frame))
         result frame }
 {
     let Some(there) = memory.object(place) else {
@@ -120,16 +121,15 @@ fn runs_in(
 /// `executeInAreaOf`.
 pub fn execute_in(
     alloc: Global,
-    code: &Code<'_>,
+    code: &OpList<'_>,
     memory: &RegionHeap,
     frame: &mut Frame,
     id: NodeId,
 ) -> Effect
-    ensures does { (rows : List Row) (unit : ℕ) →
-        Does (code_of code.now)
-        (execute_in_op (code_of code.now) (world memory.now rows unit) (frame_of (code_of code.now) frame.old) id)
+    ensures does { (rows : List Reading) (unit : ℕ) →
+        Does code.now
+        (execute_in_op (code_of code.now.program) (world memory.now rows unit) (frame_of code.now frame.old) id)
         result frame.new }
-    ensures works { frame.new.works ≡ frame.old.works }
     ensures opened { frame.new.opened ≡ frame.old.opened }
 {
     let Some(runnable) = frame.pop() else {
@@ -155,7 +155,7 @@ pub fn execute_in(
 
 /// The area of the object that a value names, and none where it is null; nothing where it is no reference.
 fn area_of(memory: &RegionHeap, value: Value) -> Option<Option<AreaId>>
-    ensures { (rows : List Row) (unit : ℕ) (next : Option ℕ → Seen) → with_area (world memory.now rows unit) value next
+    ensures { (rows : List Reading) (unit : ℕ) (next : Option ℕ → Seen) → with_area (world memory.now rows unit) value next
         ≡ (elim result [ None ↦ Stuck | Some area ↦ next area ]) }
 {
     match value {
@@ -167,7 +167,7 @@ fn area_of(memory: &RegionHeap, value: Value) -> Option<Option<AreaId>>
 
 /// Whether the objects that two values name lie in one area, and neither is null; nothing where one is no reference.
 fn lie_in_one_area(memory: &RegionHeap, first: Value, second: Value) -> Option<bool>
-    ensures { (rows : List Row) (unit : ℕ) (next : Bool → Seen) → with_area (world memory.now rows unit) first (λ a.
+    ensures { (rows : List Reading) (unit : ℕ) (next : Bool → Seen) → with_area (world memory.now rows unit) first (λ a.
         with_area (world memory.now rows unit) second (λ b. next (are_one_area a b)))
         ≡ (elim result [ None ↦ Stuck | Some is_one ↦ next is_one ]) }
 {
@@ -181,9 +181,8 @@ fn lie_in_one_area(memory: &RegionHeap, first: Value, second: Value) -> Option<b
 
 /// `allocInSame`.
 pub fn same(memory: &RegionHeap, frame: &mut Frame) -> Result<Effect, Memory>
-    ensures does { (code : CodeOfRun) (rows : List Row) (unit : ℕ) → IfOk result (λ effect.
+    ensures does { (code : Listing) (rows : List Reading) (unit : ℕ) → IfOk result (λ effect.
         Does code (same_op (world memory.now rows unit) (frame_of code frame.old)) effect frame.new) }
-    ensures works { frame.new.works ≡ frame.old.works }
     ensures opened { frame.new.opened ≡ frame.old.opened }
 {
     let Some(second) = frame.pop() else {

@@ -7,6 +7,7 @@ mod areas;
 mod asked;
 mod calls;
 mod constructors;
+mod nodes;
 mod numbers;
 mod objects;
 mod parameters;
@@ -14,3 +15,4 @@ mod params;
 mod services;
 
 pub use all_operations::{World, operate};
+pub use nodes::node_of;

@@ -4,10 +4,10 @@ ghost use Rattle.std.specs.Prelude.{◌≡◌, ◌∷◌, [], ℕ, IfOk, None, S
 ghost use Rattle.std.specs.Int.{is_negative};
 ghost use Rattle.scj_base.specs.declared.faults.RunFault.TheVariants.{BadPriority, NegativeSize};
 ghost use Rattle.scj_base.specs.declared.values.Value.TheVariants.{Int};
-ghost use Rattle.scj_model.specs.Code.{Code as CodeOfRun};
 ghost use Rattle.scj_model.specs.State.{Frame as FrameOfRun};
 ghost use Rattle.scj_model.specs.Effects.{Stuck};
 ghost use Rattle.scj_model.specs.Operations.{is_priority, periodic_parameters, times_of};
+ghost use Rattle.op_list.specs.Listed.{Listing};
 ghost use Rattle.job_frames.specs.EffectsSeen.{Does};
 ghost use Rattle.job_frames.specs.declared.frames.Frame.{Frame as StoredFrame};
 ghost use Rattle.job_frames.specs.Frames.{frame_of};
@@ -122,7 +122,7 @@ fn hidden_in(
 
 /// These parameters are kept, where they are right.
 fn keeps(alloc: Global, r: Ref, parameters: &Periodic) -> Result<Effect, Memory>
-    ensures { (code : CodeOfRun) (frame : StoredFrame) → IfOk result (λ effect. Does code
+    ensures { (code : Listing) (frame : StoredFrame) → IfOk result (λ effect. Does code
         (keeping_periodic r parameters.now (frame_of code frame)) effect frame) }
 {
     if !is_priority(parameters.priority) {
@@ -146,7 +146,7 @@ fn keeps(alloc: Global, r: Ref, parameters: &Periodic) -> Result<Effect, Memory>
 
 /// The parameters of a periodic handler are kept, where they are right.
 pub fn periodic_parameters(alloc: Global, r: Ref, values: &[Value]) -> Result<Effect, Memory>
-    ensures { (code : CodeOfRun) (frame : StoredFrame) → IfOk result (λ effect.
+    ensures { (code : Listing) (frame : StoredFrame) → IfOk result (λ effect.
         Does code (periodic_parameters (frame_of code frame) r values.now) effect frame) }
 {
     match periodic_of(values) {
@@ -160,7 +160,7 @@ pub fn periodic_parameters(alloc: Global, r: Ref, values: &[Value]) -> Result<Ef
 
 /// The parameters of an aperiodic handler: its priority and its storage.
 pub fn aperiodic_parameters(alloc: Global, r: Ref, values: &[Value]) -> Result<Effect, Memory>
-    ensures { (code : CodeOfRun) (frame : StoredFrame) → IfOk result (λ effect. Does code
+    ensures { (code : Listing) (frame : StoredFrame) → IfOk result (λ effect. Does code
         (keeping r values.now (frame_of code frame)) effect frame) }
 {
     match values {
@@ -177,7 +177,7 @@ pub fn aperiodic_parameters(alloc: Global, r: Ref, values: &[Value]) -> Result<E
 
 /// The parameters of a sequencer: its priority and its storage, which nothing keeps.
 pub fn sequencer_parameters(values: &[Value]) -> Effect
-    ensures { (code : CodeOfRun) (frame : StoredFrame) →
+    ensures { (code : Listing) (frame : StoredFrame) →
         Does code (passing values.now (frame_of code frame)) result frame }
 {
     match values {

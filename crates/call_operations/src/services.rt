@@ -3,23 +3,23 @@
 
 ghost use Rattle.std.specs.Prelude.{◌≡◌, IfOk, if◌then◌else◌, unsigned_abs};
 ghost use Rattle.scj_base.specs.declared.faults.RunFault.TheVariants.{BadPriority};
-ghost use Rattle.scj_model.specs.Code.{Code as CodeOfRun, code_of};
 ghost use Rattle.scj_model.specs.Effects.{Faults, SetsCeiling};
-ghost use Rattle.scj_model.specs.Operations.{is_priority, print_op, read_op, register_op, release_op, set_ceiling_op, terminate_op};
+ghost use Rattle.scj_model.specs.Operations.{is_priority, read_op, register_op, release_op, set_ceiling_op, terminate_op};
+ghost use Rattle.op_list.specs.Listed.{Listing};
+ghost use Rattle.op_list.specs.Meanings.{print};
 ghost use Rattle.job_frames.specs.EffectsSeen.{Does, world};
 ghost use Rattle.job_frames.specs.declared.frames.Frame.{Frame as StoredFrame};
 ghost use Rattle.job_frames.specs.Frames.{frame_of};
 ghost use Rattle.region_heap.specs.Contents.{Contents};
 
 use crate::numbers::{is_port, is_priority};
-use job_frames::{Code, Effect, Frame};
+use job_frames::{Effect, Frame};
 use run_plan::Plan;
 use scj_base::{Memory, NodeId, Ref, RunFault, Value};
-use value_operations::readings::first_argument_at;
 
 /// The ceiling of an object is set.
 fn sets_ceiling(r: Ref, ceiling: i32) -> Effect
-    ensures { (code : CodeOfRun) (frame : StoredFrame) → Does code
+    ensures { (code : Listing) (frame : StoredFrame) → Does code
         (if is_priority ceiling then SetsCeiling (frame_of code frame) r (unsigned_abs ceiling) else Faults BadPriority)
         result frame }
 {
@@ -37,8 +37,7 @@ fn sets_ceiling(r: Ref, ceiling: i32) -> Effect
 
 /// `setCeiling`.
 pub fn set_ceiling(frame: &mut Frame) -> Effect
-    ensures does { (code : CodeOfRun) → Does code (set_ceiling_op (frame_of code frame.old)) result frame.new }
-    ensures works { frame.new.works ≡ frame.old.works }
+    ensures does { (code : Listing) → Does code (set_ceiling_op (frame_of code frame.old)) result frame.new }
     ensures opened { frame.new.opened ≡ frame.old.opened }
 {
     let Some(ceiling) = frame.pop() else {
@@ -60,15 +59,10 @@ pub fn set_ceiling(frame: &mut Frame) -> Effect
 }
 
 /// `print`.
-pub fn print(code: &Code<'_>, frame: &mut Frame, id: NodeId) -> Effect
-    ensures does { Does (code_of code.now) (print_op (code_of code.now) (frame_of (code_of code.now) frame.old) id)
-        result frame.new }
-    ensures works { frame.new.works ≡ frame.old.works }
+pub fn print(frame: &mut Frame, label: NodeId) -> Effect
+    ensures does { (code : Listing) → Does code (print (frame_of code frame.old) label) result frame.new }
     ensures opened { frame.new.opened ≡ frame.old.opened }
 {
-    let Some(label) = first_argument_at(code, id) else {
-        return Effect::Stuck;
-    };
     let Some(value) = frame.pop() else {
         return Effect::Stuck;
     };
@@ -80,9 +74,8 @@ pub fn print(code: &Code<'_>, frame: &mut Frame, id: NodeId) -> Effect
 
 /// `read` of the device.
 pub fn read(plan: &Plan, unit: u64, frame: &mut Frame) -> Result<Effect, Memory>
-    ensures does { (code : CodeOfRun) (memory : Contents) → IfOk result (λ effect.
+    ensures does { (code : Listing) (memory : Contents) → IfOk result (λ effect.
         Does code (read_op (world memory plan.now.readings unit) (frame_of code frame.old)) effect frame.new) }
-    ensures works { frame.new.works ≡ frame.old.works }
     ensures opened { frame.new.opened ≡ frame.old.opened }
 {
     let Some(port) = frame.pop() else {
@@ -105,8 +98,7 @@ pub fn read(plan: &Plan, unit: u64, frame: &mut Frame) -> Result<Effect, Memory>
 
 /// `register`.
 pub fn register(frame: &mut Frame) -> Effect
-    ensures does { (code : CodeOfRun) → Does code (register_op (frame_of code frame.old)) result frame.new }
-    ensures works { frame.new.works ≡ frame.old.works }
+    ensures does { (code : Listing) → Does code (register_op (frame_of code frame.old)) result frame.new }
     ensures opened { frame.new.opened ≡ frame.old.opened }
 {
     let Some(handler) = frame.pop() else {
@@ -123,8 +115,7 @@ pub fn register(frame: &mut Frame) -> Effect
 
 /// `release`.
 pub fn release(frame: &mut Frame) -> Effect
-    ensures does { (code : CodeOfRun) → Does code (release_op (frame_of code frame.old)) result frame.new }
-    ensures works { frame.new.works ≡ frame.old.works }
+    ensures does { (code : Listing) → Does code (release_op (frame_of code frame.old)) result frame.new }
     ensures opened { frame.new.opened ≡ frame.old.opened }
 {
     let Some(handler) = frame.pop() else {
@@ -141,8 +132,7 @@ pub fn release(frame: &mut Frame) -> Effect
 
 /// `requestTermination`.
 pub fn terminate(frame: &mut Frame) -> Effect
-    ensures does { (code : CodeOfRun) → Does code (terminate_op (frame_of code frame.old)) result frame.new }
-    ensures works { frame.new.works ≡ frame.old.works }
+    ensures does { (code : Listing) → Does code (terminate_op (frame_of code frame.old)) result frame.new }
     ensures opened { frame.new.opened ≡ frame.old.opened }
 {
     let Some(mission) = frame.pop() else {

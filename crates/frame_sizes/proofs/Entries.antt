@@ -32,7 +32,7 @@ use Rattle.scope_flow.specs.Signatures.{Signature, Runs, IsBody}
 use Rattle.scope_flow.specs.ValueFacts.{HaveValues}
 use Rattle.scope_flow.proofs.Known.{below_lt}
 use Rattle.scope_flow.proofs.Flows.{ops_at}
-use Rattle.work_cursor.proofs.Heights.{height_at}
+use Rattle.frame_sizes.proofs.Heights.{height_at}
 use Rattle.frame_sizes.proofs.Counts.{fewer, dropped, after, Value, Statement, Fits, Brings, brings_none, brings_op, brings_then, behind, more, more_is, dropped_more}
 use Rattle.frame_sizes.proofs.Places.{Limits, as_many, as_many_fit}
 use Rattle.frame_sizes.proofs.Nodes.{value_brings, statement_at}
@@ -102,7 +102,7 @@ module _ (code : Code) (facts : Facts code) (limits : Limits code) (b c : ℕ) (
       slice_get code.program.nodes x ≡ Some (New place name_place name xs) → H x ≤ 64 → AllLow xs
   unfolding weight children
   form_low x place name_place name xs there l =
-      all_low xs (let e = height_at code.program.nodes limits.first x _ there in omega (arith, e, l))
+      all_low xs (let e = height_at code.program limits.behind x _ there in omega (arith, e, l))
 
   module _ (known : List ℕ) where
     mutual
@@ -192,7 +192,7 @@ module _ (code : Code) (facts : Facts code) (limits : Limits code) (b c : ℕ) (
       subst (λ ys. Brings code ys 0 0) (sym (below_lt [] b (ops_of code) call r.smaller ∙ written_ops call r))
       (super_brings call r.arguments count
       (all_low r.arguments
-      (let e = height_at code.program.nodes limits.first call _ r.is_there in omega (arith, e, low))) r.super_fact)
+      (let e = height_at code.program limits.behind call _ r.is_there in omega (arith, e, low))) r.super_fact)
     where
       count : super_count code call ≡ length r.arguments
       count =

@@ -14,7 +14,7 @@ use Rattle.scj_model.specs.Ops.{call_ops, node_ops}
 use Rattle.scope_flow.specs.CallFacts.{CallFact, StaticCallFact, BuiltinFact, ExpressionFact}
 use Rattle.scope_flow.specs.Signatures.{Signature}
 use Rattle.scope_flow.specs.ValueFacts.{HasValue}
-use Rattle.work_cursor.proofs.Heights.{height_at}
+use Rattle.frame_sizes.proofs.Heights.{height_at}
 use Rattle.frame_sizes.proofs.Counts.{after, Brings, brings_op}
 use Rattle.frame_sizes.proofs.Places.{with_kind, as_many, as_many_fit, Place, takes_few, roomy, less_roomy, with_more, alone, all_roomy, one_roomy, done, Roomy, AllRoomy}
 use Rattle.frame_sizes.proofs.Values.{literal_brings, name_brings, access_brings, one_brings, two_brings, binary_brings, new_brings}
@@ -52,31 +52,31 @@ module _ (code : Code) (at : Place code) (o : Option Kind) where
       B (node_ops code sub id node) d (with_kind o d)
   unfolding node_ops ExpressionFact weight children highest after
   node_brings (Number place n is_negative) there i j f =
-      literal_brings code at o number f (roomy code at 0 (height_at code.program.nodes at.limits.first id _ there))
+      literal_brings code at o number f (roomy code at 0 (height_at code.program at.limits.behind id _ there))
   node_brings (True place) there i j f =
-      literal_brings code at o _ f (roomy code at 0 (height_at code.program.nodes at.limits.first id _ there))
+      literal_brings code at o _ f (roomy code at 0 (height_at code.program at.limits.behind id _ there))
   node_brings (False place) there i j f =
-      literal_brings code at o _ f (roomy code at 0 (height_at code.program.nodes at.limits.first id _ there))
+      literal_brings code at o _ f (roomy code at 0 (height_at code.program at.limits.behind id _ there))
   node_brings (Null place) there i j f =
-      literal_brings code at o _ f (roomy code at 0 (height_at code.program.nodes at.limits.first id _ there))
+      literal_brings code at o _ f (roomy code at 0 (height_at code.program at.limits.behind id _ there))
   node_brings (This place) there i j f =
       done code at (THIS id ∷ []) o _ f.is_given
       (brings_op code (THIS id) d
-      (alone code at d 0 (omega arith) (roomy code at 0 (height_at code.program.nodes at.limits.first id _ there))) tt)
+      (alone code at d 0 (omega arith) (roomy code at 0 (height_at code.program at.limits.behind id _ there))) tt)
   node_brings (SimpleName place name) there i j f =
-      name_brings code at o (roomy code at 0 (height_at code.program.nodes at.limits.first id _ there)) f
+      name_brings code at o (roomy code at 0 (height_at code.program at.limits.behind id _ there)) f
   node_brings (Parenthesized place inner) there i j f =
       at.hyp.values inner f.0.smaller o f.0.inside f.1 d
-      (with_more code at d (H inner) (omega arith) (one_roomy code at inner (height_at code.program.nodes at.limits.first id _ there)))
+      (with_more code at d (H inner) (omega arith) (one_roomy code at inner (height_at code.program at.limits.behind id _ there)))
   node_brings (FieldAccess place name object) there i j f =
-      access_brings code at o object (one_roomy code at object (height_at code.program.nodes at.limits.first id _ there)) f
+      access_brings code at o object (one_roomy code at object (height_at code.program at.limits.behind id _ there)) f
   node_brings (Element place array index) there i j f =
       done code at _ o _ f.is_given
       (two_brings code at o array index _ _ (ELEM id)
-      (all_roomy code at (array ∷ index ∷ []) (roomy code at _ (height_at code.program.nodes at.limits.first id _ there)))
+      (all_roomy code at (array ∷ index ∷ []) (roomy code at _ (height_at code.program at.limits.behind id _ there)))
       f.array_is f.index_is tt)
   node_brings (Unary place operator operand) there i j f =
-      unary operand f.kind f.operand_is (one_roomy code at operand (height_at code.program.nodes at.limits.first id _ there)) o
+      unary operand f.kind f.operand_is (one_roomy code at operand (height_at code.program at.limits.behind id _ there)) o
       refl f.is_some
     where
       unary : (x : ℕ) (k : Kind) → HasValue code.program b c id x (Some k) → Roomy code at (H x) → (q : Option Kind) →
@@ -86,15 +86,15 @@ module _ (code : Code) (at : Place code) (o : Option Kind) where
   node_brings (Binary place operator left right) there i j (inl f) =
       done code at _ o _ f.1.is_given
       (binary_brings code at o place operator left right _ _ there
-      (all_roomy code at (left ∷ right ∷ []) (roomy code at _ (height_at code.program.nodes at.limits.first id _ there)))
+      (all_roomy code at (left ∷ right ∷ []) (roomy code at _ (height_at code.program at.limits.behind id _ there)))
       f.1.left_is f.1.right_is)
   node_brings (Binary place operator left right) there i j (inr f) =
       done code at _ o _ f.is_given
       (binary_brings code at o place operator left right _ _ there
-      (all_roomy code at (left ∷ right ∷ []) (roomy code at _ (height_at code.program.nodes at.limits.first id _ there)))
+      (all_roomy code at (left ∷ right ∷ []) (roomy code at _ (height_at code.program at.limits.behind id _ there)))
       f.left_is f.right_is)
   node_brings (New place name_place name xs) there i j f =
-      let r = roomy code at (highest H xs) (height_at code.program.nodes at.limits.first id _ there) in
+      let r = roomy code at (highest H xs) (height_at code.program at.limits.behind id _ there) in
       let same = as_many code.program b c id xs f.kinds f.arguments_are in
       let fit = as_many_fit code.program sig.runs_in sig.runs_in f.kinds f.constructor.sig.takes f.constructor.fit in
       let few = at.limits.takes f.constructor.body f.class f.constructor.sig f.constructor.runs in
@@ -102,15 +102,15 @@ module _ (code : Code) (at : Place code) (o : Option Kind) where
       (new_brings code at o place name_place name xs f.class f.kinds there (all_roomy code at xs r)
       (less_roomy code at 0 (highest H xs) (omega arith) r) f.is f.arguments_are (omega (arith, same, fit, few)))
   node_brings (NewArray place element count) there i j f =
-      let r = all_roomy code at (element ∷ count ∷ []) (roomy code at _ (height_at code.program.nodes at.limits.first id _ there)) in
+      let r = all_roomy code at (element ∷ count ∷ []) (roomy code at _ (height_at code.program at.limits.behind id _ there)) in
       done code at _ o _ f.is_given (one_brings code at o count _ (ALLOCARRAY id) r.1.0 f.count_is tt)
   node_brings (Cast place name_place name operand) there i j f =
       done code at _ o _ f.is_given
-      (one_brings code at o operand _ (CAST id) (one_roomy code at operand (height_at code.program.nodes at.limits.first id _ there))
+      (one_brings code at o operand _ (CAST id) (one_roomy code at operand (height_at code.program at.limits.behind id _ there))
       f.operand_is tt)
   node_brings (Call place name object xs) there i j f =
-      by_fact f (all_parts object (height_at code.program.nodes at.limits.first id _ there))
-      (less_roomy code at 0 _ (omega arith) (roomy code at _ (height_at code.program.nodes at.limits.first id _ there)))
+      by_fact f (all_parts object (height_at code.program at.limits.behind id _ there))
+      (less_roomy code at 0 _ (omega arith) (roomy code at _ (height_at code.program at.limits.behind id _ there)))
     where
       all_parts : (object : Option ℕ) → H id ≡ 1 + highest H (optional object ++ xs) →
           AllRoomy code at (optional object) × AllRoomy code at xs

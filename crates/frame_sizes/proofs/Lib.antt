@@ -5,6 +5,7 @@ pub mod Entries
 pub mod Expressions
 pub mod Frames
 pub mod GivenNothing
+pub mod Heights
 pub mod Invocations
 pub mod Kept
 pub mod Lengths

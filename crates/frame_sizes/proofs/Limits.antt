@@ -23,6 +23,7 @@ use Rattle.accepted_laws.proofs.Breaks.{both_empty, no_break_at_node}
 use Rattle.accepted_laws.proofs.ClassSorts.{well_sorted}
 use Rattle.accepted_laws.proofs.MemberContexts.{member_is}
 use Rattle.accepted_laws.proofs.Tools.{some_inj}
+use Rattle.accepted_laws.proofs.Typed.{behind_children}
 use Rattle.accepted_facts.proofs.CallFacts.{call_facts}
 use Rattle.accepted_facts.proofs.FrameworkCalls.{argument_facts}
 use Rattle.scj_model.specs.Code.{code_of}
@@ -32,8 +33,7 @@ use Rattle.flow_facts.proofs.Bodies.{parameters_declared}
 use Rattle.flow_facts.proofs.Calls.{Invoked, invoked}
 use Rattle.flow_facts.proofs.FrameworkCalls.{builtin_fact}
 use Rattle.flow_facts.proofs.StaticCalls.{static_call_fact}
-use Rattle.work_cursor.proofs.Heights.{files_low}
-use Rattle.work_cursor.proofs.Rooms.{all_children_below}
+use Rattle.frame_sizes.proofs.Heights.{files_low}
 use Rattle.frame_sizes.proofs.Places.{Limits}
 use Rattle.frame_sizes.proofs.Lengths.{none_mapped, none_dropped, filtered_give, dropped_give, none_give, none_pass, first_true, second_true, as_many_kinds, as_many_declared, as_many_typed, as_many_taken}
 
@@ -194,10 +194,10 @@ module _ (forest : Forest) (a : IsAcceptedProgram forest) where
   unfolding code_of declarations_of
   limits_of =
       record {
-        first = a.whole.children_first;
+        behind = behind_children forest a.whole;
         takes = few_taken;
         called = few_passed;
         low = λ b c sig h.
             files_low a.is_read.reads.files_read b h.node (omega arith) h.is_there
-            (all_children_below forest.nodes a.whole.children_first b h.node h.is_there);
+            (behind_children forest a.whole b h.node h.is_there);
       }

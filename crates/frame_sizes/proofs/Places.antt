@@ -4,7 +4,6 @@ use Rattle.std.proofs.Common.{◌≡◌, ◌≤◌, ◌<◌, ℕ, ◌+◌, ◌*�
 use Rattle.scj_base.specs.declared.places.Pos.{Pos}
 use Rattle.scj_tree.specs.declared.nodes.Node.{Node}
 use Rattle.scj_tree.specs.declared.nodes.Node.TheVariants.{Call, Text}
-use Rattle.scj_tree.specs.Forest.{ChildrenFirst}
 use Rattle.scj_tree.specs.Heights.{highest, height, body_height}
 use Rattle.scj_rules.specs.declared.typing.Scope.{Scope}
 use Rattle.scj_rules.specs.declared.views.Body.{Body}
@@ -13,6 +12,7 @@ use Rattle.scj_rules.specs.Words.{◌>>=◌}
 use Rattle.scj_rules.specs.Contexts.{Declarations}
 use Rattle.accepted_laws.specs.Judgements.{Inside, Judged}
 use Rattle.accepted_laws.specs.Kinds.{Kind, AllFit}
+use Rattle.accepted_laws.proofs.TypesBelow.{BehindChildren}
 use Rattle.scj_model.specs.declared.operations.Op.{Op}
 use Rattle.scj_model.specs.Code.{Code}
 use Rattle.scj_model.specs.Operations.{argument_count, super_count}
@@ -26,7 +26,7 @@ use Rattle.frame_sizes.proofs.Counts.{with_result, Value, Statement, Brings, bri
 -- ---- what is small in an accepted program
 
 pub record Limits (code : Code) : Type 0 where
-  pub first : ChildrenFirst 0 code.program.nodes
+  pub behind : BehindChildren code.program
   pub takes : (body : Body) (c : ℕ) (sig : Signature) → Runs code.program body c sig → length sig.takes ≤ 8
   pub called : (b c : ℕ) (sig : Signature) (id : ℕ) (place : Pos) (name : List ℕ) (object : Option ℕ)
       (arguments : List ℕ) (gives : Option Kind) → IsBody code.program b c sig → Inside code.program b c id →

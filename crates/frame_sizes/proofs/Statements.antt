@@ -16,7 +16,7 @@ use Rattle.scj_model.specs.Ops.{leaves_value, assign_ops, return_ops, node_ops, 
 use Rattle.scope_flow.specs.Signatures.{Signature}
 use Rattle.scope_flow.specs.StatementFacts.{AssignFact, InvocationFact, StatementFact, ReturnFact}
 use Rattle.scope_flow.specs.ValueFacts.{HasValue, HasOptionStatement, HaveStatements}
-use Rattle.work_cursor.proofs.Heights.{height_at}
+use Rattle.frame_sizes.proofs.Heights.{height_at}
 use Rattle.frame_sizes.proofs.Counts.{with_result, after, Value, Statement, OptionStatement, LoopParts, Asked, Brings, brings_none, brings_op, brings_then, behind}
 use Rattle.frame_sizes.proofs.Places.{with_kind, Place, value, statement, value_part, statement_part, roomy, less_roomy, with_more, alone, all_roomy, one_roomy, Roomy, AllRoomy}
 
@@ -83,7 +83,7 @@ module _ (code : Code) (at : Place code) where
       (alone code at (suc (suc d)) (H x) (omega arith) r.1.0) tt))
   assign_brings target x r (inr (inr (inl f))) =
       let l = less_roomy code at (H f.object) (H target)
-      (let e = height_at code.program.nodes at.limits.first target _ f.is_there in omega (arith, e)) r.0 in
+      (let e = height_at code.program at.limits.behind target _ f.is_there in omega (arith, e)) r.0 in
       subst (λ (n : Option Node). B (elim n as (λ z. List Op)
       [ None ↦ [] | Some node ↦ assign_ops sub id x (binding code target) node ]) d d) (sym f.is_there)
       (subst (λ (y : Binding). B (assign_ops sub id x y (FieldAccess f.place f.name f.object)) d d) (sym f.is)
@@ -98,7 +98,7 @@ module _ (code : Code) (at : Place code) where
       (subst (λ (y : Binding). B (assign_ops sub id x y f.node) d d) (sym f.is)
       (taken_bring x _ (PUTSTATIC id) r.1.0 f.fits.value_is tt refl))
   assign_brings target x r (inr (inr (inr (inr f)))) =
-      let e = height_at code.program.nodes at.limits.first target _ f.is_there in
+      let e = height_at code.program at.limits.behind target _ f.is_there in
       let l = less_roomy code at (H f.array) (H target) (omega (arith, e)) r.0 in
       let m = less_roomy code at (H f.index) (H target) (omega (arith, e)) r.0 in
       subst (λ (n : Option Node). B (elim n as (λ z. List Op)
@@ -141,13 +141,13 @@ module _ (code : Code) (at : Place code) where
       StatementFact code b c sig id node → B (node_ops code sub id node) d d
   unfolding node_ops StatementFact weight children highest after if_parts
   statement_brings (Block place xs) there f =
-      all_bring xs _ f (all_roomy code at xs (roomy code at (highest H xs) (height_at code.program.nodes at.limits.first id _ there)))
+      all_bring xs _ f (all_roomy code at xs (roomy code at (highest H xs) (height_at code.program at.limits.behind id _ there)))
   statement_brings (EmptyStatement place) there f = brings_none code d
   statement_brings (LocalNode place name flags declared_type) there f =
       brings_op code (ZERO id) d (let l = at.room in omega (arith, l)) tt
   statement_brings (LocalWithValue place name_place name flags declared_type x) there f =
       taken_bring x _ (STORE id)
-      (local_roomy flags (height_at code.program.nodes at.limits.first id _ there)) f.fits.value_is tt refl
+      (local_roomy flags (height_at code.program at.limits.behind id _ there)) f.fits.value_is tt refl
     where
       local_roomy : (flags : Option ℕ) → H id ≡ 1 + highest H (optional flags ++ (declared_type ∷ x ∷ [])) →
           Roomy code at (H x)
@@ -155,12 +155,12 @@ module _ (code : Code) (at : Place code) where
       local_roomy (Some y) e = (all_roomy code at (y ∷ declared_type ∷ x ∷ []) (roomy code at _ e)).1.1.0
   statement_brings (Assign place target x) there f =
       assign_brings target x
-      (all_roomy code at (target ∷ x ∷ []) (roomy code at _ (height_at code.program.nodes at.limits.first id _ there))) f
+      (all_roomy code at (target ∷ x ∷ []) (roomy code at _ (height_at code.program at.limits.behind id _ there))) f
   statement_brings (ExpressionStatement place x) there f =
-      invocation_brings x (one_roomy code at x (height_at code.program.nodes at.limits.first id _ there)) f
+      invocation_brings x (one_roomy code at x (height_at code.program at.limits.behind id _ there)) f
   statement_brings (If place condition then_part else_part) there f =
       let r = all_roomy code at (condition ∷ then_part ∷ optional else_part)
-      (roomy code at _ (height_at code.program.nodes at.limits.first id _ there)) in
+      (roomy code at _ (height_at code.program at.limits.behind id _ there)) in
       taken_bring condition _ (IF id) r.0 f.condition_is
       (λ parts e. subst (λ (q : ℕ × Option ℕ). Statement code q.0 d × OptionStatement code q.1 d)
       (some_inj (then_part, else_part) parts (sym (ap (λ (n : Option Node). n >>= if_parts) there) ∙ e)) (
@@ -168,7 +168,7 @@ module _ (code : Code) (at : Place code) where
         option_part else_part f.else_is r.1.1,
       )) refl
   statement_brings (While place condition x) there f =
-      let r = all_roomy code at (condition ∷ x ∷ []) (roomy code at _ (height_at code.program.nodes at.limits.first id _ there)) in
+      let r = all_roomy code at (condition ∷ x ∷ []) (roomy code at _ (height_at code.program at.limits.behind id _ there)) in
       taken_bring condition _ (LOOP id) r.0 f.condition_is
       (λ node e. subst (λ (n : Node). LoopParts code n d)
       (some_inj (While place condition x) node (sym there ∙ e)) (
@@ -177,7 +177,7 @@ module _ (code : Code) (at : Place code) where
       )) refl
   statement_brings (For place start condition step x) there f =
       let r = all_roomy code at (start ∷ condition ∷ step ∷ x ∷ [])
-      (roomy code at _ (height_at code.program.nodes at.limits.first id _ there)) in
+      (roomy code at _ (height_at code.program at.limits.behind id _ there)) in
       let again : Value code condition d =
       record {
         body = b;
@@ -201,7 +201,7 @@ module _ (code : Code) (at : Place code) where
         again,
       )))
   statement_brings (Return place o) there f =
-      go o (height_at code.program.nodes at.limits.first id _ there) f
+      go o (height_at code.program at.limits.behind id _ there) f
     where
       go : (o : Option ℕ) → H id ≡ 1 + highest H (optional o) → ReturnFact code.program b c sig id o →
           B (return_ops sub id o) d d

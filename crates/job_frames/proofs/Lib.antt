@@ -1,6 +1,5 @@
 pub mod Reversed
 pub mod Popping
 pub mod Tops
-pub mod Begun
 pub mod Seen
 pub mod Monitors

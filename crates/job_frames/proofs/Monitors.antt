@@ -7,6 +7,7 @@ use Rattle.scj_rules.specs.Bodies.{is_synchronized_body}
 use Rattle.scj_rules.specs.Contexts.{declarations_of}
 use Rattle.scj_model.specs.Code.{code_of}
 use Rattle.scj_model.specs.Effects.{monitor_of}
+use Rattle.op_list.specs.Listed.{Listing}
 use Rattle.job_frames.specs.Frames.{StoredFrame, frame_of}
 
 -- the monitor of a body, called on an object
@@ -17,19 +18,19 @@ held forest this body =
       | Empty ↦ None
     ]
 
-held_by : (forest : Forest) (f : StoredFrame) → monitor_of (code_of forest) (frame_of (code_of forest) f)
-    ≡ held forest f.this f.body
+held_by : (code : Listing) (f : StoredFrame) →
+    monitor_of (code_of code.program) (frame_of code f) ≡ held code.program f.this f.body
 unfolding monitor_of code_of
-held_by forest f = refl
+held_by code f = refl
 
-pub monitor_is : (forest : Forest) (f : StoredFrame) (node : ℕ) → f.body ≡ Written node →
-    is_synchronized_body (declarations_of forest) node ≡ true →
-    f.this ≡ monitor_of (code_of forest) (frame_of (code_of forest) f)
-monitor_is forest f node e h =
-    sym (held_by forest f ∙ ap (held forest f.this) e ∙ ap (λ (b : Bool). if b then f.this else None) h)
+pub monitor_is : (code : Listing) (f : StoredFrame) (node : ℕ) → f.body ≡ Written node →
+    is_synchronized_body (declarations_of code.program) node ≡ true →
+    f.this ≡ monitor_of (code_of code.program) (frame_of code f)
+monitor_is code f node e h =
+    sym (held_by code f ∙ ap (held code.program f.this) e ∙ ap (λ (b : Bool). if b then f.this else None) h)
 
-pub no_monitor : (forest : Forest) (f : StoredFrame) (node : ℕ) → f.body ≡ Written node →
-    is_synchronized_body (declarations_of forest) node ≡ false →
-    None ≡ monitor_of (code_of forest) (frame_of (code_of forest) f)
-no_monitor forest f node e h =
-    sym (held_by forest f ∙ ap (held forest f.this) e ∙ ap (λ (b : Bool). if b then f.this else None) h)
+pub no_monitor : (code : Listing) (f : StoredFrame) (node : ℕ) → f.body ≡ Written node →
+    is_synchronized_body (declarations_of code.program) node ≡ false →
+    None ≡ monitor_of (code_of code.program) (frame_of code f)
+no_monitor code f node e h =
+    sym (held_by code f ∙ ap (held code.program f.this) e ∙ ap (λ (b : Bool). if b then f.this else None) h)

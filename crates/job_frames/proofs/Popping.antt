@@ -2,9 +2,9 @@
 use Rattle.std.proofs.Common.{◌≡◌, ℕ, zero, suc, ◌<◌, List, [], ◌∷◌, ◌++◌, length, reverse, refl, ap, sym, ◌∙◌, append-nil, append_assoc, arith, Option, Some, None, Result, Ok, Err, IfOk, IfSome, IfNone}
 use Rattle.std.proofs.lemmas.List.{reverse-append, reverse-reverse, length-reverse}
 use Rattle.scj_base.specs.declared.values.Value.{Value}
-use Rattle.scj_model.specs.Code.{Code}
 use Rattle.scj_model.specs.State.{Frame}
 use Rattle.scj_model.specs.Effects.{Effect, Stuck, pop_all, pop_from}
+use Rattle.op_list.specs.Listed.{Listing}
 use Rattle.job_frames.specs.Frames.{StoredFrame, frame_of}
 
 -- the operands in front are taken, of which the first is the last in order
@@ -25,7 +25,7 @@ too_few_from (suc count) [] taken f next h = refl
 too_few_from (suc count) (value ∷ operands) taken f next h =
     too_few_from count operands (value ∷ taken) f next (omega (arith, h))
 
-pub all_popped : (code : Code) (f : StoredFrame) (count : ℕ) (values left : List Value)
+pub all_popped : (code : Listing) (f : StoredFrame) (count : ℕ) (values left : List Value)
     (next : List Value → Frame → Effect) → f.operands ≡ reverse values ++ left → length values ≡ count →
     pop_all count (frame_of code f) next ≡ next values (frame_of code (record f { operands = left }))
 all_popped code f count values left next e h =
@@ -36,12 +36,12 @@ all_popped code f count values left next e h =
     ∙ ap (λ (taken : List Value). next taken (record (frame_of code f) { operands = left }))
     (append-nil (reverse (reverse values)) ∙ reverse-reverse values)
 
-pub too_few : (code : Code) (f : StoredFrame) (count : ℕ) (next : List Value → Frame → Effect) →
+pub too_few : (code : Listing) (f : StoredFrame) (count : ℕ) (next : List Value → Frame → Effect) →
     length f.operands < count → pop_all count (frame_of code f) next ≡ Stuck
 too_few code f count next h = too_few_from count f.operands [] (frame_of code f) next h
 
 -- the operands are taken, or there are too few
-pub popped : {V E : Type 0} (items : V → List Value) (code : Code) (f : StoredFrame) (count : ℕ) (left : List Value)
+pub popped : {V E : Type 0} (items : V → List Value) (code : Listing) (f : StoredFrame) (count : ℕ) (left : List Value)
     (next : List Value → Frame → Effect) (result : Result (Option V) E) →
     IfOk result (λ taken. IfSome taken (λ values. f.operands ≡ reverse (items values) ++ left)) →
     IfOk result (λ taken. IfSome taken (λ values. length (items values) ≡ count)) →

@@ -2,19 +2,19 @@
 -- definitions that it is.
 use Rattle.std.specs.Prelude.{◌≡◌, ℕ, List, []}
 use Rattle.scj_model.specs.declared.plans.ReadingRow.{ReadingRow}
-use Rattle.scj_model.specs.Code.{Code}
 use Rattle.scj_model.specs.Reading.{reading}
 use Rattle.scj_model.specs.State.{Frame}
 use Rattle.scj_model.specs.Memory.{new_elements}
 use Rattle.scj_model.specs.Effects.{Effect, Goes, Prints, Makes, Stores, StoresStatic, SetsHidden, SetsCeiling, Calls, Opens, Leaves, AsksRegistration, AsksRelease, AsksTermination, Faults, Stuck}
 use Rattle.scj_model.specs.Operations.{Environment}
+use Rattle.op_list.specs.Listed.{Listing}
 use Rattle.region_heap.specs.Contents.{Contents, hidden_slots, live_object}
 use Rattle.job_frames.specs.declared.effects.Effect.{Effect as Coded}
 use Rattle.job_frames.specs.declared.effects.Effect.TheVariants as coded
 use Rattle.job_frames.specs.Frames.{StoredFrame, frame_of, frame_called}
 
 -- the effect, with the frame that the operation leaves
-unfoldable pub effect_seen : Code → Coded → Frame → Effect
+unfoldable pub effect_seen : Listing → Coded → Frame → Effect
 effect_seen code coded.Goes f = Goes f
 effect_seen code (coded.Prints label value) f = Prints f label value
 effect_seen code (coded.Makes class slots) f = Makes f class slots.items
@@ -33,7 +33,7 @@ effect_seen code (coded.Faults fault) f = Faults fault
 effect_seen code coded.Stuck f = Stuck
 
 -- an operation that is defined as `what` does it: it gives this effect and leaves this frame
-pub record Does (code : Code) (what : Effect) (effect : Coded) (frame : StoredFrame) : Type 0 where
+pub record Does (code : Listing) (what : Effect) (effect : Coded) (frame : StoredFrame) : Type 0 where
   pub is : what ≡ effect_seen code effect (frame_of code frame)
 
 -- what an operation sees besides its frame: the objects of open areas and the static fields of a memory, and what the

@@ -24,8 +24,7 @@ impl Model for FrameStack {
 }
 
 impl FrameStack {
-    ghost use Rattle.scj_tree.specs.declared.nodes.Node.{Node as SyntaxNode};
-    ghost use Rattle.job_frames.specs.Frames.{AreBegun, below, with_operand};
+    ghost use Rattle.job_frames.specs.Frames.{below, with_operand};
     ghost use Rattle.job_frames.specs.Lending.{LendsTop};
 
     /// No frames.
@@ -88,7 +87,6 @@ impl FrameStack {
     pub fn push_on_top(&mut self, value: Value) -> Result<(), Memory>
         ensures pushed { IfOk result (λ _. self.new ≡ with_operand value self.old) }
         ensures err { OnErr result (self.new ≡ self.old) }
-        ensures begun { (nodes : List SyntaxNode) → AreBegun nodes self.old → AreBegun nodes self.new }
     {
         if let Some(frame) = self.top_mut() {
             frame.push(value)?;

@@ -2,8 +2,6 @@
 #![tactic(auto)]
 
 pub mod activities;
-mod bodies;
-pub mod code;
 pub mod effects;
 pub mod frame_stacks;
 pub mod frames;
@@ -12,7 +10,6 @@ pub mod open_areas;
 pub mod operands;
 
 pub use activities::Activity;
-pub use code::Code;
 pub use effects::Effect;
 pub use frame_stacks::FrameStack;
 pub use frames::{Frame, NewFrame};

@@ -4,8 +4,8 @@
 ghost use Rattle.std.specs.Prelude.{◌≡◌, length};
 
 use class_rows::ClassTable;
-use job_frames::Code;
 use object_layout::Layout;
+use op_list::{Code, OpList};
 use plain_machine::{Machine, Setting};
 use private_scopes::private_scopes;
 use run_plan::{Plan, read_plan};
@@ -84,8 +84,8 @@ fn open_after(
     setting: Setting<'_>,
     files: &Files,
 ) -> Result<[Option<(u64, u64)>; 3], Fail>
-    requires same { setting.classes.now ≡ setting.code.now }
-    requires named { length setting.code.now.files ≡ length files.now }
+    requires same { setting.classes.now ≡ setting.code.now.program }
+    requires named { length setting.code.now.program.files ≡ length files.now }
 {
     let mut machine = Machine::make(alloc, setting, files)?;
     run_through(alloc, &mut machine)?;
@@ -106,7 +106,7 @@ fn open_at_the_end(
     let table = ClassTable::of(alloc, checked.program())?;
     let scopes = private_scopes(alloc, &table)?;
     let layout = Layout::of(alloc, &table, scopes)?;
-    let code = Code::new(checked, &layout);
+    let code = OpList::of(alloc, Code::new(checked, &layout))?;
     let setting = Setting {
         code: &code,
         classes: &table,

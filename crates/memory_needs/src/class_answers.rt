@@ -73,7 +73,7 @@ fn first_shown(
 }
 
 /// What the number of a storage shows: that it is none, or below what is needed.
-#[tactic(auto, using(work_cursor::proofs::CodeLemmas::nodes_are), unfolding(crate::specs::ClassShown::bytes_shown, scj_model::specs::Code::code_of))]
+#[tactic(auto, using(op_list::proofs::CodeLemmas::nodes_are), unfolding(crate::specs::ClassShown::bytes_shown, scj_model::specs::Code::code_of))]
 fn bytes_shown(code: &Code<'_>, class: ClassId, need: u64, number: NodeId) -> Option<Shown>
     ensures { result ≡ bytes_shown (code_of code.now) class need number }
 {

@@ -100,7 +100,7 @@ impl<'a> Code<'a> {
     }
 
     /// How many nodes there are.
-    #[tactic(auto, using(work_cursor::proofs::CodeLemmas::nodes_are))]
+    #[tactic(auto, using(op_list::proofs::CodeLemmas::nodes_are))]
     pub fn count(&self) -> usize
         ensures value { result ≡ length (code_of self.now).program.nodes }
         ensures few { result < 2 ^ 32 }
@@ -109,7 +109,7 @@ impl<'a> Code<'a> {
     }
 
     /// The node of a number, if there is one.
-    #[tactic(auto, using(work_cursor::proofs::CodeLemmas::nodes_are))]
+    #[tactic(auto, using(op_list::proofs::CodeLemmas::nodes_are))]
     pub fn node(&self, id: NodeId) -> Option<&'a Node>
         ensures { option_copied result ≡ slice_get (code_of self.now).program.nodes id }
     {
@@ -160,7 +160,7 @@ impl<'a> Code<'a> {
 }
 
 /// What a node of a program stands for.
-#[tactic(auto, using(work_cursor::proofs::CodeLemmas::bindings_are), unfolding(scj_model::specs::Code::code_of))]
+#[tactic(auto, using(op_list::proofs::CodeLemmas::bindings_are), unfolding(scj_model::specs::Code::code_of))]
 fn binding(checked: &Checked, node: NodeId) -> Binding
     ensures { result ≡ binding (code_of checked.now.program) node }
 {

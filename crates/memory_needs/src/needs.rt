@@ -63,7 +63,7 @@ fn object_bytes(code: &Code<'_>, binding: &Binding) -> u64
 }
 
 /// The bytes of a new array.
-#[tactic(auto, using(work_cursor::proofs::CodeLemmas::nodes_are), unfolding(crate::specs::Need::array_bytes))]
+#[tactic(auto, using(op_list::proofs::CodeLemmas::nodes_are), unfolding(crate::specs::Need::array_bytes))]
 fn array_bytes(code: &Code<'_>, count: NodeId) -> u64
     ensures { result ≡ array_bytes (code_of code.now).program.nodes count }
 {

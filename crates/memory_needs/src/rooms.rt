@@ -61,7 +61,7 @@ fn entered_with(binding: &Binding, node: &Node) -> Option<NodeId>
 }
 
 /// The bytes of the store that a node's own private memory takes.
-#[tactic(auto, using(work_cursor::proofs::CodeLemmas::nodes_are), unfolding(crate::specs::Room::own_room))]
+#[tactic(auto, using(op_list::proofs::CodeLemmas::nodes_are), unfolding(crate::specs::Room::own_room))]
 fn own_room(code: &Code<'_>, id: NodeId, node: &Node) -> u64
     ensures { result ≡ own_room (code_of code.now) id node.now }
 {

@@ -27,7 +27,7 @@ pub struct Shown {
 }
 
 /// The place of a node.
-#[tactic(auto, using(work_cursor::proofs::CodeLemmas::nodes_are))]
+#[tactic(auto, using(op_list::proofs::CodeLemmas::nodes_are))]
 pub fn place_of(code: &Code<'_>, id: NodeId) -> Pos
     ensures { result ≡ place_of_node (code_of code.now) id }
 {
@@ -35,7 +35,7 @@ pub fn place_of(code: &Code<'_>, id: NodeId) -> Pos
 }
 
 /// What a number that is asked shows: that it is none.
-#[tactic(auto, using(work_cursor::proofs::CodeLemmas::nodes_are), unfolding(crate::specs::Shown::number_shown))]
+#[tactic(auto, using(op_list::proofs::CodeLemmas::nodes_are), unfolding(crate::specs::Shown::number_shown))]
 fn number_shown(code: &Code<'_>, number: NodeId) -> Option<Shown>
     ensures { result ≡ number_shown (code_of code.now) number }
 {
@@ -49,7 +49,7 @@ fn number_shown(code: &Code<'_>, number: NodeId) -> Option<Shown>
 }
 
 /// What a size shows: that it is no number, or below what is put there.
-#[tactic(auto, using(work_cursor::proofs::CodeLemmas::nodes_are), unfolding(crate::specs::Shown::size_shown))]
+#[tactic(auto, using(op_list::proofs::CodeLemmas::nodes_are), unfolding(crate::specs::Shown::size_shown))]
 fn size_shown(code: &Code<'_>, id: NodeId, size: NodeId, need: u64) -> Option<Shown>
     ensures { result ≡ size_shown (code_of code.now) id size need }
 {

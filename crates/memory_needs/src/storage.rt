@@ -50,7 +50,7 @@ fn super_arguments<'a>(code: &Code<'a>, class: ClassId) -> Option<&'a [NodeId]>
 }
 
 /// The argument of a part of a form.
-#[tactic(auto, using(work_cursor::proofs::CodeLemmas::nodes_are), unfolding(crate::specs::Causes::only_argument))]
+#[tactic(auto, using(op_list::proofs::CodeLemmas::nodes_are), unfolding(crate::specs::Causes::only_argument))]
 fn only_argument(code: &Code<'_>, part: NodeId) -> Option<NodeId>
     ensures { result ≡ read (code_of code.now).program.nodes only_argument part }
 {

@@ -34,7 +34,7 @@ fn rounded_or_0(bytes: Option<u32>) -> u64
 }
 
 /// The storage of a handler class, where it is a number.
-#[tactic(auto, using(work_cursor::proofs::CodeLemmas::nodes_are), unfolding(crate::specs::Causes::storage))]
+#[tactic(auto, using(op_list::proofs::CodeLemmas::nodes_are), unfolding(crate::specs::Causes::storage))]
 fn storage(code: &Code<'_>, class: ClassId) -> Option<u32>
     requires { IsFormed (code_of code.now).program class }
     ensures { result ≡ storage (code_of code.now).program class }

@@ -4,7 +4,7 @@ use Rattle.std.proofs.Common.{◌≡◌, ◌∙◌, ◌≤◌, ◌<◌, ℕ, ◌
 use Rattle.std.proofs.lemmas.List.{drop_all, drop_more}
 use Rattle.scj_rules.specs.Words.{◌>>=◌}
 use Rattle.scj_model.specs.declared.handlers.HandlerRow.{HandlerRow}
-use Rattle.scj_model.specs.Code.{Code}
+use Rattle.op_list.specs.Listed.{Listing}
 use Rattle.scj_model.specs.State.{State}
 use Rattle.scj_model.specs.Arrivals.{numbers_where}
 use Rattle.scj_model.specs.Choice.{Candidate, candidate, candidates_from, most_urgent}
@@ -68,7 +68,7 @@ all_chosen registry rows places left found none e =
 
 -- ---- the candidates of a state
 
-seen_candidate : (code : Code) (s : State) (place handler number : ℕ) (status : StoredStatus) →
+seen_candidate : (code : Listing) (s : State) (place handler number : ℕ) (status : StoredStatus) →
     candidate s place (record { handler = handler; number = number; status = status_seen code status })
     ≡ candidate_by s.registry place handler status
 unfolding candidate
@@ -84,7 +84,7 @@ over_is_none registry place handler (Started activity) over = cc
 over_is_none registry place handler Ended over = refl
 over_is_none registry place handler Dropped over = refl
 
-candidates_seen : (code : Code) (s : State) (rows : List StoredRelease) (n : ℕ) (xs : List StoredRelease) →
+candidates_seen : (code : Listing) (s : State) (rows : List StoredRelease) (n : ℕ) (xs : List StoredRelease) →
     IsFrom rows n xs →
     candidates_at s.registry rows (numbers_where row_is_live n xs) ≡ candidates_from s n (map (release_seen code) xs)
 unfolding candidates_at candidates_from numbers_where
@@ -116,7 +116,7 @@ candidates_seen code s rows n (x ∷ xs) h =
         (sym (over_is_none s.registry n x.handler x.status e))
         ∙ here rest
 
-pub chosen_seen : (code : Code) (s : State) (rows : List StoredRelease) →
+pub chosen_seen : (code : Listing) (s : State) (rows : List StoredRelease) →
     chosen_among s.registry rows (live_places rows) ≡ option_map (λ (c : Candidate). c.place)
     (most_urgent (candidates_from s 0 (map (release_seen code) rows)))
 unfolding chosen_among live_places

@@ -10,7 +10,7 @@ use Rattle.scj_rules.specs.Words.{◌>>=◌}
 use Rattle.scj_model.specs.declared.handlers.HandlerRow.{HandlerRow}
 use Rattle.scj_model.specs.declared.events.Event.{Event}
 use Rattle.scj_model.specs.declared.events.Event.TheVariants.{Arrive, Drop, Lost}
-use Rattle.scj_model.specs.Code.{Code}
+use Rattle.op_list.specs.Listed.{Listing}
 use Rattle.scj_model.specs.State.{Release, ReleaseAt, State, activity_in as activity_in_status, activity_of, is_started, is_waiting, with_activity}
 use Rattle.scj_model.specs.State.{Waits as WaitsSeen, with_status as state_with_status}
 use Rattle.scj_model.specs.Steps.{Step, telling}
@@ -34,14 +34,14 @@ use Rattle.run_releases.proofs.ByPlace.{any_there, from_first, told_there}
 
 -- ---- statuses
 
-waits_seen : (code : Code) (status : StoredStatus) → is_waiting (status_seen code status) ≡ waits status
+waits_seen : (code : Listing) (status : StoredStatus) → is_waiting (status_seen code status) ≡ waits status
 unfolding is_waiting
 waits_seen code Waits = refl
 waits_seen code (Started activity) = refl
 waits_seen code Ended = refl
 waits_seen code Dropped = refl
 
-started_seen : (code : Code) (status : StoredStatus) → is_started (status_seen code status) ≡ is_under_way status
+started_seen : (code : Listing) (status : StoredStatus) → is_started (status_seen code status) ≡ is_under_way status
 unfolding is_started
 started_seen code Waits = refl
 started_seen code (Started activity) = refl
@@ -62,7 +62,7 @@ over_is_not_started Dropped over = refl
 
 -- ---- releases that are taken in
 
-count_seen : (code : Code) (s : State) (rs : StoredReleases) (handler : ℕ) →
+count_seen : (code : Listing) (s : State) (rs : StoredReleases) (handler : ℕ) →
     length (releases_of (with_releases code s rs) handler) ≡ count_of rs.earlier rs.rows handler
 unfolding count_of
 count_seen code s rs handler =
@@ -71,7 +71,7 @@ count_seen code s rs handler =
     ∙ count_mapped (λ (r : Release). r.handler == handler) (is_of handler) (release_seen code) (λ r. refl)
     (drop rs.earlier rs.rows))
 
-waiting_seen : (code : Code) (s : State) (rs : StoredReleases) (handler : ℕ) →
+waiting_seen : (code : Listing) (s : State) (rs : StoredReleases) (handler : ℕ) →
     length (waiting_of (with_releases code s rs) handler) ≡ waiting_count rs.earlier rs.rows handler
 unfolding waiting_count
 waiting_seen code s rs handler =
@@ -91,11 +91,11 @@ taken_by s handler waiting count =
     let taken : Release = record { handler = handler; number = number; status = WaitsSeen } in
     telling (with_list s (s.releases ++ taken ∷ [])) (Arrive s.unit handler number ∷ []))
 
-abbrev told_with : Code → State → StoredReleases → ℕ → Option ℕ → Step
+abbrev told_with : Listing → State → StoredReleases → ℕ → Option ℕ → Step
 told_with code s rs handler number =
     telling (with_releases code s (taken_in handler number rs)) (tell_taken s.unit handler number)
 
-pub taken_seen : (code : Code) (s : State) (rs : StoredReleases) (handler : ℕ) →
+pub taken_seen : (code : Listing) (s : State) (rs : StoredReleases) (handler : ℕ) →
     release_taken (with_releases code s rs) handler
     ≡ telling (with_releases code s (taken_in handler (next_number rs handler) rs))
     (tell_taken s.unit handler (next_number rs handler))
@@ -132,7 +132,7 @@ room : (waiting : ℕ) → waiting < most_waiting → nat_lt waiting most_waitin
 room waiting fewer = grind (arith, nat_tests)
 
 -- as many wait as may
-pub full_seen : (code : Code) (s : State) (rs : StoredReleases) (handler waiting : ℕ) →
+pub full_seen : (code : Listing) (s : State) (rs : StoredReleases) (handler waiting : ℕ) →
     waiting ≡ waiting_count rs.earlier rs.rows handler → most_waiting ≤ waiting →
     release_taken (with_releases code s rs) handler ≡ telling (with_releases code s rs) (Lost s.unit handler ∷ [])
 full_seen code s rs handler waiting count as_many =
@@ -141,7 +141,7 @@ full_seen code s rs handler waiting count as_many =
     (ap (λ n. nat_lt n most_waiting) (sym count) ∙ full waiting as_many)
 
 -- one more may wait
-pub room_seen : (code : Code) (s : State) (rs : StoredReleases) (handler waiting number : ℕ) →
+pub room_seen : (code : Listing) (s : State) (rs : StoredReleases) (handler waiting number : ℕ) →
     waiting ≡ waiting_count rs.earlier rs.rows handler → waiting < most_waiting →
     number ≡ count_of rs.earlier rs.rows handler + 1 →
     release_taken (with_releases code s rs) handler
@@ -155,7 +155,7 @@ room_seen code s rs handler waiting number count fewer next =
 
 -- ---- releases that are dropped
 
-row_dropped : (code : Code) (handler number : ℕ) (status : StoredStatus) →
+row_dropped : (code : Listing) (handler number : ℕ) (status : StoredStatus) →
     dropped_release (release_seen code (record { handler = handler; number = number; status = status }))
     ≡ release_seen code (record { handler = handler; number = number; status = dropped_status status })
 unfolding dropped_release is_waiting
@@ -164,21 +164,21 @@ row_dropped code handler number (Started activity) = refl
 row_dropped code handler number Ended = refl
 row_dropped code handler number Dropped = refl
 
-rows_dropped : (code : Code) (rows : List StoredRelease) → map dropped_release (map (release_seen code) rows) ≡ map
+rows_dropped : (code : Listing) (rows : List StoredRelease) → map dropped_release (map (release_seen code) rows) ≡ map
     (release_seen code) (map dropped_row rows)
 rows_dropped code [] = refl
 rows_dropped code (r ∷ rows) =
     ap (λ x. x ∷ map dropped_release (map (release_seen code) rows)) (row_dropped code r.handler r.number r.status)
     ∙ ap (λ xs. release_seen code (dropped_row r) ∷ xs) (rows_dropped code rows)
 
-pub dropped_seen : (code : Code) (s : State) (rs : StoredReleases) →
+pub dropped_seen : (code : Listing) (s : State) (rs : StoredReleases) →
     all_let_go (with_releases code s rs) ≡ with_releases code s (all_dropped rs)
 dropped_seen code s rs = ap (with_list (with_releases code s rs)) (rows_dropped code rs.rows)
 
 tell_of : ℕ → Release → Event
 tell_of unit r = Drop unit r.handler r.number
 
-all_told : (code : Code) (unit : ℕ) (rows : List StoredRelease) →
+all_told : (code : Listing) (unit : ℕ) (rows : List StoredRelease) →
     flat_map (tell_row unit) rows ≡ map (tell_of unit)
     (filter (λ (r : Release). is_waiting r.status) (map (release_seen code) rows))
 unfolding tell_of
@@ -198,7 +198,7 @@ all_told code unit (r ∷ rows) = go (all_told code unit rows) (waits r.status)
     go rest true = ap (λ es. Drop unit r.handler r.number ∷ es) rest
     go rest false = rest
 
-pub told_seen : (code : Code) (s : State) (rs : StoredReleases) (unit : ℕ) →
+pub told_seen : (code : Listing) (s : State) (rs : StoredReleases) (unit : ℕ) →
     flat_map (tell_at rs.rows unit) (live_places rs.rows) ≡ tell_dropped (at_unit (with_releases code s rs) unit)
 unfolding live_places tell_of
 told_seen code s rs unit =
@@ -210,7 +210,7 @@ told_seen code s rs unit =
 
 -- ---- activities
 
-pub activity_seen_at : (code : Code) (s : State) (rs : StoredReleases) (place : ℕ) →
+pub activity_seen_at : (code : Listing) (s : State) (rs : StoredReleases) (place : ℕ) →
     option_map (activity_seen code) (activity_in rs.rows place) ≡ activity_of (with_releases code s rs)
     (ReleaseAt place)
 unfolding activity_of activity_in_status
@@ -231,7 +231,7 @@ activity_seen_at code s rs place = go (slice_get rs.rows place)
     go None = refl
     go (Some r) = within r.status
 
-pub status_seen_at : (code : Code) (s : State) (rs : StoredReleases) (place : ℕ) (status : StoredStatus) →
+pub status_seen_at : (code : Listing) (s : State) (rs : StoredReleases) (place : ℕ) (status : StoredStatus) →
     state_with_status (with_releases code s rs) place (status_seen code status) ≡ with_releases code s
     (status_set place status rs)
 status_seen_at code s rs place status =
@@ -239,14 +239,14 @@ status_seen_at code s rs place status =
     (sym (map_changed (release_seen code) (with_status status)
     (λ (r : Release). record r { status = status_seen code status }) place rs.rows (λ r. refl)))
 
-pub put_seen : (code : Code) (s : State) (rs : StoredReleases) (place : ℕ) (activity : StoredActivity) →
+pub put_seen : (code : Listing) (s : State) (rs : StoredReleases) (place : ℕ) (activity : StoredActivity) →
     with_activity (with_releases code s rs) (ReleaseAt place) (activity_seen code activity) ≡ with_releases code s
     (status_set place (Started activity) rs)
 unfolding with_activity
 put_seen code s rs place activity = status_seen_at code s rs place (Started activity)
 
 -- the activity that was taken out is put back as if it had never been away
-pub put_back_seen : (code : Code) (s : State) (rs : StoredReleases) (place : ℕ) (activity : StoredActivity) →
+pub put_back_seen : (code : Listing) (s : State) (rs : StoredReleases) (place : ℕ) (activity : StoredActivity) →
     with_activity (with_releases code s (emptied_at place rs)) (ReleaseAt place) (activity_seen code activity)
     ≡ with_activity (with_releases code s rs) (ReleaseAt place) (activity_seen code activity)
 put_back_seen code s rs place activity =
@@ -257,7 +257,7 @@ put_back_seen code s rs place activity =
 
 -- ---- what is asked of all
 
-any_started_seen : (code : Code) (rows : List StoredRelease) →
+any_started_seen : (code : Listing) (rows : List StoredRelease) →
     list_any (λ (r : StoredRelease). is_under_way r.status) rows ≡ list_any (λ (r : Release). is_started r.status)
     (map (release_seen code) rows)
 any_started_seen code [] = refl
@@ -265,7 +265,7 @@ any_started_seen code (r ∷ rows) =
     ap (λ b. b || list_any (λ (r : StoredRelease). is_under_way r.status) rows) (sym (started_seen code r.status))
     ∙ ap (λ b. is_started (status_seen code r.status) || b) (any_started_seen code rows)
 
-pub has_started_seen : (code : Code) (s : State) (rs : StoredReleases) →
+pub has_started_seen : (code : Listing) (s : State) (rs : StoredReleases) →
     list_any (is_under_way_at rs.rows) (live_places rs.rows) ≡ has_started (with_releases code s rs)
 unfolding live_places
 has_started_seen code s rs =
@@ -273,7 +273,7 @@ has_started_seen code s rs =
     (λ r over. over_is_not_started r.status over)
     ∙ any_started_seen code rs.rows
 
-pub choice_seen : (code : Code) (s : State) (rs : StoredReleases) (registry : List HandlerRow) →
+pub choice_seen : (code : Listing) (s : State) (rs : StoredReleases) (registry : List HandlerRow) →
     chosen_among registry rs.rows (live_places rs.rows) ≡ chosen (with_registry (with_releases code s rs) registry)
 unfolding candidates chosen
 choice_seen code s rs registry = chosen_seen code (with_registry (with_releases code s rs) registry) rs.rows

@@ -1,7 +1,7 @@
 -- Releases as the code keeps them, with the activities that it keeps, and what a state of the definitions sees in them
 -- (JSR 302: event handlers).
 use Rattle.std.specs.Prelude.{ℕ, Bool, true, false, List, map, Option, Some, None}
-use Rattle.scj_model.specs.Code.{Code}
+use Rattle.op_list.specs.Listed.{Listing}
 use Rattle.scj_model.specs.State.{Release, ReleaseStatus, State}
 use Rattle.scj_model.specs.State.{Waits as WaitsSeen, Started as StartedSeen, Ended as EndedSeen, Dropped as DroppedSeen}
 use Rattle.job_frames.specs.declared.activities.Activity.{Activity as StoredActivity}
@@ -17,17 +17,17 @@ pub record StoredReleases : Type 0 where
 
 -- ---- as the definitions see them
 
-abbrev pub status_seen : Code → StoredStatus → ReleaseStatus
+abbrev pub status_seen : Listing → StoredStatus → ReleaseStatus
 status_seen code Waits = WaitsSeen
 status_seen code (Started activity) = StartedSeen (activity_seen code activity)
 status_seen code Ended = EndedSeen
 status_seen code Dropped = DroppedSeen
 
-abbrev pub release_seen : Code → StoredRelease → Release
+abbrev pub release_seen : Listing → StoredRelease → Release
 release_seen code r = record { handler = r.handler; number = r.number; status = status_seen code r.status }
 
 -- the state that has these releases, and is else as it was
-abbrev pub with_releases : Code → State → StoredReleases → State
+abbrev pub with_releases : Listing → State → StoredReleases → State
 with_releases code s rs =
     record s { releases = map (release_seen code) rs.rows; earlier_releases = rs.earlier }
 

@@ -1,7 +1,7 @@
 //! All releases of a run.
 
 ghost use Rattle.std.specs.Prelude.{◌≡◌, ◌++◌, [], IfOk, OnOk, OnErr, option_copied, option_map, slice_get};
-ghost use Rattle.scj_model.specs.Code.{Code};
+ghost use Rattle.op_list.specs.Listed.{Listing};
 ghost use Rattle.scj_model.specs.State.{Ended as EndedSeen, ReleaseAt, State, activity_of, with_activity, with_status as state_with_status};
 ghost use Rattle.scj_model.specs.Steps.{telling};
 ghost use Rattle.scj_model.specs.Apply.{release_taken, tell_dropped};
@@ -71,7 +71,7 @@ impl Releases {
     pub fn take_in(&mut self, handler: u8) -> Result<Option<u64>, Memory>
         ensures number { IfOk result (λ number. number ≡ next_number self.old handler) }
         ensures taken { IfOk result (λ number. self.new ≡ taken_in handler number self.old) }
-        ensures seen { (code : Code) (s : State) →
+        ensures seen { (code : Listing) (s : State) →
             IfOk result
             (λ number. release_taken (with_releases code s self.old) handler ≡ telling (with_releases code s self.new)
             (tell_taken s.unit handler number)) }
@@ -102,9 +102,9 @@ impl Releases {
     /// Lets those that wait go, and tells so in the order in which they arrived.
     pub fn drop_waiting(&mut self, unit: u64, told: &mut Vec<Event>) -> Result<(), Memory>
         ensures dropped { OnOk result (self.new ≡ all_dropped self.old) }
-        ensures seen { (code : Code) (s : State) →
+        ensures seen { (code : Listing) (s : State) →
             OnOk result (all_let_go (with_releases code s self.old) ≡ with_releases code s self.new) }
-        ensures told { (code : Code) (s : State) →
+        ensures told { (code : Listing) (s : State) →
             OnOk result
             (told.new.items ≡ told.old.items ++ tell_dropped (at_unit (with_releases code s self.old) unit)) }
         ensures err { OnErr result (self.new ≡ self.old) }
@@ -136,7 +136,7 @@ impl Releases {
     pub fn take_activity(&mut self, place: usize, alloc: Global) -> Option<Activity>
         ensures taken { result ≡ activity_in self.old.rows place }
         ensures left { self.new ≡ emptied_at place self.old }
-        ensures seen { (code : Code) (s : State) → option_map (activity_seen code) result ≡ activity_of
+        ensures seen { (code : Listing) (s : State) → option_map (activity_seen code) result ≡ activity_of
             (with_releases code s self.old) (ReleaseAt place) }
     {
         take_from(&mut self.rows, place, Activity::empty(alloc))
@@ -145,7 +145,7 @@ impl Releases {
     /// The release at a place, which waits or is under way, has this activity.
     pub fn put_activity(&mut self, place: usize, activity: Activity) -> Result<(), Memory>
         ensures put { OnOk result (self.new ≡ status_set place (ReleaseStatus.Started activity) self.old) }
-        ensures seen { (code : Code) (s : State) →
+        ensures seen { (code : Listing) (s : State) →
             OnOk result
             (with_activity (with_releases code s self.old) (ReleaseAt place) (activity_seen code activity)
             ≡ with_releases code s self.new) }
@@ -165,7 +165,7 @@ impl Releases {
     /// The release at a place has come to its end.
     pub fn end(&mut self, place: usize)
         ensures ended { self.new ≡ status_set place ReleaseStatus.Ended self.old }
-        ensures seen { (code : Code) (s : State) →
+        ensures seen { (code : Listing) (s : State) →
             state_with_status (with_releases code s self.old) place EndedSeen ≡ with_releases code s self.new }
     {
         take_one(
@@ -178,14 +178,14 @@ impl Releases {
 
     /// Whether some release is under way.
     pub fn has_started(&self) -> bool
-        ensures { (code : Code) (s : State) → result ≡ has_started (with_releases code s self.now) }
+        ensures { (code : Listing) (s : State) → result ≡ has_started (with_releases code s self.now) }
     {
         any_started(&self.rows, &self.live)
     }
 
     /// The place of the most urgent release, where the mission has these handlers.
     pub fn chosen(&self, registry: &[HandlerRow]) -> Option<usize>
-        ensures { (code : Code) (s : State) →
+        ensures { (code : Listing) (s : State) →
             result ≡ chosen (with_registry (with_releases code s self.now) registry.now) }
     {
         choose(registry, &self.rows, &self.live)

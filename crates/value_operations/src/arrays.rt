@@ -3,16 +3,16 @@
 ghost use Rattle.std.specs.Prelude.{◌≡◌, ℕ, List, IfOk, slice_get, Some, None, pos, length};
 ghost use Rattle.scj_base.specs.declared.faults.RunFault.TheVariants.{ArrayIndex};
 ghost use Rattle.scj_base.specs.declared.values.Value.TheVariants.{Int};
-ghost use Rattle.scj_model.specs.declared.plans.ReadingRow.{ReadingRow as Row};
-ghost use Rattle.scj_model.specs.Code.{code_of};
+ghost use Rattle.scj_model.specs.declared.plans.ReadingRow.{ReadingRow as Reading};
 ghost use Rattle.scj_model.specs.State.{Object as Listed};
 ghost use Rattle.scj_model.specs.Effects.{Faults, Stores, given, pushes};
 ghost use Rattle.scj_model.specs.Operations.{elem_op, index_in, length_op, put_elem_op};
+ghost use Rattle.op_list.specs.Listed.{Listing};
 ghost use Rattle.region_heap.specs.Contents.{live_object};
 ghost use Rattle.job_frames.specs.Frames.{frame_of};
 ghost use Rattle.job_frames.specs.EffectsSeen.{Does, world};
 
-use job_frames::{Code, Effect, Frame};
+use job_frames::{Effect, Frame};
 use region_heap::{Object, RegionHeap};
 use scj_base::{Memory, Ref, RunFault, Value};
 
@@ -27,18 +27,12 @@ fn int_of(length: usize) -> Result<i32, Memory>
 }
 
 /// The length of the array of a reference.
-fn length_of(
-    code: &Code<'_>,
-    memory: &RegionHeap,
-    frame: &mut Frame,
-    r: Ref,
-) -> Result<Effect, Memory>
-    ensures does { IfOk result (λ effect.
-        Does (code_of code.now)
+fn length_of(memory: &RegionHeap, frame: &mut Frame, r: Ref) -> Result<Effect, Memory>
+    ensures does { (code : Listing) → IfOk result (λ effect.
+        Does code
         (given (live_object memory.now r) (λ (o : Listed).
-        pushes (frame_of (code_of code.now) frame.old) (Int (pos (length o.slots)))))
+        pushes (frame_of code frame.old) (Int (pos (length o.slots)))))
         effect frame.new) }
-    ensures works { frame.new.works ≡ frame.old.works }
     ensures opened { frame.new.opened ≡ frame.old.opened }
 {
     let Some(array) = memory.object(r) else {
@@ -49,18 +43,17 @@ fn length_of(
 }
 
 /// LENGTH: the length of an array.
-pub fn length(code: &Code<'_>, memory: &RegionHeap, frame: &mut Frame) -> Result<Effect, Memory>
-    ensures does { (rows : List Row) (unit : ℕ) → IfOk result (λ effect.
-        Does (code_of code.now) (length_op (world memory.now rows unit) (frame_of (code_of code.now) frame.old))
+pub fn length(memory: &RegionHeap, frame: &mut Frame) -> Result<Effect, Memory>
+    ensures does { (code : Listing) (rows : List Reading) (unit : ℕ) → IfOk result (λ effect.
+        Does code (length_op (world memory.now rows unit) (frame_of code frame.old))
         effect frame.new) }
-    ensures works { frame.new.works ≡ frame.old.works }
     ensures opened { frame.new.opened ≡ frame.old.opened }
 {
     let Some(array) = frame.pop() else {
         return Ok(Effect::Stuck);
     };
     match array {
-        Value::At(r) => length_of(code, memory, frame, r),
+        Value::At(r) => length_of(memory, frame, r),
         Value::Null => Ok(Effect::Faults {
             fault: RunFault::NullPointer,
         }),
@@ -80,21 +73,14 @@ fn index_in(array: &Object<'_>, index: i32) -> Option<usize>
 }
 
 /// The element of an array.
-fn elem_of(
-    code: &Code<'_>,
-    memory: &RegionHeap,
-    frame: &mut Frame,
-    r: Ref,
-    index: i32,
-) -> Result<Effect, Memory>
-    ensures does { IfOk result (λ effect.
-        Does (code_of code.now)
+fn elem_of(memory: &RegionHeap, frame: &mut Frame, r: Ref, index: i32) -> Result<Effect, Memory>
+    ensures does { (code : Listing) → IfOk result (λ effect.
+        Does code
         (given (live_object memory.now r) (λ (o : Listed). elim (index_in o.slots index) [
           | None ↦ Faults ArrayIndex
-          | Some k ↦ given (slice_get o.slots k) (λ value. pushes (frame_of (code_of code.now) frame.old) value)
+          | Some k ↦ given (slice_get o.slots k) (λ value. pushes (frame_of code frame.old) value)
         ]))
         effect frame.new) }
-    ensures works { frame.new.works ≡ frame.old.works }
     ensures opened { frame.new.opened ≡ frame.old.opened }
 {
     let Some(array) = memory.object(r) else {
@@ -113,11 +99,10 @@ fn elem_of(
 }
 
 /// ELEM: an element of an array.
-pub fn elem(code: &Code<'_>, memory: &RegionHeap, frame: &mut Frame) -> Result<Effect, Memory>
-    ensures does { (rows : List Row) (unit : ℕ) → IfOk result (λ effect.
-        Does (code_of code.now) (elem_op (world memory.now rows unit) (frame_of (code_of code.now) frame.old))
+pub fn elem(memory: &RegionHeap, frame: &mut Frame) -> Result<Effect, Memory>
+    ensures does { (code : Listing) (rows : List Reading) (unit : ℕ) → IfOk result (λ effect.
+        Does code (elem_op (world memory.now rows unit) (frame_of code frame.old))
         effect frame.new) }
-    ensures works { frame.new.works ≡ frame.old.works }
     ensures opened { frame.new.opened ≡ frame.old.opened }
 {
     let Some(index) = frame.pop() else {
@@ -128,7 +113,7 @@ pub fn elem(code: &Code<'_>, memory: &RegionHeap, frame: &mut Frame) -> Result<E
     };
     match array {
         Value::At(r) => match index {
-            Value::Int(i) => elem_of(code, memory, frame, r, i),
+            Value::Int(i) => elem_of(memory, frame, r, i),
             _ => Ok(Effect::Stuck),
         },
         Value::Null => Ok(Effect::Faults {
@@ -139,18 +124,11 @@ pub fn elem(code: &Code<'_>, memory: &RegionHeap, frame: &mut Frame) -> Result<E
 }
 
 /// What an assignment to the element of an array stores.
-fn put_elem_of(
-    code: &Code<'_>,
-    memory: &RegionHeap,
-    frame: &Frame,
-    r: Ref,
-    index: i32,
-    value: Value,
-) -> Effect
-    ensures does { Does (code_of code.now)
+fn put_elem_of(memory: &RegionHeap, frame: &Frame, r: Ref, index: i32, value: Value) -> Effect
+    ensures does { (code : Listing) → Does code
         (given (live_object memory.now r) (λ (o : Listed). elim (index_in o.slots index) [
           | None ↦ Faults ArrayIndex
-          | Some k ↦ Stores (frame_of (code_of code.now) frame.now) r k value
+          | Some k ↦ Stores (frame_of code frame.now) r k value
         ]))
         result frame.now }
 {
@@ -166,11 +144,10 @@ fn put_elem_of(
 }
 
 /// PUTELEM: the assignment to an element.
-pub fn put_elem(code: &Code<'_>, memory: &RegionHeap, frame: &mut Frame) -> Effect
-    ensures does { (rows : List Row) (unit : ℕ) →
-        Does (code_of code.now) (put_elem_op (world memory.now rows unit) (frame_of (code_of code.now) frame.old))
+pub fn put_elem(memory: &RegionHeap, frame: &mut Frame) -> Effect
+    ensures does { (code : Listing) (rows : List Reading) (unit : ℕ) →
+        Does code (put_elem_op (world memory.now rows unit) (frame_of code frame.old))
         result frame.new }
-    ensures works { frame.new.works ≡ frame.old.works }
     ensures opened { frame.new.opened ≡ frame.old.opened }
 {
     let Some(value) = frame.pop() else {
@@ -184,7 +161,7 @@ pub fn put_elem(code: &Code<'_>, memory: &RegionHeap, frame: &mut Frame) -> Effe
     };
     match array {
         Value::At(r) => match index {
-            Value::Int(i) => put_elem_of(code, memory, frame, r, i, value),
+            Value::Int(i) => put_elem_of(memory, frame, r, i, value),
             _ => Effect::Stuck,
         },
         Value::Null => Effect::Faults {

@@ -2,55 +2,40 @@
 
 ghost use Rattle.std.specs.Prelude.{◌≡◌, ℕ, List};
 ghost use Rattle.scj_rules.specs.Layout.{slot_of};
-ghost use Rattle.scj_model.specs.declared.plans.ReadingRow.{ReadingRow as Row};
+ghost use Rattle.scj_model.specs.declared.plans.ReadingRow.{ReadingRow as Reading};
 ghost use Rattle.scj_model.specs.Code.{code_of};
 ghost use Rattle.scj_model.specs.State.{Object as Listed};
 ghost use Rattle.scj_model.specs.Effects.{Stores, given};
-ghost use Rattle.scj_model.specs.Operations.{init_op, put_op, put_static_op, store_op, zero_op};
+ghost use Rattle.op_list.specs.Listed.{Listing};
+ghost use Rattle.op_list.specs.Meanings.{init, put, put_static, store, zero_local};
 ghost use Rattle.region_heap.specs.Contents.{live_object};
 ghost use Rattle.job_frames.specs.Frames.{frame_of};
 ghost use Rattle.job_frames.specs.EffectsSeen.{Does, world};
 
-use crate::readings::{
-    assigned_field, assigned_local, assigned_static, field_at, local_at, slot_of, static_place,
-    value_of_field, variable,
-};
-use job_frames::{Code, Effect, Frame};
-use object_layout::kind_of_type;
+use crate::readings::slot_of;
+use job_frames::{Effect, Frame};
+use op_list::OpList;
 use region_heap::RegionHeap;
-use scj_base::{FieldId, NodeId, Ref, RunFault, Value};
+use scj_base::{FieldId, Ref, RunFault, Value};
+use scj_rules::SlotKind;
 use value_operators::default_of;
 
 /// ZERO: a local that is declared without a value begins.
-pub fn zero(code: &Code<'_>, frame: &mut Frame, id: NodeId) -> Effect
-    ensures does { Does (code_of code.now) (zero_op (code_of code.now) (frame_of (code_of code.now) frame.old) id)
-        result
-        frame.new }
-    ensures works { frame.new.works ≡ frame.old.works }
+pub fn zero(frame: &mut Frame, k: u8, kind: SlotKind) -> Effect
+    ensures does { (code : Listing) → Does code (zero_local (frame_of code frame.old) k kind) result frame.new }
     ensures opened { frame.new.opened ≡ frame.old.opened }
 {
-    let Some(k) = local_at(code, id) else {
-        return Effect::Stuck;
-    };
-    let Some(declared) = variable(code, id) else {
-        return Effect::Stuck;
-    };
-    let start = default_of(kind_of_type(&declared.declared_type));
+    let start = default_of(kind);
     frame.set_local(usize::from(k), start);
     Effect::Goes
 }
 
 /// STORE: the assignment to a local.
-pub fn store(code: &Code<'_>, frame: &mut Frame, id: NodeId) -> Effect
-    ensures does { Does (code_of code.now) (store_op (code_of code.now) (frame_of (code_of code.now) frame.old) id)
-        result
-        frame.new }
-    ensures works { frame.new.works ≡ frame.old.works }
+#[inline]
+pub fn store(frame: &mut Frame, k: u8) -> Effect
+    ensures does { (code : Listing) → Does code (store (frame_of code frame.old) k) result frame.new }
     ensures opened { frame.new.opened ≡ frame.old.opened }
 {
-    let Some(k) = assigned_local(code, id) else {
-        return Effect::Stuck;
-    };
     let Some(value) = frame.pop() else {
         return Effect::Stuck;
     };
@@ -60,17 +45,17 @@ pub fn store(code: &Code<'_>, frame: &mut Frame, id: NodeId) -> Effect
 
 /// What an assignment to a field of an object stores.
 fn put_into(
-    code: &Code<'_>,
+    code: &OpList<'_>,
     memory: &RegionHeap,
     frame: &Frame,
     r: Ref,
     field: FieldId,
     value: Value,
 ) -> Effect
-    ensures { Does (code_of code.now)
+    ensures { Does code.now
         (given (live_object memory.now r) (λ (o : Listed).
-        given (slot_of (code_of code.now).program o.class field) (λ slot.
-        Stores (frame_of (code_of code.now) frame.now) r slot value)))
+        given (slot_of (code_of code.now.program).program o.class field) (λ slot.
+        Stores (frame_of code.now frame.now) r slot value)))
         result frame.now }
 {
     let Some(object) = memory.object(r) else {
@@ -87,17 +72,13 @@ fn put_into(
 }
 
 /// PUT: the assignment to an instance field.
-pub fn put(code: &Code<'_>, memory: &RegionHeap, frame: &mut Frame, id: NodeId) -> Effect
-    ensures does { (rows : List Row) (unit : ℕ) →
-        Does (code_of code.now)
-        (put_op (code_of code.now) (world memory.now rows unit) (frame_of (code_of code.now) frame.old) id)
+pub fn put(code: &OpList<'_>, memory: &RegionHeap, frame: &mut Frame, field: FieldId) -> Effect
+    ensures does { (rows : List Reading) (unit : ℕ) →
+        Does code.now
+        (put (code_of code.now.program) (world memory.now rows unit) (frame_of code.now frame.old) field)
         result frame.new }
-    ensures works { frame.new.works ≡ frame.old.works }
     ensures opened { frame.new.opened ≡ frame.old.opened }
 {
-    let Some(field) = assigned_field(code, id) else {
-        return Effect::Stuck;
-    };
     let Some(value) = frame.pop() else {
         return Effect::Stuck;
     };
@@ -114,19 +95,10 @@ pub fn put(code: &Code<'_>, memory: &RegionHeap, frame: &mut Frame, id: NodeId) 
 }
 
 /// PUTSTATIC: the assignment to a static field.
-pub fn put_static(code: &Code<'_>, frame: &mut Frame, id: NodeId) -> Effect
-    ensures does { Does (code_of code.now) (put_static_op (code_of code.now) (frame_of (code_of code.now) frame.old) id)
-        result
-        frame.new }
-    ensures works { frame.new.works ≡ frame.old.works }
+pub fn put_static(frame: &mut Frame, place: u32) -> Effect
+    ensures does { (code : Listing) → Does code (put_static (frame_of code frame.old) place) result frame.new }
     ensures opened { frame.new.opened ≡ frame.old.opened }
 {
-    let Some(field) = assigned_static(code, id) else {
-        return Effect::Stuck;
-    };
-    let Some(place) = static_place(code, field) else {
-        return Effect::Stuck;
-    };
     let Some(value) = frame.pop() else {
         return Effect::Stuck;
     };
@@ -137,18 +109,18 @@ pub fn put_static(code: &Code<'_>, frame: &mut Frame, id: NodeId) -> Effect
 }
 
 /// INIT: the literal of a field of the object that is constructed (JLS 12.5).
-pub fn init(code: &Code<'_>, memory: &RegionHeap, frame: &Frame, id: NodeId) -> Effect
-    ensures { (rows : List Row) (unit : ℕ) →
-        Does (code_of code.now)
-        (init_op (code_of code.now) (world memory.now rows unit) (frame_of (code_of code.now) frame.now) id)
+pub fn init(
+    code: &OpList<'_>,
+    memory: &RegionHeap,
+    frame: &Frame,
+    value: Value,
+    field: FieldId,
+) -> Effect
+    ensures { (rows : List Reading) (unit : ℕ) →
+        Does code.now
+        (init (code_of code.now.program) (world memory.now rows unit) (frame_of code.now frame.now) value field)
         result frame.now }
 {
-    let Some(value) = value_of_field(code, id) else {
-        return Effect::Stuck;
-    };
-    let Some(field) = field_at(code, id) else {
-        return Effect::Stuck;
-    };
     let Some(r) = frame.this else {
         return Effect::Stuck;
     };

@@ -2,40 +2,39 @@
 
 ghost use Rattle.std.specs.Prelude.{◌≡◌, ℕ, List, IfOk, slice_get};
 ghost use Rattle.scj_rules.specs.Layout.{slot_of};
-ghost use Rattle.scj_model.specs.declared.plans.ReadingRow.{ReadingRow as Row};
+ghost use Rattle.scj_model.specs.declared.plans.ReadingRow.{ReadingRow as Reading};
 ghost use Rattle.scj_model.specs.Code.{code_of};
 ghost use Rattle.scj_model.specs.State.{Object as Listed};
 ghost use Rattle.scj_model.specs.Effects.{given, pushes};
-ghost use Rattle.scj_model.specs.Operations.{get_op, get_static_op, load_op, push_op, this_op};
+ghost use Rattle.scj_model.specs.Operations.{this_op};
+ghost use Rattle.op_list.specs.Listed.{Listing};
+ghost use Rattle.op_list.specs.Meanings.{get, get_static, load};
 ghost use Rattle.region_heap.specs.Contents.{live_object};
 ghost use Rattle.job_frames.specs.Frames.{frame_of};
 ghost use Rattle.job_frames.specs.EffectsSeen.{Does, world};
 
-use crate::readings::{field_at, literal_at, local_at, slot_of, static_at, static_place};
-use job_frames::{Code, Effect, Frame};
+use crate::readings::slot_of;
+use job_frames::{Effect, Frame};
+use op_list::OpList;
 use region_heap::RegionHeap;
-use scj_base::{FieldId, Memory, NodeId, Ref, RunFault, Value};
+use scj_base::{FieldId, Memory, Ref, RunFault, Value};
 
 /// PUSH: the value of a literal.
-pub fn push(code: &Code<'_>, frame: &mut Frame, id: NodeId) -> Result<Effect, Memory>
-    ensures does { IfOk result (λ effect.
-        Does (code_of code.now) (push_op (code_of code.now) (frame_of (code_of code.now) frame.old) id) effect
-        frame.new) }
-    ensures works { frame.new.works ≡ frame.old.works }
+#[inline]
+pub fn push(frame: &mut Frame, value: Value) -> Result<Effect, Memory>
+    ensures does { (code : Listing) → IfOk result (λ effect.
+        Does code (pushes (frame_of code frame.old) value) effect frame.new) }
     ensures opened { frame.new.opened ≡ frame.old.opened }
 {
-    let Some(value) = literal_at(code, id) else {
-        return Ok(Effect::Stuck);
-    };
     frame.push(value)?;
     Ok(Effect::Goes)
 }
 
 /// THIS: the object whose method runs.
-pub fn this(code: &Code<'_>, frame: &mut Frame) -> Result<Effect, Memory>
-    ensures does { IfOk result (λ effect.
-        Does (code_of code.now) (this_op (frame_of (code_of code.now) frame.old)) effect frame.new) }
-    ensures works { frame.new.works ≡ frame.old.works }
+#[inline]
+pub fn this(frame: &mut Frame) -> Result<Effect, Memory>
+    ensures does { (code : Listing) → IfOk result (λ effect.
+        Does code (this_op (frame_of code frame.old)) effect frame.new) }
     ensures opened { frame.new.opened ≡ frame.old.opened }
 {
     let Some(r) = frame.this else {
@@ -46,16 +45,12 @@ pub fn this(code: &Code<'_>, frame: &mut Frame) -> Result<Effect, Memory>
 }
 
 /// LOAD: the value of a local.
-pub fn load(code: &Code<'_>, frame: &mut Frame, id: NodeId) -> Result<Effect, Memory>
-    ensures does { IfOk result (λ effect.
-        Does (code_of code.now) (load_op (code_of code.now) (frame_of (code_of code.now) frame.old) id) effect
-        frame.new) }
-    ensures works { frame.new.works ≡ frame.old.works }
+#[inline]
+pub fn load(frame: &mut Frame, k: u8) -> Result<Effect, Memory>
+    ensures does { (code : Listing) → IfOk result (λ effect.
+        Does code (load (frame_of code frame.old) k) effect frame.new) }
     ensures opened { frame.new.opened ≡ frame.old.opened }
 {
-    let Some(k) = local_at(code, id) else {
-        return Ok(Effect::Stuck);
-    };
     let Some(value) = frame.local(usize::from(k)) else {
         return Ok(Effect::Stuck);
     };
@@ -65,19 +60,18 @@ pub fn load(code: &Code<'_>, frame: &mut Frame, id: NodeId) -> Result<Effect, Me
 
 /// The value of a field of an object becomes an operand.
 fn get_from(
-    code: &Code<'_>,
+    code: &OpList<'_>,
     memory: &RegionHeap,
     frame: &mut Frame,
     r: Ref,
     field: FieldId,
 ) -> Result<Effect, Memory>
     ensures does { IfOk result (λ effect.
-        Does (code_of code.now)
+        Does code.now
         (given (live_object memory.now r) (λ (o : Listed).
-        given (slot_of (code_of code.now).program o.class field) (λ slot.
-        given (slice_get o.slots slot) (λ value. pushes (frame_of (code_of code.now) frame.old) value))))
+        given (slot_of (code_of code.now.program).program o.class field) (λ slot.
+        given (slice_get o.slots slot) (λ value. pushes (frame_of code.now frame.old) value))))
         effect frame.new) }
-    ensures works { frame.new.works ≡ frame.old.works }
     ensures opened { frame.new.opened ≡ frame.old.opened }
 {
     let Some(object) = memory.object(r) else {
@@ -95,21 +89,17 @@ fn get_from(
 
 /// GET: the value of an instance field.
 pub fn get(
-    code: &Code<'_>,
+    code: &OpList<'_>,
     memory: &RegionHeap,
     frame: &mut Frame,
-    id: NodeId,
+    field: FieldId,
 ) -> Result<Effect, Memory>
-    ensures does { (rows : List Row) (unit : ℕ) → IfOk result (λ effect.
-        Does (code_of code.now)
-        (get_op (code_of code.now) (world memory.now rows unit) (frame_of (code_of code.now) frame.old) id)
+    ensures does { (rows : List Reading) (unit : ℕ) → IfOk result (λ effect.
+        Does code.now
+        (get (code_of code.now.program) (world memory.now rows unit) (frame_of code.now frame.old) field)
         effect frame.new) }
-    ensures works { frame.new.works ≡ frame.old.works }
     ensures opened { frame.new.opened ≡ frame.old.opened }
 {
-    let Some(field) = field_at(code, id) else {
-        return Ok(Effect::Stuck);
-    };
     let Some(object) = frame.pop() else {
         return Ok(Effect::Stuck);
     };
@@ -123,25 +113,11 @@ pub fn get(
 }
 
 /// GETSTATIC: the value of a static field.
-pub fn get_static(
-    code: &Code<'_>,
-    memory: &RegionHeap,
-    frame: &mut Frame,
-    id: NodeId,
-) -> Result<Effect, Memory>
-    ensures does { (rows : List Row) (unit : ℕ) → IfOk result (λ effect.
-        Does (code_of code.now)
-        (get_static_op (code_of code.now) (world memory.now rows unit) (frame_of (code_of code.now) frame.old) id)
-        effect frame.new) }
-    ensures works { frame.new.works ≡ frame.old.works }
+pub fn get_static(memory: &RegionHeap, frame: &mut Frame, place: u32) -> Result<Effect, Memory>
+    ensures does { (code : Listing) (rows : List Reading) (unit : ℕ) → IfOk result (λ effect.
+        Does code (get_static (world memory.now rows unit) (frame_of code frame.old) place) effect frame.new) }
     ensures opened { frame.new.opened ≡ frame.old.opened }
 {
-    let Some(field) = static_at(code, id) else {
-        return Ok(Effect::Stuck);
-    };
-    let Some(place) = static_place(code, field) else {
-        return Ok(Effect::Stuck);
-    };
     let Some(value) = memory.static_field(place as usize) else {
         return Ok(Effect::Stuck);
     };

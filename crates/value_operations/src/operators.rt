@@ -4,32 +4,29 @@ ghost use Rattle.std.specs.Prelude.{◌≡◌, ℕ, List, IfOk, if◌then◌else
 ghost use Rattle.scj_base.specs.declared.faults.RunFault.TheVariants.{ClassCast};
 ghost use Rattle.scj_base.specs.declared.values.Value.TheVariants.{At};
 ghost use Rattle.scj_rules.specs.Classes.{is_sub};
-ghost use Rattle.scj_model.specs.declared.plans.ReadingRow.{ReadingRow as Row};
+ghost use Rattle.scj_model.specs.declared.plans.ReadingRow.{ReadingRow as Reading};
 ghost use Rattle.scj_model.specs.Code.{code_of};
 ghost use Rattle.scj_model.specs.State.{Object as Listed};
 ghost use Rattle.scj_model.specs.Effects.{Faults, given, pushes};
-ghost use Rattle.scj_model.specs.Operations.{bin_op, cast_op, unary_op};
+ghost use Rattle.op_list.specs.Listed.{Listing};
+ghost use Rattle.op_list.specs.Meanings.{bin, cast, unary};
 ghost use Rattle.region_heap.specs.Contents.{live_object};
 ghost use Rattle.job_frames.specs.Frames.{frame_of};
 ghost use Rattle.job_frames.specs.EffectsSeen.{Does, world};
 
-use crate::readings::{class_at, is_sub, operator_at};
-use job_frames::{Code, Effect, Frame};
+use crate::readings::is_sub;
+use job_frames::{Effect, Frame};
+use op_list::OpList;
 use region_heap::RegionHeap;
-use scj_base::{ClassId, Memory, NodeId, Ref, RunFault, Value};
+use scj_base::{ClassId, Memory, Ref, RunFault, Value};
 use value_operators::{binary, divides_by_zero};
 
 /// UNARY: an operator on one operand.
-pub fn unary(code: &Code<'_>, frame: &mut Frame, id: NodeId) -> Result<Effect, Memory>
-    ensures does { IfOk result (λ effect.
-        Does (code_of code.now) (unary_op (code_of code.now) (frame_of (code_of code.now) frame.old) id) effect
-        frame.new) }
-    ensures works { frame.new.works ≡ frame.old.works }
+pub fn unary(frame: &mut Frame, operator: u8) -> Result<Effect, Memory>
+    ensures does { (code : Listing) → IfOk result (λ effect.
+        Does code (unary (frame_of code frame.old) operator) effect frame.new) }
     ensures opened { frame.new.opened ≡ frame.old.opened }
 {
-    let Some(operator) = operator_at(code, id) else {
-        return Ok(Effect::Stuck);
-    };
     let Some(operand) = frame.pop() else {
         return Ok(Effect::Stuck);
     };
@@ -41,16 +38,11 @@ pub fn unary(code: &Code<'_>, frame: &mut Frame, id: NodeId) -> Result<Effect, M
 }
 
 /// BIN: an operator on two operands.
-pub fn bin(code: &Code<'_>, frame: &mut Frame, id: NodeId) -> Result<Effect, Memory>
-    ensures does { IfOk result (λ effect.
-        Does (code_of code.now) (bin_op (code_of code.now) (frame_of (code_of code.now) frame.old) id) effect
-        frame.new) }
-    ensures works { frame.new.works ≡ frame.old.works }
+pub fn bin(frame: &mut Frame, operator: u8) -> Result<Effect, Memory>
+    ensures does { (code : Listing) → IfOk result (λ effect.
+        Does code (bin (frame_of code frame.old) operator) effect frame.new) }
     ensures opened { frame.new.opened ≡ frame.old.opened }
 {
-    let Some(operator) = operator_at(code, id) else {
-        return Ok(Effect::Stuck);
-    };
     let Some(right) = frame.pop() else {
         return Ok(Effect::Stuck);
     };
@@ -72,19 +64,18 @@ pub fn bin(code: &Code<'_>, frame: &mut Frame, id: NodeId) -> Result<Effect, Mem
 
 /// The cast of an object to a class.
 fn cast_to(
-    code: &Code<'_>,
+    code: &OpList<'_>,
     memory: &RegionHeap,
     frame: &mut Frame,
     r: Ref,
     class: ClassId,
 ) -> Result<Effect, Memory>
     ensures does { IfOk result (λ effect.
-        Does (code_of code.now)
+        Does code.now
         (given (live_object memory.now r) (λ (o : Listed).
-        if is_sub (code_of code.now).program.classes o.class class
-        then pushes (frame_of (code_of code.now) frame.old) (At r) else Faults ClassCast))
+        if is_sub (code_of code.now.program).program.classes o.class class
+        then pushes (frame_of code.now frame.old) (At r) else Faults ClassCast))
         effect frame.new) }
-    ensures works { frame.new.works ≡ frame.old.works }
     ensures opened { frame.new.opened ≡ frame.old.opened }
 {
     let Some(object) = memory.object(r) else {
@@ -101,21 +92,17 @@ fn cast_to(
 
 /// CAST: a reference is asked to be of a class.
 pub fn cast(
-    code: &Code<'_>,
+    code: &OpList<'_>,
     memory: &RegionHeap,
     frame: &mut Frame,
-    id: NodeId,
+    class: ClassId,
 ) -> Result<Effect, Memory>
-    ensures does { (rows : List Row) (unit : ℕ) → IfOk result (λ effect.
-        Does (code_of code.now)
-        (cast_op (code_of code.now) (world memory.now rows unit) (frame_of (code_of code.now) frame.old) id)
+    ensures does { (rows : List Reading) (unit : ℕ) → IfOk result (λ effect.
+        Does code.now
+        (cast (code_of code.now.program) (world memory.now rows unit) (frame_of code.now frame.old) class)
         effect frame.new) }
-    ensures works { frame.new.works ≡ frame.old.works }
     ensures opened { frame.new.opened ≡ frame.old.opened }
 {
-    let Some(class) = class_at(code, id) else {
-        return Ok(Effect::Stuck);
-    };
     let Some(operand) = frame.pop() else {
         return Ok(Effect::Stuck);
     };

@@ -1,0 +1,16 @@
+pub mod CodeLemmas
+pub mod Rests
+pub mod StandFor
+pub mod NodeTable
+pub mod BodyTable
+pub mod AllNodes
+pub mod Gives
+pub mod Layouts
+pub mod Goes
+pub mod Patches
+pub mod PartsBelow
+pub mod Folds
+pub mod MeaningLemmas
+pub mod Listings
+pub mod BodyLemmas
+pub mod CalleeLemmas

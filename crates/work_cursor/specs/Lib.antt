@@ -1,4 +1,0 @@
-pub mod Works
-pub mod Parts
-pub mod Room
-pub mod Efforts
