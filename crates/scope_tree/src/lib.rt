@@ -7,4 +7,4 @@ mod rules;
 pub mod scopes;
 
 pub use builds::build;
-pub use names::names_of;
+pub use names::{definition_in, names_of};
