@@ -3,60 +3,52 @@
 use Rattle.std.specs.Prelude.{Bool, true, false, Option, Some, None, is_some}
 use Rattle.std.proofs.Common.{◌≡◌, ◌∙◌, List, refl, ap, sym, subst}
 use Rattle.std.proofs.lemmas.List.{append-nil}
-use Rattle.scj_tree.specs.declared.nodes.Node.{Node}
-use Rattle.scj_tree.specs.Forest.{Forest}
 use Rattle.scj_model.specs.declared.events.Event.{Event}
-use Rattle.scj_model.specs.Code.{Code, code_of}
+use Rattle.scj_model.specs.Code.{code_of}
+use Rattle.op_list.specs.Listed.{Listing}
 use Rattle.scj_model.specs.State.{Frame, State, with_activity}
 use Rattle.scj_model.specs.Steps.{Step, silently}
 use Rattle.scj_model.specs.Effects.{Effect}
 use Rattle.scj_model.specs.Apply.{applied, with_frame}
-use Rattle.work_cursor.proofs.CodeLemmas.{nodes_are}
 use Rattle.job_frames.specs.declared.activities.Activity.{Activity as StoredActivity}
 use Rattle.job_frames.specs.declared.frames.Frame.{Frame as StoredFrame}
 use Rattle.job_frames.specs.Frames.{activity_seen, frame_of, frames_of}
 use Rattle.run_state.specs.declared.states.Acting.{Acting}
 use Rattle.run_state.specs.declared.states.RunState.{RunState}
-use Rattle.run_state.specs.Seen.{AreAllBegun, job_seen, state_of}
+use Rattle.run_state.specs.Seen.{job_seen, state_of}
 use Rattle.run_state.specs.Steps.{IsApplied, IsStep, IsTry}
 use Rattle.run_state.proofs.StepLemmas.{applied_as}
 
--- ---- frames that were begun in a program
-
-pub begun_in : (forest : Forest) (st : RunState) → AreAllBegun forest.nodes st →
-    AreAllBegun (code_of forest).program.nodes st
-begun_in forest st h = subst (λ (nodes : List Node). AreAllBegun nodes st) (sym (nodes_are forest)) h
-
 -- ---- steps
 
-pub still : (code : Code) (st : RunState) (told : List Event) → AreAllBegun code.program.nodes st →
+pub still : (code : Listing) (st : RunState) (told : List Event) →
     IsStep code (silently (state_of code st)) st told told
-still code st told begun = record { state = refl; told = sym (append-nil told); begun = begun }
+still code st told = record { state = refl; told = sym (append-nil told) }
 
 -- a step that leads to this state and tells nothing
-pub quietly : (code : Code) (st : RunState) (told : List Event) (s : State) → state_of code st ≡ s →
-    AreAllBegun code.program.nodes st → IsStep code (silently s) st told told
-quietly code st told s e begun = record { state = e; told = sym (append-nil told); begun = begun }
+pub quietly : (code : Listing) (st : RunState) (told : List Event) (s : State) → state_of code st ≡ s →
+    IsStep code (silently s) st told told
+quietly code st told s e = record { state = e; told = sym (append-nil told) }
 
-pub no_step : (code : Code) (st : RunState) (before after : List Event) (found : Option Step) → found ≡ None →
+pub no_step : (code : Listing) (st : RunState) (before after : List Event) (found : Option Step) → found ≡ None →
     IsTry code found false st before after
 no_step code st before after found e = record {
   went = sym (ap (λ (o : Option Step). is_some o) e);
   leads = λ done d. absurd (let k : None ≡ Some done = sym e ∙ d in cc);
 }
 
-pub as_try : (code : Code) (answer : Bool) (st : RunState) (before after : List Event) (found other : Option Step) →
+pub as_try : (code : Listing) (answer : Bool) (st : RunState) (before after : List Event) (found other : Option Step) →
     other ≡ found → IsTry code found answer st before after → IsTry code other answer st before after
 as_try code answer st before after found other e h =
     subst (λ (x : Option Step). IsTry code x answer st before after) (sym e) h
 
 -- ---- effects
 
-module _ (code : Code) (was : RunState) (acting : Acting) (activity : StoredActivity) (effect : Frame → Effect)
+module _ (code : Listing) (was : RunState) (acting : Acting) (activity : StoredActivity) (effect : Frame → Effect)
     (st : RunState) (before after : List Event) where
   pub effect_after : (next : State → Step) →
       ((f : Frame) (below : List Frame) →
-      applied code (state_of code was) (job_seen acting.job) (activity_seen code activity) below acting.place
+      applied (code_of code.program) (state_of code was) (job_seen acting.job) (activity_seen code activity) below acting.place
       (effect f)
       ≡ Some (next (with_frame (state_of code was) (job_seen acting.job) (activity_seen code activity) f below))) →
       IsStep code (next (with_activity (state_of code was) (job_seen acting.job) (activity_seen code activity)))
@@ -71,7 +63,7 @@ module _ (code : Code) (was : RunState) (acting : Acting) (activity : StoredActi
 
   pub no_effect :
       ((f : Frame) (below : List Frame) →
-      applied code (state_of code was) (job_seen acting.job) (activity_seen code activity) below acting.place
+      applied (code_of code.program) (state_of code was) (job_seen acting.job) (activity_seen code activity) below acting.place
       (effect f) ≡ None) → IsApplied code was acting activity effect false st before after
   no_effect none =
       record { tried = λ f below e. no_step code st before after _ (none (frame_of code f) (frames_of code below)) }

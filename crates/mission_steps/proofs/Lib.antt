@@ -1,5 +1,4 @@
 pub mod Done
-pub mod FramesBegun
 pub mod Going
 pub mod Names
 pub mod Openings

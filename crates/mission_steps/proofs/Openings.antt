@@ -10,7 +10,8 @@ use Rattle.scj_rules.specs.Bodies.{class_place}
 use Rattle.scj_model.specs.declared.events.Event.{Event}
 use Rattle.scj_model.specs.declared.events.Event.TheVariants.{Halted}
 use Rattle.scj_model.specs.declared.handlers.HandlerRow.{HandlerRow}
-use Rattle.scj_model.specs.Code.{Code}
+use Rattle.scj_model.specs.Code.{code_of}
+use Rattle.op_list.specs.Listed.{Listing}
 use Rattle.scj_model.specs.State.{Activity, Job, ReleaseAt, State, TheSequencer, with_activity}
 use Rattle.scj_model.specs.Memory.{has_store_for, new_slots, with_area}
 use Rattle.scj_model.specs.Steps.{Step, allocating, fault_in, opening, silently, telling}
@@ -20,7 +21,7 @@ use Rattle.scj_model.specs.Run.{no_activity, started_with}
 use Rattle.job_frames.specs.declared.activities.Activity.{Activity as StoredActivity}
 use Rattle.job_frames.specs.Frames.{activity_seen}
 use Rattle.run_state.specs.declared.states.RunState.{RunState}
-use Rattle.run_state.specs.Seen.{AreAllBegun, state_of}
+use Rattle.run_state.specs.Seen.{state_of}
 use Rattle.run_state.specs.Steps.{GoesOn, IsStep}
 use Rattle.run_state.proofs.StepLemmas.{same_step}
 use Rattle.mission_steps.proofs.Going.{quietly}
@@ -66,7 +67,7 @@ module _ (s : State) (job : Job) (activity : Activity) (place : Pos) (scope : �
 
 -- ---- the sequencer's own areas
 
-module _ (code : Code) (was : RunState) (place : Pos) (scope bytes : ℕ) where
+module _ (code : Listing) (was : RunState) (place : Pos) (scope bytes : ℕ) where
   abbrev s : State
   s = state_of code was
 
@@ -88,11 +89,10 @@ module _ (code : Code) (was : RunState) (place : Pos) (scope bytes : ℕ) where
 
   pub opened_inside : (middle : RunState) (areas : List ℕ) (n : ℕ) (told : List Event) →
       IsOpened (Some n) (state_of code middle) → areas ≡ n ∷ middle.activity.areas →
-      AreAllBegun code.program.nodes middle →
       IsStep code (area_opened s place scope bytes)
       (record middle { activity = record middle.activity { areas = areas }; outcome = Some Null }) told told
   unfolding state_of area_opened
-  opened_inside middle areas n told opened pushed begun =
+  opened_inside middle areas n told opened pushed =
       let t : State = state_of code middle in
       let after : Activity → State = λ a. record t { activity = record a { areas = n ∷ a.areas }; outcome = Some Null }
       in
@@ -105,8 +105,7 @@ module _ (code : Code) (was : RunState) (place : Pos) (scope bytes : ℕ) where
       (let x : State = record t { activity = record t.activity { areas = xs }; outcome = Some Null } in x))
       pushed
       ∙ ap after
-      (activity_kept s TheSequencer s.activity place scope (innermost s.activity.areas) bytes n t opened))
-      (record { sequencer = begun.sequencer; releases = begun.releases }))
+      (activity_kept s TheSequencer s.activity place scope (innermost s.activity.areas) bytes n t opened)))
 
   pub not_opened : (middle st : RunState) (before after : List Event) → IsOpened None (state_of code middle) →
       IsStep code (fault_in (state_of code middle) TheSequencer s.activity place StoreFull) st before after →
@@ -119,7 +118,7 @@ module _ (code : Code) (was : RunState) (place : Pos) (scope bytes : ℕ) where
 
 -- ---- the safelet
 
-module _ (code : Code) (was : RunState) (place : Pos) (class area : ℕ) (slots : List Value) where
+module _ (code : Listing) (was : RunState) (place : Pos) (class area : ℕ) (slots : List Value) where
   abbrev t : State
   t = state_of code was
 
@@ -141,35 +140,35 @@ module _ (code : Code) (was : RunState) (place : Pos) (class area : ℕ) (slots 
       (subst (λ (c : ℕ). GoesOn t (allocating t TheSequencer t.activity place c area slots)
       (fault_in t TheSequencer t.activity place MemoryFull) found after) e h)
 
-  pub made_there : (middle : RunState) (n : ℕ) (told : List Event) → new_slots code.program class ≡ slots →
-      IsMade (Some n) (state_of code middle) → AreAllBegun code.program.nodes middle →
-      IsStep code (safelet_made code t place class area) (record middle { outcome = Some (At n) }) told told
+  pub made_there : (middle : RunState) (n : ℕ) (told : List Event) → new_slots (code_of code.program).program class ≡ slots →
+      IsMade (Some n) (state_of code middle) →
+      IsStep code (safelet_made (code_of code.program) t place class area) (record middle { outcome = Some (At n) }) told told
   unfolding state_of safelet_made
-  made_there middle n told same made begun =
+  made_there middle n told same made =
       let st : RunState = record middle { outcome = Some (At n) } in
       let after : State = state_of code st in
-      same_step code st told told (silently after) (safelet_made code t place class area)
+      same_step code st told told (silently after) (safelet_made (code_of code.program) t place class area)
       (ap makes same ∙ made.there _ n refl)
-      (quietly code st told after refl (record { sequencer = begun.sequencer; releases = begun.releases }))
+      (quietly code st told after refl)
 
-  pub not_made : (middle st : RunState) (before after : List Event) → new_slots code.program class ≡ slots →
+  pub not_made : (middle st : RunState) (before after : List Event) → new_slots (code_of code.program).program class ≡ slots →
       IsMade None (state_of code middle) →
       IsStep code (fault_in (state_of code middle) TheSequencer t.activity place MemoryFull) st before after →
-      IsStep code (safelet_made code t place class area) st before after
+      IsStep code (safelet_made (code_of code.program) t place class area) st before after
   unfolding safelet_made
   not_made middle st before after same made h =
-      same_step code st before after _ (safelet_made code t place class area)
+      same_step code st before after _ (safelet_made (code_of code.program) t place class area)
       (ap makes same ∙ (made.missing _ refl
       ∙ ap (λ (u : State). fault_in u TheSequencer t.activity place MemoryFull) (sym (made.same refl)))) h
 
 -- ---- the private memory of a release
 
-module _ (code : Code) (was : RunState) (n : ℕ) (row : HandlerRow) (scope : ℕ) (body : Body) where
+module _ (code : Listing) (was : RunState) (n : ℕ) (row : HandlerRow) (scope : ℕ) (body : Body) where
   abbrev u : State
   u = state_of code was
 
   abbrev at : Pos
-  at = class_place code.program row.class
+  at = class_place (code_of code.program).program row.class
 
   abbrev pub IsPrivate : Option ℕ → State → Type 0
   IsPrivate found after =
@@ -187,7 +186,7 @@ module _ (code : Code) (was : RunState) (n : ℕ) (row : HandlerRow) (scope : �
 
   abbrev pub first_activity : List ℕ → ℕ → Activity
   first_activity areas area = record {
-    frames = record (new_frame code body None (Some row.at) area []) { opened = Some area } ∷ [];
+    frames = record (new_frame (code_of code.program) body None (Some row.at) area []) { opened = Some area } ∷ [];
     areas = area ∷ areas;
     priority = row.priority;
   }
@@ -197,22 +196,22 @@ module _ (code : Code) (was : RunState) (n : ℕ) (row : HandlerRow) (scope : �
       IsPrivate (Some area) (state_of code middle) → areas ≡ u.activity.areas →
       activity_seen code activity ≡ first_activity areas area →
       state_of code st ≡ with_activity (state_of code middle) (ReleaseAt n) (activity_seen code activity) →
-      AreAllBegun code.program.nodes st → IsStep code (started_with code u n row scope body) st told told
+      IsStep code (started_with (code_of code.program) u n row scope body) st told told
   unfolding started_with
-  started_there middle st area activity areas told opened same seen put begun =
+  started_there middle st area activity areas told opened same seen put =
       same_step code st told told
       (silently (with_activity (state_of code middle) (ReleaseAt n) (first_activity u.activity.areas area)))
-      (started_with code u n row scope body) (opened.there _ area refl)
+      (started_with (code_of code.program) u n row scope body) (opened.there _ area refl)
       (quietly code st told
       (with_activity (state_of code middle) (ReleaseAt n) (first_activity u.activity.areas area))
       (put ∙ ap (λ (a : Activity). with_activity (state_of code middle) (ReleaseAt n) a)
-      (seen ∙ ap (λ (xs : List ℕ). first_activity xs area) same)) begun)
+      (seen ∙ ap (λ (xs : List ℕ). first_activity xs area) same)))
 
   pub not_started : (middle st : RunState) (before after : List Event) → IsPrivate None (state_of code middle) →
       IsStep code (fault_in (state_of code middle) (ReleaseAt n) no_activity at StoreFull) st before after →
-      IsStep code (started_with code u n row scope body) st before after
+      IsStep code (started_with (code_of code.program) u n row scope body) st before after
   unfolding started_with
   not_started middle st before after opened h =
-      same_step code st before after _ (started_with code u n row scope body)
+      same_step code st before after _ (started_with (code_of code.program) u n row scope body)
       (opened.missing _ refl
       ∙ ap (λ (t : State). fault_in t (ReleaseAt n) no_activity at StoreFull) (sym (opened.same refl))) h

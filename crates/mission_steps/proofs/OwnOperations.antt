@@ -7,51 +7,52 @@ use Rattle.scj_rules.specs.Bodies.{body_named, class_place, constructor_body, sa
 use Rattle.scj_rules.specs.ScopeRules.{defined_by_chain, immortal_scope}
 use Rattle.scj_model.specs.declared.events.Event.{Event}
 use Rattle.scj_model.specs.declared.operations.SeqOp.TheVariants.{AllocSafelet, ConstructSafelet, OpenImmortal, OpenMission}
-use Rattle.scj_model.specs.Code.{Code}
+use Rattle.scj_model.specs.Code.{code_of}
+use Rattle.op_list.specs.Listed.{Listing}
 use Rattle.scj_model.specs.State.{Frame, Object, State}
 use Rattle.scj_model.specs.Steps.{Step, silently}
 use Rattle.scj_model.specs.Effects.{new_frame}
 use Rattle.scj_model.specs.Sequencer.{area_opened, body_called, innermost, method_called, safelet_made, sequencer_op}
 use Rattle.job_frames.specs.declared.frames.Frame.{Frame as StoredFrame}
-use Rattle.job_frames.specs.Frames.{AreBegun, frames_of}
+use Rattle.job_frames.specs.Frames.{frames_of}
 use Rattle.run_state.specs.declared.states.RunState.{RunState}
-use Rattle.run_state.specs.Seen.{AreAllBegun, state_of}
+use Rattle.run_state.specs.Seen.{state_of}
 use Rattle.run_state.specs.Steps.{IsTry}
 use Rattle.run_state.proofs.StepLemmas.{try_of}
 use Rattle.mission_steps.proofs.Going.{quietly}
 
-module _ (code : Code) (s : State) where
+module _ (code : Listing) (s : State) where
   -- ---- immortal memory and the safelet
 
-  pub no_safelet : safelet_class code.program ≡ None → sequencer_op code s OpenImmortal ≡ None
+  pub no_safelet : safelet_class (code_of code.program).program ≡ None → sequencer_op (code_of code.program) s OpenImmortal ≡ None
   unfolding sequencer_op
   no_safelet e = rw e refl
 
-  pub no_immortal : (class : ℕ) → safelet_class code.program ≡ Some class → size_of code.program class ≡ None →
-      sequencer_op code s OpenImmortal ≡ None
+  pub no_immortal : (class : ℕ) → safelet_class (code_of code.program).program ≡ Some class → size_of (code_of code.program).program class ≡ None →
+      sequencer_op (code_of code.program) s OpenImmortal ≡ None
   unfolding sequencer_op
   no_immortal class e f = rw (e, f) refl
 
-  pub immortal_opened : (class bytes : ℕ) → safelet_class code.program ≡ Some class →
-      size_of code.program class ≡ Some bytes →
-      sequencer_op code s OpenImmortal
-      ≡ Some (area_opened s (class_place code.program class) immortal_scope bytes)
+  pub immortal_opened : (class bytes : ℕ) → safelet_class (code_of code.program).program ≡ Some class →
+      size_of (code_of code.program).program class ≡ Some bytes →
+      sequencer_op (code_of code.program) s OpenImmortal
+      ≡ Some (area_opened s (class_place (code_of code.program).program class) immortal_scope bytes)
   unfolding sequencer_op
   immortal_opened class bytes e f = rw (e, f) refl
 
-  pub no_safelet_made : safelet_class code.program ≡ None → sequencer_op code s AllocSafelet ≡ None
+  pub no_safelet_made : safelet_class (code_of code.program).program ≡ None → sequencer_op (code_of code.program) s AllocSafelet ≡ None
   unfolding sequencer_op
   no_safelet_made e = rw e refl
 
-  pub no_area : (class : ℕ) → safelet_class code.program ≡ Some class → innermost s.activity.areas ≡ None →
-      sequencer_op code s AllocSafelet ≡ None
+  pub no_area : (class : ℕ) → safelet_class (code_of code.program).program ≡ Some class → innermost s.activity.areas ≡ None →
+      sequencer_op (code_of code.program) s AllocSafelet ≡ None
   unfolding sequencer_op
   no_area class e f = rw (e, f) refl
 
-  pub safelet_allocated : (class area : ℕ) → safelet_class code.program ≡ Some class →
+  pub safelet_allocated : (class area : ℕ) → safelet_class (code_of code.program).program ≡ Some class →
       innermost s.activity.areas ≡ Some area →
-      sequencer_op code s AllocSafelet
-      ≡ Some (safelet_made code s (class_place code.program class) class area)
+      sequencer_op (code_of code.program) s AllocSafelet
+      ≡ Some (safelet_made (code_of code.program) s (class_place (code_of code.program).program class) class area)
   unfolding sequencer_op
   safelet_allocated class area e f = rw (e, f) refl
 
@@ -82,81 +83,79 @@ module _ (code : Code) (s : State) where
 
   abbrev opening_mission : ℕ → Option Step
   opening_mission class =
-      defined_by_chain code.program class >>= (λ scope.
-      size_of code.program class >>= (λ bytes. Some (area_opened s (class_place code.program class) scope bytes)))
+      defined_by_chain (code_of code.program).program class >>= (λ scope.
+      size_of (code_of code.program).program class >>= (λ bytes. Some (area_opened s (class_place (code_of code.program).program class) scope bytes)))
 
-  pub no_mission : (r : ℕ) → ClassAt r None → sequencer_op code s (OpenMission r) ≡ None
+  pub no_mission : (r : ℕ) → ClassAt r None → sequencer_op (code_of code.program) s (OpenMission r) ≡ None
   unfolding sequencer_op
   no_mission r e = without_object r opening_mission e
 
-  pub no_scope : (r class : ℕ) → ClassAt r (Some class) → defined_by_chain code.program class ≡ None →
-      sequencer_op code s (OpenMission r) ≡ None
+  pub no_scope : (r class : ℕ) → ClassAt r (Some class) → defined_by_chain (code_of code.program).program class ≡ None →
+      sequencer_op (code_of code.program) s (OpenMission r) ≡ None
   unfolding sequencer_op
   no_scope r class e f = with_object r class opening_mission e ∙ (rw f refl)
 
-  pub no_size : (r class scope : ℕ) → ClassAt r (Some class) → defined_by_chain code.program class ≡ Some scope →
-      size_of code.program class ≡ None → sequencer_op code s (OpenMission r) ≡ None
+  pub no_size : (r class scope : ℕ) → ClassAt r (Some class) → defined_by_chain (code_of code.program).program class ≡ Some scope →
+      size_of (code_of code.program).program class ≡ None → sequencer_op (code_of code.program) s (OpenMission r) ≡ None
   unfolding sequencer_op
   no_size r class scope e f g = with_object r class opening_mission e ∙ (rw (f, g) refl)
 
   pub mission_opened : (r class scope bytes : ℕ) → ClassAt r (Some class) →
-      defined_by_chain code.program class ≡ Some scope → size_of code.program class ≡ Some bytes →
-      sequencer_op code s (OpenMission r) ≡ Some (area_opened s (class_place code.program class) scope bytes)
+      defined_by_chain (code_of code.program).program class ≡ Some scope → size_of (code_of code.program).program class ≡ Some bytes →
+      sequencer_op (code_of code.program) s (OpenMission r) ≡ Some (area_opened s (class_place (code_of code.program).program class) scope bytes)
   unfolding sequencer_op
   mission_opened r class scope bytes e f g = with_object r class opening_mission e ∙ (rw (f, g) refl)
 
   -- ---- bodies that are called
 
   abbrev calling : ℕ → Option Body → Option Step
-  calling r found = found >>= body_called code s r
+  calling r found = found >>= body_called (code_of code.program) s r
 
-  pub no_constructed : (r : ℕ) → ClassAt r None → sequencer_op code s (ConstructSafelet r) ≡ None
+  pub no_constructed : (r : ℕ) → ClassAt r None → sequencer_op (code_of code.program) s (ConstructSafelet r) ≡ None
   unfolding sequencer_op
-  no_constructed r e = without_object r (λ class. calling r (constructor_body code.program class)) e
+  no_constructed r e = without_object r (λ class. calling r (constructor_body (code_of code.program).program class)) e
 
-  pub no_constructor : (r class : ℕ) → ClassAt r (Some class) → constructor_body code.program class ≡ None →
-      sequencer_op code s (ConstructSafelet r) ≡ None
+  pub no_constructor : (r class : ℕ) → ClassAt r (Some class) → constructor_body (code_of code.program).program class ≡ None →
+      sequencer_op (code_of code.program) s (ConstructSafelet r) ≡ None
   unfolding sequencer_op
   no_constructor r class e f =
-      with_object r class (λ class. calling r (constructor_body code.program class)) e ∙ ap (calling r) f
+      with_object r class (λ class. calling r (constructor_body (code_of code.program).program class)) e ∙ ap (calling r) f
 
   pub constructed : (r class : ℕ) (body : Body) → ClassAt r (Some class) →
-      constructor_body code.program class ≡ Some body →
-      sequencer_op code s (ConstructSafelet r) ≡ body_called code s r body
+      constructor_body (code_of code.program).program class ≡ Some body →
+      sequencer_op (code_of code.program) s (ConstructSafelet r) ≡ body_called (code_of code.program) s r body
   unfolding sequencer_op
   constructed r class body e f =
-      with_object r class (λ class. calling r (constructor_body code.program class)) e ∙ ap (calling r) f
+      with_object r class (λ class. calling r (constructor_body (code_of code.program).program class)) e ∙ ap (calling r) f
 
-  pub no_method_called : (r : ℕ) (name : List ℕ) → ClassAt r None → method_called code s r name ≡ None
-  no_method_called r name e = without_object r (λ class. calling r (body_named code.program class name)) e
+  pub no_method_called : (r : ℕ) (name : List ℕ) → ClassAt r None → method_called (code_of code.program) s r name ≡ None
+  no_method_called r name e = without_object r (λ class. calling r (body_named (code_of code.program).program class name)) e
 
   pub no_method : (r class : ℕ) (name : List ℕ) → ClassAt r (Some class) →
-      body_named code.program class name ≡ None → method_called code s r name ≡ None
+      body_named (code_of code.program).program class name ≡ None → method_called (code_of code.program) s r name ≡ None
   no_method r class name e f =
-      with_object r class (λ class. calling r (body_named code.program class name)) e ∙ ap (calling r) f
+      with_object r class (λ class. calling r (body_named (code_of code.program).program class name)) e ∙ ap (calling r) f
 
   pub method_found : (r class : ℕ) (name : List ℕ) (body : Body) → ClassAt r (Some class) →
-      body_named code.program class name ≡ Some body → method_called code s r name ≡ body_called code s r body
+      body_named (code_of code.program).program class name ≡ Some body → method_called (code_of code.program) s r name ≡ body_called (code_of code.program) s r body
   method_found r class name body e f =
-      with_object r class (λ class. calling r (body_named code.program class name)) e ∙ ap (calling r) f
+      with_object r class (λ class. calling r (body_named (code_of code.program).program class name)) e ∙ ap (calling r) f
 
-  pub no_area_for : (r : ℕ) (body : Body) → innermost s.activity.areas ≡ None → body_called code s r body ≡ None
+  pub no_area_for : (r : ℕ) (body : Body) → innermost s.activity.areas ≡ None → body_called (code_of code.program) s r body ≡ None
   unfolding body_called
   no_area_for r body e = rw e refl
 
 -- a body is called: its frame is the sequencer's only one
-pub called_step : (code : Code) (st : RunState) (r : ℕ) (body : Body) (area : ℕ) (frames : List StoredFrame)
+pub called_step : (code : Listing) (st : RunState) (r : ℕ) (body : Body) (area : ℕ) (frames : List StoredFrame)
     (told : List Event) → innermost st.activity.areas ≡ Some area →
-    frames_of code frames ≡ record (new_frame code body None (Some r) area []) { opened = None } ∷ [] →
-    AreBegun code.program.nodes frames → AreAllBegun code.program.nodes st →
-    IsTry code (body_called code (state_of code st) r body) true
+    frames_of code frames ≡ record (new_frame (code_of code.program) body None (Some r) area []) { opened = None } ∷ [] →
+    IsTry code (body_called (code_of code.program) (state_of code st) r body) true
     (record st { activity = record st.activity { frames = frames } }) told told
 unfolding state_of body_called new_frame
-called_step code st r body area frames told e seen fresh begun =
+called_step code st r body area frames told e seen =
     let s : State = state_of code st in
     let after : List Frame → State = λ fs. record s { activity = record s.activity { frames = fs } } in
     let now : RunState = record st { activity = record st.activity { frames = frames } } in
-    let frame : Frame = new_frame code body None (Some r) area [] in
-    try_of code now told told (body_called code s r body) (silently (after (frame ∷ []))) (rw e refl)
-    (quietly code now told (after (frame ∷ [])) (ap after seen)
-    (record { sequencer = fresh; releases = begun.releases }))
+    let frame : Frame = new_frame (code_of code.program) body None (Some r) area [] in
+    try_of code now told told (body_called (code_of code.program) s r body) (silently (after (frame ∷ []))) (rw e refl)
+    (quietly code now told (after (frame ∷ [])) (ap after seen))

@@ -1,55 +1,37 @@
 -- Releases that are taken in or dropped, and the end of a mission that is asked for.
-use Rattle.std.specs.Prelude.{true, false, Option, Some, None, map}
+use Rattle.std.specs.Prelude.{true, false, Option, Some, None}
 use Rattle.std.proofs.Common.{◌≡◌, ◌∙◌, ℕ, List, [], ◌∷◌, ◌++◌, refl, ap, sym, subst}
 use Rattle.std.proofs.lemmas.List.{append_assoc}
-use Rattle.scj_tree.specs.declared.nodes.Node.{Node}
 use Rattle.scj_model.specs.declared.events.Event.{Event}
 use Rattle.scj_model.specs.declared.events.Event.TheVariants.{Terminate}
-use Rattle.scj_model.specs.Code.{Code}
+use Rattle.op_list.specs.Listed.{Listing}
 use Rattle.scj_model.specs.State.{State, is_exec}
 use Rattle.scj_model.specs.Steps.{Step, silently, telling}
 use Rattle.scj_model.specs.Registry.{handler_number}
 use Rattle.scj_model.specs.Apply.{asks_for_end, release_taken, released, takes_releases, tell_dropped, termination, termination_asked}
-use Rattle.run_releases.specs.declared.rows.Release.{Release}
-use Rattle.run_releases.specs.declared.rows.ReleaseStatus.{ReleaseStatus}
-use Rattle.run_releases.specs.declared.rows.ReleaseStatus.TheVariants.{Waits, Started, Ended, Dropped}
-use Rattle.run_releases.specs.Rows.{StoredReleases, dropped_row, dropped_status, with_releases}
+use Rattle.run_releases.specs.Rows.{StoredReleases, with_releases}
 use Rattle.run_releases.specs.Releases.{all_dropped, taken_in, tell_taken}
 use Rattle.run_releases.specs.OtherReleases.{all_let_go, at_unit}
 use Rattle.run_state.specs.declared.states.RunState.{RunState}
-use Rattle.run_state.specs.Seen.{AreAllBegun, AreReleasesBegun, IsBegunStatus, state_of}
+use Rattle.run_state.specs.Seen.{state_of}
 use Rattle.run_state.specs.Steps.{IsStep}
-use Rattle.run_state.proofs.Begun.{begun_more}
 use Rattle.mission_steps.specs.Asked.{execution_ended}
 
 -- ---- a release more
 
-taken_begun : (nodes : List Node) (rs : StoredReleases) (handler : ℕ) (number : Option ℕ) →
-    AreReleasesBegun nodes rs.rows → AreReleasesBegun nodes (taken_in handler number rs).rows
-unfolding IsBegunStatus
-taken_begun nodes rs handler None h = h
-taken_begun nodes rs handler (Some number) h =
-    begun_more nodes rs.rows (record { handler = handler; number = number; status = Waits }) h tt
-
-pub taken_step : (code : Code) (st : RunState) (rs : StoredReleases) (handler : ℕ) (number : Option ℕ) (event : Event)
+pub taken_step : (code : Listing) (st : RunState) (rs : StoredReleases) (handler : ℕ) (number : Option ℕ) (event : Event)
     (before after : List Event) → rs ≡ taken_in handler number st.releases →
     ((s : State) → release_taken (with_releases code s st.releases) handler
     ≡ telling (with_releases code s rs) (tell_taken s.unit handler number)) →
     event ∷ [] ≡ tell_taken st.unit handler number → after ≡ before ++ event ∷ [] →
-    AreAllBegun code.program.nodes st →
     IsStep code (release_taken (state_of code st) handler) (record st { releases = rs }) before after
 unfolding state_of
-taken_step code st rs handler number event before after taken seen same told begun =
+taken_step code st rs handler number event before after taken seen same told =
     subst (λ (step : Step). IsStep code step (record st { releases = rs }) before after)
     (sym (seen (state_of code st)))
     (record {
       state = refl;
       told = told ∙ ap (λ (es : List Event). before ++ es) same;
-      begun = record {
-        sequencer = begun.sequencer;
-        releases = subst (λ (x : StoredReleases). AreReleasesBegun code.program.nodes x.rows) (sym taken)
-            (taken_begun code.program.nodes st.releases handler number begun.releases);
-      };
     })
 
 module _ (s : State) (r : ℕ) where
@@ -76,35 +58,18 @@ module _ (s : State) (r : ℕ) where
 
 -- ---- those that wait are dropped
 
-dropped_begun : (nodes : List Node) (rows : List Release) → AreReleasesBegun nodes rows →
-    AreReleasesBegun nodes (map dropped_row rows)
-unfolding AreReleasesBegun IsBegunStatus
-dropped_begun nodes [] h = tt
-dropped_begun nodes (r ∷ rs) h = (of_status r.status h.0, dropped_begun nodes rs h.1)
-  where
-    of_status : (status : ReleaseStatus) → IsBegunStatus nodes status → IsBegunStatus nodes (dropped_status status)
-    of_status Waits k = tt
-    of_status (Started activity) k = k
-    of_status Ended k = tt
-    of_status Dropped k = tt
-
-pub ended_step : (code : Code) (st : RunState) (rs : StoredReleases) (before middle after : List Event) →
+pub ended_step : (code : Listing) (st : RunState) (rs : StoredReleases) (before middle after : List Event) →
     rs ≡ all_dropped st.releases →
     ((s : State) → all_let_go (with_releases code s st.releases) ≡ with_releases code s rs) →
     ((s : State) → after ≡ middle ++ tell_dropped (at_unit (with_releases code s st.releases) st.unit)) →
-    middle ≡ before ++ Terminate st.unit ∷ [] → AreAllBegun code.program.nodes st →
+    middle ≡ before ++ Terminate st.unit ∷ [] →
     IsStep code (execution_ended (state_of code st)) (record st { releases = rs; is_end_asked = true }) before after
 unfolding state_of execution_ended
-ended_step code st rs before middle after dropped seen told first begun = record {
+ended_step code st rs before middle after dropped seen told first = record {
   state = ap (λ (s : State). (let t : State = record s { is_end_asked = true } in t)) (sym (seen (state_of code st)));
   told = told (state_of code st)
       ∙ (ap (λ (es : List Event). es ++ tell_dropped (state_of code st)) first
       ∙ append_assoc before (Terminate st.unit ∷ []) (tell_dropped (state_of code st)));
-  begun = record {
-    sequencer = begun.sequencer;
-    releases = subst (λ (x : StoredReleases). AreReleasesBegun code.program.nodes x.rows) (sym dropped)
-        (dropped_begun code.program.nodes st.releases.rows begun.releases);
-  };
 }
 
 pub ends_in_execution : (s : State) → is_exec s.phase ≡ true → termination s ≡ execution_ended s

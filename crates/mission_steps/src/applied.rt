@@ -1,11 +1,11 @@
 //! What a transition does to the state that has gone on.
 
-ghost use Rattle.std.specs.Prelude.{◌≡◌, ◌+◌, List, IfOk};
-ghost use Rattle.scj_tree.specs.declared.nodes.Node.{Node as SyntaxNode};
-ghost use Rattle.scj_model.specs.Code.{Code as CodeOfRun, code_of};
+ghost use Rattle.std.specs.Prelude.{◌≡◌, ◌+◌, IfOk};
+ghost use Rattle.scj_model.specs.Code.{code_of};
+ghost use Rattle.op_list.specs.Listed.{Listing};
 ghost use Rattle.scj_model.specs.Apply.{class_name_at};
 ghost use Rattle.scj_model.specs.Sequencer.{BeginsExecution, BeginsMission, ClosesMission, LacksSequencer, TakesMission, innermost, place_of_object, seq_applied, transition_done};
-ghost use Rattle.run_state.specs.Seen.{AreAllBegun, state_of};
+ghost use Rattle.run_state.specs.Seen.{state_of};
 ghost use Rattle.run_state.specs.Standing.{ClosesLast, IsLive};
 ghost use Rattle.run_state.specs.Steps.{IsStep};
 ghost use Rattle.mission_steps.specs.Standing.{CanFollow};
@@ -13,7 +13,7 @@ ghost use Rattle.mission_steps.specs.Transitions.{effect_seen, transition_seen};
 
 use crate::looks::{class_name, class_of, class_place};
 use crate::transitions::{SeqEffect, Transition};
-use job_frames::Code;
+use op_list::OpList;
 use run_state::RunState;
 use run_state::ends::{close_opened, halted};
 use run_state::told::{tell, tell_two};
@@ -21,9 +21,9 @@ use scj_base::{Memory, Name, Pos, Ref, RunFault};
 use scj_model::Event;
 
 /// Where the class of an object is named; nowhere, if there is no such object.
-fn place_of_object(code: &Code<'_>, state: &RunState, r: Ref) -> Pos
+fn place_of_object(code: &OpList<'_>, state: &RunState, r: Ref) -> Pos
     requires { IsLive state.now.memory r }
-    ensures { result ≡ place_of_object (code_of code.now) (state_of (code_of code.now) state.now) r }
+    ensures { result ≡ place_of_object (code_of code.now.program) (state_of code.now state.now) r }
 {
     match class_of(&state.memory, r) {
         Some(class) => class_place(code, class),
@@ -37,16 +37,15 @@ fn place_of_object(code: &Code<'_>, state: &RunState, r: Ref) -> Pos
 
 /// The safelet has no sequencer: that is a fault where its class is named.
 fn lack_sequencer(
-    code: &Code<'_>,
+    code: &OpList<'_>,
     state: &mut RunState,
     safelet: Ref,
     told: &mut Vec<Event>,
 ) -> Result<(), Memory>
     requires { IsLive state.old.memory safelet }
-    ensures { AreAllBegun (code_of code.now).program.nodes state.old →
-        IfOk result
-        (λ _. IsStep (code_of code.now)
-        (seq_applied (code_of code.now) (state_of (code_of code.now) state.old) (LacksSequencer safelet)) state.new
+    ensures { IfOk result
+        (λ _. IsStep code.now
+        (seq_applied (code_of code.now.program) (state_of code.now state.old) (LacksSequencer safelet)) state.new
         told.old.items told.new.items) }
 {
     let place = place_of_object(code, state, safelet);
@@ -55,9 +54,9 @@ fn lack_sequencer(
 }
 
 /// The name of an object's class; the empty one, if there is no such object.
-fn class_name_at(code: &Code<'_>, state: &RunState, r: Ref) -> Name
+fn class_name_at(code: &OpList<'_>, state: &RunState, r: Ref) -> Name
     requires { IsLive state.now.memory r }
-    ensures { result ≡ class_name_at (code_of code.now) (state_of (code_of code.now) state.now) r }
+    ensures { result ≡ class_name_at (code_of code.now.program) (state_of code.now state.now) r }
 {
     match class_of(&state.memory, r) {
         Some(class) => class_name(code, class),
@@ -67,16 +66,15 @@ fn class_name_at(code: &Code<'_>, state: &RunState, r: Ref) -> Name
 
 /// A mission begins: its memory is open.
 fn begin_mission(
-    code: &Code<'_>,
+    code: &OpList<'_>,
     state: &mut RunState,
     mission: Ref,
     told: &mut Vec<Event>,
 ) -> Result<(), Memory>
     requires { IsLive state.old.memory mission }
-    ensures { AreAllBegun (code_of code.now).program.nodes state.old →
-        IfOk result
-        (λ _. IsStep (code_of code.now)
-        (seq_applied (code_of code.now) (state_of (code_of code.now) state.old) (BeginsMission mission)) state.new
+    ensures { IfOk result
+        (λ _. IsStep code.now
+        (seq_applied (code_of code.now.program) (state_of code.now state.old) (BeginsMission mission)) state.new
         told.old.items told.new.items) }
 {
     let class = class_name_at(code, state, mission);
@@ -93,9 +91,8 @@ fn begin_mission(
 /// The mission leaves neither memory nor handlers.
 fn close_mission(state: &mut RunState)
     requires { ClosesLast state.old.memory (innermost state.old.activity.areas) }
-    ensures closed { (code : CodeOfRun) →
-        state_of code state.new ≡ (seq_applied code (state_of code state.old) ClosesMission).state }
-    ensures begun { (nodes : List SyntaxNode) → AreAllBegun nodes state.old → AreAllBegun nodes state.new }
+    ensures closed { (code : Listing) →
+        state_of code state.new ≡ (seq_applied (code_of code.program) (state_of code state.old) ClosesMission).state }
 {
     let area = state.activity.areas.innermost();
     close_opened(&mut state.memory, area);
@@ -106,9 +103,8 @@ fn close_mission(state: &mut RunState)
 
 /// An object is the mission from now on. It isn't asked to end, and all releases are of earlier missions.
 fn take_mission(state: &mut RunState, mission: Ref)
-    ensures taken { (code : CodeOfRun) →
-        state_of code state.new ≡ (seq_applied code (state_of code state.old) (TakesMission mission)).state }
-    ensures begun { (nodes : List SyntaxNode) → AreAllBegun nodes state.old → AreAllBegun nodes state.new }
+    ensures taken { (code : Listing) →
+        state_of code state.new ≡ (seq_applied (code_of code.program) (state_of code state.old) (TakesMission mission)).state }
 {
     state.mission = Some(mission);
     state.is_end_asked = false;
@@ -127,9 +123,9 @@ fn next_unit(unit: u64) -> Result<u64, Memory>
 
 /// Execution begins with the next unit.
 fn begin_execution(state: &mut RunState, told: &mut Vec<Event>) -> Result<(), Memory>
-    ensures { (code : CodeOfRun) → AreAllBegun code.program.nodes state.old →
+    ensures { (code : Listing) →
         IfOk result
-        (λ _. IsStep code (seq_applied code (state_of code state.old) BeginsExecution) state.new told.old.items
+        (λ _. IsStep code (seq_applied (code_of code.program) (state_of code state.old) BeginsExecution) state.new told.old.items
         told.new.items) }
 {
     let unit = state.unit;
@@ -141,16 +137,15 @@ fn begin_execution(state: &mut RunState, told: &mut Vec<Event>) -> Result<(), Me
 
 /// What an effect does to the state that has gone on.
 fn seq_applied(
-    code: &Code<'_>,
+    code: &OpList<'_>,
     state: &mut RunState,
     effect: SeqEffect,
     told: &mut Vec<Event>,
 ) -> Result<(), Memory>
     requires { CanFollow state.old.memory state.old.activity.areas (effect_seen effect) }
-    ensures { AreAllBegun (code_of code.now).program.nodes state.old →
-        IfOk result
-        (λ _. IsStep (code_of code.now)
-        (seq_applied (code_of code.now) (state_of (code_of code.now) state.old) (effect_seen effect)) state.new
+    ensures { IfOk result
+        (λ _. IsStep code.now
+        (seq_applied (code_of code.now.program) (state_of code.now state.old) (effect_seen effect)) state.new
         told.old.items told.new.items) }
 {
     let unit = state.unit;
@@ -192,16 +187,15 @@ fn seq_applied(
 
 /// A transition is done: the run goes on to its phase and operation.
 pub(crate) fn transition_done(
-    code: &Code<'_>,
+    code: &OpList<'_>,
     state: &mut RunState,
     transition: Transition,
     told: &mut Vec<Event>,
 ) -> Result<(), Memory>
     requires { CanFollow state.old.memory state.old.activity.areas (effect_seen transition.effect) }
-    ensures { AreAllBegun (code_of code.now).program.nodes state.old →
-        IfOk result
-        (λ _. IsStep (code_of code.now)
-        (transition_done (code_of code.now) (state_of (code_of code.now) state.old) (transition_seen transition))
+    ensures { IfOk result
+        (λ _. IsStep code.now
+        (transition_done (code_of code.now.program) (state_of code.now state.old) (transition_seen transition))
         state.new told.old.items told.new.items) }
 {
     state.phase = transition.phase;

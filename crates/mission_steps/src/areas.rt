@@ -2,16 +2,17 @@
 
 ghost use Rattle.std.specs.Prelude.{◌≡◌, ◌<◌, ◌^◌, true, IfOk, length};
 ghost use Rattle.scj_rules.specs.Bodies.{class_place};
-ghost use Rattle.scj_model.specs.Code.{Code as CodeOfRun, code_of};
+ghost use Rattle.scj_model.specs.Code.{code_of};
+ghost use Rattle.op_list.specs.Listed.{Listing};
 ghost use Rattle.scj_model.specs.Sequencer.{area_opened, safelet_made};
 ghost use Rattle.region_heap.specs.Contents.{is_open_area, open_count};
-ghost use Rattle.run_state.specs.Seen.{AreAllBegun, state_of};
+ghost use Rattle.run_state.specs.Seen.{state_of};
 ghost use Rattle.run_state.specs.Standing.{HasNumbers};
 ghost use Rattle.run_state.specs.Steps.{IsStep};
 
 use crate::bodies::new_object;
 use crate::looks::class_place;
-use job_frames::Code;
+use op_list::OpList;
 use run_state::ends::halted;
 use run_state::memory::{make_object, open_area};
 use run_state::{NewArea, RunState};
@@ -29,7 +30,7 @@ pub(crate) fn open_inside(
 ) -> Result<(), Memory>
     requires numbers { HasNumbers state.old.memory }
     requires few { open_count state.old.memory < 1794 }
-    ensures { (code : CodeOfRun) → AreAllBegun code.program.nodes state.old →
+    ensures { (code : Listing) →
         IfOk result
         (λ _. IsStep code (area_opened (state_of code state.old) place scope bytes) state.new told.old.items
         told.new.items) }
@@ -58,7 +59,7 @@ pub(crate) fn open_inside(
 /// The safelet is made in an area. Its reference is the value of the operation.
 pub(crate) fn make_safelet(
     alloc: Global,
-    code: &Code<'_>,
+    code: &OpList<'_>,
     state: &mut RunState,
     class: ClassId,
     area: AreaId,
@@ -66,11 +67,10 @@ pub(crate) fn make_safelet(
 ) -> Result<(), Memory>
     requires open { is_open_area state.old.memory area ≡ true }
     requires numbers { length state.old.memory.objects < 2 ^ 31 }
-    ensures { AreAllBegun (code_of code.now).program.nodes state.old →
-        IfOk result
-        (λ _. IsStep (code_of code.now)
-        (safelet_made (code_of code.now) (state_of (code_of code.now) state.old)
-        (class_place (code_of code.now).program class) class area) state.new told.old.items told.new.items) }
+    ensures { IfOk result
+        (λ _. IsStep code.now
+        (safelet_made (code_of code.now.program) (state_of code.now state.old)
+        (class_place (code_of code.now.program).program class) class area) state.new told.old.items told.new.items) }
 {
     let object = new_object(alloc, code, class)?;
     match make_object(state, area, &object) {

@@ -4,10 +4,11 @@ ghost use Rattle.std.specs.Prelude.{◌≡◌, [], ◌∷◌, IfOk, Some, None};
 ghost use Rattle.scj_model.specs.Code.{code_of};
 ghost use Rattle.scj_model.specs.Effects.{new_frame};
 ghost use Rattle.scj_model.specs.Memory.{new_slots};
-ghost use Rattle.job_frames.specs.Frames.{AreBegun, frames_of};
+ghost use Rattle.job_frames.specs.Frames.{frames_of};
 
-use job_frames::{Code, Frame, FrameStack, NewFrame};
+use job_frames::{Frame, FrameStack, NewFrame};
 use object_slots::new_slots;
+use op_list::OpList;
 use run_state::NewObject;
 use scj_base::{AreaId, ClassId, Memory, Ref};
 use scj_rules::Body;
@@ -29,13 +30,12 @@ pub struct OwnCall {
 /// The frames of a job that begins with a call of the framework's.
 pub(crate) fn first_frames(
     alloc: Global,
-    code: &Code<'_>,
+    code: &OpList<'_>,
     call: OwnCall,
 ) -> Result<FrameStack, Memory>
     ensures seen { IfOk result
-        (λ frames. frames_of (code_of code.now) frames ≡ record
-        (new_frame (code_of code.now) call.body None (Some call.this) call.area []) { opened = call.opened } ∷ []) }
-    ensures begun { IfOk result (λ frames. AreBegun (code_of code.now).program.nodes frames) }
+        (λ frames. frames_of code.now frames ≡ record
+        (new_frame (code_of code.now.program) call.body None (Some call.this) call.area []) { opened = call.opened } ∷ []) }
 {
     let new = NewFrame {
         body: call.body,
@@ -53,12 +53,12 @@ pub(crate) fn first_frames(
 /// A new object of a class.
 pub(crate) fn new_object(
     alloc: Global,
-    code: &Code<'_>,
+    code: &OpList<'_>,
     class: ClassId,
 ) -> Result<NewObject, Memory>
     ensures class { IfOk result (λ object. object.class ≡ class) }
-    ensures slots { IfOk result (λ object. object.slots.items ≡ new_slots (code_of code.now).program class) }
+    ensures slots { IfOk result (λ object. object.slots.items ≡ new_slots (code_of code.now.program).program class) }
 {
-    let slots = new_slots(alloc, code.layout(), class)?;
+    let slots = new_slots(alloc, code.code().layout(), class)?;
     Ok(NewObject { class, slots })
 }

@@ -7,7 +7,7 @@ ghost use Rattle.scj_rules.specs.Words.{is_among};
 ghost use Rattle.region_heap.specs.Contents.{is_open_area, open_count};
 ghost use Rattle.scj_model.specs.Code.{code_of};
 ghost use Rattle.scj_model.specs.Sequencer.{body_called, method_called, sequencer_op};
-ghost use Rattle.run_state.specs.Seen.{AreAllBegun, state_of};
+ghost use Rattle.run_state.specs.Seen.{state_of};
 ghost use Rattle.run_state.specs.Standing.{HasNumbers, IsLive};
 ghost use Rattle.run_state.specs.Steps.{IsTry};
 ghost use Rattle.mission_steps.specs.Standing.{IsOnLive};
@@ -17,7 +17,7 @@ use crate::bodies::{OwnCall, first_frames};
 use crate::looks::{
     body_named, class_of, class_place, constructor, private_scope, safelet, size_of,
 };
-use job_frames::Code;
+use op_list::OpList;
 use run_state::RunState;
 use scj_base::{Memory, Name, Ref, ScopeId};
 use scj_model::{Event, SeqOp};
@@ -26,16 +26,15 @@ use std::alloc::Global;
 
 /// Opens immortal memory.
 fn open_immortal(
-    code: &Code<'_>,
+    code: &OpList<'_>,
     state: &mut RunState,
     told: &mut Vec<Event>,
 ) -> Result<bool, Memory>
     requires numbers { HasNumbers state.old.memory }
     requires few { open_count state.old.memory < 1794 }
-    ensures { AreAllBegun (code_of code.now).program.nodes state.old →
-        IfOk result
-        (λ answer. IsTry (code_of code.now)
-        (sequencer_op (code_of code.now) (state_of (code_of code.now) state.old) OpenImmortal) answer state.new
+    ensures { IfOk result
+        (λ answer. IsTry code.now
+        (sequencer_op (code_of code.now.program) (state_of code.now state.old) OpenImmortal) answer state.new
         told.old.items told.new.items) }
 {
     let Some(class) = safelet(code) else {
@@ -57,16 +56,15 @@ fn open_immortal(
 /// Makes the safelet in immortal memory.
 fn alloc_safelet(
     alloc: Global,
-    code: &Code<'_>,
+    code: &OpList<'_>,
     state: &mut RunState,
     told: &mut Vec<Event>,
 ) -> Result<bool, Memory>
     requires areas { (a : ℕ) → is_among a state.old.activity.areas ≡ true → is_open_area state.old.memory a ≡ true }
     requires numbers { length state.old.memory.objects < 2 ^ 31 }
-    ensures { AreAllBegun (code_of code.now).program.nodes state.old →
-        IfOk result
-        (λ answer. IsTry (code_of code.now)
-        (sequencer_op (code_of code.now) (state_of (code_of code.now) state.old) AllocSafelet) answer state.new
+    ensures { IfOk result
+        (λ answer. IsTry code.now
+        (sequencer_op (code_of code.now.program) (state_of code.now state.old) AllocSafelet) answer state.new
         told.old.items told.new.items) }
 {
     let Some(class) = safelet(code) else {
@@ -81,7 +79,7 @@ fn alloc_safelet(
 
 /// Opens the memory of a mission.
 fn open_mission(
-    code: &Code<'_>,
+    code: &OpList<'_>,
     state: &mut RunState,
     r: Ref,
     told: &mut Vec<Event>,
@@ -89,10 +87,9 @@ fn open_mission(
     requires live { IsLive state.old.memory r }
     requires numbers { HasNumbers state.old.memory }
     requires few { open_count state.old.memory < 1794 }
-    ensures { AreAllBegun (code_of code.now).program.nodes state.old →
-        IfOk result
-        (λ answer. IsTry (code_of code.now)
-        (sequencer_op (code_of code.now) (state_of (code_of code.now) state.old) (OpenMission r)) answer state.new
+    ensures { IfOk result
+        (λ answer. IsTry code.now
+        (sequencer_op (code_of code.now.program) (state_of code.now state.old) (OpenMission r)) answer state.new
         told.old.items told.new.items) }
 {
     let Some(class) = class_of(&state.memory, r) else {
@@ -111,15 +108,15 @@ fn open_mission(
 /// Calls a body on an object, in the innermost area. Its frame is the sequencer's only one.
 fn call_body(
     alloc: Global,
-    code: &Code<'_>,
+    code: &OpList<'_>,
     state: &mut RunState,
     r: Ref,
     body: Body,
 ) -> Result<bool, Memory>
-    ensures { (told : List EventOfRun) → AreAllBegun (code_of code.now).program.nodes state.old →
+    ensures { (told : List EventOfRun) →
         IfOk result
-        (λ answer. IsTry (code_of code.now)
-        (body_called (code_of code.now) (state_of (code_of code.now) state.old) r body) answer state.new told told) }
+        (λ answer. IsTry code.now
+        (body_called (code_of code.now.program) (state_of code.now state.old) r body) answer state.new told told) }
 {
     let Some(area) = state.activity.areas.innermost() else {
         return Ok(false);
@@ -138,12 +135,12 @@ fn call_body(
 }
 
 /// Calls an object's constructor.
-fn construct(alloc: Global, code: &Code<'_>, state: &mut RunState, r: Ref) -> Result<bool, Memory>
+fn construct(alloc: Global, code: &OpList<'_>, state: &mut RunState, r: Ref) -> Result<bool, Memory>
     requires { IsLive state.old.memory r }
-    ensures { (told : List EventOfRun) → AreAllBegun (code_of code.now).program.nodes state.old →
+    ensures { (told : List EventOfRun) →
         IfOk result
-        (λ answer. IsTry (code_of code.now)
-        (sequencer_op (code_of code.now) (state_of (code_of code.now) state.old) (ConstructSafelet r)) answer state.new
+        (λ answer. IsTry code.now
+        (sequencer_op (code_of code.now.program) (state_of code.now state.old) (ConstructSafelet r)) answer state.new
         told told) }
 {
     let Some(class) = class_of(&state.memory, r) else {
@@ -159,17 +156,17 @@ fn construct(alloc: Global, code: &Code<'_>, state: &mut RunState, r: Ref) -> Re
 /// Calls the method of this name that an object has.
 fn call_method(
     alloc: Global,
-    code: &Code<'_>,
+    code: &OpList<'_>,
     state: &mut RunState,
     r: Ref,
     name: &[u8],
 ) -> Result<bool, Memory>
     requires live { IsLive state.old.memory r }
     requires name { length name.now ≤ 64 }
-    ensures { (told : List EventOfRun) → AreAllBegun (code_of code.now).program.nodes state.old →
+    ensures { (told : List EventOfRun) →
         IfOk result
-        (λ answer. IsTry (code_of code.now)
-        (method_called (code_of code.now) (state_of (code_of code.now) state.old) r name.now) answer state.new told
+        (λ answer. IsTry code.now
+        (method_called (code_of code.now.program) (state_of code.now state.old) r name.now) answer state.new told
         told) }
 {
     let Some(class) = class_of(&state.memory, r) else {
@@ -185,7 +182,7 @@ fn call_method(
 /// Does an operation of the sequencer's own.
 fn operate(
     alloc: Global,
-    code: &Code<'_>,
+    code: &OpList<'_>,
     state: &mut RunState,
     operation: SeqOp,
     told: &mut Vec<Event>,
@@ -194,10 +191,9 @@ fn operate(
     requires areas { (a : ℕ) → is_among a state.old.activity.areas ≡ true → is_open_area state.old.memory a ≡ true }
     requires numbers { HasNumbers state.old.memory }
     requires few { open_count state.old.memory < 1794 }
-    ensures { AreAllBegun (code_of code.now).program.nodes state.old →
-        IfOk result
-        (λ answer. IsTry (code_of code.now)
-        (sequencer_op (code_of code.now) (state_of (code_of code.now) state.old) operation) answer state.new
+    ensures { IfOk result
+        (λ answer. IsTry code.now
+        (sequencer_op (code_of code.now.program) (state_of code.now state.old) operation) answer state.new
         told.old.items told.new.items) }
 {
     match operation {
@@ -224,18 +220,17 @@ fn operate(
 /// One operation of the sequencer's own.
 pub fn sequencer_op(
     alloc: Global,
-    code: &Code<'_>,
+    code: &OpList<'_>,
     state: &mut RunState,
     told: &mut Vec<Event>,
 ) -> Result<bool, Memory>
-    requires begun { AreAllBegun code.now.nodes state.old }
     requires live { IsOnLive state.old.memory state.old.operation }
     requires areas { (a : ℕ) → is_among a state.old.activity.areas ≡ true → is_open_area state.old.memory a ≡ true }
     requires numbers { HasNumbers state.old.memory }
     requires few { open_count state.old.memory < 1794 }
     ensures { IfOk result
-        (λ answer. IsTry (code_of code.now)
-        (sequencer_op (code_of code.now) (state_of (code_of code.now) state.old) state.old.operation) answer state.new
+        (λ answer. IsTry code.now
+        (sequencer_op (code_of code.now.program) (state_of code.now state.old) state.old.operation) answer state.new
         told.old.items told.new.items) }
 {
     let operation = state.operation;

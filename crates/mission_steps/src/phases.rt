@@ -6,7 +6,7 @@ ghost use Rattle.scj_rules.specs.Classes.{is_empty};
 ghost use Rattle.scj_model.specs.Code.{code_of};
 ghost use Rattle.scj_model.specs.State.{is_exec};
 ghost use Rattle.scj_model.specs.Sequencer.{after_execution, after_operation, innermost, phase_after};
-ghost use Rattle.run_state.specs.Seen.{AreAllBegun, state_of};
+ghost use Rattle.run_state.specs.Seen.{state_of};
 ghost use Rattle.run_state.specs.Standing.{ClosesLast};
 ghost use Rattle.run_state.specs.Steps.{IsTry};
 ghost use Rattle.mission_steps.specs.Standing.{IsOnLive};
@@ -14,7 +14,7 @@ ghost use Rattle.mission_steps.specs.Standing.{IsOnLive};
 use crate::applied::transition_done;
 use crate::life::is_exec;
 use crate::transitions::{SeqEffect, Transition, what_follows};
-use job_frames::Code;
+use op_list::OpList;
 use run_state::RunState;
 use scj_base::{Memory, Value};
 use scj_model::{Event, HandlerRow, Phase, SeqOp};
@@ -39,17 +39,16 @@ fn skips_execution(state: &RunState) -> bool
 
 /// The operation of the sequencer is done, with this value.
 fn after_operation(
-    code: &Code<'_>,
+    code: &OpList<'_>,
     state: &mut RunState,
     value: Value,
     told: &mut Vec<Event>,
 ) -> Result<bool, Memory>
     requires live { IsOnLive state.old.memory state.old.operation }
     requires closes { ClosesLast state.old.memory (innermost state.old.activity.areas) }
-    ensures { AreAllBegun (code_of code.now).program.nodes state.old →
-        IfOk result
-        (λ answer. IsTry (code_of code.now)
-        (after_operation (code_of code.now) (state_of (code_of code.now) state.old) value) answer state.new
+    ensures { IfOk result
+        (λ answer. IsTry code.now
+        (after_operation (code_of code.now.program) (state_of code.now state.old) value) answer state.new
         told.old.items told.new.items) }
 {
     let skips = skips_execution(state);
@@ -64,13 +63,12 @@ fn after_operation(
 
 /// Execution is over once an end was asked and no release is started.
 fn after_execution(
-    code: &Code<'_>,
+    code: &OpList<'_>,
     state: &mut RunState,
     told: &mut Vec<Event>,
 ) -> Result<bool, Memory>
-    ensures { AreAllBegun (code_of code.now).program.nodes state.old →
-        IfOk result
-        (λ answer. IsTry (code_of code.now) (after_execution (code_of code.now) (state_of (code_of code.now) state.old))
+    ensures { IfOk result
+        (λ answer. IsTry code.now (after_execution (code_of code.now.program) (state_of code.now state.old))
         answer state.new told.old.items told.new.items) }
 {
     if !state.is_end_asked {
@@ -93,16 +91,15 @@ fn after_execution(
 
 /// What follows the operation of a unit. Nothing does while a body is under way, and after the end of the run.
 pub fn phase_after(
-    code: &Code<'_>,
+    code: &OpList<'_>,
     state: &mut RunState,
     told: &mut Vec<Event>,
 ) -> Result<bool, Memory>
-    requires begun { AreAllBegun code.now.nodes state.old }
     requires live { IsOnLive state.old.memory state.old.operation }
     requires closes { (value : ValueOfRun) → is_exec state.old.phase ≡ false → state.old.outcome ≡ Some value →
         ClosesLast state.old.memory (innermost state.old.activity.areas) }
     ensures { IfOk result
-        (λ answer. IsTry (code_of code.now) (phase_after (code_of code.now) (state_of (code_of code.now) state.old))
+        (λ answer. IsTry code.now (phase_after (code_of code.now.program) (state_of code.now state.old))
         answer state.new told.old.items told.new.items) }
 {
     if is_exec(state.phase) {

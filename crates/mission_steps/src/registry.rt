@@ -5,7 +5,7 @@ ghost use Rattle.scj_model.specs.declared.handlers.HandlerRow.{HandlerRow as Row
 ghost use Rattle.scj_model.specs.Code.{code_of};
 ghost use Rattle.scj_model.specs.Registry.{aperiodic_of, handler_number, handler_row, has_period, hidden_number, is_aperiodic, kind_by, new_row};
 
-use job_frames::Code;
+use op_list::OpList;
 use region_heap::Object;
 use scj_base::{ClassId, Memory, Ref};
 use scj_model::{HandlerKind, HandlerRow};
@@ -111,10 +111,10 @@ pub(crate) fn handler_row(registry: &[HandlerRow], handler: u8) -> Option<Handle
 
 /// The hidden field of a handler object at a slot, and 0 where it has no such field.
 #[tactic(auto, unfolding(scj_model::specs::Registry::hidden_number, scj_model::specs::Code::code_of))]
-fn hidden_number(code: &Code<'_>, object: &Object<'_>, slot: u32) -> u64
-    ensures { result ≡ hidden_number (code_of code.now).program object.now slot }
+fn hidden_number(code: &OpList<'_>, object: &Object<'_>, slot: u32) -> u64
+    ensures { result ≡ hidden_number (code_of code.now.program).program object.now slot }
 {
-    if slot < code.layout().hidden(object.class()) {
+    if slot < code.code().layout().hidden(object.class()) {
         object.number_at(slot as usize)
     } else {
         0
@@ -123,10 +123,10 @@ fn hidden_number(code: &Code<'_>, object: &Object<'_>, slot: u32) -> u64
 
 /// Whether a handler of the class has a period.
 #[tactic(auto, unfolding(scj_model::specs::Registry::has_period, scj_model::specs::Code::code_of))]
-fn has_period(code: &Code<'_>, class: ClassId) -> bool
-    ensures { result ≡ has_period (code_of code.now).program class }
+fn has_period(code: &OpList<'_>, class: ClassId) -> bool
+    ensures { result ≡ has_period (code_of code.now.program).program class }
 {
-    3 < code.layout().hidden(class)
+    3 < code.code().layout().hidden(class)
 }
 
 /// The kind of a handler that has a period of so many units, or has none.
@@ -145,8 +145,8 @@ fn kind_by(has_period: bool, period: u64) -> HandlerKind
 }
 
 /// The row of a handler object.
-pub(crate) fn new_row(code: &Code<'_>, at: Ref, object: &Object<'_>) -> Result<HandlerRow, Memory>
-    ensures { IfOk result (λ row. row ≡ new_row (code_of code.now).program at object.now) }
+pub(crate) fn new_row(code: &OpList<'_>, at: Ref, object: &Object<'_>) -> Result<HandlerRow, Memory>
+    ensures { IfOk result (λ row. row ≡ new_row (code_of code.now.program).program at object.now) }
 {
     let priority = hidden_number(code, object, 0);
     if priority > 255 {

@@ -1,10 +1,10 @@
 //! Releases that are taken in, and the end of a mission that is asked for (JSR 302: AperiodicEventHandler, Mission).
 
 ghost use Rattle.std.specs.Prelude.{◌≡◌, ◌∷◌, [], IfOk};
-ghost use Rattle.scj_model.specs.Code.{Code};
+ghost use Rattle.op_list.specs.Listed.{Listing};
 ghost use Rattle.scj_model.specs.Apply.{asks_for_end, release_taken, released, takes_releases, termination, termination_asked};
 ghost use Rattle.run_releases.specs.Releases.{tell_taken};
-ghost use Rattle.run_state.specs.Seen.{AreAllBegun, state_of};
+ghost use Rattle.run_state.specs.Seen.{state_of};
 ghost use Rattle.run_state.specs.Steps.{IsStep};
 ghost use Rattle.mission_steps.specs.Asked.{execution_ended};
 
@@ -18,7 +18,7 @@ use scj_model::Event;
 /// Whether releases are taken in: while the mission executes and no end was asked.
 #[tactic(auto, unfolding(run_state::specs::Seen::state_of))]
 pub fn takes_releases(state: &RunState) -> bool
-    ensures { (code : Code) → result ≡ takes_releases (state_of code state.now) }
+    ensures { (code : Listing) → result ≡ takes_releases (state_of code state.now) }
 {
     is_exec(state.phase) && !state.is_end_asked
 }
@@ -39,7 +39,7 @@ fn event_of(unit: u64, handler: u8, number: Option<u64>) -> Event
 
 /// One more release of a handler waits, unless as many wait as may.
 pub fn release_taken(state: &mut RunState, handler: u8, told: &mut Vec<Event>) -> Result<(), Memory>
-    ensures { (code : Code) → AreAllBegun code.program.nodes state.old →
+    ensures { (code : Listing) →
         IfOk result
         (λ _. IsStep code (release_taken (state_of code state.old) handler) state.new told.old.items told.new.items) }
 {
@@ -50,7 +50,7 @@ pub fn release_taken(state: &mut RunState, handler: u8, told: &mut Vec<Event>) -
 
 /// `release` has an effect on a registered handler alone.
 pub(crate) fn released(state: &mut RunState, r: Ref, told: &mut Vec<Event>) -> Result<(), Memory>
-    ensures { (code : Code) → AreAllBegun code.program.nodes state.old →
+    ensures { (code : Listing) →
         IfOk result (λ _. IsStep code (released (state_of code state.old) r) state.new told.old.items told.new.items) }
 {
     if !takes_releases(state) {
@@ -67,7 +67,7 @@ pub(crate) fn released(state: &mut RunState, r: Ref, told: &mut Vec<Event>) -> R
 
 /// A mission that executes is asked to end, which drops the releases that wait.
 fn end_execution(state: &mut RunState, told: &mut Vec<Event>) -> Result<(), Memory>
-    ensures { (code : Code) → AreAllBegun code.program.nodes state.old →
+    ensures { (code : Listing) →
         IfOk result
         (λ _. IsStep code (execution_ended (state_of code state.old)) state.new told.old.items told.new.items) }
 {
@@ -80,7 +80,7 @@ fn end_execution(state: &mut RunState, told: &mut Vec<Event>) -> Result<(), Memo
 
 /// The mission is asked to end.
 fn termination(state: &mut RunState, told: &mut Vec<Event>) -> Result<(), Memory>
-    ensures { (code : Code) → AreAllBegun code.program.nodes state.old →
+    ensures { (code : Listing) →
         IfOk result (λ _. IsStep code (termination (state_of code state.old)) state.new told.old.items told.new.items) }
 {
     if is_exec(state.phase) {
@@ -111,7 +111,7 @@ pub(crate) fn termination_asked(
     r: Ref,
     told: &mut Vec<Event>,
 ) -> Result<(), Memory>
-    ensures { (code : Code) → AreAllBegun code.program.nodes state.old →
+    ensures { (code : Listing) →
         IfOk result
         (λ _. IsStep code (termination_asked (state_of code state.old) r) state.new told.old.items told.new.items) }
 {

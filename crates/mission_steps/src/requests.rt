@@ -7,8 +7,8 @@ ghost use Rattle.scj_model.specs.State.{Object as ObjectOfRun, with_activity};
 ghost use Rattle.scj_model.specs.Effects.{AsksRegistration, AsksRelease, AsksTermination};
 ghost use Rattle.scj_model.specs.Apply.{class_name, registered};
 ghost use Rattle.scj_model.specs.Registry.{new_row};
-ghost use Rattle.job_frames.specs.Frames.{AreBegun, activity_seen};
-ghost use Rattle.run_state.specs.Seen.{AreAllBegun, job_seen, state_of};
+ghost use Rattle.job_frames.specs.Frames.{activity_seen};
+ghost use Rattle.run_state.specs.Seen.{job_seen, state_of};
 ghost use Rattle.run_state.specs.Standing.{CloseInOrder, IsLive};
 ghost use Rattle.run_state.specs.Steps.{IsApplied, IsStep};
 ghost use Rattle.mission_steps.specs.Asked.{newly_registered};
@@ -17,7 +17,8 @@ use crate::life::is_init;
 use crate::looks::class_name;
 use crate::registry::{handler_number, new_row};
 use crate::releases::{released, termination_asked};
-use job_frames::{Activity, Code};
+use job_frames::Activity;
+use op_list::OpList;
 use run_state::ends::fault_in;
 use run_state::jobs::put_back;
 use run_state::told::tell;
@@ -29,10 +30,10 @@ use scj_model::{Event, HandlerRow};
 const MOST_HANDLERS: usize = 64;
 
 /// The row of a handler object, if there is such an object.
-fn row_of(code: &Code<'_>, state: &RunState, r: Ref) -> Result<Option<HandlerRow>, Memory>
+fn row_of(code: &OpList<'_>, state: &RunState, r: Ref) -> Result<Option<HandlerRow>, Memory>
     requires { IsLive state.now.memory r }
     ensures { IfOk result
-        (λ row. row ≡ option_map (new_row (code_of code.now).program r) (slice_get state.now.memory.objects r)) }
+        (λ row. row ≡ option_map (new_row (code_of code.now.program).program r) (slice_get state.now.memory.objects r)) }
 {
     match state.memory.object(r) {
         Some(object) => {
@@ -56,14 +57,14 @@ fn next_number(count: usize) -> Result<u8, Memory>
 
 /// Tells that a handler is registered behind the others.
 fn tell_registered(
-    code: &Code<'_>,
+    code: &OpList<'_>,
     state: &RunState,
     row: &HandlerRow,
     told: &mut Vec<Event>,
 ) -> Result<(), Memory>
     ensures { OnOk result
         (told.new.items ≡ told.old.items ++ registration state.now.unit (length state.now.registry.items + 1)
-        (class_name (code_of code.now) row.now.class) row.now.priority ∷ []) }
+        (class_name (code_of code.now.program) row.now.class) row.now.priority ∷ []) }
 {
     let handler = next_number(state.registry.len())?;
     tell(
@@ -80,20 +81,18 @@ fn tell_registered(
 
 /// A handler is registered behind the others, and its job goes on.
 fn enter(
-    code: &Code<'_>,
+    code: &OpList<'_>,
     state: &mut RunState,
     job: Job,
     activity: Activity,
     row: HandlerRow,
     told: &mut Vec<Event>,
 ) -> Result<(), Memory>
-    ensures { AreAllBegun (code_of code.now).program.nodes state.old →
-        AreBegun (code_of code.now).program.nodes activity.frames →
-        IfOk result
-        (λ _. IsStep (code_of code.now)
-        (newly_registered (code_of code.now) (state_of (code_of code.now) state.old) row
-        (with_activity (state_of (code_of code.now) state.old) (job_seen job)
-        (activity_seen (code_of code.now) activity))) state.new told.old.items told.new.items) }
+    ensures { IfOk result
+        (λ _. IsStep code.now
+        (newly_registered (code_of code.now.program) (state_of code.now state.old) row
+        (with_activity (state_of code.now state.old) (job_seen job)
+        (activity_seen code.now activity))) state.new told.old.items told.new.items) }
 {
     tell_registered(code, state, &row, told)?;
     put_back(state, job, activity)?;
@@ -103,7 +102,7 @@ fn enter(
 
 /// The handler of this row is registered during the mission's initialisation, and once.
 fn register(
-    code: &Code<'_>,
+    code: &OpList<'_>,
     state: &mut RunState,
     acting: Acting,
     activity: Activity,
@@ -111,15 +110,13 @@ fn register(
     told: &mut Vec<Event>,
 ) -> Result<(), Memory>
     requires { CloseInOrder state.old.memory activity.frames }
-    ensures { (r : ℕ) (o : ObjectOfRun) → row ≡ new_row (code_of code.now).program r o →
-        AreAllBegun (code_of code.now).program.nodes state.old →
-        AreBegun (code_of code.now).program.nodes activity.frames →
+    ensures { (r : ℕ) (o : ObjectOfRun) → row ≡ new_row (code_of code.now.program).program r o →
         IfOk result
-        (λ _. IsStep (code_of code.now)
-        (registered (code_of code.now) (state_of (code_of code.now) state.old) (job_seen acting.job)
-        (activity_seen (code_of code.now) activity) acting.place r o
-        (with_activity (state_of (code_of code.now) state.old) (job_seen acting.job)
-        (activity_seen (code_of code.now) activity))) state.new told.old.items told.new.items) }
+        (λ _. IsStep code.now
+        (registered (code_of code.now.program) (state_of code.now state.old) (job_seen acting.job)
+        (activity_seen code.now activity) acting.place r o
+        (with_activity (state_of code.now state.old) (job_seen acting.job)
+        (activity_seen code.now activity))) state.new told.old.items told.new.items) }
 {
     if !is_init(state.phase) {
         fault_in(state, acting, &activity, RunFault::NotInitializing, told)?;
@@ -139,19 +136,17 @@ fn register(
 
 /// A handler is registered during the mission's initialisation, and once.
 pub fn asks_registration(
-    code: &Code<'_>,
+    code: &OpList<'_>,
     state: &mut RunState,
     acting: Acting,
     activity: Activity,
     r: Ref,
     told: &mut Vec<Event>,
 ) -> Result<bool, Memory>
-    requires begun { AreAllBegun code.now.nodes state.old }
-    requires frames { AreBegun code.now.nodes activity.frames }
     requires closes { CloseInOrder state.old.memory activity.frames }
     requires live { IsLive state.old.memory r }
     ensures { IfOk result
-        (λ answer. IsApplied (code_of code.now) state.old acting activity (λ f. AsksRegistration f r) answer state.new
+        (λ answer. IsApplied code.now state.old acting activity (λ f. AsksRegistration f r) answer state.new
         told.old.items told.new.items) }
 {
     let Some(row) = row_of(code, state, r)? else {
@@ -163,17 +158,15 @@ pub fn asks_registration(
 
 /// A handler is asked to be released.
 pub fn asks_release(
-    code: &Code<'_>,
+    code: &OpList<'_>,
     state: &mut RunState,
     acting: Acting,
     activity: Activity,
     r: Ref,
     told: &mut Vec<Event>,
 ) -> Result<bool, Memory>
-    requires begun { AreAllBegun code.now.nodes state.old }
-    requires frames { AreBegun code.now.nodes activity.frames }
     ensures { IfOk result
-        (λ answer. IsApplied (code_of code.now) state.old acting activity (λ f. AsksRelease f r) answer state.new
+        (λ answer. IsApplied code.now state.old acting activity (λ f. AsksRelease f r) answer state.new
         told.old.items told.new.items) }
 {
     put_back(state, acting.job, activity)?;
@@ -183,17 +176,15 @@ pub fn asks_release(
 
 /// The mission is asked to end.
 pub fn asks_termination(
-    code: &Code<'_>,
+    code: &OpList<'_>,
     state: &mut RunState,
     acting: Acting,
     activity: Activity,
     r: Ref,
     told: &mut Vec<Event>,
 ) -> Result<bool, Memory>
-    requires begun { AreAllBegun code.now.nodes state.old }
-    requires frames { AreBegun code.now.nodes activity.frames }
     ensures { IfOk result
-        (λ answer. IsApplied (code_of code.now) state.old acting activity (λ f. AsksTermination f r) answer state.new
+        (λ answer. IsApplied code.now state.old acting activity (λ f. AsksTermination f r) answer state.new
         told.old.items told.new.items) }
 {
     put_back(state, acting.job, activity)?;

@@ -8,15 +8,16 @@ ghost use Rattle.scj_model.specs.Registry.{handler_row};
 ghost use Rattle.scj_model.specs.Effects.{new_frame};
 ghost use Rattle.scj_model.specs.Run.{start_op, started_with};
 ghost use Rattle.region_heap.specs.Contents.{open_count};
-ghost use Rattle.job_frames.specs.Frames.{AreBegun, activity_seen};
-ghost use Rattle.run_state.specs.Seen.{AreAllBegun, state_of};
+ghost use Rattle.job_frames.specs.Frames.{activity_seen};
+ghost use Rattle.run_state.specs.Seen.{state_of};
 ghost use Rattle.run_state.specs.Standing.{HasNumbers};
 ghost use Rattle.run_state.specs.Steps.{IsStep, IsTry};
 
 use crate::bodies::{OwnCall, first_frames};
 use crate::looks::{body_named, class_place, private_scope};
 use crate::registry::handler_row;
-use job_frames::{Activity, Code, OpenAreas};
+use job_frames::{Activity, OpenAreas};
+use op_list::OpList;
 use run_state::ends::fault_in;
 use run_state::jobs::put_back;
 use run_state::memory::open_area;
@@ -51,20 +52,19 @@ fn shared(alloc: Global, outer: &OpenAreas) -> Result<OpenAreas, Memory>
 /// What a release has whose private memory is open inside other areas.
 fn begun(
     alloc: Global,
-    code: &Code<'_>,
+    code: &OpList<'_>,
     mut areas: OpenAreas,
     start: &Start,
     area: AreaId,
 ) -> Result<Activity, Memory>
     ensures seen { IfOk result
-        (λ activity. activity_seen (code_of code.now) activity
+        (λ activity. activity_seen code.now activity
         ≡ record {
-          frames = record (new_frame (code_of code.now) start.now.body None (Some start.now.row.at) area [])
+          frames = record (new_frame (code_of code.now.program) start.now.body None (Some start.now.row.at) area [])
               { opened = Some area } ∷ [];
           areas = area ∷ areas;
           priority = start.now.row.priority;
         }) }
-    ensures begun { IfOk result (λ activity. AreBegun (code_of code.now).program.nodes activity.frames) }
 {
     let frames = first_frames(
         alloc,
@@ -87,17 +87,16 @@ fn begun(
 /// A release starts: its private memory is opened inside the mission's, and its body called.
 fn started_with(
     alloc: Global,
-    code: &Code<'_>,
+    code: &OpList<'_>,
     state: &mut RunState,
     start: &Start,
     told: &mut Vec<Event>,
 ) -> Result<(), Memory>
     requires numbers { HasNumbers state.old.memory }
     requires few { open_count state.old.memory < 1794 }
-    ensures { AreAllBegun (code_of code.now).program.nodes state.old →
-        IfOk result
-        (λ _. IsStep (code_of code.now)
-        (started_with (code_of code.now) (state_of (code_of code.now) state.old) start.now.place start.now.row
+    ensures { IfOk result
+        (λ _. IsStep code.now
+        (started_with (code_of code.now.program) (state_of code.now state.old) start.now.place start.now.row
         start.now.scope
         start.now.body) state.new told.old.items told.new.items) }
 {
@@ -136,20 +135,19 @@ fn started_with(
 /// The first operation of a release that waits, by its handler.
 pub fn start_op(
     alloc: Global,
-    code: &Code<'_>,
+    code: &OpList<'_>,
     state: &mut RunState,
     place: usize,
     handler: u8,
     told: &mut Vec<Event>,
 ) -> Result<bool, Memory>
-    requires begun { AreAllBegun code.now.nodes state.old }
     requires numbers { HasNumbers state.old.memory }
     requires few { (row : RowOfRun) → handler_row state.old.registry.items handler ≡ Some row →
         open_count state.old.memory < 1794 }
     ensures { (r : ReleaseOfRun) → r.handler ≡ handler →
         IfOk result
-        (λ answer. IsTry (code_of code.now)
-        (start_op (code_of code.now) (state_of (code_of code.now) state.old) place r) answer state.new told.old.items
+        (λ answer. IsTry code.now
+        (start_op (code_of code.now.program) (state_of code.now state.old) place r) answer state.new told.old.items
         told.new.items) }
 {
     let Some(row) = handler_row(state.registry.as_slice(), handler) else {

@@ -11,7 +11,7 @@ last_at : (x : Event) (xs : List Event) → last_or (Some x) xs ≡ slice_get (x
 last_at x [] = refl
 last_at x (y ∷ ys) = last_at y ys
 
-last_is : (told : List Event) → last_or None told ≡ slice_get told (length told - 1)
+pub last_is : (told : List Event) → last_or None told ≡ slice_get told (length told - 1)
 last_is [] = refl
 last_is (x ∷ xs) =
     last_at x xs ∙ ap (slice_get (x ∷ xs)) (let e : length xs ≡ length (x ∷ xs) - 1 = omega arith in e)

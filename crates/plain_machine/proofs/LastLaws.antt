@@ -3,7 +3,6 @@ use Rattle.std.specs.Prelude.{Option, Some, None, is_some, ◌||◌, ◌++◌}
 use Rattle.std.specs.List.{last_or, list_any}
 use Rattle.std.proofs.Common.{◌≡◌, inl, inr, ℕ, ◌+◌, Bool, true, false, List, [], ◌∷◌, refl, sym, ap, ◌∙◌, subst, append-nil}
 use Rattle.scj_rules.specs.Words.{◌>>=◌}
-use Rattle.scj_tree.specs.Forest.{Forest}
 use Rattle.scj_model.specs.declared.events.Event.{Event}
 use Rattle.scj_model.specs.declared.events.Event.TheVariants.{Mission, Register, Exec, Arrive, Lost, Miss, Run, Idle, Prio, Print, Fault, End, Terminate, Drop, Cleanup, Done, Halted, Stopped}
 use Rattle.scj_model.specs.Choice.{by_priority}
@@ -14,6 +13,7 @@ use Rattle.scj_model.specs.Run.{RunSoFar, has_ended}
 use Rattle.scj_model.specs.State.{is_over}
 use Rattle.scj_model.proofs.LastLines.{IsTold, told_run}
 use Rattle.scj_model.proofs.Reaching.{left_false}
+use Rattle.op_list.specs.Listed.{Listing}
 use Rattle.plain_machine.specs.Ends.{end_of, end_told}
 use Rattle.plain_machine.specs.UnderWay.{HasSpent, run_at}
 use Rattle.plain_machine.specs.declared.under_way.UnderWay.{UnderWay}
@@ -76,12 +76,12 @@ last_after : (r : RunSoFar) → IsTold r → is_over r.state.phase ≡ true → 
 last_after r (inl going) e = absurd (let clash : false ≡ true = sym going.goes_on ∙ e in cc (clash))
 last_after r (inr closed) e = closed.ends
 
-pub tells_last : (forest : Forest) (plan : Plan) (n : ℕ) (at : UnderWay) → HasSpent forest plan n at →
-    has_ended (run_at forest plan n) ≡ false → is_over at.state.phase ≡ true →
+pub tells_last : (code : Listing) (plan : Plan) (n : ℕ) (at : UnderWay) → HasSpent code plan n at →
+    has_ended (run_at code.program plan n) ≡ false → is_over at.state.phase ≡ true →
     is_some (end_of at.told.items) ≡ true
-tells_last forest plan n at spent goes_on e =
-    last_behind_front (run_at forest plan n).events at.told.items
-    (no_last_before (run_at forest plan n) (told_run (code_of forest) plan by_priority n) goes_on)
+tells_last code plan n at spent goes_on e =
+    last_behind_front (run_at code.program plan n).events at.told.items
+    (no_last_before (run_at code.program plan n) (told_run (code_of code.program) plan by_priority n) goes_on)
     (subst EndsInLastLine spent.told
-    (last_after (run_at forest plan (n + 1)) (told_run (code_of forest) plan by_priority (n + 1))
-    (over_after forest plan n at spent e)))
+    (last_after (run_at code.program plan (n + 1)) (told_run (code_of code.program) plan by_priority (n + 1))
+    (over_after code plan n at spent e)))

@@ -11,7 +11,8 @@ use Rattle.scj_model.specs.declared.operations.SeqOp.{SeqOp}
 use Rattle.scj_model.specs.declared.operations.SeqOp.TheVariants.{OpenImmortal, AllocSafelet, ConstructSafelet, InitializeApplication, GetSequencer, GetNextMission, OpenMission, Initialize, CleanUp, Execute, Finished}
 use Rattle.scj_model.specs.declared.plans.ReadingRow.{ReadingRow}
 use Rattle.scj_model.specs.Choice.{by_list, by_priority}
-use Rattle.scj_model.specs.Code.{Code, code_of}
+use Rattle.scj_model.specs.Code.{code_of}
+use Rattle.op_list.specs.Listed.{Listing}
 use Rattle.scj_model.specs.Effects.{Effect, Goes, Prints, Makes, Stores, StoresStatic, SetsHidden, SetsCeiling, Calls, Opens, Leaves, AsksRegistration, AsksRelease, AsksTermination, Faults, Stuck}
 use Rattle.scj_model.specs.Operations.{effect_of}
 use Rattle.scj_model.specs.Plan.{Plan}
@@ -43,7 +44,7 @@ use Rattle.plain_machine.specs.Lawful.{IsLawful}
 
 -- ---- one state
 
-module _ (code : Code) (st : RunState) where
+module _ (code : Listing) (st : RunState) where
   abbrev s : State
   s = state_of code st
 
@@ -135,112 +136,112 @@ own_activity a b e = cc (e)
 
 -- ---- the states of a run
 
-module _ (forest : Forest) (plan : Plan) (units : plan.units ≤ most_units)
-    (safe : IsSafe (code_of forest))
-    (jobs : (plan : Plan) (moment : Moment) (s : State) → Reached (code_of forest) plan by_priority moment s →
-    (job : Job) (activity : Activity) → activity_of s job ≡ Some activity → StandsInOpenAreas s activity)
-    (release_closes : (plan : Plan) (s : State) → Reached (code_of forest) plan by_priority Arrived s →
-    (place : ℕ) (activity : Activity) → by_priority s ≡ Some (TurnOf place) →
-    activity_of s (ReleaseAt place) ≡ Some activity → ClosingInOrder s activity.frames)
-    (sequencer_closes : (plan : Plan) (s : State) → Reached (code_of forest) plan by_priority Arrived s →
-    is_exec s.phase ≡ false → ClosingInOrder s s.activity.frames)
-    (mission_closes : (plan : Plan) (s : State) → Reached (code_of forest) plan by_priority Operated s →
-    is_exec s.phase ≡ false → ClosingLast s (innermost s.activity.areas))
-    (few_outside : (plan : Plan) (moment : Moment) (s : State) → Reached (code_of forest) plan by_priority moment s →
-    is_exec s.phase ≡ false → open_count s < 1794)
-    (few_under_way : (plan : Plan) (moment : Moment) (s : State) → Reached (code_of forest) plan by_priority moment s →
-    (place : ℕ) (activity : Activity) → activity_of s (ReleaseAt place) ≡ Some activity →
-    length activity.frames < 64 → open_count s < 1794)
-    (few_at_start : (plan : Plan) (moment : Moment) (s : State) → Reached (code_of forest) plan by_priority moment s →
-    (place : ℕ) (r : Release) (row : HandlerRow) → by_priority s ≡ Some (TurnOf place) →
-    slice_get s.releases place ≡ Some r → r.status ≡ Waits → handler_row s.registry r.handler ≡ Some row →
-    open_count s < 1794)
-    (operands : (plan : Plan) (moment : Moment) (s : State) → Reached (code_of forest) plan by_priority moment s →
-    (r : ℕ) → operand_of s.operation ≡ Some r → is_of_open_area s r ≡ true)
-    (named : (plan : Plan) (s : State) → Reached (code_of forest) plan by_priority Arrived s → (job : Job)
-    (activity : Activity) (f : Frame) (op : Op) (rest : List Op) (below : List Frame) →
-    activity_of s job ≡ Some activity → activity.frames ≡ f ∷ below → f.rest ≡ op ∷ rest →
-    NamesLiveObjects s (effect_at (code_of forest) plan.readings s f op rest))
-    (grows : (moment : Moment) (s : State) → Reached (code_of forest) plan by_priority moment s →
-    IsWithinUnits moment s)
-    (reads : (rows : List ReadingRow) (s : State) (look : ℕ → Option Object) (job : Job) (activity : Activity)
-    (f g : Frame) (below : List Frame) (op : Op) → FindsOpenObjects s look → NoDangling s →
-    activity_of s job ≡ Some activity → activity.frames ≡ f ∷ below → g.operands ≡ f.operands →
-    g.this ≡ f.this →
-    effect_of (code_of forest) (environment rows s) g op
-    ≡ effect_of (code_of forest) (looked_up (environment rows s) look) g op) where
-  abbrev code : Code
-  code = code_of forest
+-- what is known of the runs of a program that breaks no rule
+pub record KeepsLaws (forest : Forest) : Type 0 where
+  pub safe : IsSafe (code_of forest)
+  pub jobs : (plan : Plan) (moment : Moment) (s : State) → Reached (code_of forest) plan by_priority moment s →
+      (job : Job) (activity : Activity) → activity_of s job ≡ Some activity → StandsInOpenAreas s activity
+  pub release_closes : (plan : Plan) (s : State) → Reached (code_of forest) plan by_priority Arrived s →
+      (place : ℕ) (activity : Activity) → by_priority s ≡ Some (TurnOf place) →
+      activity_of s (ReleaseAt place) ≡ Some activity → ClosingInOrder s activity.frames
+  pub sequencer_closes : (plan : Plan) (s : State) → Reached (code_of forest) plan by_priority Arrived s →
+      is_exec s.phase ≡ false → ClosingInOrder s s.activity.frames
+  pub mission_closes : (plan : Plan) (s : State) → Reached (code_of forest) plan by_priority Operated s →
+      is_exec s.phase ≡ false → ClosingLast s (innermost s.activity.areas)
+  pub few_outside : (plan : Plan) (moment : Moment) (s : State) → Reached (code_of forest) plan by_priority moment s →
+      is_exec s.phase ≡ false → open_count s < 1794
+  pub few_under_way : (plan : Plan) (moment : Moment) (s : State) → Reached (code_of forest) plan by_priority moment s →
+      (place : ℕ) (activity : Activity) → activity_of s (ReleaseAt place) ≡ Some activity →
+      length activity.frames < 64 → open_count s < 1794
+  pub few_at_start : (plan : Plan) (moment : Moment) (s : State) → Reached (code_of forest) plan by_priority moment s →
+      (place : ℕ) (r : Release) (row : HandlerRow) → by_priority s ≡ Some (TurnOf place) →
+      slice_get s.releases place ≡ Some r → r.status ≡ Waits → handler_row s.registry r.handler ≡ Some row →
+      open_count s < 1794
+  pub operands : (plan : Plan) (moment : Moment) (s : State) → Reached (code_of forest) plan by_priority moment s →
+      (r : ℕ) → operand_of s.operation ≡ Some r → is_of_open_area s r ≡ true
+  pub named : (plan : Plan) (s : State) → Reached (code_of forest) plan by_priority Arrived s → (job : Job)
+      (activity : Activity) (f : Frame) (op : Op) (rest : List Op) (below : List Frame) →
+      activity_of s job ≡ Some activity → activity.frames ≡ f ∷ below → f.rest ≡ op ∷ rest →
+      NamesLiveObjects s (effect_at (code_of forest) plan.readings s f op rest)
+  pub grows : (plan : Plan) (moment : Moment) (s : State) → Reached (code_of forest) plan by_priority moment s →
+      IsWithinUnits moment s
+  pub reads : (rows : List ReadingRow) (s : State) (look : ℕ → Option Object) (job : Job) (activity : Activity)
+      (f g : Frame) (below : List Frame) (op : Op) → FindsOpenObjects s look → NoDangling s →
+      activity_of s job ≡ Some activity → activity.frames ≡ f ∷ below → g.operands ≡ f.operands →
+      g.this ≡ f.this →
+      effect_of (code_of forest) (environment rows s) g op
+      ≡ effect_of (code_of forest) (looked_up (environment rows s) look) g op
 
-  none_dangles : (moment : Moment) (s : State) → Reached code plan by_priority moment s → NoDangling s
+module _ (code : Listing) (plan : Plan) (units : plan.units ≤ most_units) (laws : KeepsLaws code.program) where
+  none_dangles : (moment : Moment) (s : State) → Reached (code_of code.program) plan by_priority moment s → NoDangling s
   none_dangles moment s reached =
-      let listed : (choices : List ℕ) × Reached code plan (by_list choices) moment s =
-      by_some_list code plan moment s (fair_listed code plan by_priority priority_is_fair reached) in
-      safe.in_any_order.none_dangles plan listed.0 moment s listed.1
+      let listed : (choices : List ℕ) × Reached (code_of code.program) plan (by_list choices) moment s =
+      by_some_list (code_of code.program) plan moment s (fair_listed (code_of code.program) plan by_priority priority_is_fair reached) in
+      laws.safe.in_any_order.none_dangles plan listed.0 moment s listed.1
 
-  next_stands : (st : RunState) → Reached code plan by_priority Arrived (state_of code st) → (job : Job)
+  next_stands : (st : RunState) → Reached (code_of code.program) plan by_priority Arrived (state_of code st) → (job : Job)
       (activity : Activity) (f : Frame) (below : List Frame) (op : Op) (rest : List Op) →
       activity_of (state_of code st) job ≡ Some activity → activity.frames ≡ f ∷ below → f.rest ≡ op ∷ rest →
       NextStands code plan.readings st f op rest
   unfolding state_of
   next_stands st reached job activity f below op rest there frames ops = record {
-    reads = reads plan.readings (state_of code st) (live_object st.memory) job activity f (record f { rest = rest })
+    reads = laws.reads plan.readings (state_of code st) (live_object st.memory) job activity f (record f { rest = rest })
         below op (finds_open code st) (none_dangles Arrived (state_of code st) reached) there frames refl refl;
-    names = names_here code st (effect_at code plan.readings (state_of code st) f op rest)
-        (named plan (state_of code st) reached job activity f op rest below there frames ops);
+    names = names_here code st (effect_at (code_of code.program) plan.readings (state_of code st) f op rest)
+        (laws.named plan (state_of code st) reached job activity f op rest below there frames ops);
   }
 
-  sequencer_stands : (st : RunState) → Reached code plan by_priority Arrived (state_of code st) →
+  sequencer_stands : (st : RunState) → Reached (code_of code.program) plan by_priority Arrived (state_of code st) →
       is_exec st.phase ≡ false → JobStands code plan.readings st TheSequencer
   unfolding state_of activity_of
   sequencer_stands st reached phase = record {
     stands = λ activity there. record {
-      listed = (jobs plan Arrived (state_of code st) reached TheSequencer (activity_seen code activity) there).listed;
+      listed = (laws.jobs plan Arrived (state_of code st) reached TheSequencer (activity_seen code activity) there).listed;
       closes = closes_here code st activity.frames
           (subst (λ (a : Activity). ClosingInOrder (state_of code st) a.frames)
           (own_activity (state_of code st).activity (activity_seen code activity) there)
-          (sequencer_closes plan (state_of code st) reached phase));
-      few = λ fewer. few_outside plan Arrived (state_of code st) reached phase;
+          (laws.sequencer_closes plan (state_of code st) reached phase));
+      few = λ fewer. laws.few_outside plan Arrived (state_of code st) reached phase;
     };
     next = next_stands st reached TheSequencer;
   }
 
-  few_frames : (st : RunState) → Reached code plan by_priority Arrived (state_of code st) → (place : ℕ)
+  few_frames : (st : RunState) → Reached (code_of code.program) plan by_priority Arrived (state_of code st) → (place : ℕ)
       (activity : StoredActivity) → activity_of (state_of code st) (ReleaseAt place) ≡ Some (activity_seen code activity) →
       length activity.frames < 64 → open_in st.memory < 1794
   unfolding state_of
   few_frames st reached place activity there fewer =
       let same : length (frames_of code activity.frames) ≡ length activity.frames =
       length-map activity.frames (frame_of code) in
-      few_under_way plan Arrived (state_of code st) reached place (activity_seen code activity) there
+      laws.few_under_way plan Arrived (state_of code st) reached place (activity_seen code activity) there
       (omega (arith, same, fewer))
 
-  start_stands : (st : RunState) → Reached code plan by_priority Arrived (state_of code st) → (place : ℕ) →
+  start_stands : (st : RunState) → Reached (code_of code.program) plan by_priority Arrived (state_of code st) → (place : ℕ) →
       by_priority (state_of code st) ≡ Some (TurnOf place) → StartStands st place
   unfolding state_of
   start_stands st reached place chosen r row there waits is_row =
-      few_at_start plan Arrived (state_of code st) reached place (release_seen code r) row chosen
+      laws.few_at_start plan Arrived (state_of code st) reached place (release_seen code r) row chosen
       (get_map (release_seen code) st.releases.rows place ∙ ap (option_map (release_seen code)) there)
       (ap (status_seen code) waits) is_row
 
-  release_stands : (st : RunState) → Reached code plan by_priority Arrived (state_of code st) → (place : ℕ) →
+  release_stands : (st : RunState) → Reached (code_of code.program) plan by_priority Arrived (state_of code st) → (place : ℕ) →
       by_priority (state_of code st) ≡ Some (TurnOf place) → JobStands code plan.readings st (ReleaseAt place)
   unfolding state_of
   release_stands st reached place chosen = record {
     stands = λ activity there. record {
-      listed = (jobs plan Arrived (state_of code st) reached (ReleaseAt place) (activity_seen code activity) there).listed;
+      listed = (laws.jobs plan Arrived (state_of code st) reached (ReleaseAt place) (activity_seen code activity) there).listed;
       closes = closes_here code st activity.frames
-          (release_closes plan (state_of code st) reached place (activity_seen code activity) chosen there);
+          (laws.release_closes plan (state_of code st) reached place (activity_seen code activity) chosen there);
       few = few_frames st reached place activity there;
     };
     next = next_stands st reached (ReleaseAt place);
   }
 
-  acts_stand : (st : RunState) → Reached code plan by_priority Arrived (state_of code st) → st.unit ≤ plan.units →
+  acts_stand : (st : RunState) → Reached (code_of code.program) plan by_priority Arrived (state_of code st) → st.unit ≤ plan.units →
       ActsStand code plan.readings st
   unfolding state_of activity_of
   acts_stand st reached within =
-      let sizes : IsWithinUnits Arrived (state_of code st) = grows Arrived (state_of code st) reached in
+      let sizes : IsWithinUnits Arrived (state_of code st) = laws.grows plan Arrived (state_of code st) reached in
       let objects : length st.memory.objects ≤ st.unit = sizes.objects in
       let areas : length st.memory.areas ≤ st.unit = sizes.areas in
       record {
@@ -248,24 +249,24 @@ module _ (forest : Forest) (plan : Plan) (units : plan.units ≤ most_units)
           objects = omega (arith, objects, within, units);
           areas = omega (arith, areas, within, units);
         };
-        few = few_outside plan Arrived (state_of code st) reached;
-        live = operand_live code st st.operation (operands plan Arrived (state_of code st) reached);
-        areas = (jobs plan Arrived (state_of code st) reached TheSequencer (state_of code st).activity refl).listed;
+        few = laws.few_outside plan Arrived (state_of code st) reached;
+        live = operand_live code st st.operation (laws.operands plan Arrived (state_of code st) reached);
+        areas = (laws.jobs plan Arrived (state_of code st) reached TheSequencer (state_of code st).activity refl).listed;
         sequencer = sequencer_stands st reached;
         release = release_stands st reached;
         start = start_stands st reached;
       }
 
-  phase_stands : (s : State) (st : RunState) → Reached code plan by_priority Operated s →
+  phase_stands : (s : State) (st : RunState) → Reached (code_of code.program) plan by_priority Operated s →
       IsAlike s (state_of code st) → PhaseStands st
   unfolding state_of
   phase_stands s st reached alike = record {
     live = operand_live code st st.operation
-        (operands_alike s (state_of code st) alike (operands plan Operated s reached));
+        (operands_alike s (state_of code st) alike (laws.operands plan Operated s reached));
     closes = λ value phase outcome.
         closes_last_here code st (innermost st.activity.areas)
-        (closes_alike s (state_of code st) alike (λ v e o. mission_closes plan s reached e) value phase outcome);
+        (closes_alike s (state_of code st) alike (λ v e o. laws.mission_closes plan s reached e) value phase outcome);
   }
 
-  pub lawful : IsLawful forest plan
+  pub lawful : IsLawful code plan
   lawful = record { arrived = acts_stand; operated = phase_stands }

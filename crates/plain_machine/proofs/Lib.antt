@@ -1,4 +1,5 @@
 pub mod AreaLaws
+pub mod AreasPut
 pub mod BehindLaws
 pub mod EndLaws
 pub mod LastLaws
@@ -6,7 +7,10 @@ pub mod LawfulRuns
 pub mod PartLaws
 pub mod PrintLaws
 pub mod ReachedRuns
+pub mod RowTexts
 pub mod StaticLaws
 pub mod StepLaws
 pub mod TextLaws
 pub mod UnderLaws
+pub mod WatchedRuns
+pub mod Watching

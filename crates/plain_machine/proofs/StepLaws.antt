@@ -8,6 +8,7 @@ use Rattle.scj_model.specs.declared.events.Event.TheVariants.{Stopped}
 use Rattle.scj_model.specs.Plan.{Plan}
 use Rattle.scj_model.specs.Run.{has_ended}
 use Rattle.scj_model.specs.TraceText.{line_of, text}
+use Rattle.op_list.specs.Listed.{Listing}
 use Rattle.plain_machine.specs.Ends.{end_of}
 use Rattle.plain_machine.specs.Printing.{BreaksOffIn}
 use Rattle.plain_machine.specs.Runs.{trace_text}
@@ -26,75 +27,75 @@ use Rattle.plain_machine.proofs.UnderLaws.{between_after, ended_after, goes_on_a
 
 -- ---- all units are spent
 
-module _ (forest program : Forest) (plan : Plan) (names : List (List ℕ)) (at : UnderWay) (out : SinkRun)
-    (printed : program ≡ forest) (between : IsBetween forest plan at) (spent : at.state.unit ≡ plan.units) where
-  goes_on : has_ended (run_at forest plan plan.units) ≡ false
-  goes_on = ap (λ (m : ℕ). has_ended (run_at forest plan m)) (sym spent) ∙ between.goes_on
+module _ (code : Listing) (program : Forest) (plan : Plan) (names : List (List ℕ)) (at : UnderWay) (out : SinkRun)
+    (printed : program ≡ code.program) (between : IsBetween code plan at) (spent : at.state.unit ≡ plan.units) where
+  goes_on : has_ended (run_at code.program plan plan.units) ≡ false
+  goes_on = ap (λ (m : ℕ). has_ended (run_at code.program plan m)) (sym spent) ∙ between.goes_on
 
   abbrev line : Forest → List ℕ
   line f = line_of f.nodes names (Stopped at.state.unit)
 
-  parts : trace_text forest plan names ≡ told_text forest plan names at.state.unit ++ line program
+  parts : trace_text code.program plan names ≡ told_text code.program plan names at.state.unit ++ line program
   parts =
-      stopped_text forest plan names goes_on
-      ∙ (ap (λ (m : ℕ). told_text forest plan names m ++ line_of forest.nodes names (Stopped m)) (sym spent)
-      ∙ ap (λ (f : Forest). told_text forest plan names at.state.unit ++ line f) (sym printed))
+      stopped_text code.program plan names goes_on
+      ∙ (ap (λ (m : ℕ). told_text code.program plan names m ++ line_of code.program.nodes names (Stopped m)) (sym spent)
+      ∙ ap (λ (f : Forest). told_text code.program plan names at.state.unit ++ line f) (sym printed))
 
   pub stops : (end : RunEnd) → end ≡ StoppedEnd → PutWhole out (line program) →
-      EndedIn forest plan names at.state.unit at out end
+      EndedIn code.program plan names at.state.unit at out end
   stops end e put =
       record {
         last = none_left spent refl;
         puts = record {
           put = record { bytes = line program; parts = parts; holds = put };
-          ends = stopped_ends forest plan names goes_on ∙ ap (λ (x : RunEnd). Some x) (sym e);
+          ends = stopped_ends code.program plan names goes_on ∙ ap (λ (x : RunEnd). Some x) (sym e);
         };
       }
 
   pub stops_broken : (stop : RunStop) → BreaksOffIn (line program) out stop →
-      BreaksOffFrom forest plan names at.state.unit out stop
+      BreaksOffFrom code.program plan names at.state.unit out stop
   stops_broken stop broke =
-      breaks_in forest plan names at.state.unit out (line program) between.within
-      (next_last forest plan names at.state.unit spent ∙ parts) stop broke
+      breaks_in code.program plan names at.state.unit out (line program) between.within
+      (next_last code.program plan names at.state.unit spent ∙ parts) stop broke
 
 -- ---- a unit was spent
 
-module _ (forest program : Forest) (plan : Plan) (names : List (List ℕ)) (n : ℕ) (at : UnderWay) (out : SinkRun)
-    (told : List Event) (printed : program ≡ forest) (same : told ≡ at.told.items) (within : n < plan.units)
-    (spent : HasSpent forest plan n at) where
+module _ (code : Listing) (program : Forest) (plan : Plan) (names : List (List ℕ)) (n : ℕ) (at : UnderWay) (out : SinkRun)
+    (told : List Event) (printed : program ≡ code.program) (same : told ≡ at.told.items) (within : n < plan.units)
+    (spent : HasSpent code plan n at) where
   abbrev lines : List ℕ
   lines = text program.nodes names told
 
-  behind : told_text forest plan names (n + 1) ≡ told_text forest plan names n ++ lines
+  behind : told_text code.program plan names (n + 1) ≡ told_text code.program plan names n ++ lines
   behind =
-      told_more forest plan names n at.told.items spent.told
-      ∙ (ap (λ (events : List Event). told_text forest plan names n ++ text forest.nodes names events) (sym same)
-      ∙ ap (λ (f : Forest). told_text forest plan names n ++ text f.nodes names told) (sym printed))
+      told_more code.program plan names n at.told.items spent.told
+      ∙ (ap (λ (events : List Event). told_text code.program plan names n ++ text code.program.nodes names events) (sym same)
+      ∙ ap (λ (f : Forest). told_text code.program plan names n ++ text f.nodes names told) (sym printed))
 
-  pub unit_broken : (stop : RunStop) → BreaksOffIn lines out stop → BreaksOffFrom forest plan names n out stop
+  pub unit_broken : (stop : RunStop) → BreaksOffIn lines out stop → BreaksOffFrom code.program plan names n out stop
   unit_broken stop broke =
-      breaks_in forest plan names n out lines (omega arith) (next_more forest plan names n within ∙ behind) stop broke
+      breaks_in code.program plan names n out lines (omega arith) (next_more code.program plan names n within ∙ behind) stop broke
 
   pub steps : (progress : Progress) → PutWhole out lines → GoesTo at progress →
-      StepsTo forest plan names n at out progress
+      StepsTo code plan names n at out progress
   steps Went put goes =
       record {
-        between = between_after forest plan n at spent goes within;
+        between = between_after code plan n at spent goes within;
         unit = spent.unit;
-        goes_on = goes_on_after forest plan n at spent goes;
+        goes_on = goes_on_after code plan n at spent goes;
         puts = record { within = within; put = record { bytes = lines; parts = behind; holds = put } };
       }
   steps (Finished end) put comes =
-      let ended : has_ended (run_at forest plan (n + 1)) ≡ true = ended_after forest plan n at spent comes.over in
+      let ended : has_ended (run_at code.program plan (n + 1)) ≡ true = ended_after code plan n at spent comes.over in
       record {
         last = one_spent within spent.unit ended;
         puts = record {
           put = record {
             bytes = lines;
-            parts = ended_text forest plan names (n + 1) (omega arith) ended ∙ behind;
+            parts = ended_text code.program plan names (n + 1) (omega arith) ended ∙ behind;
             holds = put;
           };
-          ends = ap end_of (ended_trace forest plan names (n + 1) (omega arith) ended ∙ spent.told)
-              ∙ ends_behind (run_at forest plan n).events at.told.items end comes.ends;
+          ends = ap end_of (ended_trace code.program plan names (n + 1) (omega arith) ended ∙ spent.told)
+              ∙ ends_behind (run_at code.program plan n).events at.told.items end comes.ends;
         };
       }

@@ -1,3 +1,4 @@
+pub mod AreaTexts
 pub mod Ends
 pub mod Lawful
 pub mod Machines
@@ -6,3 +7,4 @@ pub mod Runs
 pub mod Statics
 pub mod Told
 pub mod UnderWay
+pub mod Watched

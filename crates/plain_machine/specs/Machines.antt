@@ -5,6 +5,7 @@ use Rattle.scj_tree.specs.Forest.{Forest}
 use Rattle.scj_model.specs.Plan.{Plan}
 use Rattle.scj_model.specs.Run.{has_ended}
 use Rattle.scj_model.specs.State.{State}
+use Rattle.op_list.specs.Listed.{Listing}
 use Rattle.region_heap.specs.declared.open_areas.Area.{Area}
 use Rattle.region_heap.specs.OpenAreas.{open_areas}
 use Rattle.plain_machine.specs.Lawful.{IsLawful}
@@ -43,13 +44,13 @@ areas_in s = open_areas s.objects 0 s.areas
 
 -- a machine's parts are those of one program, whose run is never stuck and keeps the laws that the machine counts on,
 -- and a live one stands where the reference machine stands
-pub record IsMachine (program classes : Forest) (plan : Plan) (printer : PrinterSeen) (at : UnderWay) (is_live : Bool) :
+pub record IsMachine (code : Listing) (classes : Forest) (plan : Plan) (printer : PrinterSeen) (at : UnderWay) (is_live : Bool) :
     Type 0 where
-  pub same : classes ≡ program
-  pub printed : printer.program ≡ program
-  pub never : IsNeverStuck program plan
-  pub lawful : IsLawful program plan
-  pub stands : is_live ≡ true → IsBetween program plan at
+  pub same : classes ≡ code.program
+  pub printed : printer.program ≡ code.program
+  pub never : IsNeverStuck code.program plan
+  pub lawful : IsLawful code plan
+  pub stands : is_live ≡ true → IsBetween code plan at
 
 -- whether a further step comes
 abbrev pub goes_on : Progress → Bool

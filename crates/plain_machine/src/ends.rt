@@ -8,7 +8,7 @@ use scj_model::Event;
 
 /// The end that an event tells, if it tells one.
 #[tactic(auto, unfolding(crate::specs::Ends::end_told))]
-fn end_told(event: &Event) -> Option<RunEnd>
+pub(crate) fn end_told(event: &Event) -> Option<RunEnd>
     ensures { result ≡ end_told event.now }
 {
     match event {

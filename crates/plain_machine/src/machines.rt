@@ -1,24 +1,18 @@
 //! A machine that runs a program unit by unit.
 
-ghost use Rattle.std.specs.Prelude.{◌≡◌, length, slice_get, true, Bool, IfOk, IfErr};
+ghost use Rattle.std.specs.Prelude.{◌≡◌, length, slice_get, true, IfOk, IfErr};
 ghost use Rattle.scj_io.specs.Puts.{sink_run};
 ghost use Rattle.plain_machine.specs.Machines.{IsBroken, Steps, areas_in, goes_on};
 ghost use Rattle.plain_machine.specs.UnderWay.{run_at};
 
+use crate::laws::keep_laws;
 use crate::printers::Printer;
 use crate::runs::RunStop;
 use crate::steps::{Progress, one_step};
 use crate::under_way::{UnderWay, begin};
-use area_laws::{
-    areas_close_as_the_last, effects_name_live_objects, few_areas_are_open,
-    jobs_stand_in_open_areas, operations_are_on_live_objects,
-};
-use live_reads::operation_reads_live;
 use region_heap::Area;
-use run_sizes::grows_by_units;
 use scj_base::{Files, Memory};
 use scj_io::Sink;
-use scope_sound::laws::law_safe;
 use std::alloc::Global;
 use std::marker::Model;
 use unit_steps::Setting;
@@ -38,7 +32,7 @@ impl<'a> Model for Machine<'a> {
 
     ghost Value = { MachineSeen };
 
-    ghost view = { λ a. machine_seen a.setting.code.now a.setting.plan.now a.printer a.at a.is_live };
+    ghost view = { λ a. machine_seen a.setting.code.now.program a.setting.plan.now a.printer a.at a.is_live };
 
     ghost invariant = { λ a. IsMachine a.setting.code.now a.setting.classes.now a.setting.plan.now a.printer a.at
         a.is_live };
@@ -61,26 +55,18 @@ impl<'a> Machine<'a> {
         setting: Setting<'a>,
         files: &'a Files,
     ) -> Result<Machine<'a>, Memory>
-        requires same { setting.classes.now ≡ setting.code.now }
-        requires named { length setting.code.now.files ≡ length files.now }
+        requires same { setting.classes.now ≡ setting.code.now.program }
+        requires named { length setting.code.now.program.files ≡ length files.now }
         ensures { IfOk result (λ machine. machine ≡ record {
-          program = setting.entry.code.now;
+          program = setting.entry.code.now.program;
           names = files.now;
           plan = setting.entry.plan.now;
           spent = 0;
           is_live = true;
         }) }
     {
-        let checked = setting.code.checked();
-        law_safe(checked);
-        jobs_stand_in_open_areas(checked);
-        areas_close_as_the_last(checked);
-        few_areas_are_open(checked);
-        operations_are_on_live_objects(checked);
-        effects_name_live_objects(checked);
-        grows_by_units();
-        operation_reads_live();
-        let _units = setting.plan.units();
+        let checked = setting.code.code().checked();
+        keep_laws(setting);
         let printer = Printer::make(alloc, checked, files)?;
         let at = begin(alloc, setting.code, setting.plan)?;
         Ok(Machine {

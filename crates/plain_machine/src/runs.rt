@@ -1,14 +1,14 @@
 //! Whole runs.
 
-ghost use Rattle.std.specs.Prelude.{◌≡◌, length, true, Bool, IfOk, IfErr};
+ghost use Rattle.std.specs.Prelude.{◌≡◌, length, true, IfOk, IfErr};
 ghost use Rattle.scj_io.specs.Puts.{sink_run};
 ghost use Rattle.plain_machine.specs.Runs.{RunsTo, BreaksOff};
 
 use crate::machines::Machine;
 use crate::steps::Progress;
 use class_rows::ClassTable;
-use job_frames::Code;
 use object_layout::Layout;
+use op_list::{Code, OpList};
 use private_scopes::private_scopes;
 use run_plan::Plan;
 use scj_base::{Failed, Files, Memory};
@@ -96,7 +96,7 @@ fn run_by_table<K: Sink>(
 {
     let scopes = private_scopes(alloc, table)?;
     let layout = Layout::of(alloc, table, scopes)?;
-    let code = Code::new(checked, &layout);
+    let code = OpList::of(alloc, Code::new(checked, &layout))?;
     let setting = Setting {
         code: &code,
         classes: table,

@@ -6,8 +6,8 @@ ghost use Rattle.scj_model.specs.Code.{code_of};
 ghost use Rattle.scj_model.specs.Run.{first_static};
 ghost use Rattle.plain_machine.specs.Statics.{start_of, value_written};
 
-use job_frames::Code;
 use object_layout::StaticField;
+use op_list::OpList;
 use scj_base::{Memory, Value};
 use scj_rules::Checked;
 use std::alloc::Global;
@@ -48,9 +48,9 @@ fn starts_of(alloc: Global, checked: &Checked, rows: &[StaticField]) -> Result<V
 
 /// The values of all static fields before the run.
 #[tactic(auto, using(crate::proofs::StaticLaws::statics_begin))]
-pub(crate) fn first_statics(alloc: Global, code: &Code<'_>) -> Result<Vec<Value>, Memory>
+pub(crate) fn first_statics(alloc: Global, code: &OpList<'_>) -> Result<Vec<Value>, Memory>
     ensures { IfOk result
-        (λ values. values.items ≡ map (first_static (code_of code.now)) (static_fields (code_of code.now).program)) }
+        (λ values. values.items ≡ map (first_static (code_of code.now.program)) (static_fields (code_of code.now.program).program)) }
 {
-    starts_of(alloc, code.checked(), code.layout().statics())
+    starts_of(alloc, code.code().checked(), code.code().layout().statics())
 }

@@ -31,7 +31,7 @@ pub enum Progress {
 
 /// Whether a run is over.
 #[tactic(auto, unfolding(scj_model::specs::State::is_over))]
-fn is_over(phase: Phase) -> bool
+pub(crate) fn is_over(phase: Phase) -> bool
     ensures { result ≡ is_over phase }
 {
     match phase {
@@ -77,9 +77,9 @@ pub(crate) fn one_step<K: Sink>(
     at: &mut UnderWay,
     out: &mut K,
 ) -> Result<Progress, RunStop>
-    requires same { setting.classes.now ≡ setting.code.now }
-    requires printed { printer.old.program ≡ setting.code.now }
-    requires never { IsNeverStuck setting.code.now setting.plan.now }
+    requires same { setting.classes.now ≡ setting.code.now.program }
+    requires printed { printer.old.program ≡ setting.code.now.program }
+    requires never { IsNeverStuck setting.code.now.program setting.plan.now }
     requires lawful { IsLawful setting.code.now setting.plan.now }
     requires between { IsBetween setting.code.now setting.plan.now at.old }
     ensures same { printer.new ≡ printer.old }
@@ -87,7 +87,7 @@ pub(crate) fn one_step<K: Sink>(
         (λ progress. StepsTo setting.entry.code.now setting.entry.plan.now printer.old.names at.old.state.unit at.new
         (sink_run (K.taken out.old) (K.taken out.new) (K.faults out.old) (K.faults out.new)) progress) }
     ensures stop { IfErr result
-        (λ stop. BreaksOffFrom setting.entry.code.now setting.entry.plan.now printer.old.names at.old.state.unit
+        (λ stop. BreaksOffFrom setting.entry.code.now.program setting.entry.plan.now printer.old.names at.old.state.unit
         (sink_run (K.taken out.old) (K.taken out.new) (K.faults out.old) (K.faults out.new)) stop) }
 {
     let is_spent = at.state.unit == setting.plan.units();

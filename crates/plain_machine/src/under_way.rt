@@ -3,12 +3,13 @@
 ghost use Rattle.std.specs.Prelude.{◌≡◌, IfOk};
 ghost use Rattle.scj_model.specs.Code.{code_of};
 ghost use Rattle.scj_model.specs.Run.{empty_state};
-ghost use Rattle.run_state.specs.Seen.{AreAllBegun, state_of};
+ghost use Rattle.run_state.specs.Seen.{state_of};
 ghost use Rattle.plain_machine.specs.Lawful.{IsLawful};
 ghost use Rattle.plain_machine.specs.UnderWay.{HasSpent, IsBetween, IsNeverStuck};
 
 use crate::statics::first_statics;
-use job_frames::{Activity, Code};
+use job_frames::Activity;
+use op_list::OpList;
 use region_heap::RegionHeap;
 use run_plan::Plan;
 use run_releases::Releases;
@@ -31,9 +32,8 @@ pub struct UnderWay {
 
 /// The state before the first unit.
 #[tactic(auto, unfolding(scj_model::specs::Run::empty_state, run_state::specs::Seen::state_of))]
-fn empty_state(alloc: Global, code: &Code<'_>, plan: &Plan) -> Result<RunState, Memory>
-    ensures state { IfOk result (λ state. state_of (code_of code.now) state ≡ empty_state (code_of code.now) plan.now) }
-    ensures begun { IfOk result (λ state. AreAllBegun code.now.nodes state) }
+fn empty_state(alloc: Global, code: &OpList<'_>, plan: &Plan) -> Result<RunState, Memory>
+    ensures state { IfOk result (λ state. state_of code.now state ≡ empty_state (code_of code.now.program) plan.now) }
     ensures unit { IfOk result (λ state. state.unit ≡ 0) }
 {
     let statics = first_statics(alloc, code)?;
@@ -56,7 +56,7 @@ fn empty_state(alloc: Global, code: &Code<'_>, plan: &Plan) -> Result<RunState, 
 }
 
 /// A run before its first unit.
-pub(crate) fn begin(alloc: Global, code: &Code<'_>, plan: &Plan) -> Result<UnderWay, Memory>
+pub(crate) fn begin(alloc: Global, code: &OpList<'_>, plan: &Plan) -> Result<UnderWay, Memory>
     ensures between { IfOk result (λ at. IsBetween code.now plan.now at) }
     ensures unit { IfOk result (λ at. at.state.unit ≡ 0) }
 {
@@ -70,8 +70,8 @@ pub(crate) fn begin(alloc: Global, code: &Code<'_>, plan: &Plan) -> Result<Under
 
 /// Spends one unit of a run that is never stuck.
 pub(crate) fn spend(alloc: Global, setting: Setting<'_>, at: &mut UnderWay) -> Result<(), Memory>
-    requires same { setting.classes.now ≡ setting.code.now }
-    requires never { IsNeverStuck setting.code.now setting.plan.now }
+    requires same { setting.classes.now ≡ setting.code.now.program }
+    requires never { IsNeverStuck setting.code.now.program setting.plan.now }
     requires lawful { IsLawful setting.code.now setting.plan.now }
     requires between { IsBetween setting.code.now setting.plan.now at.old }
     ensures { IfOk result (λ _. HasSpent setting.entry.code.now setting.entry.plan.now at.old.state.unit at.new) }

@@ -6,7 +6,8 @@ use Rattle.std.proofs.lemmas.List.{length-map}
 use Rattle.scj_base.specs.declared.places.Pos.{Pos}
 use Rattle.scj_base.specs.declared.faults.RunFault.TheVariants.{ScopedCycle, CeilingViolation, DepthFull}
 use Rattle.scj_model.specs.declared.events.Event.{Event}
-use Rattle.scj_model.specs.Code.{Code}
+use Rattle.scj_model.specs.Code.{code_of}
+use Rattle.op_list.specs.Listed.{Listing}
 use Rattle.scj_rules.specs.declared.views.Body.{Body}
 use Rattle.scj_rules.specs.declared.views.Body.TheVariants.{Written, Empty}
 use Rattle.scj_rules.specs.Bodies.{is_synchronized_body}
@@ -27,19 +28,19 @@ use Rattle.run_state.specs.Steps.{HasOnTop}
 
 -- ---- a frame on top
 
-pub on_top_seen : (code : Code) (g : Frame) (before after : StoredActivity) → HasOnTop code g before after →
+pub on_top_seen : (code : Listing) (g : Frame) (before after : StoredActivity) → HasOnTop code g before after →
     activity_seen code after ≡ record (activity_seen code before) { frames = g ∷ frames_of code before.frames }
 on_top_seen code g before after h =
     ap (activity_seen code) h.whole ∙ ap (λ (f : Frame). (
     let a : Activity = record (activity_seen code before) { frames = f ∷ frames_of code before.frames } in a)) h.seen
 
-pub without_top : (code : Code) (g : Frame) (before after : StoredActivity) → HasOnTop code g before after →
+pub without_top : (code : Listing) (g : Frame) (before after : StoredActivity) → HasOnTop code g before after →
     (let a : StoredActivity = record after { frames = below after.frames } in a) ≡ before
 without_top code g before after h =
     ap (λ (x : StoredActivity). (let a : StoredActivity = record x { frames = below x.frames } in a)) h.whole
 
 -- the frames below are as many as may be where one more is on top
-pub full_below : (code : Code) (g : Frame) (before after : StoredActivity) (n : ℕ) → HasOnTop code g before after →
+pub full_below : (code : Listing) (g : Frame) (before after : StoredActivity) (n : ℕ) → HasOnTop code g before after →
     n ≡ length after.frames → nat_lt 64 n ≡ is_full (frames_of code before.frames)
 full_below code g before after n h e =
     full_is (length (frames_of code before.frames)) n
@@ -54,20 +55,20 @@ full_below code g before after n h e =
         go false t = lt-ltb 64 m (omega (arith, f, ltb-false k 64 t))
 
 -- what the frame on top is, and what becomes of the activity when it changes
-pub top_is : (code : Code) (g : Frame) (before after : StoredActivity) (f : StoredFrame) →
+pub top_is : (code : Listing) (g : Frame) (before after : StoredActivity) (f : StoredFrame) →
     HasOnTop code g before after →
     Some f ≡ slice_get after.frames 0 → frame_of code f ≡ g
 top_is code g before after f h e =
     let k : Some f ≡ Some h.frame = e ∙ ap (λ (a : StoredActivity). slice_get a.frames 0) h.whole in
     ap (λ (o : Option StoredFrame). frame_of code (unwrap_or o f)) k ∙ h.seen
 
-pub none_on_top : (code : Code) (g : Frame) (before after : StoredActivity) → HasOnTop code g before after →
+pub none_on_top : (code : Listing) (g : Frame) (before after : StoredActivity) → HasOnTop code g before after →
     None ≡ slice_get after.frames 0 → ⊥
 none_on_top code g before after h e =
     let k : None ≡ Some h.frame = e ∙ ap (λ (a : StoredActivity). slice_get a.frames 0) h.whole in cc
 
 -- the priority that was before the call is told
-pub priority_below : (code : Code) (s : State) (job : Job) (g : Frame) (before after : StoredActivity) (ceiling : ℕ)
+pub priority_below : (code : Listing) (s : State) (job : Job) (g : Frame) (before after : StoredActivity) (ceiling : ℕ)
     (first second : List Event) → HasOnTop code g before after →
     second ≡ first ++ tell_priority s job after.priority ceiling →
     second ≡ first ++ tell_priority s job before.priority ceiling
@@ -75,7 +76,7 @@ priority_below code s job g before after ceiling first second h t =
     t ∙ ap (λ (a : StoredActivity). first ++ tell_priority s job a.priority ceiling) h.whole
 
 -- the frame on top saves the priority, or has moved into an area that it opened
-pub entered_seen : (code : Code) (g : Frame) (before after : StoredActivity) (frames : List StoredFrame) (ceiling : ℕ) →
+pub entered_seen : (code : Listing) (g : Frame) (before after : StoredActivity) (frames : List StoredFrame) (ceiling : ℕ) →
     HasOnTop code g before after → frames ≡ with_saved after.priority after.frames →
     (let a : Activity = activity_seen code (record after { frames = frames; priority = ceiling }) in a)
     ≡ record (activity_seen code before) {
@@ -92,7 +93,7 @@ entered_seen code g before after frames ceiling h e =
       priority = ceiling;
     } in b)) h.seen)
 
-pub moved_seen : (code : Code) (g : Frame) (before after : StoredActivity) (frames : List StoredFrame) (areas : List ℕ)
+pub moved_seen : (code : Listing) (g : Frame) (before after : StoredActivity) (frames : List StoredFrame) (areas : List ℕ)
     (area : ℕ) → HasOnTop code g before after → frames ≡ moved_in area after.frames → areas ≡ area ∷ after.areas →
     (let a : Activity = activity_seen code (record after { frames = frames; areas = areas }) in a)
     ≡ record (activity_seen code before) {
@@ -113,28 +114,28 @@ moved_seen code g before after frames areas area h e o =
 
 -- ---- calls
 
-module _ (code : Code) (s : State) (job : Job) (activity : Activity) (frames : List Frame) (place : Pos)
+module _ (code : Listing) (s : State) (job : Job) (activity : Activity) (frames : List Frame) (place : Pos)
     (g : Frame) where
   pub called_full : is_full frames ≡ true →
-      called code s job activity frames place g ≡ fault_in s job activity place DepthFull
+      called (code_of code.program) s job activity frames place g ≡ fault_in s job activity place DepthFull
   unfolding called
   called_full e = rw e refl
 
-  pub called_plainly : is_full frames ≡ false → ceiling_entered code s g ≡ None →
-      called code s job activity frames place g ≡ silently
+  pub called_plainly : is_full frames ≡ false → ceiling_entered (code_of code.program) s g ≡ None →
+      called (code_of code.program) s job activity frames place g ≡ silently
       (with_activity s job (record activity { frames = g ∷ frames }))
   unfolding called
   called_plainly e c = rw (e, c) refl
 
-  pub called_above : (ceiling : ℕ) → is_full frames ≡ false → ceiling_entered code s g ≡ Some ceiling →
+  pub called_above : (ceiling : ℕ) → is_full frames ≡ false → ceiling_entered (code_of code.program) s g ≡ Some ceiling →
       nat_lt ceiling activity.priority ≡ true →
-      called code s job activity frames place g ≡ fault_in s job activity place CeilingViolation
+      called (code_of code.program) s job activity frames place g ≡ fault_in s job activity place CeilingViolation
   unfolding called
   called_above ceiling e c l = rw (e, c, l) refl
 
-  pub called_entering : (ceiling : ℕ) → is_full frames ≡ false → ceiling_entered code s g ≡ Some ceiling →
+  pub called_entering : (ceiling : ℕ) → is_full frames ≡ false → ceiling_entered (code_of code.program) s g ≡ Some ceiling →
       nat_lt ceiling activity.priority ≡ false →
-      called code s job activity frames place g ≡ call_entered s job activity frames g ceiling
+      called (code_of code.program) s job activity frames place g ≡ call_entered s job activity frames g ceiling
   unfolding called call_entered
   called_entering ceiling e c l = rw (e, c, l) refl
 
@@ -160,27 +161,27 @@ module _ (code : Code) (s : State) (job : Job) (activity : Activity) (frames : L
 
 -- ---- the ceiling of the monitor that is entered
 
-module _ (code : Code) (s : State) (g : Frame) where
-  pub no_monitor : None ≡ monitor_of code g → None ≡ ceiling_entered code s g
+module _ (code : Listing) (s : State) (g : Frame) where
+  pub no_monitor : None ≡ monitor_of (code_of code.program) g → None ≡ ceiling_entered (code_of code.program) s g
   unfolding ceiling_entered
   no_monitor e = ap (λ (m : Option ℕ). m >>= object_at s >>= (λ (o : Object). Some o.ceiling)) e
 
-  pub no_object : (r : ℕ) → Some r ≡ monitor_of code g → None ≡ object_at s r → None ≡ ceiling_entered code s g
+  pub no_object : (r : ℕ) → Some r ≡ monitor_of (code_of code.program) g → None ≡ object_at s r → None ≡ ceiling_entered (code_of code.program) s g
   unfolding ceiling_entered
   no_object r e n =
       ap (λ (x : Option Object). x >>= (λ (o : Object). Some o.ceiling)) n
       ∙ ap (λ (m : Option ℕ). m >>= object_at s >>= (λ (o : Object). Some o.ceiling)) e
 
-  pub ceiling_there : (r : ℕ) (object : Object) → Some r ≡ monitor_of code g → Some object ≡ object_at s r →
-      Some object.ceiling ≡ ceiling_entered code s g
+  pub ceiling_there : (r : ℕ) (object : Object) → Some r ≡ monitor_of (code_of code.program) g → Some object ≡ object_at s r →
+      Some object.ceiling ≡ ceiling_entered (code_of code.program) s g
   unfolding ceiling_entered
   ceiling_there r object e n =
       ap (λ (x : Option Object). x >>= (λ (o : Object). Some o.ceiling)) n
       ∙ ap (λ (m : Option ℕ). m >>= object_at s >>= (λ (o : Object). Some o.ceiling)) e
 
 -- the object whose monitor the highest frame enters is found, since it lies in an open area
-pub live_monitor : (code : Code) (m : Contents) (activity : StoredActivity) (f : StoredFrame) (r : ℕ) →
-    IsOnLiveObject m activity → Some f ≡ slice_get activity.frames 0 → Some r ≡ monitor_of code (frame_of code f) →
+pub live_monitor : (code : Listing) (m : Contents) (activity : StoredActivity) (f : StoredFrame) (r : ℕ) →
+    IsOnLiveObject m activity → Some f ≡ slice_get activity.frames 0 → Some r ≡ monitor_of (code_of code.program) (frame_of code f) →
     live_object m r ≡ slice_get m.objects r
 unfolding monitor_of
 live_monitor code m activity f r live top e = live f r (sym top) (this_of f.body e)
@@ -191,8 +192,8 @@ live_monitor code m activity f r live top e = live f r (sym top) (this_of f.body
 
     this_of : (b : Body) →
         Some r ≡ (elim b [
-          | Written node ↦ if is_synchronized_body code.program node then f.this else None
+          | Written node ↦ if is_synchronized_body (code_of code.program).program node then f.this else None
           | Empty ↦ None
         ]) → f.this ≡ Some r
-    this_of (Written node) h = by (is_synchronized_body code.program node) h
+    this_of (Written node) h = by (is_synchronized_body (code_of code.program).program node) h
     this_of Empty h = absurd (cc)

@@ -7,7 +7,7 @@ use Rattle.scj_base.specs.declared.places.Pos.{Pos}
 use Rattle.scj_base.specs.declared.values.Value.{Value}
 use Rattle.scj_model.specs.declared.events.Event.{Event}
 use Rattle.scj_model.specs.declared.events.Event.TheVariants.{Fault, End}
-use Rattle.scj_model.specs.Code.{Code}
+use Rattle.op_list.specs.Listed.{Listing}
 use Rattle.scj_model.specs.State.{Activity, Release as ReleaseOfRun, ReleaseAt, State, Ended as EndedSeen, with_status as state_with_status}
 use Rattle.scj_model.specs.Steps.{Step, closed_all, fault_in, job_ended, of_release}
 use Rattle.job_frames.specs.declared.activities.Activity.{Activity as StoredActivity}
@@ -22,14 +22,13 @@ use Rattle.run_releases.specs.declared.rows.ReleaseStatus.TheVariants.{Ended}
 use Rattle.run_releases.specs.Rows.{StoredReleases, release_seen, status_seen, with_status}
 use Rattle.run_releases.specs.Releases.{status_set}
 use Rattle.run_state.specs.declared.states.RunState.{RunState}
-use Rattle.run_state.specs.Seen.{AreAllBegun, IsBegunStatus, state_of}
+use Rattle.run_state.specs.Seen.{state_of}
 use Rattle.run_state.specs.Steps.{IsStep}
-use Rattle.run_state.proofs.JobLemmas.{status_begun}
 use Rattle.run_state.proofs.Rows.{changed_map}
 
 -- ---- areas that are closed
 
-pub closed_last : (code : Code) (s : State) (was now : Contents) (rest below : List StoredFrame) (f : StoredFrame) →
+pub closed_last : (code : Listing) (s : State) (was now : Contents) (rest below : List StoredFrame) (f : StoredFrame) →
     rest ≡ below ++ f ∷ [] → now ≡ after_close was f.opened →
     closed_all (with_memory s was) (frames_of code (reverse rest))
     ≡ closed_all (with_memory s now) (frames_of code (reverse below))
@@ -53,7 +52,7 @@ got_none (y ∷ ys) (suc n) h e = got_none ys n (omega (arith, h)) e
 
 -- ---- a release with another status
 
-pub status_is_seen : (code : Code) (st : RunState) (n : ℕ) (status : ReleaseStatus) →
+pub status_is_seen : (code : Listing) (st : RunState) (n : ℕ) (status : ReleaseStatus) →
     state_of code (record st { releases = status_set n status st.releases })
     ≡ state_with_status (state_of code st) n (status_seen code status)
 unfolding state_of
@@ -65,53 +64,46 @@ status_is_seen code st n status =
 -- ---- ends
 
 -- the step of an end that tells nothing
-pub quiet : (code : Code) (step : Step) (st : RunState) (told : List Event) → IsStep code step st [] [] →
+pub quiet : (code : Listing) (step : Step) (st : RunState) (told : List Event) → IsStep code step st [] [] →
     IsStep code step st told told
 quiet code step st told h = record {
   state = h.state;
   told = sym (append-nil told) ∙ ap (λ (es : List Event). told ++ es) h.told;
-  begun = h.begun;
 }
 
-module _ (code : Code) (st : RunState) (n : ℕ) (rs : StoredReleases) (first last : List Event) where
+module _ (code : Listing) (st : RunState) (n : ℕ) (rs : StoredReleases) (first last : List Event) where
   abbrev end_told : List Event
   end_told = of_release (state_of code st) (ReleaseAt n) (λ (r : ReleaseOfRun). End st.unit r.handler r.number ∷ [])
 
   pub release_done : (activity : Activity) (value : Option Value) → rs ≡ status_set n Ended st.releases →
-      last ≡ first ++ end_told → AreAllBegun code.program.nodes st →
+      last ≡ first ++ end_told →
       IsStep code (job_ended (state_of code st) (ReleaseAt n) activity value) (record st { releases = rs }) first last
-  unfolding job_ended state_of IsBegunStatus
-  release_done activity value e t begun = record {
+  unfolding job_ended state_of
+  release_done activity value e t = record {
     state = ap (λ (x : StoredReleases). state_of code (record st { releases = x })) e ∙ status_is_seen code st n Ended;
     told = t;
-    begun = subst (λ (x : StoredReleases). AreAllBegun code.program.nodes (record st { releases = x })) (sym e)
-        (status_begun code.program.nodes st n Ended tt begun);
   }
 
   pub release_at_fault : (m : Contents) (activity : StoredActivity) (place : Pos) (fault : RunFault)
       (middle : List Event) →
       ((s : State) → closed_all (with_memory s st.memory) (frames_of code activity.frames) ≡ with_memory s m) →
       rs ≡ status_set n Ended st.releases → middle ≡ first ++ Fault st.unit fault place ∷ [] →
-      last ≡ middle ++ end_told → AreAllBegun code.program.nodes st →
+      last ≡ middle ++ end_told →
       IsStep code (fault_in (state_of code st) (ReleaseAt n) (activity_seen code activity) place fault)
       (record st { memory = m; releases = rs }) first last
-  unfolding fault_in state_of IsBegunStatus
-  release_at_fault m activity place fault middle closes e t u begun =
+  unfolding fault_in state_of
+  release_at_fault m activity place fault middle closes e t u =
       let with_m : RunState = record st { memory = m } in
-      let begun_m : AreAllBegun code.program.nodes with_m =
-      record { sequencer = begun.sequencer; releases = begun.releases } in
       record {
         state = ap (λ (x : StoredReleases). state_of code (record with_m { releases = x })) e
             ∙ (status_is_seen code with_m n Ended
             ∙ ap (λ (s : State). state_with_status s n EndedSeen) (sym (closes (state_of code st))));
         told = u ∙ (ap (λ (es : List Event). es ++ end_told) t
             ∙ append_assoc first (Fault st.unit fault place ∷ []) end_told);
-        begun = subst (λ (x : StoredReleases). AreAllBegun code.program.nodes (record with_m { releases = x })) (sym e)
-            (status_begun code.program.nodes with_m n Ended tt begun_m);
       }
 
 -- one place further down
-pub closed_next : (code : Code) (s : State) (was now : Contents) (frames : List StoredFrame) (left : ℕ) →
+pub closed_next : (code : Listing) (s : State) (was now : Contents) (frames : List StoredFrame) (left : ℕ) →
     left < length frames →
     ((f : StoredFrame) → Some f ≡ slice_get frames left → now ≡ after_close was f.opened) →
     closed_all (with_memory s was) (frames_of code (reverse (take (suc left) frames)))

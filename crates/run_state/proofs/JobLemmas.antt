@@ -1,22 +1,20 @@
 -- The activity of a release is taken out, put back, or dropped at its end.
 use Rattle.std.specs.Prelude.{Option, Some, None, option_map, slice_get, slice_set}
-use Rattle.std.proofs.Common.{◌≡◌, ◌∙◌, ℕ, List, refl, ap, sym, subst}
+use Rattle.std.proofs.Common.{◌≡◌, ◌∙◌, ℕ, List, refl, ap, sym}
 use Rattle.scj_rules.specs.Words.{◌>>=◌}
-use Rattle.scj_tree.specs.declared.nodes.Node.{Node}
-use Rattle.scj_model.specs.Code.{Code}
+use Rattle.op_list.specs.Listed.{Listing}
 use Rattle.scj_model.specs.State.{Release as ReleaseOfRun, ReleaseAt, Started as StartedSeen, changed, activity_in as activity_in_status, activity_of, with_activity}
 use Rattle.scj_model.specs.Run.{no_activity}
 use Rattle.job_frames.specs.declared.activities.Activity.{Activity as StoredActivity}
-use Rattle.job_frames.specs.Frames.{AreBegun, activity_seen, empty_activity}
+use Rattle.job_frames.specs.Frames.{activity_seen, empty_activity}
 use Rattle.run_state.proofs.Changed.{changed_there}
 use Rattle.run_releases.specs.declared.rows.Release.{Release}
 use Rattle.run_releases.specs.declared.rows.ReleaseStatus.{ReleaseStatus}
 use Rattle.run_releases.specs.declared.rows.ReleaseStatus.TheVariants.{Waits, Started, Ended, Dropped}
 use Rattle.run_releases.specs.Rows.{StoredReleases, activity_within, emptied_row, emptied_status, release_seen, status_seen, with_status}
-use Rattle.run_releases.specs.Releases.{activity_in, emptied_at, status_set}
+use Rattle.run_releases.specs.Releases.{activity_in, emptied_at}
 use Rattle.run_state.specs.declared.states.RunState.{RunState}
-use Rattle.run_state.specs.Seen.{AreAllBegun, IsBegunStatus, state_of}
-use Rattle.run_state.proofs.Begun.{begun_at, begun_changed}
+use Rattle.run_state.specs.Seen.{state_of}
 use Rattle.run_state.proofs.Rows.{changed_kept, changed_map, get_map}
 
 -- ---- taken out
@@ -33,7 +31,7 @@ started_there (Some r) a e = (r, refl, of_status r.status e)
     of_status Ended h = absurd (cc)
     of_status Dropped h = absurd (cc)
 
-pub emptied : (code : Code) (st : RunState) (place : ℕ) (a : StoredActivity) →
+pub emptied : (code : Listing) (st : RunState) (place : ℕ) (a : StoredActivity) →
     activity_in st.releases.rows place ≡ Some a →
     state_of code (record st { releases = emptied_at place st.releases })
     ≡ with_activity (state_of code st) (ReleaseAt place) no_activity
@@ -70,31 +68,8 @@ not_emptied rs place e =
         (same_status r.status
         (sym (ap (λ (o : Option Release). o >>= (λ (q : Release). activity_within q.status)) found) ∙ e))
 
-pub emptied_begun : (nodes : List Node) (st : RunState) (place : ℕ) → AreAllBegun nodes st →
-    AreAllBegun nodes (record st { releases = emptied_at place st.releases })
-unfolding IsBegunStatus
-emptied_begun nodes st place h = record {
-  sequencer = h.sequencer;
-  releases = begun_changed nodes emptied_row place st.releases.rows (λ r. of_status r.status) h.releases;
-}
-  where
-    of_status : (status : ReleaseStatus) → IsBegunStatus nodes (emptied_status status)
-    of_status Waits = tt
-    of_status (Started a) = tt
-    of_status Ended = tt
-    of_status Dropped = tt
-
-pub taken_begun : (nodes : List Node) (st : RunState) (place : ℕ) (a : StoredActivity) →
-    activity_in st.releases.rows place ≡ Some a → AreAllBegun nodes st → AreBegun nodes a.frames
-unfolding IsBegunStatus
-taken_begun nodes st place a e h =
-    let found : (r : Release) × (slice_get st.releases.rows place ≡ Some r) × (r.status ≡ Started a) =
-    started_there (slice_get st.releases.rows place) a e in
-    subst (IsBegunStatus nodes) found.2
-    (begun_at nodes st.releases.rows place found.0 found.1 h.releases)
-
 -- the activity that the code finds is the one of the definitions
-pub found_activity : (code : Code) (st : RunState) (place : ℕ) →
+pub found_activity : (code : Listing) (st : RunState) (place : ℕ) →
     option_map (activity_seen code) (activity_in st.releases.rows place) ≡ activity_of (state_of code st)
     (ReleaseAt place)
 unfolding state_of activity_of activity_in_status
@@ -115,13 +90,3 @@ found_activity code st place =
         ≡ (option_map (release_seen code) o >>= (λ (r : ReleaseOfRun). activity_in_status r.status))
     of_found None = refl
     of_found (Some r) = of_status r.status
-
--- ---- put back, and ended
-
-pub status_begun : (nodes : List Node) (st : RunState) (place : ℕ) (status : ReleaseStatus) →
-    IsBegunStatus nodes status →
-    AreAllBegun nodes st → AreAllBegun nodes (record st { releases = status_set place status st.releases })
-status_begun nodes st place status h all = record {
-  sequencer = all.sequencer;
-  releases = begun_changed nodes (with_status status) place st.releases.rows (λ r. h) all.releases;
-}

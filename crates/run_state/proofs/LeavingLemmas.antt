@@ -4,7 +4,7 @@ use Rattle.std.proofs.Common.{◌≡◌, ◌∙◌, ℕ, List, [], ◌∷◌, �
 use Rattle.std.proofs.lemmas.List.{append_assoc, length-map}
 use Rattle.scj_base.specs.declared.values.Value.{Value}
 use Rattle.scj_model.specs.declared.events.Event.{Event}
-use Rattle.scj_model.specs.Code.{Code}
+use Rattle.op_list.specs.Listed.{Listing}
 use Rattle.scj_model.specs.State.{Frame, Activity, Job, State, with_activity}
 use Rattle.scj_model.specs.Memory.{closed}
 use Rattle.scj_model.specs.Steps.{job_ended, silently}
@@ -25,7 +25,7 @@ after_leaving activity f below value = record activity {
   priority = unwrap_or f.saved activity.priority;
 }
 
-pub left_step : (code : Code) (s : State) (job : Job) (activity : Activity) (f : Frame) (below : List Frame)
+pub left_step : (code : Listing) (s : State) (job : Job) (activity : Activity) (f : Frame) (below : List Frame)
     (value : Option Value) (middle st : RunState) (first second third : List Event) →
     state_of code middle ≡ closed s f.opened →
     second ≡ first ++ tell_priority s job activity.priority (unwrap_or f.saved activity.priority) →
@@ -41,7 +41,6 @@ left_step code s job activity f below value middle st first second third e t h =
       told = h.told ∙ (ap (λ (x : State). second ++ (settled x job after value below).events) e
           ∙ (ap (λ (es : List Event). es ++ (settled (closed s f.opened) job after value below).events) t
           ∙ append_assoc first told (settled (closed s f.opened) job after value below).events));
-      begun = h.begun;
     }
 
 pub as_many : (value : Option Value) (frames : List Frame) → length (returned value frames) ≡ length frames
@@ -52,7 +51,7 @@ as_many (Some value) [] = refl
 as_many (Some value) (f ∷ fs) = refl
 
 -- all of it, as the code goes
-pub left_all : (code : Code) (st : RunState) (job : Job) (activity after : StoredActivity) (f : StoredFrame)
+pub left_all : (code : Listing) (st : RunState) (job : Job) (activity after : StoredActivity) (f : StoredFrame)
     (below : List StoredFrame) (value : Option Value) (opened saved : Option ℕ) (m : Contents) (final : RunState)
     (first second third : List Event) → opened ≡ f.opened → saved ≡ f.saved →
     activity_seen code after ≡ record (activity_seen code activity) {
@@ -96,13 +95,13 @@ left_all code st job activity after f below value opened saved m final first sec
 
 -- ---- the steps of the code
 
-pub returned_seen : (code : Code) (value : Value) (frames : List StoredFrame) →
+pub returned_seen : (code : Listing) (value : Value) (frames : List StoredFrame) →
     frames_of code (with_operand value frames) ≡ returned (Some value) (frames_of code frames)
 unfolding returned
 returned_seen code value [] = refl
 returned_seen code value (f ∷ fs) = refl
 
-pub stepped : (code : Code) (activity : StoredActivity) (frames : List StoredFrame) (areas : List ℕ) (priority : ℕ)
+pub stepped : (code : Listing) (activity : StoredActivity) (frames : List StoredFrame) (areas : List ℕ) (priority : ℕ)
     (f : StoredFrame) (rest : List StoredFrame) (value : Option Value) (opened saved : Option ℕ) (seen : Activity) →
     activity.frames ≡ f ∷ rest → frames ≡ below activity.frames → areas ≡ without opened activity.areas →
     priority ≡ unwrap_or saved activity.priority →

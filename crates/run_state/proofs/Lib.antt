@@ -1,5 +1,4 @@
 pub mod Applying
-pub mod Begun
 pub mod CallLemmas
 pub mod Changed
 pub mod EndLemmas

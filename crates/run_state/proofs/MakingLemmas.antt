@@ -5,7 +5,7 @@ use Rattle.scj_base.specs.declared.faults.RunFault.TheVariants.{MemoryFull}
 use Rattle.scj_base.specs.declared.values.Value.{Value}
 use Rattle.scj_base.specs.declared.values.Value.TheVariants.{At}
 use Rattle.scj_model.specs.declared.events.Event.{Event}
-use Rattle.scj_model.specs.Code.{Code}
+use Rattle.op_list.specs.Listed.{Listing}
 use Rattle.scj_model.specs.State.{State}
 use Rattle.scj_model.specs.Steps.{Step, allocating, fault_in, silently}
 use Rattle.scj_model.specs.Effects.{Makes}
@@ -21,7 +21,7 @@ use Rattle.run_state.specs.Steps.{GoesOn, IsApplied, IsStep}
 use Rattle.run_state.proofs.RoomLemmas.{goes_step}
 use Rattle.run_state.proofs.StepLemmas.{same_step, try_of}
 
-pub operand_on_top : (code : Code) (activity : StoredActivity) (frames : List StoredFrame) (f : StoredFrame)
+pub operand_on_top : (code : Listing) (activity : StoredActivity) (frames : List StoredFrame) (f : StoredFrame)
     (below : List StoredFrame) (value : Value) → frames ≡ with_operand value activity.frames →
     activity.frames ≡ f ∷ below →
     activity_seen code (record activity { frames = frames })
@@ -32,7 +32,7 @@ operand_on_top code activity frames f below value p e =
     ap (λ (fs : List StoredFrame). activity_seen code (record activity { frames = fs })) (p ∙ ap (with_operand value) e)
 
 -- an object or array that is made in the area of the highest frame
-pub made_applied : (code : Code) (was : RunState) (acting : Acting) (activity : StoredActivity) (class area : ℕ)
+pub made_applied : (code : Listing) (was : RunState) (acting : Acting) (activity : StoredActivity) (class area : ℕ)
     (slots : List Value) (found : Option ℕ) (middle st : RunState) (before after : List Event) →
     ((f : StoredFrame) (below : List StoredFrame) → activity.frames ≡ f ∷ below → area ≡ f.area) →
     GoesOn (state_of code was)

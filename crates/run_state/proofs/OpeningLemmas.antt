@@ -4,7 +4,7 @@ use Rattle.std.proofs.Common.{◌∙◌, ℕ, List, ◌∷◌, refl, ap, sym}
 use Rattle.scj_base.specs.declared.faults.RunFault.TheVariants.{StoreFull}
 use Rattle.scj_base.specs.declared.places.Pos.{Pos}
 use Rattle.scj_model.specs.declared.events.Event.{Event}
-use Rattle.scj_model.specs.Code.{Code}
+use Rattle.op_list.specs.Listed.{Listing}
 use Rattle.scj_model.specs.State.{Frame, Activity, Job, State, with_activity}
 use Rattle.scj_model.specs.Steps.{Step, fault_in, opening, silently}
 use Rattle.run_state.specs.declared.states.RunState.{RunState}
@@ -12,7 +12,7 @@ use Rattle.run_state.specs.Calls.{call_opened}
 use Rattle.run_state.specs.Steps.{GoesOn, IsStep}
 use Rattle.run_state.proofs.StepLemmas.{same_step}
 
-module _ (code : Code) (s : State) (job : Job) (activity : Activity) (frames : List Frame) (place : Pos) (g : Frame)
+module _ (code : Listing) (s : State) (job : Job) (activity : Activity) (frames : List Frame) (place : Pos) (g : Frame)
     (scope : ℕ) (parent : Option ℕ) (bytes : ℕ) (after : State) (st : RunState) (first last : List Event) where
   abbrev moved : State → ℕ → Step
   moved s area = silently (with_activity s job (record activity {

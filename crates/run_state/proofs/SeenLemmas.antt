@@ -2,7 +2,7 @@
 use Rattle.std.specs.Prelude.{Option, Some, None, slice_get, option_map}
 use Rattle.std.proofs.Common.{◌≡◌, ◌∙◌, ℕ, List, [], refl, ap, sym}
 use Rattle.scj_model.specs.declared.events.Event.{Event}
-use Rattle.scj_model.specs.Code.{Code}
+use Rattle.op_list.specs.Listed.{Listing}
 use Rattle.scj_model.specs.State.{Release as ReleaseOfRun, ReleaseAt}
 use Rattle.scj_model.specs.Steps.{of_release}
 use Rattle.region_heap.specs.Contents.{Contents, with_memory}
@@ -12,21 +12,21 @@ use Rattle.run_state.specs.declared.states.RunState.{RunState}
 use Rattle.run_state.specs.Seen.{state_of}
 use Rattle.run_state.proofs.Rows.{get_map}
 
-pub memory_seen : (code : Code) (st : RunState) (m : Contents) →
+pub memory_seen : (code : Listing) (st : RunState) (m : Contents) →
     state_of code (record st { memory = m }) ≡ with_memory (state_of code st) m
 unfolding state_of
 memory_seen code st m = refl
 
-pub memory_there : (code : Code) (st : RunState) → with_memory (state_of code st) st.memory ≡ state_of code st
+pub memory_there : (code : Listing) (st : RunState) → with_memory (state_of code st) st.memory ≡ state_of code st
 unfolding state_of
 memory_there code st = refl
 
-pub releases_seen : (code : Code) (st : RunState) (rs : StoredReleases) →
+pub releases_seen : (code : Listing) (st : RunState) (rs : StoredReleases) →
     state_of code (record st { releases = rs }) ≡ with_releases code (state_of code st) rs
 unfolding state_of
 releases_seen code st rs = refl
 
-pub releases_there : (code : Code) (st : RunState) →
+pub releases_there : (code : Listing) (st : RunState) →
     with_releases code (state_of code st) st.releases ≡ state_of code st
 unfolding state_of
 releases_there code st = refl
@@ -36,14 +36,14 @@ releases_there code st = refl
 tell_found : (tell : ReleaseOfRun → List Event) → Option ReleaseOfRun → List Event
 tell_found tell o = elim o [ None ↦ [] | Some r ↦ tell r ]
 
-pub told_of : (code : Code) (st : RunState) (n : ℕ) (tell : ReleaseOfRun → List Event) (r : Release) →
+pub told_of : (code : Listing) (st : RunState) (n : ℕ) (tell : ReleaseOfRun → List Event) (r : Release) →
     Some r ≡ slice_get st.releases.rows n → of_release (state_of code st) (ReleaseAt n) tell ≡ tell
     (release_seen code r)
 unfolding state_of tell_found
 told_of code st n tell r e =
     ap (tell_found tell) (get_map (release_seen code) st.releases.rows n ∙ ap (option_map (release_seen code)) (sym e))
 
-pub told_of_none : (code : Code) (st : RunState) (n : ℕ) (tell : ReleaseOfRun → List Event) →
+pub told_of_none : (code : Listing) (st : RunState) (n : ℕ) (tell : ReleaseOfRun → List Event) →
     None ≡ slice_get st.releases.rows n → of_release (state_of code st) (ReleaseAt n) tell ≡ []
 unfolding state_of tell_found
 told_of_none code st n tell e =

@@ -2,7 +2,8 @@
 use Rattle.std.specs.Prelude.{true, Some}
 use Rattle.std.proofs.Common.{ℕ, List, ap, sym}
 use Rattle.scj_model.specs.declared.events.Event.{Event}
-use Rattle.scj_model.specs.Code.{Code}
+use Rattle.scj_model.specs.Code.{code_of}
+use Rattle.op_list.specs.Listed.{Listing}
 use Rattle.scj_model.specs.State.{Frame}
 use Rattle.scj_model.specs.Effects.{Calls, Opens}
 use Rattle.scj_model.specs.Apply.{applied, called, opened_in}
@@ -15,17 +16,17 @@ use Rattle.run_state.specs.Seen.{job_seen, state_of}
 use Rattle.run_state.specs.Steps.{IsApplied, IsStep}
 use Rattle.run_state.proofs.StepLemmas.{applied_as}
 
-module _ (code : Code) (was : RunState) (acting : Acting) (activity : StoredActivity) (g : Frame) (st : RunState)
+module _ (code : Listing) (was : RunState) (acting : Acting) (activity : StoredActivity) (g : Frame) (st : RunState)
     (before after : List Event) where
   pub calls_applied :
       IsStep code
-      (called code (state_of code was) (job_seen acting.job) (activity_seen code activity)
+      (called (code_of code.program) (state_of code was) (job_seen acting.job) (activity_seen code activity)
       (frames_of code activity.frames) acting.place g) st before after →
       IsApplied code was acting activity (λ f. Calls f g) true st before after
   unfolding applied
   calls_applied h =
       applied_as code was acting activity (λ f. Calls f g) st before after _ (λ f below e.
-      ap (λ (fs : List StoredFrame). Some (called code (state_of code was) (job_seen acting.job)
+      ap (λ (fs : List StoredFrame). Some (called (code_of code.program) (state_of code was) (job_seen acting.job)
       (activity_seen code activity) (frames_of code fs) acting.place g)) (sym e)) h
 
   pub opens_applied : (scope bytes : ℕ) →

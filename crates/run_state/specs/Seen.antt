@@ -1,12 +1,8 @@
 -- The state of a run as the code keeps it, and the state of the definitions that is seen in it.
-use Rattle.std.specs.Prelude.{List, [], ◌∷◌, map, option_map}
-use Rattle.scj_tree.specs.declared.nodes.Node.{Node}
-use Rattle.scj_model.specs.Code.{Code}
+use Rattle.std.specs.Prelude.{map, option_map}
+use Rattle.op_list.specs.Listed.{Listing}
 use Rattle.scj_model.specs.State.{Job as JobOfRun, TheSequencer, ReleaseAt, Turn as TurnOfRun, IdleTurn, TurnOf, State}
-use Rattle.job_frames.specs.Frames.{activity_seen, AreBegun}
-use Rattle.run_releases.specs.declared.rows.Release.{Release}
-use Rattle.run_releases.specs.declared.rows.ReleaseStatus.{ReleaseStatus}
-use Rattle.run_releases.specs.declared.rows.ReleaseStatus.TheVariants.{Started}
+use Rattle.job_frames.specs.Frames.{activity_seen}
 use Rattle.run_releases.specs.Rows.{release_seen}
 use Rattle.run_state.specs.declared.states.Job.{Job}
 use Rattle.run_state.specs.declared.states.Job.TheVariants.{Sequencer, Release as OfRelease}
@@ -22,7 +18,7 @@ abbrev pub turn_seen : Turn → TurnOfRun
 turn_seen Idle = IdleTurn
 turn_seen (Of place) = TurnOf place
 
-unfoldable pub state_of : Code → RunState → State
+unfoldable pub state_of : Listing → RunState → State
 state_of code st =
     record {
       store = st.memory.store;
@@ -44,17 +40,3 @@ state_of code st =
       registry = st.registry.items;
       activity = activity_seen code st.activity;
     }
-
--- ---- the frames of all jobs were begun in the program of these nodes
-
-unfoldable pub IsBegunStatus : List Node → ReleaseStatus → Type 0
-IsBegunStatus nodes (Started activity) = AreBegun nodes activity.frames
-IsBegunStatus nodes _ = Unit {0}
-
-unfoldable pub AreReleasesBegun : List Node → List Release → Type 0
-AreReleasesBegun nodes [] = Unit {0}
-AreReleasesBegun nodes (r ∷ rs) = IsBegunStatus nodes r.status × AreReleasesBegun nodes rs
-
-pub record AreAllBegun (nodes : List Node) (st : RunState) : Type 0 where
-  pub sequencer : AreBegun nodes st.activity.frames
-  pub releases : AreReleasesBegun nodes st.releases.rows

@@ -1,7 +1,8 @@
 -- What a function of the machine does: a step of the definitions, or none where they give none.
 use Rattle.std.specs.Prelude.{◌≡◌, ℕ, Bool, List, ◌∷◌, ◌++◌, Option, Some, None, is_some}
 use Rattle.scj_model.specs.declared.events.Event.{Event}
-use Rattle.scj_model.specs.Code.{Code}
+use Rattle.scj_model.specs.Code.{code_of}
+use Rattle.op_list.specs.Listed.{Listing}
 use Rattle.scj_model.specs.State.{State, Frame}
 use Rattle.scj_model.specs.Steps.{Step}
 use Rattle.scj_model.specs.Effects.{Effect}
@@ -11,31 +12,30 @@ use Rattle.job_frames.specs.declared.frames.Frame.{Frame as StoredFrame}
 use Rattle.job_frames.specs.Frames.{frame_of, frames_of, activity_seen}
 use Rattle.run_state.specs.declared.states.Acting.{Acting}
 use Rattle.run_state.specs.declared.states.RunState.{RunState}
-use Rattle.run_state.specs.Seen.{state_of, job_seen, AreAllBegun}
+use Rattle.run_state.specs.Seen.{state_of, job_seen}
 
--- the step led to this state, its events were told, and the frames of all jobs are still begun ones
-pub record IsStep (code : Code) (step : Step) (st : RunState) (before after : List Event) : Type 0 where
+-- the step led to this state, and its events were told
+pub record IsStep (code : Listing) (step : Step) (st : RunState) (before after : List Event) : Type 0 where
   pub state : state_of code st ≡ step.state
   pub told : after ≡ before ++ step.events
-  pub begun : AreAllBegun code.program.nodes st
 
 -- a step that may have no result: the code answers whether it has one, and if so it is a step
-pub record IsTry (code : Code) (step : Option Step) (answer : Bool) (st : RunState) (before after : List Event) : Type 0
+pub record IsTry (code : Listing) (step : Option Step) (answer : Bool) (st : RunState) (before after : List Event) : Type 0
   where
     pub went : answer ≡ is_some step
     pub leads : (done : Step) → step ≡ Some done → IsStep code done st before after
 
 -- what an effect of the highest frame does, if the activity has that frame as the operation left it
-pub record IsApplied (code : Code) (was : RunState) (acting : Acting) (activity : StoredActivity)
+pub record IsApplied (code : Listing) (was : RunState) (acting : Acting) (activity : StoredActivity)
     (effect : Frame → Effect) (answer : Bool) (st : RunState) (before after : List Event) : Type 0 where
   pub tried : (f : StoredFrame) (below : List StoredFrame) → activity.frames ≡ f ∷ below →
       IsTry code
-      (applied code (state_of code was) (job_seen acting.job) (activity_seen code activity)
+      (applied (code_of code.program) (state_of code was) (job_seen acting.job) (activity_seen code activity)
       (frames_of code below) acting.place (effect (frame_of code f)))
       answer st before after
 
 -- the activity has this frame on top of the frames that it had before
-pub record HasOnTop (code : Code) (g : Frame) (before after : StoredActivity) : Type 0 where
+pub record HasOnTop (code : Listing) (g : Frame) (before after : StoredActivity) : Type 0 where
   pub frame : StoredFrame
   pub seen : frame_of code frame ≡ g
   pub whole : after ≡ record before { frames = frame ∷ before.frames }

@@ -1,14 +1,14 @@
 //! Calls: what comes of a new frame on top of the others (JSR 302: priority ceiling emulation).
 
-ghost use Rattle.std.specs.Prelude.{◌≡◌, ◌∷◌, ◌<◌, List, IfOk, OnOk, length, nat_lt};
-ghost use Rattle.scj_tree.specs.declared.nodes.Node.{Node as SyntaxNode};
-ghost use Rattle.scj_model.specs.Code.{Code as CodeOfRun, code_of};
+ghost use Rattle.std.specs.Prelude.{◌≡◌, ◌∷◌, ◌<◌, IfOk, OnOk, length, nat_lt};
+ghost use Rattle.scj_model.specs.Code.{code_of};
+ghost use Rattle.op_list.specs.Listed.{Listing};
 ghost use Rattle.scj_model.specs.State.{Frame as FrameOfRun};
 ghost use Rattle.scj_model.specs.Steps.{fault_in};
 ghost use Rattle.scj_model.specs.Apply.{called, ceiling_entered, is_full};
 ghost use Rattle.job_frames.specs.declared.activities.Activity.{Activity as StoredActivity};
-ghost use Rattle.job_frames.specs.Frames.{AreBegun, activity_seen, below, frame_called, frames_of};
-ghost use Rattle.run_state.specs.Seen.{AreAllBegun, job_seen, state_of};
+ghost use Rattle.job_frames.specs.Frames.{activity_seen, below, frame_called, frames_of};
+ghost use Rattle.run_state.specs.Seen.{job_seen, state_of};
 ghost use Rattle.run_state.specs.Calls.{call_entered};
 ghost use Rattle.run_state.specs.Standing.{CloseInOrder, IsOnLiveObject};
 ghost use Rattle.run_state.specs.Steps.{HasOnTop, IsStep};
@@ -18,7 +18,8 @@ use crate::jobs::put_back;
 use crate::states::{Acting, RunState};
 use crate::told::tell_priority;
 use crate::tops::save_priority;
-use job_frames::{Activity, Code, Frame, NewFrame};
+use job_frames::{Activity, Frame, NewFrame};
+use op_list::OpList;
 use scj_base::{Memory, RunFault, Value};
 use scj_model::Event;
 use std::alloc::Global;
@@ -29,15 +30,13 @@ const MOST_FRAMES: usize = 64;
 /// Puts the frame of a call on top of the others.
 pub fn put_on_top(
     alloc: Global,
-    code: &Code<'_>,
+    code: &OpList<'_>,
     activity: &mut Activity,
     call: NewFrame,
     arguments: Vec<Value>,
 ) -> Result<(), Memory>
     ensures put { OnOk result
-        (HasOnTop (code_of code.now) (frame_called (code_of code.now) call arguments.items) activity.old activity.new) }
-    ensures begun { AreBegun code.now.nodes activity.old.frames →
-        OnOk result (AreBegun code.now.nodes activity.new.frames) }
+        (HasOnTop code.now (frame_called code.now call arguments.items) activity.old activity.new) }
 {
     let frame = Frame::new(alloc, code, call, arguments)?;
     activity.frames.push(frame)?;
@@ -47,7 +46,7 @@ pub fn put_on_top(
 /// Whether the job had as many frames as it may have before there was the one on top.
 pub(crate) fn was_full(activity: &Activity) -> bool
     ensures deep { result ≡ nat_lt 64 (length activity.now.frames) }
-    ensures full { (code : CodeOfRun) (g : FrameOfRun) (before : StoredActivity) → HasOnTop code g before activity.now →
+    ensures full { (code : Listing) (g : FrameOfRun) (before : StoredActivity) → HasOnTop code g before activity.now →
         result ≡ is_full (frames_of code before.frames) }
 {
     activity.frames.depth() > MOST_FRAMES
@@ -62,8 +61,7 @@ pub(crate) fn refused(
     told: &mut Vec<Event>,
 ) -> Result<(), Memory>
     requires { CloseInOrder state.old.memory (below activity.frames) }
-    ensures { (code : CodeOfRun) (g : FrameOfRun) (before : StoredActivity) → HasOnTop code g before activity →
-        AreAllBegun code.program.nodes state.old →
+    ensures { (code : Listing) (g : FrameOfRun) (before : StoredActivity) → HasOnTop code g before activity →
         IfOk result
         (λ _. IsStep code
         (fault_in (state_of code state.old) (job_seen acting.job) (activity_seen code before) acting.place fault)
@@ -75,10 +73,10 @@ pub(crate) fn refused(
 }
 
 /// The ceiling of the monitor that the frame on top enters, if it enters one.
-fn ceiling_on_top(code: &Code<'_>, state: &RunState, activity: &Activity) -> Option<u8>
+fn ceiling_on_top(code: &OpList<'_>, state: &RunState, activity: &Activity) -> Option<u8>
     requires { IsOnLiveObject state.now.memory activity.now }
-    ensures { (g : FrameOfRun) (before : StoredActivity) → HasOnTop (code_of code.now) g before activity.now →
-        result ≡ ceiling_entered (code_of code.now) (state_of (code_of code.now) state.now) g }
+    ensures { (g : FrameOfRun) (before : StoredActivity) → HasOnTop code.now g before activity.now →
+        result ≡ ceiling_entered (code_of code.now.program) (state_of code.now state.now) g }
 {
     match activity.frames.top() {
         Some(frame) => match frame.monitor(code) {
@@ -94,7 +92,7 @@ fn ceiling_on_top(code: &Code<'_>, state: &RunState, activity: &Activity) -> Opt
 
 /// The frame on top keeps the priority, which becomes the ceiling of the monitor that it enters.
 fn enter(activity: &mut Activity, ceiling: u8)
-    ensures entered { (code : CodeOfRun) (g : FrameOfRun) (before : StoredActivity) →
+    ensures entered { (code : Listing) (g : FrameOfRun) (before : StoredActivity) →
         HasOnTop code g before activity.old →
         activity_seen code activity.new ≡ record
         (activity_seen code before) {
@@ -102,8 +100,6 @@ fn enter(activity: &mut Activity, ceiling: u8)
               ∷ frames_of code before.frames;
           priority = ceiling;
         } }
-    ensures begun { (nodes : List SyntaxNode) → AreBegun nodes activity.old.frames →
-        AreBegun nodes activity.new.frames }
 {
     save_priority(&mut activity.frames, activity.priority);
     activity.priority = ceiling;
@@ -117,8 +113,7 @@ fn entered(
     ceiling: u8,
     told: &mut Vec<Event>,
 ) -> Result<(), Memory>
-    ensures { (code : CodeOfRun) (g : FrameOfRun) (before : StoredActivity) → HasOnTop code g before activity →
-        AreAllBegun code.program.nodes state.old → AreBegun code.program.nodes activity.frames →
+    ensures { (code : Listing) (g : FrameOfRun) (before : StoredActivity) → HasOnTop code g before activity →
         IfOk result
         (λ _. IsStep code (call_entered (state_of code state.old) (job_seen acting.job) (activity_seen code before)
         (frames_of code before.frames) g ceiling) state.new told.old.items told.new.items) }
@@ -132,21 +127,19 @@ fn entered(
 
 /// A call whose frame is on top of the others: the priority becomes the ceiling of the monitor that it enters.
 pub fn called(
-    code: &Code<'_>,
+    code: &OpList<'_>,
     state: &mut RunState,
     acting: Acting,
     activity: Activity,
     told: &mut Vec<Event>,
 ) -> Result<(), Memory>
-    requires begun { AreAllBegun code.now.nodes state.old }
-    requires frames { AreBegun code.now.nodes activity.frames }
     requires closes { CloseInOrder state.old.memory (below activity.frames) }
     requires live { IsOnLiveObject state.old.memory activity }
-    ensures { (g : FrameOfRun) (before : StoredActivity) → HasOnTop (code_of code.now) g before activity →
+    ensures { (g : FrameOfRun) (before : StoredActivity) → HasOnTop code.now g before activity →
         IfOk result
-        (λ _. IsStep (code_of code.now)
-        (called (code_of code.now) (state_of (code_of code.now) state.old) (job_seen acting.job)
-        (activity_seen (code_of code.now) before) (frames_of (code_of code.now) before.frames) acting.place g) state.new
+        (λ _. IsStep code.now
+        (called (code_of code.now.program) (state_of code.now state.old) (job_seen acting.job)
+        (activity_seen code.now before) (frames_of code.now before.frames) acting.place g) state.new
         told.old.items told.new.items) }
 {
     if was_full(&activity) {

@@ -3,13 +3,11 @@
 
 ghost use Rattle.std.specs.Prelude.{◌≡◌, ◌++◌, true, false, List, IfOk};
 ghost use Rattle.scj_model.specs.declared.events.Event.{Event as EventOfRun};
-ghost use Rattle.scj_model.specs.Code.{Code};
+ghost use Rattle.op_list.specs.Listed.{Listing};
 ghost use Rattle.scj_model.specs.Effects.{Faults, Goes, Leaves, Prints, Stuck};
 ghost use Rattle.job_frames.specs.declared.activities.Activity.{Activity as StoredActivity};
-ghost use Rattle.job_frames.specs.Frames.{AreBegun};
 ghost use Rattle.run_state.specs.declared.states.Acting.{Acting as ActingOfRun};
 ghost use Rattle.run_state.specs.declared.states.RunState.{RunState as StateOfRun};
-ghost use Rattle.run_state.specs.Seen.{AreAllBegun};
 ghost use Rattle.run_state.specs.Standing.{CloseInOrder};
 ghost use Rattle.run_state.specs.Steps.{IsApplied};
 
@@ -24,8 +22,7 @@ use scj_model::Event;
 
 /// The frame goes on.
 pub fn goes(state: &mut RunState, acting: Acting, activity: Activity) -> Result<(), Memory>
-    ensures { (code : Code) (told : List EventOfRun) → AreAllBegun code.program.nodes state.old →
-        AreBegun code.program.nodes activity.frames →
+    ensures { (code : Listing) (told : List EventOfRun) →
         IfOk result (λ _. IsApplied code state.old acting activity Goes true state.new told told) }
 {
     put_back(state, acting.job, activity)?;
@@ -41,7 +38,7 @@ pub fn prints(
     value: i32,
     told: &mut Vec<Event>,
 ) -> Result<(), Memory>
-    ensures { (code : Code) → AreAllBegun code.program.nodes state.old → AreBegun code.program.nodes activity.frames →
+    ensures { (code : Listing) →
         IfOk result
         (λ _. IsApplied code state.old acting activity (λ f. Prints f label value) true state.new told.old.items
         told.new.items) }
@@ -67,7 +64,7 @@ pub fn leaves(
     told: &mut Vec<Event>,
 ) -> Result<(), Memory>
     requires { CloseInOrder state.old.memory activity.frames }
-    ensures { (code : Code) → AreAllBegun code.program.nodes state.old → AreBegun code.program.nodes activity.frames →
+    ensures { (code : Listing) →
         IfOk result
         (λ _. IsApplied code state.old acting activity (λ f. Leaves f value) true state.new told.old.items
         told.new.items) }
@@ -85,7 +82,7 @@ pub fn faults(
     told: &mut Vec<Event>,
 ) -> Result<(), Memory>
     requires { CloseInOrder state.old.memory activity.frames }
-    ensures { (code : Code) → AreAllBegun code.program.nodes state.old →
+    ensures { (code : Listing) →
         IfOk result
         (λ _. IsApplied code state.old acting activity (λ f. Faults fault) true state.new told.old.items
         told.new.items) }
@@ -97,7 +94,7 @@ pub fn faults(
 /// It can't be done.
 pub fn is_stuck() -> bool
     ensures went { result ≡ false }
-    ensures applied { (code : Code) (was st : StateOfRun) (acting : ActingOfRun) (activity : StoredActivity)
+    ensures applied { (code : Listing) (was st : StateOfRun) (acting : ActingOfRun) (activity : StoredActivity)
         (before after : List EventOfRun) → IsApplied code was acting activity (λ f. Stuck) result st before after }
 {
     false

@@ -1,13 +1,13 @@
 //! A job ends: it leaves its last frame, or meets a fault.
 
 ghost use Rattle.std.specs.Prelude.{◌≡◌, ◌∷◌, ◌++◌, [], IfOk, None, Some, option_copied, reverse, slice_get};
-ghost use Rattle.scj_model.specs.Code.{Code};
+ghost use Rattle.op_list.specs.Listed.{Listing};
 ghost use Rattle.scj_model.specs.State.{Activity as ActivityOfRun, ReleaseAt, State, TheSequencer};
 ghost use Rattle.scj_model.specs.Steps.{closed_all, fault_in, job_ended};
 ghost use Rattle.job_frames.specs.declared.frames.Frame.{Frame as StoredFrame};
-ghost use Rattle.job_frames.specs.Frames.{AreBegun, activity_seen, frames_of};
+ghost use Rattle.job_frames.specs.Frames.{activity_seen, frames_of};
 ghost use Rattle.region_heap.specs.Contents.{with_memory};
-ghost use Rattle.run_state.specs.Seen.{AreAllBegun, job_seen, state_of};
+ghost use Rattle.run_state.specs.Seen.{job_seen, state_of};
 ghost use Rattle.run_state.specs.Standing.{CloseInOrder, ClosesLast, after_close};
 ghost use Rattle.run_state.specs.Steps.{IsStep};
 
@@ -50,7 +50,7 @@ fn close_of(memory: &mut RegionHeap, frames: &[Frame], place: usize)
 /// Closes the areas that frames opened. The highest frame is the last one.
 fn close_all(memory: &mut RegionHeap, frames: &[Frame])
     requires { CloseInOrder memory.old (reverse frames.now) }
-    ensures { (code : Code) (s : State) → closed_all (with_memory s memory.old) (frames_of code (reverse frames.now))
+    ensures { (code : Listing) (s : State) → closed_all (with_memory s memory.old) (frames_of code (reverse frames.now))
         ≡ with_memory s memory.new }
 {
     let mut left = frames.len();
@@ -67,7 +67,7 @@ pub fn halted(
     fault: RunFault,
     told: &mut Vec<Event>,
 ) -> Result<(), Memory>
-    ensures { (code : Code) (activity : ActivityOfRun) → AreAllBegun code.program.nodes state.old →
+    ensures { (code : Listing) (activity : ActivityOfRun) →
         IfOk result
         (λ _. IsStep code (fault_in (state_of code state.old) TheSequencer activity place fault) state.new
         told.old.items told.new.items) }
@@ -86,7 +86,7 @@ pub fn halted(
 
 /// The release at a place has come to its end.
 fn release_ended(state: &mut RunState, release: usize, told: &mut Vec<Event>) -> Result<(), Memory>
-    ensures { (code : Code) (activity : ActivityOfRun) → AreAllBegun code.program.nodes state.old →
+    ensures { (code : Listing) (activity : ActivityOfRun) →
         IfOk result
         (λ _. IsStep code (job_ended (state_of code state.old) (ReleaseAt release) activity None) state.new
         told.old.items told.new.items) }
@@ -106,7 +106,7 @@ fn release_broken(
     told: &mut Vec<Event>,
 ) -> Result<(), Memory>
     requires { CloseInOrder state.old.memory activity.now.frames }
-    ensures { (code : Code) → AreAllBegun code.program.nodes state.old →
+    ensures { (code : Listing) →
         IfOk result
         (λ _. IsStep code
         (fault_in (state_of code state.old) (ReleaseAt release) (activity_seen code activity.now) place fault) state.new
@@ -129,7 +129,7 @@ pub fn fault_in(
     told: &mut Vec<Event>,
 ) -> Result<(), Memory>
     requires { CloseInOrder state.old.memory activity.now.frames }
-    ensures { (code : Code) → AreAllBegun code.program.nodes state.old →
+    ensures { (code : Listing) →
         IfOk result
         (λ _. IsStep code
         (fault_in (state_of code state.old) (job_seen acting.job) (activity_seen code activity.now) acting.place fault)
@@ -149,7 +149,7 @@ pub fn fault_in(
 
 /// The operation of the sequencer is done, with this value or null.
 fn sequencer_ended(state: &mut RunState, activity: Activity, value: Option<Value>)
-    ensures { (code : Code) → AreAllBegun code.program.nodes state.old → AreBegun code.program.nodes activity.frames →
+    ensures { (code : Listing) →
         IsStep code (job_ended (state_of code state.old) TheSequencer (activity_seen code activity) value) state.new []
         [] }
 {
@@ -165,7 +165,7 @@ pub fn job_ended(
     value: Option<Value>,
     told: &mut Vec<Event>,
 ) -> Result<(), Memory>
-    ensures { (code : Code) → AreAllBegun code.program.nodes state.old → AreBegun code.program.nodes activity.frames →
+    ensures { (code : Listing) →
         IfOk result
         (λ _. IsStep code (job_ended (state_of code state.old) (job_seen job) (activity_seen code activity) value)
         state.new told.old.items told.new.items) }

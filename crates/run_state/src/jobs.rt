@@ -1,12 +1,11 @@
 //! The activity of a job is taken out of the state while the job acts, and is put back at the end.
 
-ghost use Rattle.std.specs.Prelude.{◌≡◌, List, IfSome, IfNone, OnOk, OnErr, OnSome, option_map};
-ghost use Rattle.scj_tree.specs.declared.nodes.Node.{Node as SyntaxNode};
-ghost use Rattle.scj_model.specs.Code.{Code};
+ghost use Rattle.std.specs.Prelude.{◌≡◌, IfNone, OnOk, OnErr, OnSome, option_map};
+ghost use Rattle.op_list.specs.Listed.{Listing};
 ghost use Rattle.scj_model.specs.State.{activity_of, with_activity};
 ghost use Rattle.scj_model.specs.Run.{no_activity};
-ghost use Rattle.job_frames.specs.Frames.{AreBegun, activity_seen};
-ghost use Rattle.run_state.specs.Seen.{AreAllBegun, job_seen, state_of};
+ghost use Rattle.job_frames.specs.Frames.{activity_seen};
+ghost use Rattle.run_state.specs.Seen.{job_seen, state_of};
 
 use crate::states::{Job, RunState};
 use job_frames::Activity;
@@ -16,14 +15,11 @@ use std::mem;
 
 /// Takes the activity of a job out of the state, if it is under way. An empty one stays there.
 pub fn take_out(alloc: Global, state: &mut RunState, job: Job) -> Option<Activity>
-    ensures taken { (code : Code) → option_map (activity_seen code) result ≡ activity_of (state_of code state.old)
+    ensures taken { (code : Listing) → option_map (activity_seen code) result ≡ activity_of (state_of code state.old)
         (job_seen job) }
-    ensures left { (code : Code) →
+    ensures left { (code : Listing) →
         OnSome result (state_of code state.new ≡ with_activity (state_of code state.old) (job_seen job) no_activity) }
     ensures missing { IfNone result (state.new ≡ state.old) }
-    ensures begun { (nodes : List SyntaxNode) → AreAllBegun nodes state.old → AreAllBegun nodes state.new }
-    ensures frames { (nodes : List SyntaxNode) → AreAllBegun nodes state.old →
-        IfSome result (λ activity. AreBegun nodes activity.frames) }
 {
     match job {
         Job::Sequencer => Some(mem::replace(&mut state.activity, Activity::empty(alloc))),
@@ -34,12 +30,10 @@ pub fn take_out(alloc: Global, state: &mut RunState, job: Job) -> Option<Activit
 /// Gives a job its activity.
 #[tactic(auto, unfolding(crate::specs::Seen::state_of, scj_model::specs::State::with_activity))]
 pub fn put_back(state: &mut RunState, job: Job, activity: Activity) -> Result<(), Memory>
-    ensures put { (code : Code) →
+    ensures put { (code : Listing) →
         OnOk result
         (state_of code state.new ≡ with_activity (state_of code state.old) (job_seen job)
         (activity_seen code activity)) }
-    ensures begun { (nodes : List SyntaxNode) → AreAllBegun nodes state.old → AreBegun nodes activity.frames →
-        OnOk result (AreAllBegun nodes state.new) }
     ensures err { OnErr result (state.new ≡ state.old) }
 {
     match job {

@@ -1,13 +1,12 @@
 //! A frame leaves (JSR 302: ManagedMemory, priority ceiling emulation).
 
 ghost use Rattle.std.specs.Prelude.{◌≡◌, ◌∷◌, List, IfOk, OnOk, length, unwrap_or};
-ghost use Rattle.scj_tree.specs.declared.nodes.Node.{Node as SyntaxNode};
-ghost use Rattle.scj_model.specs.Code.{Code};
+ghost use Rattle.op_list.specs.Listed.{Listing};
 ghost use Rattle.scj_model.specs.State.{Frame as FrameOfRun};
 ghost use Rattle.scj_model.specs.Apply.{frame_left, returned, without};
 ghost use Rattle.job_frames.specs.declared.frames.Frame.{Frame as StoredFrame};
-ghost use Rattle.job_frames.specs.Frames.{AreBegun, activity_seen, frame_of, frames_of};
-ghost use Rattle.run_state.specs.Seen.{AreAllBegun, job_seen, state_of};
+ghost use Rattle.job_frames.specs.Frames.{activity_seen, frame_of, frames_of};
+ghost use Rattle.run_state.specs.Seen.{job_seen, state_of};
 ghost use Rattle.run_state.specs.Standing.{CloseInOrder, IsOpenedByTop};
 ghost use Rattle.run_state.specs.Steps.{IsStep};
 ghost use Rattle.run_state.specs.Calls.{settled};
@@ -59,12 +58,10 @@ fn opened_by(activity: &Activity) -> Result<Option<AreaId>, Memory>
 
 /// Gives the frame that is the highest now the value with which the one above left.
 fn give_back(activity: &mut Activity, value: Option<Value>) -> Result<(), Memory>
-    ensures given { (code : Code) →
+    ensures given { (code : Listing) →
         OnOk result
         (activity_seen code activity.new ≡ record (activity_seen code activity.old)
         { frames = returned value (frames_of code activity.old.frames) }) }
-    ensures begun { (nodes : List SyntaxNode) → AreBegun nodes activity.old.frames →
-        AreBegun nodes activity.new.frames }
 {
     match value {
         Some(value) => {
@@ -77,15 +74,13 @@ fn give_back(activity: &mut Activity, value: Option<Value>) -> Result<(), Memory
 
 /// Takes the highest frame away, with what it gives back.
 fn step_down(activity: &mut Activity, left: Left, value: Option<Value>) -> Result<(), Memory>
-    ensures after { (code : Code) (f : StoredFrame) (below : List StoredFrame) → activity.old.frames ≡ f ∷ below →
+    ensures after { (code : Listing) (f : StoredFrame) (below : List StoredFrame) → activity.old.frames ≡ f ∷ below →
         OnOk result
         (activity_seen code activity.new ≡ record (activity_seen code activity.old) {
           frames = returned value (frames_of code below);
           areas = without left.opened activity.old.areas;
           priority = unwrap_or left.saved activity.old.priority;
         }) }
-    ensures begun { (nodes : List SyntaxNode) → AreBegun nodes activity.old.frames →
-        AreBegun nodes activity.new.frames }
 {
     activity.frames.drop_top();
     activity.areas.remove(left.opened);
@@ -102,8 +97,7 @@ fn settle(
     value: Option<Value>,
     told: &mut Vec<Event>,
 ) -> Result<(), Memory>
-    ensures { (code : Code) (below : List FrameOfRun) → length below ≡ length activity.frames →
-        AreAllBegun code.program.nodes state.old → AreBegun code.program.nodes activity.frames →
+    ensures { (code : Listing) (below : List FrameOfRun) → length below ≡ length activity.frames →
         IfOk result
         (λ _. IsStep code (settled (state_of code state.old) (job_seen job) (activity_seen code activity) value below)
         state.new told.old.items told.new.items) }
@@ -127,8 +121,7 @@ pub fn frame_left(
     told: &mut Vec<Event>,
 ) -> Result<(), Memory>
     requires { CloseInOrder state.old.memory activity.frames }
-    ensures { (code : Code) (f : StoredFrame) (below : List StoredFrame) → activity.frames ≡ f ∷ below →
-        AreAllBegun code.program.nodes state.old → AreBegun code.program.nodes activity.frames →
+    ensures { (code : Listing) (f : StoredFrame) (below : List StoredFrame) → activity.frames ≡ f ∷ below →
         IfOk result
         (λ _. IsStep code
         (frame_left (state_of code state.old) (job_seen job) (activity_seen code activity) (frame_of code f)

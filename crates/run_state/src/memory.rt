@@ -1,15 +1,14 @@
 //! Areas that are opened and objects that are made, where there is room for them.
 
-ghost use Rattle.std.specs.Prelude.{◌≡◌, ◌^◌, ◌<◌, List, None, length, true};
-ghost use Rattle.scj_tree.specs.declared.nodes.Node.{Node as SyntaxNode};
+ghost use Rattle.std.specs.Prelude.{◌≡◌, ◌^◌, ◌<◌, None, length, true};
 ghost use Rattle.scj_base.specs.declared.places.Pos.{Pos as PosOfRun};
 ghost use Rattle.scj_base.specs.declared.faults.RunFault.TheVariants.{MemoryFull, StoreFull};
-ghost use Rattle.scj_model.specs.Code.{Code};
+ghost use Rattle.op_list.specs.Listed.{Listing};
 ghost use Rattle.scj_model.specs.State.{Activity as ActivityOfRun, Job as JobOfRun};
 ghost use Rattle.scj_model.specs.Memory.{new_elements};
 ghost use Rattle.scj_model.specs.Steps.{allocating, fault_in, opening};
 ghost use Rattle.region_heap.specs.Contents.{is_open_area, open_count};
-ghost use Rattle.run_state.specs.Seen.{AreAllBegun, state_of};
+ghost use Rattle.run_state.specs.Seen.{state_of};
 ghost use Rattle.run_state.specs.Standing.{HasNumbers};
 ghost use Rattle.run_state.specs.Steps.{GoesOn};
 
@@ -21,12 +20,11 @@ use value_operators::default_of;
 pub fn open_area(state: &mut RunState, area: NewArea) -> Option<AreaId>
     requires numbers { HasNumbers state.old.memory }
     requires few { open_count state.old.memory < 1794 }
-    ensures opened { (code : Code) (job : JobOfRun) (activity : ActivityOfRun) (place : PosOfRun) →
+    ensures opened { (code : Listing) (job : JobOfRun) (activity : ActivityOfRun) (place : PosOfRun) →
         GoesOn (state_of code state.old)
         (opening (state_of code state.old) job activity place area.scope area.parent area.bytes)
         (fault_in (state_of code state.old) job activity place StoreFull) result (state_of code state.new) }
     ensures err { result ≡ None → state.new ≡ state.old }
-    ensures begun { (nodes : List SyntaxNode) → AreAllBegun nodes state.old → AreAllBegun nodes state.new }
 {
     match state.memory.open_area(area.scope, area.parent, area.bytes) {
         Ok(opened) => Some(opened),
@@ -38,12 +36,11 @@ pub fn open_area(state: &mut RunState, area: NewArea) -> Option<AreaId>
 pub fn make_object(state: &mut RunState, area: AreaId, object: &NewObject) -> Option<Ref>
     requires open { is_open_area state.old.memory area ≡ true }
     requires numbers { length state.old.memory.objects < 2 ^ 31 }
-    ensures made { (code : Code) (job : JobOfRun) (activity : ActivityOfRun) (place : PosOfRun) →
+    ensures made { (code : Listing) (job : JobOfRun) (activity : ActivityOfRun) (place : PosOfRun) →
         GoesOn (state_of code state.old)
         (allocating (state_of code state.old) job activity place object.now.class area object.now.slots.items)
         (fault_in (state_of code state.old) job activity place MemoryFull) result (state_of code state.new) }
     ensures err { result ≡ None → state.new ≡ state.old }
-    ensures begun { (nodes : List SyntaxNode) → AreAllBegun nodes state.old → AreAllBegun nodes state.new }
 {
     match state.memory.alloc_object(object.class, area, &object.slots) {
         Ok(made) => Some(made),
@@ -56,12 +53,11 @@ pub fn make_object(state: &mut RunState, area: AreaId, object: &NewObject) -> Op
 pub fn make_array(state: &mut RunState, area: AreaId, array: NewArray) -> Option<Ref>
     requires open { is_open_area state.old.memory area ≡ true }
     requires numbers { length state.old.memory.objects < 2 ^ 31 }
-    ensures made { (code : Code) (job : JobOfRun) (activity : ActivityOfRun) (place : PosOfRun) →
+    ensures made { (code : Listing) (job : JobOfRun) (activity : ActivityOfRun) (place : PosOfRun) →
         GoesOn (state_of code state.old)
         (allocating (state_of code state.old) job activity place array.class area (new_elements array.kind array.count))
         (fault_in (state_of code state.old) job activity place MemoryFull) result (state_of code state.new) }
     ensures err { result ≡ None → state.new ≡ state.old }
-    ensures begun { (nodes : List SyntaxNode) → AreAllBegun nodes state.old → AreAllBegun nodes state.new }
 {
     let value = default_of(array.kind);
     match state

@@ -1,17 +1,15 @@
 //! Calls in a new area (JSR 302: ManagedMemory).
 
-ghost use Rattle.std.specs.Prelude.{◌≡◌, ◌∷◌, ◌<◌, ℕ, true, List, IfOk, OnOk, Some, is_some};
+ghost use Rattle.std.specs.Prelude.{◌≡◌, ◌∷◌, ◌<◌, ℕ, true, IfOk, OnOk, Some, is_some};
 ghost use Rattle.scj_rules.specs.Words.{is_among};
 ghost use Rattle.region_heap.specs.Contents.{is_open_area, open_count};
-ghost use Rattle.scj_tree.specs.declared.nodes.Node.{Node as SyntaxNode};
-ghost use Rattle.scj_model.specs.Code.{Code};
+ghost use Rattle.op_list.specs.Listed.{Listing};
 ghost use Rattle.scj_model.specs.State.{Frame as FrameOfRun};
 ghost use Rattle.scj_model.specs.Memory.{area_with_scope};
-ghost use Rattle.scj_model.specs.Steps.{opening};
 ghost use Rattle.scj_model.specs.Apply.{opened_in};
 ghost use Rattle.job_frames.specs.declared.activities.Activity.{Activity as StoredActivity};
-ghost use Rattle.job_frames.specs.Frames.{AreBegun, activity_seen, below, frames_of};
-ghost use Rattle.run_state.specs.Seen.{AreAllBegun, job_seen, state_of};
+ghost use Rattle.job_frames.specs.Frames.{activity_seen, below, frames_of};
+ghost use Rattle.run_state.specs.Seen.{job_seen, state_of};
 ghost use Rattle.run_state.specs.Calls.{call_opened};
 ghost use Rattle.run_state.specs.Standing.{CloseInOrder, HasNumbers, StandsIn, below_top};
 ghost use Rattle.run_state.specs.Steps.{HasOnTop, IsStep};
@@ -28,7 +26,7 @@ use scj_model::Event;
 /// Whether the job has an area of this scope open.
 fn is_cycle(state: &RunState, activity: &Activity, scope: ScopeId) -> bool
     requires { (a : ℕ) → is_among a activity.now.areas ≡ true → is_open_area state.now.memory a ≡ true }
-    ensures { (code : Code) → result ≡ is_some (area_with_scope (state_of code state.now) scope activity.now.areas) }
+    ensures { (code : Listing) → result ≡ is_some (area_with_scope (state_of code state.now) scope activity.now.areas) }
 {
     state
         .memory
@@ -38,7 +36,7 @@ fn is_cycle(state: &RunState, activity: &Activity, scope: ScopeId) -> bool
 
 /// The frame on top has opened an area, and makes its objects there.
 fn move_in(activity: &mut Activity, area: AreaId) -> Result<(), Memory>
-    ensures moved { (code : Code) (g : FrameOfRun) (before : StoredActivity) → HasOnTop code g before activity.old →
+    ensures moved { (code : Listing) (g : FrameOfRun) (before : StoredActivity) → HasOnTop code g before activity.old →
         OnOk result
         (activity_seen code activity.new ≡ record
         (activity_seen code before) {
@@ -46,8 +44,6 @@ fn move_in(activity: &mut Activity, area: AreaId) -> Result<(), Memory>
               ∷ frames_of code before.frames;
           areas = area ∷ before.areas;
         }) }
-    ensures begun { (nodes : List SyntaxNode) → AreBegun nodes activity.old.frames →
-        AreBegun nodes activity.new.frames }
 {
     move_into(&mut activity.frames, area);
     activity.areas.push(area)?;
@@ -56,7 +52,7 @@ fn move_in(activity: &mut Activity, area: AreaId) -> Result<(), Memory>
 
 /// The area in which the frame on top makes objects.
 fn area_on_top(activity: &Activity) -> Option<AreaId>
-    ensures { (code : Code) (g : FrameOfRun) (before : StoredActivity) → HasOnTop code g before activity.now →
+    ensures { (code : Listing) (g : FrameOfRun) (before : StoredActivity) → HasOnTop code g before activity.now →
         result ≡ Some g.area }
 {
     match activity.frames.top() {
@@ -76,8 +72,7 @@ fn opened_on_top(
     requires numbers { HasNumbers state.old.memory }
     requires few { open_count state.old.memory < 1794 }
     requires closes { CloseInOrder state.old.memory (below activity.frames) }
-    ensures { (code : Code) (g : FrameOfRun) (before : StoredActivity) → HasOnTop code g before activity →
-        AreAllBegun code.program.nodes state.old → AreBegun code.program.nodes activity.frames →
+    ensures { (code : Listing) (g : FrameOfRun) (before : StoredActivity) → HasOnTop code g before activity →
         IfOk result
         (λ _. IsStep code (call_opened (state_of code state.old) (job_seen acting.job) (activity_seen code before)
         (frames_of code before.frames) acting.place g area.scope area.parent area.bytes) state.new told.old.items
@@ -107,8 +102,7 @@ pub fn opened_in(
 ) -> Result<(), Memory>
     requires numbers { HasNumbers state.old.memory }
     requires stands { StandsIn state.old.memory (below_top activity) }
-    ensures { (code : Code) (g : FrameOfRun) (before : StoredActivity) → HasOnTop code g before activity →
-        AreAllBegun code.program.nodes state.old → AreBegun code.program.nodes activity.frames →
+    ensures { (code : Listing) (g : FrameOfRun) (before : StoredActivity) → HasOnTop code g before activity →
         IfOk result
         (λ _. IsStep code (opened_in (state_of code state.old) (job_seen acting.job) (activity_seen code before)
         (frames_of code before.frames) acting.place g scope bytes) state.new told.old.items told.new.items) }

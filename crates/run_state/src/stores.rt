@@ -2,13 +2,13 @@
 
 ghost use Rattle.std.specs.Prelude.{◌≡◌, ◌∷◌, ◌^◌, ◌<◌, true, List, None, IfOk, length};
 ghost use Rattle.scj_model.specs.declared.events.Event.{Event as EventOfRun};
-ghost use Rattle.scj_model.specs.Code.{Code};
+ghost use Rattle.op_list.specs.Listed.{Listing};
 ghost use Rattle.scj_model.specs.Memory.{new_elements};
 ghost use Rattle.scj_model.specs.Effects.{Makes, SetsCeiling, SetsHidden, Stores, StoresStatic};
 ghost use Rattle.region_heap.specs.Contents.{hidden_slots};
 ghost use Rattle.job_frames.specs.declared.frames.Frame.{Frame as StoredFrame};
-ghost use Rattle.job_frames.specs.Frames.{AreBegun, activity_seen, frame_of, frames_of};
-ghost use Rattle.run_state.specs.Seen.{AreAllBegun, job_seen, state_of};
+ghost use Rattle.job_frames.specs.Frames.{activity_seen, frame_of, frames_of};
+ghost use Rattle.run_state.specs.Seen.{job_seen, state_of};
 ghost use Rattle.run_state.specs.Calls.{made_or_full};
 ghost use Rattle.run_state.specs.Standing.{CloseInOrder, IsAreaOfTop, IsTopOpen};
 ghost use Rattle.run_state.specs.Steps.{IsApplied, IsStep};
@@ -30,8 +30,7 @@ pub fn stores(
     slot: usize,
     value: Value,
 ) -> Result<(), Memory>
-    ensures { (code : Code) (told : List EventOfRun) → AreAllBegun code.program.nodes state.old →
-        AreBegun code.program.nodes activity.frames →
+    ensures { (code : Listing) (told : List EventOfRun) →
         IfOk result
         (λ _. IsApplied code state.old acting activity (λ f. Stores f r slot value) true state.new told told) }
 {
@@ -48,8 +47,7 @@ pub fn stores_static(
     place: usize,
     value: Value,
 ) -> Result<(), Memory>
-    ensures { (code : Code) (told : List EventOfRun) → AreAllBegun code.program.nodes state.old →
-        AreBegun code.program.nodes activity.frames →
+    ensures { (code : Listing) (told : List EventOfRun) →
         IfOk result
         (λ _. IsApplied code state.old acting activity (λ f. StoresStatic f place value) true state.new told told) }
 {
@@ -66,8 +64,7 @@ pub fn sets_hidden(
     r: Ref,
     hidden: Vec<u64>,
 ) -> Result<(), Memory>
-    ensures { (code : Code) (told : List EventOfRun) → AreAllBegun code.program.nodes state.old →
-        AreBegun code.program.nodes activity.frames →
+    ensures { (code : Listing) (told : List EventOfRun) →
         IfOk result
         (λ _. IsApplied code state.old acting activity (λ f. SetsHidden f r (hidden_slots hidden.items)) true state.new
         told told) }
@@ -87,7 +84,7 @@ pub fn sets_ceiling(
     told: &mut Vec<Event>,
 ) -> Result<(), Memory>
     requires { CloseInOrder state.old.memory activity.frames }
-    ensures { (code : Code) → AreAllBegun code.program.nodes state.old → AreBegun code.program.nodes activity.frames →
+    ensures { (code : Listing) →
         IfOk result
         (λ _. IsApplied code state.old acting activity (λ f. SetsCeiling f r ceiling) true state.new told.old.items
         told.new.items) }
@@ -126,7 +123,7 @@ fn made(
     told: &mut Vec<Event>,
 ) -> Result<(), Memory>
     requires { made ≡ None → CloseInOrder state.old.memory activity.frames }
-    ensures { (code : Code) → AreAllBegun code.program.nodes state.old → AreBegun code.program.nodes activity.frames →
+    ensures { (code : Listing) →
         (f : StoredFrame) (below : List StoredFrame) → activity.frames ≡ f ∷ below →
         IfOk result
         (λ _. IsStep code (made_or_full (state_of code state.old) (job_seen acting.job) (activity_seen code activity)
@@ -156,7 +153,7 @@ pub fn makes(
     requires open { IsTopOpen state.old.memory activity.frames }
     requires closes { CloseInOrder state.old.memory activity.frames }
     requires numbers { length state.old.memory.objects < 2 ^ 31 }
-    ensures { (code : Code) → AreAllBegun code.program.nodes state.old → AreBegun code.program.nodes activity.frames →
+    ensures { (code : Listing) →
         IfOk result
         (λ _. IsApplied code state.old acting activity
         (λ f. Makes f object.class object.slots.items) true state.new
@@ -179,7 +176,7 @@ pub fn makes_array(
     requires open { IsTopOpen state.old.memory activity.frames }
     requires closes { CloseInOrder state.old.memory activity.frames }
     requires numbers { length state.old.memory.objects < 2 ^ 31 }
-    ensures { (code : Code) → AreAllBegun code.program.nodes state.old → AreBegun code.program.nodes activity.frames →
+    ensures { (code : Listing) →
         IfOk result
         (λ _. IsApplied code state.old acting activity (λ f. Makes f array.class (new_elements array.kind array.count))
         true state.new told.old.items told.new.items) }

@@ -1,7 +1,7 @@
 //! What the trace tells of a release.
 
 ghost use Rattle.std.specs.Prelude.{◌≡◌, ◌∷◌, ◌++◌, [], OnOk};
-ghost use Rattle.scj_model.specs.Code.{Code};
+ghost use Rattle.op_list.specs.Listed.{Listing};
 ghost use Rattle.scj_model.specs.State.{ReleaseAt};
 ghost use Rattle.scj_model.specs.Steps.{of_release};
 ghost use Rattle.scj_model.specs.Apply.{tell_priority};
@@ -31,7 +31,7 @@ pub fn tell_two(told: &mut Vec<Event>, first: Event, second: Event) -> Result<()
 
 /// Tells that the release at a place ends.
 pub(crate) fn tell_end(state: &RunState, place: usize, told: &mut Vec<Event>) -> Result<(), Memory>
-    ensures { (code : Code) →
+    ensures { (code : Listing) →
         OnOk result (told.new.items ≡ told.old.items ++ of_release (state_of code state.now) (ReleaseAt place)
         (λ r. End state.now.unit r.handler r.number ∷ [])) }
 {
@@ -59,7 +59,7 @@ fn tell_priority_of(
     priority: u8,
     told: &mut Vec<Event>,
 ) -> Result<(), Memory>
-    ensures { (code : Code) →
+    ensures { (code : Listing) →
         OnOk result (told.new.items ≡ told.old.items ++ of_release (state_of code state.now) (ReleaseAt place)
         (λ r. Prio state.now.unit r.handler priority ∷ [])) }
 {
@@ -89,7 +89,7 @@ pub(crate) fn tell_priority(
     after: u8,
     told: &mut Vec<Event>,
 ) -> Result<(), Memory>
-    ensures { (code : Code) →
+    ensures { (code : Listing) →
         OnOk result
         (told.new.items ≡ told.old.items ++ tell_priority (state_of code state.now) (job_seen job) before after) }
 {

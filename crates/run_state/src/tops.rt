@@ -1,8 +1,6 @@
 //! The highest frame of an activity, in place.
 
-ghost use Rattle.std.specs.Prelude.{◌≡◌, List};
-ghost use Rattle.scj_tree.specs.declared.nodes.Node.{Node as SyntaxNode};
-ghost use Rattle.job_frames.specs.Frames.{AreBegun};
+ghost use Rattle.std.specs.Prelude.{◌≡◌};
 ghost use Rattle.run_state.specs.Tops.{moved_in, with_saved};
 
 use job_frames::FrameStack;
@@ -11,7 +9,6 @@ use scj_base::AreaId;
 /// The highest frame saves a priority.
 pub(crate) fn save_priority(frames: &mut FrameStack, priority: u8)
     ensures saved { frames.new ≡ with_saved priority frames.old }
-    ensures begun { (nodes : List SyntaxNode) → AreBegun nodes frames.old → AreBegun nodes frames.new }
 {
     if let Some(frame) = frames.top_mut() {
         frame.saved = Some(priority);
@@ -21,7 +18,6 @@ pub(crate) fn save_priority(frames: &mut FrameStack, priority: u8)
 /// The highest frame has opened an area, and makes its objects there.
 pub(crate) fn move_into(frames: &mut FrameStack, area: AreaId)
     ensures moved { frames.new ≡ moved_in area frames.old }
-    ensures begun { (nodes : List SyntaxNode) → AreBegun nodes frames.old → AreBegun nodes frames.new }
 {
     if let Some(frame) = frames.top_mut() {
         frame.area = area;

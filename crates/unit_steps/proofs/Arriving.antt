@@ -7,13 +7,13 @@ use Rattle.scj_rules.specs.Words.{holds}
 use Rattle.scj_model.specs.declared.events.Event.{Event}
 use Rattle.scj_model.specs.declared.handlers.HandlerKind.TheVariants.{Aperiodic}
 use Rattle.scj_model.specs.declared.handlers.HandlerRow.{HandlerRow}
-use Rattle.scj_model.specs.Code.{Code}
+use Rattle.op_list.specs.Listed.{Listing}
 use Rattle.scj_model.specs.State.{Release, State}
 use Rattle.scj_model.specs.Steps.{Step, silently, then_do, for_each}
 use Rattle.scj_model.specs.Apply.{most_waiting, release_taken, takes_releases, waiting_of}
 use Rattle.scj_model.specs.Arrivals.{due_handlers, handlers_due, is_due, numbers_where}
 use Rattle.run_state.specs.declared.states.RunState.{RunState}
-use Rattle.run_state.specs.Seen.{AreAllBegun, state_of}
+use Rattle.run_state.specs.Seen.{state_of}
 use Rattle.run_state.specs.Steps.{IsStep}
 use Rattle.run_state.proofs.StepLemmas.{same_step}
 use Rattle.mission_steps.proofs.Going.{still}
@@ -132,15 +132,15 @@ none_behind s t n behind =
     (drop_all n s.registry behind)
 
 -- the handlers before a place are released if they were due
-pub record AreArriving (code : Code) (was st : RunState) (n : ℕ) (before after : List Event) : Type 0 where
+pub record AreArriving (code : Listing) (was st : RunState) (n : ℕ) (before after : List Event) : Type 0 where
   pub goes : IsUnderWay code (taken_from (state_of code was) 0 (state_of code was)) (taken_from (state_of code was) n)
       st before after
   pub same : HasSameDue (state_of code was) (state_of code st)
 
-module _ (code : Code) (was : RunState) where
-  pub none_arrived : (told : List Event) → AreAllBegun code.program.nodes was → AreArriving code was was 0 told told
-  none_arrived told begun = record {
-    goes = not_begun code (taken_from (state_of code was) 0) was told begun;
+module _ (code : Listing) (was : RunState) where
+  pub none_arrived : (told : List Event) → AreArriving code was was 0 told told
+  none_arrived told = record {
+    goes = not_begun code (taken_from (state_of code was) 0) was told;
     same = same_due (state_of code was);
   }
 
@@ -167,17 +167,16 @@ module _ (code : Code) (was : RunState) where
       before after (none_behind (state_of code was) (state_of code st) n behind) h.goes)
 
   pub nobody_arrives : (told : List Event) → takes_releases (state_of code was) ≡ false →
-      AreAllBegun code.program.nodes was →
       IsStep code (for_each release_taken (due_handlers (state_of code was)) (state_of code was)) was told told
   unfolding due_handlers for_each
-  nobody_arrives told takes begun =
+  nobody_arrives told takes =
       same_step code was told told (silently (state_of code was)) _
       (ap (λ (b : Bool). for_each release_taken
       (if b then handlers_due (state_of code was).origin (state_of code was).unit (state_of code was).registry else [])
       (state_of code was)) takes)
-      (still code was told begun)
+      (still code was told)
 
 -- the registry is the one that the code keeps
-pub registry_seen : (code : Code) (st : RunState) → (state_of code st).registry ≡ st.registry.items
+pub registry_seen : (code : Listing) (st : RunState) → (state_of code st).registry ≡ st.registry.items
 unfolding state_of
 registry_seen code st = refl

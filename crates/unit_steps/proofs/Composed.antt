@@ -4,7 +4,8 @@ use Rattle.std.proofs.Common.{◌≡◌, Bool, true, false, List, [], ◌∷◌,
 use Rattle.scj_model.specs.declared.events.Event.{Event}
 use Rattle.scj_model.specs.declared.phases.Phase.{Phase}
 use Rattle.scj_model.specs.declared.phases.Phase.TheVariants.{Boot, Next, Init, Exec, Cleanup, Over}
-use Rattle.scj_model.specs.Code.{Code}
+use Rattle.scj_model.specs.Code.{code_of}
+use Rattle.op_list.specs.Listed.{Listing}
 use Rattle.scj_model.specs.State.{State, is_exec, is_over}
 use Rattle.scj_model.specs.Steps.{Step, silently, telling, then_try}
 use Rattle.scj_model.specs.Sequencer.{after_execution, after_operation, phase_after}
@@ -31,24 +32,24 @@ not_exec Exec e = absurd (cc (e))
 not_exec Cleanup e = absurd (cc (e))
 not_exec Over e = refl
 
-module _ (code : Code) where
-  ended_phase : (s : State) → is_over s.phase ≡ true → s.outcome ≡ None → phase_after code s ≡ Some (silently s)
+module _ (code : Listing) where
+  ended_phase : (s : State) → is_over s.phase ≡ true → s.outcome ≡ None → phase_after (code_of code.program) s ≡ Some (silently s)
   unfolding phase_after
   ended_phase s e none_there =
-      ap (λ b. if b then after_execution code s
+      ap (λ b. if b then after_execution (code_of code.program) s
       else (elim s.outcome as (λ z. Option Step) [
         | None ↦ Some (silently s)
-        | Some value ↦ after_operation code s value
+        | Some value ↦ after_operation (code_of code.program) s value
       ])) (not_exec s.phase e)
       ∙ ap (λ (o : _). elim o as (λ z. Option Step) [
         | None ↦ Some (silently s)
-        | Some value ↦ after_operation code s value
+        | Some value ↦ after_operation (code_of code.program) s value
       ]) none_there
 
-  pub phase_alike : (s t : State) → IsAlike s t → IsAlikeTry (phase_after code s) (phase_after code t)
+  pub phase_alike : (s t : State) → IsAlike s t → IsAlikeTry (phase_after (code_of code.program) s) (phase_after (code_of code.program) t)
   phase_alike s t same = equal_tries refl
   phase_alike s t (over activity e none_there) =
-      subst (λ (o : Option Step). IsAlikeTry o (phase_after code (record s { activity = activity })))
+      subst (λ (o : Option Step). IsAlikeTry o (phase_after (code_of code.program) (record s { activity = activity })))
       (sym (ended_phase s e none_there))
       (subst (λ (o : Option Step). IsAlikeTry (Some (silently s)) o)
       (sym (ended_phase (record s { activity = activity }) e none_there))
@@ -56,7 +57,7 @@ module _ (code : Code) where
 
 -- ---- one after the other
 
-module _ (code : Code) (answer : Bool) (st : RunState) (before middle after : List Event) where
+module _ (code : Listing) (answer : Bool) (st : RunState) (before middle after : List Event) where
   joined : (first : Step) (o : Option Step) → middle ≡ before ++ first.events →
       IsLedTry code o answer st middle after →
       IsLedTry code (option_map (λ (second : Step). telling second.state (first.events ++ second.events)) o) answer st
@@ -72,7 +73,6 @@ module _ (code : Code) (answer : Bool) (st : RunState) (before middle after : Li
               alike = led.alike;
               told = led.told ∙ (ap (λ events. events ++ second.events) e
                   ∙ append_again before first.events second.events);
-              begun = led.begun;
             });
       }
 
@@ -86,8 +86,8 @@ module _ (code : Code) (answer : Bool) (st : RunState) (before middle after : Li
 
   -- what follows in the sequencer, from a state like the one that was led to
   pub phase_led : (first : Step) (was : RunState) → IsLed code first was before middle →
-      IsTry code (phase_after code (state_of code was)) answer st middle after →
-      IsLedTry code (then_try first (phase_after code)) answer st before after
+      IsTry code (phase_after (code_of code.program) (state_of code was)) answer st middle after →
+      IsLedTry code (then_try first (phase_after (code_of code.program))) answer st before after
   phase_led first was h k =
-      joined first (phase_after code first.state) h.told
+      joined first (phase_after (code_of code.program) first.state) h.told
       (led_by_alike code answer st middle after _ _ (phase_alike code first.state (state_of code was) h.alike) k)

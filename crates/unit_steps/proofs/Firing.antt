@@ -9,7 +9,8 @@ use Rattle.scj_rules.specs.Contexts.{declarations_of}
 use Rattle.scj_model.specs.declared.events.Event.{Event}
 use Rattle.scj_model.specs.declared.events.Event.TheVariants.{Miss}
 use Rattle.scj_model.specs.declared.plans.Fire.{Fire}
-use Rattle.scj_model.specs.Code.{Code, code_of}
+use Rattle.scj_model.specs.Code.{code_of}
+use Rattle.op_list.specs.Listed.{Listing}
 use Rattle.scj_model.specs.Plan.{Plan}
 use Rattle.scj_model.specs.State.{State}
 use Rattle.scj_model.specs.Registry.{aperiodic_of}
@@ -18,7 +19,7 @@ use Rattle.scj_model.specs.Apply.{release_taken, takes_releases}
 use Rattle.scj_model.specs.Arrivals.{arrivals, comes_in, due_handlers, executes_since, fired, fired_at, fired_handler, fires_due}
 use Rattle.run_plan.specs.Index.{coming}
 use Rattle.run_state.specs.declared.states.RunState.{RunState}
-use Rattle.run_state.specs.Seen.{AreAllBegun, state_of}
+use Rattle.run_state.specs.Seen.{state_of}
 use Rattle.run_state.specs.Steps.{IsStep}
 use Rattle.run_state.proofs.StepLemmas.{same_step}
 use Rattle.unit_steps.specs.Arriving.{fired_in}
@@ -55,7 +56,7 @@ module _ (forest : Forest) (s : State) (name : List ℕ) where
 
 -- ---- a fire
 
-module _ (code : Code) (s : State) (fire : Fire) where
+module _ (code : Listing) (s : State) (fire : Fire) where
   abbrev fired_by : Option ℕ → Step
   fired_by handler =
       elim handler as (λ _. Step) [
@@ -63,35 +64,35 @@ module _ (code : Code) (s : State) (fire : Fire) where
         | None ↦ telling s (Miss s.unit fire.handler ∷ [])
       ]
 
-  pub releases : (handler : ℕ) → Some handler ≡ fired_handler code s fire.handler →
-      fired code s fire ≡ release_taken s handler
+  pub releases : (handler : ℕ) → Some handler ≡ fired_handler (code_of code.program) s fire.handler →
+      fired (code_of code.program) s fire ≡ release_taken s handler
   unfolding fired
   releases handler e = ap fired_by (sym e)
 
-  pub misses : None ≡ fired_handler code s fire.handler →
-      fired code s fire ≡ telling s (Miss s.unit fire.handler ∷ [])
+  pub misses : None ≡ fired_handler (code_of code.program) s fire.handler →
+      fired (code_of code.program) s fire ≡ telling s (Miss s.unit fire.handler ∷ [])
   unfolding fired
   misses e = ap fired_by (sym e)
 
-pub miss_told : (code : Code) (st : RunState) (fire : Fire) (before after : List Event) →
-    None ≡ fired_handler code (state_of code st) fire.handler →
-    after ≡ before ++ Miss st.unit fire.handler ∷ [] → AreAllBegun code.program.nodes st →
-    IsStep code (fired code (state_of code st) fire) st before after
+pub miss_told : (code : Listing) (st : RunState) (fire : Fire) (before after : List Event) →
+    None ≡ fired_handler (code_of code.program) (state_of code st) fire.handler →
+    after ≡ before ++ Miss st.unit fire.handler ∷ [] →
+    IsStep code (fired (code_of code.program) (state_of code st) fire) st before after
 unfolding state_of
-miss_told code st fire before after e told begun =
+miss_told code st fire before after e told =
     same_step code st before after (telling (state_of code st) (Miss st.unit fire.handler ∷ [])) _
     (misses code (state_of code st) fire e)
-    (record { state = refl; told = told; begun = begun })
+    (record { state = refl; told = told })
 
-module _ (code : Code) (origin : Option ℕ) (unit : ℕ) (s : State) (fire : Fire) where
+module _ (code : Listing) (origin : Option ℕ) (unit : ℕ) (s : State) (fire : Fire) where
   abbrev fired_if : Bool → Step
-  fired_if comes = if comes then fired code s fire else silently s
+  fired_if comes = if comes then fired (code_of code.program) s fire else silently s
 
-  pub comes : comes_in origin unit fire ≡ true → fired_in code origin unit s fire ≡ fired code s fire
+  pub comes : comes_in origin unit fire ≡ true → fired_in (code_of code.program) origin unit s fire ≡ fired (code_of code.program) s fire
   unfolding fired_in
   comes e = ap fired_if e
 
-  pub comes_not : comes_in origin unit fire ≡ false → fired_in code origin unit s fire ≡ silently s
+  pub comes_not : comes_in origin unit fire ≡ false → fired_in (code_of code.program) origin unit s fire ≡ silently s
   unfolding fired_in
   comes_not e = ap fired_if e
 
@@ -111,22 +112,22 @@ none_left : {A : Type 0} (rest : List A) → length rest < 1 → rest ≡ []
 none_left [] few = refl
 none_left (x ∷ xs) few = absurd (omega (arith, few))
 
-module _ (code : Code) (origin : Option ℕ) (unit : ℕ) where
+module _ (code : Listing) (origin : Option ℕ) (unit : ℕ) where
   abbrev pub fired_all : List Fire → State → Step
-  fired_all fires = for_each (fired_in code origin unit) fires
+  fired_all fires = for_each (fired_in (code_of code.program) origin unit) fires
 
   one_fired : (fire : Fire) (others rest : List Fire) (s : State) → rest ≡ fire ∷ others →
-      fired_all rest s ≡ then_do (fired_in code origin unit s fire) (fired_all others)
+      fired_all rest s ≡ then_do (fired_in (code_of code.program) origin unit s fire) (fired_all others)
   unfolding for_each
   one_fired fire others rest s e = ap (λ (fires : List Fire). fired_all fires s) e
 
   pub next_fired : (whole : Step) (fire : Fire) (rest : List Fire) (was st : RunState)
       (before middle after : List Event) → 1 ≤ length rest → fire ≡ get_or rest 0 fire →
       IsUnderWay code whole (fired_all rest) was before middle →
-      IsStep code (fired_in code origin unit (state_of code was) fire) st middle after →
+      IsStep code (fired_in (code_of code.program) origin unit (state_of code was) fire) st middle after →
       IsUnderWay code whole (fired_all (take (length rest - 1) (drop 1 rest))) st before after
   next_fired whole fire rest was st before middle after some first h k =
-      goes_on code whole (fired_in code origin unit (state_of code was) fire) (fired_all rest)
+      goes_on code whole (fired_in (code_of code.program) origin unit (state_of code was) fire) (fired_all rest)
       (fired_all (take (length rest - 1) (drop 1 rest))) was st before middle after
       (one_fired fire (take (length rest - 1) (drop 1 rest)) rest (state_of code was)
       (first_and_others rest fire some first)) h k
@@ -140,31 +141,31 @@ module _ (code : Code) (origin : Option ℕ) (unit : ℕ) where
 
 -- ---- all arrivals
 
-module _ (code : Code) (plan : Plan) (was mid st : RunState) (before middle after : List Event) (fires : List Fire)
+module _ (code : Listing) (plan : Plan) (was mid st : RunState) (before middle after : List Event) (fires : List Fire)
     (origin : Option ℕ)
   where
     same_fires : (s : State) → origin ≡ executes_since (state_of code was) →
         coming origin was.unit fires ≡ coming origin was.unit plan.fires →
-        for_each (fired_at code plan.fires)
+        for_each (fired_at (code_of code.program) plan.fires)
         (fires_due (executes_since (state_of code was)) (state_of code was).unit plan.fires) s
-        ≡ for_each (fired_in code origin was.unit) fires s
+        ≡ for_each (fired_in (code_of code.program) origin was.unit) fires s
     unfolding state_of
     same_fires s o e =
-        ap (λ (since : Option ℕ). for_each (fired_at code plan.fires) (fires_due since was.unit plan.fires) s) (sym o)
-        ∙ (fires_of_the_unit code origin was.unit plan.fires s
-        ∙ (ap (λ (xs : List Fire). for_each (fired code) xs s) (sym e)
-        ∙ sym (fires_among code origin was.unit fires s)))
+        ap (λ (since : Option ℕ). for_each (fired_at (code_of code.program) plan.fires) (fires_due since was.unit plan.fires) s) (sym o)
+        ∙ (fires_of_the_unit (code_of code.program) origin was.unit plan.fires s
+        ∙ (ap (λ (xs : List Fire). for_each (fired (code_of code.program)) xs s) (sym e)
+        ∙ sym (fires_among (code_of code.program) origin was.unit fires s)))
 
     pub both_arrived : origin ≡ executes_since (state_of code was) →
         coming origin was.unit fires ≡ coming origin was.unit plan.fires →
         IsStep code (for_each release_taken (due_handlers (state_of code was)) (state_of code was)) mid before middle →
-        IsStep code (for_each (fired_in code origin was.unit) fires (state_of code mid)) st middle after →
-        IsStep code (arrivals code plan (state_of code was)) st before after
+        IsStep code (for_each (fired_in (code_of code.program) origin was.unit) fires (state_of code mid)) st middle after →
+        IsStep code (arrivals (code_of code.program) plan (state_of code was)) st before after
     unfolding arrivals
     both_arrived o e h k =
         both_done code (for_each release_taken (due_handlers (state_of code was)) (state_of code was))
-        (for_each (fired_at code plan.fires)
+        (for_each (fired_at (code_of code.program) plan.fires)
         (fires_due (executes_since (state_of code was)) (state_of code was).unit plan.fires)) mid st before middle after
         h
-        (same_step code st middle after (for_each (fired_in code origin was.unit) fires (state_of code mid)) _
+        (same_step code st middle after (for_each (fired_in (code_of code.program) origin was.unit) fires (state_of code mid)) _
         (same_fires (state_of code mid) o e) k)

@@ -5,7 +5,8 @@ use Rattle.std.proofs.Common.{◌≡◌, Bool, false, List, [], ◌∷◌, refl,
 use Rattle.scj_model.specs.declared.events.Event.{Event}
 use Rattle.scj_model.specs.declared.operations.Op.{Op}
 use Rattle.scj_model.specs.declared.plans.ReadingRow.{ReadingRow}
-use Rattle.scj_model.specs.Code.{Code}
+use Rattle.scj_model.specs.Code.{code_of}
+use Rattle.op_list.specs.Listed.{Listing}
 use Rattle.scj_model.specs.State.{Frame, Activity, Job, State, with_activity}
 use Rattle.scj_model.specs.Steps.{Step}
 use Rattle.scj_model.specs.Effects.{Effect}
@@ -23,13 +24,12 @@ use Rattle.unit_steps.specs.Led.{IsLed, IsLedTry}
 use Rattle.unit_steps.specs.Next.{top_rest}
 use Rattle.unit_steps.proofs.JobActivity.{operation_unseen}
 
-module _ (code : Code) (answer : Bool) (st : RunState) (before after : List Event) where
+module _ (code : Listing) (answer : Bool) (st : RunState) (before after : List Event) where
   pub led_by_step : (a b : Step) → IsAlikeStep a b → IsStep code b st before after → IsLed code a st before after
   led_by_step a b h k =
       record {
         alike = subst (λ t. IsAlike a.state t) (sym k.state) h.states;
         told = k.told ∙ ap (λ events. before ++ events) (sym h.events);
-        begun = k.begun;
       }
 
   some_is : (a b : Step) → Some a ≡ Some b → b ≡ a
@@ -65,13 +65,13 @@ module _ (code : Code) (answer : Bool) (st : RunState) (before after : List Even
 
 -- ---- the next operation of a job
 
-module _ (code : Code) (rows : List ReadingRow) (s : State) (job : Job) (taken : StoredActivity) where
+module _ (code : Listing) (rows : List ReadingRow) (s : State) (job : Job) (taken : StoredActivity) where
   abbrev on_rest : Frame → List Frame → List Op → Option Step
   on_rest f below ops =
       elim ops as (λ z. Option Step) [
         | [] ↦ None
         | op ∷ rest ↦
-            applied code s job (activity_seen code taken) below (place_of_op code op) (effect_at code rows s f op rest)
+            applied (code_of code.program) s job (activity_seen code taken) below (place_of_op (code_of code.program) op) (effect_at (code_of code.program) rows s f op rest)
       ]
 
   abbrev on_frames : List Frame → Option Step
@@ -82,11 +82,11 @@ module _ (code : Code) (rows : List ReadingRow) (s : State) (job : Job) (taken :
   no_operation (f ∷ fs) e = ap (on_rest (frame_of code f) (frames_of code fs)) e
 
   -- without a frame, or without an operation, there is none
-  pub nothing_left : top_rest code taken.frames ≡ [] → frame_op code rows s job (activity_seen code taken) ≡ None
+  pub nothing_left : top_rest code taken.frames ≡ [] → frame_op (code_of code.program) rows s job (activity_seen code taken) ≡ None
   unfolding frame_op
   nothing_left e = no_operation taken.frames e
 
-module _ (code : Code) (rows : List ReadingRow) (s : State) (acting : Acting) (was st : RunState)
+module _ (code : Listing) (rows : List ReadingRow) (s : State) (acting : Acting) (was st : RunState)
     (taken left : StoredActivity) (f g : StoredFrame) (under : List StoredFrame) (op : Op) (rest : List Op)
     (effect : Frame → Effect) (answer : Bool) (before after : List Event) where
   abbrev a : Activity
@@ -99,38 +99,38 @@ module _ (code : Code) (rows : List ReadingRow) (s : State) (acting : Acting) (w
   below = frames_of code under
 
   first_done : taken.frames ≡ f ∷ under → (frame_of code f).rest ≡ op ∷ rest →
-      effect_at code rows s (frame_of code f) op rest ≡ effect (frame_of code g) →
-      acting.place ≡ place_of_op code op →
-      frame_op code rows s job a
-      ≡ applied code s job (record a { frames = frame_of code f ∷ below }) below acting.place (effect (frame_of code g))
+      effect_at (code_of code.program) rows s (frame_of code f) op rest ≡ effect (frame_of code g) →
+      acting.place ≡ place_of_op (code_of code.program) op →
+      frame_op (code_of code.program) rows s job a
+      ≡ applied (code_of code.program) s job (record a { frames = frame_of code f ∷ below }) below acting.place (effect (frame_of code g))
   unfolding frame_op
   first_done frames next does place =
       ap (λ (fs : List StoredFrame). on_frames code rows s job taken (frames_of code fs)) frames
       ∙ (ap (on_rest code rows s job taken (frame_of code f) below) next
-      ∙ (ap (λ e. applied code s job a below (place_of_op code op) e) does
-      ∙ (ap (λ p. applied code s job a below p (effect (frame_of code g))) (sym place)
+      ∙ (ap (λ e. applied (code_of code.program) s job a below (place_of_op (code_of code.program) op) e) does
+      ∙ (ap (λ p. applied (code_of code.program) s job a below p (effect (frame_of code g))) (sym place)
       ∙ ap (λ (fs : List StoredFrame).
-      applied code s job (record a { frames = frames_of code fs }) below acting.place (effect (frame_of code g)))
+      applied (code_of code.program) s job (record a { frames = frames_of code fs }) below acting.place (effect (frame_of code g)))
       frames)))
 
   tried_after : left ≡ record taken { frames = g ∷ under } →
       state_of code was ≡ with_activity s job no_activity →
       IsApplied code was acting left effect answer st before after →
       IsTry code
-      (applied code (with_activity s job no_activity) job (record a { frames = frame_of code g ∷ below }) below
+      (applied (code_of code.program) (with_activity s job no_activity) job (record a { frames = frame_of code g ∷ below }) below
       acting.place (effect (frame_of code g)))
       answer st before after
   tried_after is_left without k =
       subst
       (λ (t : State).
       IsTry code
-      (applied code t job (record a { frames = frame_of code g ∷ below }) below acting.place (effect (frame_of code g)))
+      (applied (code_of code.program) t job (record a { frames = frame_of code g ∷ below }) below acting.place (effect (frame_of code g)))
       answer st before after)
       without
       (subst
       (λ (x : StoredActivity).
       IsTry code
-      (applied code (state_of code was) job (activity_seen code x) below acting.place (effect (frame_of code g)))
+      (applied (code_of code.program) (state_of code was) job (activity_seen code x) below acting.place (effect (frame_of code g)))
       answer st before after)
       is_left
       (k.tried g under (ap (λ (x : StoredActivity). x.frames) is_left)))
@@ -139,14 +139,14 @@ module _ (code : Code) (rows : List ReadingRow) (s : State) (acting : Acting) (w
   -- this one
   pub operation_joined : taken.frames ≡ f ∷ under → left ≡ record taken { frames = g ∷ under } →
       (frame_of code f).rest ≡ op ∷ rest → f.opened ≡ g.opened →
-      effect_at code rows s (frame_of code f) op rest ≡ effect (frame_of code g) →
-      acting.place ≡ place_of_op code op →
+      effect_at (code_of code.program) rows s (frame_of code f) op rest ≡ effect (frame_of code g) →
+      acting.place ≡ place_of_op (code_of code.program) op →
       state_of code was ≡ with_activity s job no_activity →
       IsApplied code was acting left effect answer st before after →
-      IsLedTry code (frame_op code rows s job a) answer st before after
+      IsLedTry code (frame_op (code_of code.program) rows s job a) answer st before after
   operation_joined frames is_left next opened does place without k =
       subst (λ (o : Option Step). IsLedTry code o answer st before after) (sym (first_done frames next does place))
       (led_by_alike code answer st before after _ _
-      (operation_unseen code s job no_activity a (frame_of code f) (frame_of code g) below acting.place
+      (operation_unseen (code_of code.program) s job no_activity a (frame_of code f) (frame_of code g) below acting.place
       (effect (frame_of code g)) opened)
       (tried_after is_left without k))

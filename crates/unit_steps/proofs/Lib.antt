@@ -7,7 +7,9 @@ pub mod Firing
 pub mod JobActivity
 pub mod Joins
 pub mod NextOperation
+pub mod OpenScopes
 pub mod OwnActivity
+pub mod RefusedTurns
 pub mod ReleaseActivity
 pub mod RunsOn
 pub mod Standing

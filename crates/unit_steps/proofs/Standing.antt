@@ -4,7 +4,8 @@ use Rattle.std.proofs.Common.{◌≡◌, ◌∙◌, ◌<◌, ℕ, true, List, �
 use Rattle.scj_model.specs.declared.handlers.HandlerRow.{HandlerRow}
 use Rattle.scj_model.specs.declared.operations.Op.{Op}
 use Rattle.scj_model.specs.declared.plans.ReadingRow.{ReadingRow}
-use Rattle.scj_model.specs.Code.{Code}
+use Rattle.scj_model.specs.Code.{code_of}
+use Rattle.op_list.specs.Listed.{Listing}
 use Rattle.scj_model.specs.Effects.{Effect, new_frame}
 use Rattle.scj_model.specs.Operations.{effect_of}
 use Rattle.scj_model.specs.Registry.{handler_row}
@@ -33,7 +34,7 @@ use Rattle.unit_steps.specs.Standing.{EffectStands, JobStands, NamesLive, NextSt
 
 -- ---- a frame that is put on top
 
-module _ (code : Code) (g : Frame) (before after : StoredActivity) (h : HasOnTop code g before after) (m : Contents)
+module _ (code : Listing) (g : Frame) (before after : StoredActivity) (h : HasOnTop code g before after) (m : Contents)
   where
     pub closes_below : CloseInOrder m before.frames → CloseInOrder m (below after.frames)
     closes_below e = subst (λ (a : StoredActivity). CloseInOrder m (below a.frames)) (sym h.whole) e
@@ -47,7 +48,7 @@ module _ (code : Code) (g : Frame) (before after : StoredActivity) (h : HasOnTop
 
 -- ---- the effect of an operation
 
-named_stands : (code : Code) (m : Contents) (taken : StoredActivity) (changed : StoredFrame)
+named_stands : (code : Listing) (m : Contents) (taken : StoredActivity) (changed : StoredFrame)
     (rest : List StoredFrame) (effect : Coded) → NamesLive m (effect_seen code effect (frame_of code changed)) →
     (let left : StoredActivity = record taken { frames = changed ∷ rest } in EffectStands m left effect)
 unfolding effect_seen new_frame
@@ -87,7 +88,7 @@ unfolding with_activity
 unit_with s TheSequencer a = refl
 unit_with s (ReleaseAt place) a = refl
 
-module _ (code : Code) (rows : List ReadingRow) (old was : RunState) (job : JobOfRun) (taken : StoredActivity)
+module _ (code : Listing) (rows : List ReadingRow) (old was : RunState) (job : JobOfRun) (taken : StoredActivity)
     (frames : List StoredFrame) (op : Op) (effect : Coded)
     (without : state_of code was ≡ with_activity (state_of code old) job no_activity)
     (there : activity_of (state_of code old) job ≡ Some (activity_seen code taken))
@@ -109,12 +110,12 @@ module _ (code : Code) (rows : List ReadingRow) (old was : RunState) (job : JobO
       stands.next (activity_seen code taken) (frame_of code next.top) (frames_of code (below taken.frames)) op
       next.done.left there (ap (frames_of code) next.was) next.done.next
 
-  pub has_effect : effect_at code rows (state_of code old) (frame_of code next.top) op next.done.left
+  pub has_effect : effect_at (code_of code.program) rows (state_of code old) (frame_of code next.top) op next.done.left
       ≡ effect_seen code effect (frame_of code next.changed)
   has_effect =
       now.reads
-      ∙ (ap (λ (m : Contents). effect_of code (world m rows old.unit) left op) (sym same_memory)
-      ∙ (ap (λ (unit : ℕ). effect_of code (world was.memory rows unit) left op) (sym same_unit) ∙ next.done.does))
+      ∙ (ap (λ (m : Contents). effect_of (code_of code.program) (world m rows old.unit) left op) (sym same_memory)
+      ∙ (ap (λ (unit : ℕ). effect_of (code_of code.program) (world was.memory rows unit) left op) (sym same_unit) ∙ next.done.does))
 
   pub effect_stands : (let a : StoredActivity = record taken { frames = frames } in EffectStands was.memory a effect)
   effect_stands =
@@ -170,7 +171,7 @@ start_few st place handler row h move is_row = go (slice_get st.releases.rows pl
 
 -- ---- the turn that was taken
 
-pub job_with_turn : (code : Code) (rows : List ReadingRow) (st : RunState) (job : JobOfRun) (turn : Option CodedTurn) →
+pub job_with_turn : (code : Listing) (rows : List ReadingRow) (st : RunState) (job : JobOfRun) (turn : Option CodedTurn) →
     JobStands code rows st job → JobStands code rows (record st { last_choice = turn }) job
 unfolding state_of activity_of
 job_with_turn code rows st TheSequencer turn h = record {

@@ -5,7 +5,8 @@ use Rattle.scj_rules.specs.Words.{holds, ◌>>=◌}
 use Rattle.scj_model.specs.declared.events.Event.{Event}
 use Rattle.scj_model.specs.declared.handlers.HandlerRow.{HandlerRow}
 use Rattle.scj_model.specs.declared.plans.ReadingRow.{ReadingRow}
-use Rattle.scj_model.specs.Code.{Code}
+use Rattle.scj_model.specs.Code.{code_of}
+use Rattle.op_list.specs.Listed.{Listing}
 use Rattle.scj_model.specs.State.{Release as ReleaseOfRun, ReleaseAt, State, TheSequencer, Turn, IdleTurn, TurnOf, activity_of, is_exec}
 use Rattle.scj_model.specs.State.{Waits as WaitsSeen, Started as StartedSeen, Ended as EndedSeen, Dropped as DroppedSeen}
 use Rattle.scj_model.specs.Steps.{Step, then_try}
@@ -29,39 +30,39 @@ use Rattle.unit_steps.specs.declared.turns.Move.TheVariants.{Starts, GoesOn, Not
 use Rattle.unit_steps.specs.Led.{IsLedTry}
 use Rattle.unit_steps.specs.Moves.{move_at, move_by, move_of}
 
-pub led_as : (code : Code) (answer : Bool) (st : RunState) (before after : List Event) (found other : Option Step) →
+pub led_as : (code : Listing) (answer : Bool) (st : RunState) (before after : List Event) (found other : Option Step) →
     other ≡ found → IsLedTry code found answer st before after → IsLedTry code other answer st before after
 led_as code answer st before after found other e h =
     subst (λ (o : Option Step). IsLedTry code o answer st before after) (sym e) h
 
 -- ---- the sequencer
 
-module _ (code : Code) (rows : List ReadingRow) (st : RunState) where
+module _ (code : Listing) (rows : List ReadingRow) (st : RunState) where
   abbrev turn_with : List StoredFrame → Option Step
   turn_with frames =
       elim (frames_of code frames) as (λ _. Option Step) [
-        | [] ↦ sequencer_op code (state_of code st) (state_of code st).operation
-        | f ∷ fs ↦ frame_op code rows (state_of code st) TheSequencer (state_of code st).activity
+        | [] ↦ sequencer_op (code_of code.program) (state_of code st) (state_of code st).operation
+        | f ∷ fs ↦ frame_op (code_of code.program) rows (state_of code st) TheSequencer (state_of code st).activity
       ]
 
   pub without_frames : length st.activity.frames ≡ 0 →
-      sequencer_turn code rows (state_of code st) ≡ sequencer_op code (state_of code st) st.operation
+      sequencer_turn (code_of code.program) rows (state_of code st) ≡ sequencer_op (code_of code.program) (state_of code st) st.operation
   unfolding sequencer_turn state_of
   without_frames e = go st.activity.frames e
     where
       go : (frames : List StoredFrame) → length frames ≡ 0 →
-          turn_with frames ≡ sequencer_op code (state_of code st) st.operation
+          turn_with frames ≡ sequencer_op (code_of code.program) (state_of code st) st.operation
       go [] h = refl
       go (f ∷ fs) h = absurd (omega (arith, h))
 
   pub with_frames : length st.activity.frames ≢ 0 →
-      sequencer_turn code rows (state_of code st)
-      ≡ frame_op code rows (state_of code st) TheSequencer (state_of code st).activity
+      sequencer_turn (code_of code.program) rows (state_of code st)
+      ≡ frame_op (code_of code.program) rows (state_of code st) TheSequencer (state_of code st).activity
   unfolding sequencer_turn state_of
   with_frames n = go st.activity.frames n
     where
       go : (frames : List StoredFrame) → length frames ≢ 0 →
-          turn_with frames ≡ frame_op code rows (state_of code st) TheSequencer (state_of code st).activity
+          turn_with frames ≡ frame_op (code_of code.program) rows (state_of code st) TheSequencer (state_of code st).activity
       go [] h = absurd (h refl)
       go (f ∷ fs) h = refl
 
@@ -71,15 +72,15 @@ sequencer_activity s = refl
 
 -- ---- a release
 
-module _ (code : Code) (rows : List ReadingRow) (st : RunState) (place : ℕ) where
+module _ (code : Listing) (rows : List ReadingRow) (st : RunState) (place : ℕ) where
   abbrev s : State
   s = state_of code st
 
   abbrev op_by : Release → ReleaseStatus → Option Step
   op_by r status =
       elim (status_seen code status) as (λ _. Option Step) [
-        | WaitsSeen ↦ start_op code s place (release_seen code r)
-        | StartedSeen activity ↦ frame_op code rows s (ReleaseAt place) activity
+        | WaitsSeen ↦ start_op (code_of code.program) s place (release_seen code r)
+        | StartedSeen activity ↦ frame_op (code_of code.program) rows s (ReleaseAt place) activity
         | EndedSeen ↦ None
         | DroppedSeen ↦ None
       ]
@@ -88,23 +89,23 @@ module _ (code : Code) (rows : List ReadingRow) (st : RunState) (place : ℕ) wh
   op_in found = elim found as (λ _. Option Step) [ None ↦ None | Some r ↦ op_by r r.status ]
 
   -- the operation, by the release as the code keeps it
-  operation_is : ref_op code rows s (ReleaseAt place) ≡ op_in (slice_get st.releases.rows place)
+  operation_is : ref_op (code_of code.program) rows s (ReleaseAt place) ≡ op_in (slice_get st.releases.rows place)
   unfolding ref_op state_of release_op_of
   operation_is =
-      ap (λ (o : Option ReleaseOfRun). o >>= release_op_of code rows s place)
+      ap (λ (o : Option ReleaseOfRun). o >>= release_op_of (code_of code.program) rows s place)
       (get_map (release_seen code) st.releases.rows place)
       ∙ of_found (slice_get st.releases.rows place)
     where
       of_found : (found : Option Release) →
-          (option_map (release_seen code) found >>= release_op_of code rows s place) ≡ op_in found
+          (option_map (release_seen code) found >>= release_op_of (code_of code.program) rows s place) ≡ op_in found
       of_found None = refl
       of_found (Some r) = refl
 
   abbrev StartsAs : ℕ → Option Step → ReleaseOfRun → Type 0
-  StartsAs handler found r = (r.handler ≡ handler) × (found ≡ start_op code s place r)
+  StartsAs handler found r = (r.handler ≡ handler) × (found ≡ start_op (code_of code.program) s place r)
 
   pub starts_by : (handler : ℕ) → Starts handler ≡ move_at st.releases.rows place →
-      (r : ReleaseOfRun) × (r.handler ≡ handler) × (ref_op code rows s (ReleaseAt place) ≡ start_op code s place r)
+      (r : ReleaseOfRun) × (r.handler ≡ handler) × (ref_op (code_of code.program) rows s (ReleaseAt place) ≡ start_op (code_of code.program) s place r)
   starts_by handler e =
       let there : (r : ReleaseOfRun) × StartsAs handler (op_in (slice_get st.releases.rows place)) r =
       of_found (slice_get st.releases.rows place) e in
@@ -124,11 +125,11 @@ module _ (code : Code) (rows : List ReadingRow) (st : RunState) (place : ℕ) wh
 
   abbrev GoesOnWith : Option StoredActivity → Option Step → StoredActivity → Type 0
   GoesOnWith within found a =
-      (within ≡ Some a) × (found ≡ frame_op code rows s (ReleaseAt place) (activity_seen code a))
+      (within ≡ Some a) × (found ≡ frame_op (code_of code.program) rows s (ReleaseAt place) (activity_seen code a))
 
   pub goes_on_with : GoesOn ≡ move_at st.releases.rows place →
       (a : StoredActivity) × (activity_of s (ReleaseAt place) ≡ Some (activity_seen code a)) ×
-      (ref_op code rows s (ReleaseAt place) ≡ frame_op code rows s (ReleaseAt place) (activity_seen code a))
+      (ref_op (code_of code.program) rows s (ReleaseAt place) ≡ frame_op (code_of code.program) rows s (ReleaseAt place) (activity_seen code a))
   goes_on_with e =
       let there : (a : StoredActivity) ×
       GoesOnWith (activity_in st.releases.rows place) (op_in (slice_get st.releases.rows place)) a =
@@ -151,7 +152,7 @@ module _ (code : Code) (rows : List ReadingRow) (st : RunState) (place : ℕ) wh
       of_found None k = absurd (cc (k))
       of_found (Some r) k = of_status r r.status k
 
-  pub nothing_done : Nothing ≡ move_at st.releases.rows place → ref_op code rows s (ReleaseAt place) ≡ None
+  pub nothing_done : Nothing ≡ move_at st.releases.rows place → ref_op (code_of code.program) rows s (ReleaseAt place) ≡ None
   nothing_done e = operation_is ∙ of_found (slice_get st.releases.rows place) e
     where
       of_status : (r : Release) (status : ReleaseStatus) → Nothing ≡ move_by r.handler status → op_by r status ≡ None
@@ -181,7 +182,7 @@ module _ (s : State) (turn : Turn) where
 -- ---- the choice
 
 -- the state in which the code chooses
-pub seen_by_choice : (code : Code) (st : RunState) (registry : List HandlerRow) → registry ≡ st.registry.items →
+pub seen_by_choice : (code : Listing) (st : RunState) (registry : List HandlerRow) → registry ≡ st.registry.items →
     with_registry (with_releases code (state_of code st) st.releases) registry ≡ state_of code st
 unfolding state_of
 seen_by_choice code st registry e =
@@ -196,18 +197,18 @@ turn_is s found e = ap (λ (o : Option ℕ). Some (turn_by o)) e
 
 -- ---- who acts
 
-module _ (code : Code) (rows : List ReadingRow) (s : State) where
+module _ (code : Listing) (rows : List ReadingRow) (s : State) where
   abbrev acts_by : Bool → Option Turn → Option Step
   acts_by executes found =
-      if executes then found >>= (λ turn. then_try (turn_taken s turn) (turn_acts code rows turn))
-      else sequencer_turn code rows s
+      if executes then found >>= (λ turn. then_try (turn_taken s turn) (turn_acts (code_of code.program) rows turn))
+      else sequencer_turn (code_of code.program) rows s
 
-  pub sequencer_acts : is_exec s.phase ≡ false → acts code rows by_priority s ≡ sequencer_turn code rows s
+  pub sequencer_acts : is_exec s.phase ≡ false → acts (code_of code.program) rows by_priority s ≡ sequencer_turn (code_of code.program) rows s
   unfolding acts
   sequencer_acts e = ap (λ (b : Bool). acts_by b (by_priority s)) e
 
   pub chosen_acts : (turn : Turn) → is_exec s.phase ≡ true → Some turn ≡ by_priority s →
-      acts code rows by_priority s ≡ then_try (turn_taken s turn) (turn_acts code rows turn)
+      acts (code_of code.program) rows by_priority s ≡ then_try (turn_taken s turn) (turn_acts (code_of code.program) rows turn)
   unfolding acts
   chosen_acts turn e f =
       ap (λ (b : Bool). acts_by b (by_priority s)) e ∙ ap (λ (o : Option Turn). acts_by true o) (sym f)

@@ -1,37 +1,28 @@
 -- Steps of which a part is done: what is left of them goes on from the state that was reached.
-use Rattle.std.proofs.Common.{◌≡◌, ◌∙◌, List, [], ◌++◌, refl, ap, sym, subst}
+use Rattle.std.proofs.Common.{◌≡◌, ◌∙◌, List, [], ◌++◌, refl, ap, sym}
 use Rattle.std.proofs.lemmas.List.{append-nil, append_assoc}
-use Rattle.scj_tree.specs.declared.nodes.Node.{Node}
-use Rattle.scj_tree.specs.Forest.{Forest}
 use Rattle.scj_model.specs.declared.events.Event.{Event}
-use Rattle.scj_model.specs.Code.{Code, code_of}
+use Rattle.op_list.specs.Listed.{Listing}
 use Rattle.scj_model.specs.State.{State}
 use Rattle.scj_model.specs.Steps.{Step, silently, telling, then_do}
-use Rattle.work_cursor.proofs.CodeLemmas.{nodes_are}
 use Rattle.run_state.specs.declared.states.RunState.{RunState}
-use Rattle.run_state.specs.Seen.{AreAllBegun, state_of}
+use Rattle.run_state.specs.Seen.{state_of}
 use Rattle.run_state.specs.Steps.{IsStep}
 use Rattle.run_state.proofs.StepLemmas.{same_step}
 
--- frames that were begun in the code of a program were begun in the program
-pub begun_by : (forest : Forest) (st : RunState) → AreAllBegun (code_of forest).program.nodes st →
-    AreAllBegun forest.nodes st
-begun_by forest st h = subst (λ (nodes : List Node). AreAllBegun nodes st) (nodes_are forest) h
-
 -- some events were told, and what is left goes on from this state
-pub record IsUnderWay (code : Code) (whole : Step) (left : State → Step) (st : RunState) (before after : List Event) :
+pub record IsUnderWay (code : Listing) (whole : Step) (left : State → Step) (st : RunState) (before after : List Event) :
     Type 0 where
   pub events : List Event
   pub told : after ≡ before ++ events
   pub goes : whole ≡ then_do (telling (state_of code st) events) left
-  pub begun : AreAllBegun code.program.nodes st
 
-module _ (code : Code) where
+module _ (code : Listing) where
   -- all is left
-  pub not_begun : (left : State → Step) (st : RunState) (told : List Event) → AreAllBegun code.program.nodes st →
+  pub not_begun : (left : State → Step) (st : RunState) (told : List Event) →
       IsUnderWay code (left (state_of code st)) left st told told
-  not_begun left st told begun =
-      record { events = []; told = sym (append-nil told); goes = refl; begun = begun }
+  not_begun left st told =
+      record { events = []; told = sym (append-nil told); goes = refl }
 
   -- one step more is done
   pub goes_on : (whole one : Step) (left rest : State → Step) (was st : RunState) (before middle after : List Event) →
@@ -46,7 +37,6 @@ module _ (code : Code) where
         ∙ (ap (λ (es : List Event). telling (rest one.state).state es)
         (sym (append_assoc h.events one.events (rest one.state).events))
         ∙ ap (λ (x : State). telling (rest x).state ((h.events ++ one.events) ++ (rest x).events)) (sym k.state)));
-    begun = k.begun;
   }
 
   -- nothing is left
@@ -58,7 +48,7 @@ module _ (code : Code) where
       (h.goes
       ∙ (ap (λ (x : Step). telling x.state (h.events ++ x.events)) e
       ∙ ap (λ (es : List Event). telling (state_of code st) es) (append-nil h.events)))
-      (record { state = refl; told = h.told; begun = h.begun })
+      (record { state = refl; told = h.told })
 
   -- a step, and a second one from the state that it led to
   pub both_done : (first : Step) (next : State → Step) (was st : RunState) (before middle after : List Event) →
@@ -70,5 +60,4 @@ module _ (code : Code) where
         ∙ (ap (λ (es : List Event). es ++ (next (state_of code was)).events) h.told
         ∙ (append_assoc before first.events (next (state_of code was)).events
         ∙ ap (λ (x : State). before ++ (first.events ++ (next x).events)) h.state));
-    begun = k.begun;
   }

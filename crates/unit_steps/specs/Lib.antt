@@ -3,4 +3,5 @@ pub mod Arriving
 pub mod Led
 pub mod Moves
 pub mod Next
+pub mod Refused
 pub mod Standing

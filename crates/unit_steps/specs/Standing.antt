@@ -5,7 +5,8 @@ use Rattle.scj_rules.specs.Words.{is_among}
 use Rattle.scj_model.specs.declared.handlers.HandlerRow.{HandlerRow}
 use Rattle.scj_model.specs.declared.operations.Op.{Op}
 use Rattle.scj_model.specs.declared.plans.ReadingRow.{ReadingRow}
-use Rattle.scj_model.specs.Code.{Code}
+use Rattle.scj_model.specs.Code.{code_of}
+use Rattle.op_list.specs.Listed.{Listing}
 use Rattle.scj_model.specs.Choice.{by_priority}
 use Rattle.scj_model.specs.Effects.{Effect, AsksRegistration, Calls, Makes}
 use Rattle.scj_model.specs.Operations.{effect_of}
@@ -43,14 +44,14 @@ NamesLive m (AsksRegistration h r) = IsLive m r
 NamesLive m _ = Unit {0}
 
 -- the next operation of a frame has the same effect where the objects of open areas alone are found
-pub record NextStands (code : Code) (rows : List ReadingRow) (st : RunState) (f : Frame) (op : Op) (rest : List Op) :
+pub record NextStands (code : Listing) (rows : List ReadingRow) (st : RunState) (f : Frame) (op : Op) (rest : List Op) :
     Type 0 where
-  pub reads : effect_at code rows (state_of code st) f op rest
-      ≡ effect_of code (world st.memory rows st.unit) (record f { rest = rest }) op
-  pub names : NamesLive st.memory (effect_at code rows (state_of code st) f op rest)
+  pub reads : effect_at (code_of code.program) rows (state_of code st) f op rest
+      ≡ effect_of (code_of code.program) (world st.memory rows st.unit) (record f { rest = rest }) op
+  pub names : NamesLive st.memory (effect_at (code_of code.program) rows (state_of code st) f op rest)
 
 -- a job whose next operation is done
-pub record JobStands (code : Code) (rows : List ReadingRow) (st : RunState) (job : Job) : Type 0 where
+pub record JobStands (code : Listing) (rows : List ReadingRow) (st : RunState) (job : Job) : Type 0 where
   pub stands : (activity : StoredActivity) → activity_of (state_of code st) job ≡ Some (activity_seen code activity) →
       StandsIn st.memory activity
   pub next : (activity : Activity) (f : Frame) (below : List Frame) (op : Op) (rest : List Op) →
@@ -64,7 +65,7 @@ StartStands st place =
     handler_row st.registry.items r.handler ≡ Some row → open_count st.memory < 1794
 
 -- the choice and the operation of a unit
-pub record ActsStand (code : Code) (rows : List ReadingRow) (st : RunState) : Type 0 where
+pub record ActsStand (code : Listing) (rows : List ReadingRow) (st : RunState) : Type 0 where
   pub numbers : HasNumbers st.memory
   pub live : IsOnLive st.memory st.operation
   pub areas : (a : ℕ) → is_among a st.activity.areas ≡ true → is_open_area st.memory a ≡ true

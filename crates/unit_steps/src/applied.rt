@@ -1,17 +1,22 @@
 //! What an effect does to the state.
 
-ghost use Rattle.std.specs.Prelude.{◌≡◌, ℕ, IfOk, [], Some, true};
-ghost use Rattle.scj_model.specs.Code.{code_of};
+ghost use Rattle.std.specs.Prelude.{◌≡◌, ◌∷◌, ℕ, IfOk, List, [], Some, true};
+ghost use Rattle.area_needs.specs.Refusals.{refused_by};
 ghost use Rattle.scj_model.specs.Effects.{Calls, Opens};
+ghost use Rattle.scj_model.specs.State.{State as StateSeen};
+ghost use Rattle.region_heap.specs.Contents.{with_memory};
 ghost use Rattle.job_frames.specs.EffectsSeen.{effect_seen};
-ghost use Rattle.job_frames.specs.Frames.{AreBegun, frame_called};
-ghost use Rattle.run_state.specs.Seen.{AreAllBegun};
+ghost use Rattle.job_frames.specs.declared.frames.Frame.{Frame as StoredFrame};
+ghost use Rattle.job_frames.specs.Frames.{frame_called, frame_of};
 ghost use Rattle.run_state.specs.Standing.{CloseInOrder, HasNumbers, IsLive, StandsIn};
 ghost use Rattle.run_state.specs.Steps.{IsApplied};
+ghost use Rattle.unit_steps.specs.Refused.{Refuses, went};
 ghost use Rattle.unit_steps.specs.Standing.{EffectStands};
 
-use job_frames::{Activity, Code, Effect, NewFrame};
+use crate::refusals::{Acted, came_to, refused_before};
+use job_frames::{Activity, Effect, NewFrame};
 use mission_steps::{asks_registration, asks_release, asks_termination};
+use op_list::OpList;
 use run_state::calls::{called, put_on_top};
 use run_state::effects::{faults, goes, is_stuck, leaves, prints};
 use run_state::openings::opened_in;
@@ -24,7 +29,7 @@ use std::alloc::Global;
 /// It calls.
 fn calls(
     alloc: Global,
-    code: &Code<'_>,
+    code: &OpList<'_>,
     state: &mut RunState,
     acting: Acting,
     activity: Activity,
@@ -32,13 +37,11 @@ fn calls(
     arguments: Vec<Value>,
     told: &mut Vec<Event>,
 ) -> Result<(), Memory>
-    requires begun { AreAllBegun code.now.nodes state.old }
-    requires frames { AreBegun code.now.nodes activity.frames }
     requires closes { CloseInOrder state.old.memory activity.frames }
     requires live { (r : ℕ) → call.this ≡ Some r → IsLive state.old.memory r }
     ensures { IfOk result
-        (λ _. IsApplied (code_of code.now) state.old acting activity
-        (λ f. Calls f (frame_called (code_of code.now) call arguments.items)) true state.new told.old.items
+        (λ _. IsApplied code.now state.old acting activity
+        (λ f. Calls f (frame_called code.now call arguments.items)) true state.new told.old.items
         told.new.items) }
 {
     let mut activity = activity;
@@ -50,7 +53,7 @@ fn calls(
 /// It calls in a new area inside its own.
 fn opens(
     alloc: Global,
-    code: &Code<'_>,
+    code: &OpList<'_>,
     state: &mut RunState,
     acting: Acting,
     activity: Activity,
@@ -59,13 +62,11 @@ fn opens(
     bytes: u64,
     told: &mut Vec<Event>,
 ) -> Result<(), Memory>
-    requires begun { AreAllBegun code.now.nodes state.old }
-    requires frames { AreBegun code.now.nodes activity.frames }
     requires stands { StandsIn state.old.memory activity }
     requires numbers { HasNumbers state.old.memory }
     ensures { IfOk result
-        (λ _. IsApplied (code_of code.now) state.old acting activity
-        (λ f. Opens f (frame_called (code_of code.now) call []) scope bytes) true state.new told.old.items
+        (λ _. IsApplied code.now state.old acting activity
+        (λ f. Opens f (frame_called code.now call []) scope bytes) true state.new told.old.items
         told.new.items) }
 {
     let mut activity = activity;
@@ -77,22 +78,20 @@ fn opens(
 
 /// Does an effect to the state, whose job has this activity with the highest frame as the operation left it, and tells
 /// whether it can be done.
-pub(crate) fn apply(
+fn apply(
     alloc: Global,
-    code: &Code<'_>,
+    code: &OpList<'_>,
     state: &mut RunState,
     acting: Acting,
     activity: Activity,
     effect: Effect,
     told: &mut Vec<Event>,
 ) -> Result<bool, Memory>
-    requires begun { AreAllBegun code.now.nodes state.old }
-    requires frames { AreBegun code.now.nodes activity.frames }
     requires stands { StandsIn state.old.memory activity }
     requires numbers { HasNumbers state.old.memory }
     requires effect { EffectStands state.old.memory activity effect }
     ensures { IfOk result
-        (λ answer. IsApplied (code_of code.now) state.old acting activity (effect_seen (code_of code.now) effect) answer
+        (λ answer. IsApplied code.now state.old acting activity (effect_seen code.now effect) answer
         state.new told.old.items told.new.items) }
 {
     match effect {
@@ -153,4 +152,30 @@ pub(crate) fn apply(
         Effect::AsksTermination { r } => asks_termination(code, state, acting, activity, r, told),
         Effect::Stuck => Ok(is_stuck()),
     }
+}
+
+/// Does an effect to the state in the same way, and answers what it came to, with what it was refused.
+pub(crate) fn apply_effect(
+    alloc: Global,
+    code: &OpList<'_>,
+    state: &mut RunState,
+    acting: Acting,
+    activity: Activity,
+    effect: Effect,
+    told: &mut Vec<Event>,
+) -> Result<Acted, Memory>
+    requires stands { StandsIn state.old.memory activity }
+    requires numbers { HasNumbers state.old.memory }
+    requires effect { EffectStands state.old.memory activity effect }
+    ensures applied { IfOk result
+        (λ acted. IsApplied code.now state.old acting activity (effect_seen code.now effect)
+        (went acted) state.new told.old.items told.new.items) }
+    ensures refused { (s : StateSeen) (f : StoredFrame) (below : List StoredFrame) → activity.frames ≡ f ∷ below →
+        IfOk result
+        (λ acted. Refuses acted (refused_by (with_memory s state.old.memory)
+        (effect_seen code.now effect (frame_of code.now f)))) }
+{
+    let refusal = refused_before(state, &activity, &effect)?;
+    let went = apply(alloc, code, state, acting, activity, effect, told)?;
+    Ok(came_to(went, refusal))
 }

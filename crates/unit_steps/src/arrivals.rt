@@ -3,12 +3,13 @@
 
 ghost use Rattle.std.specs.Prelude.{◌≡◌, ◌+◌, IfOk, slice_get};
 ghost use Rattle.scj_rules.specs.Words.{holds};
-ghost use Rattle.scj_model.specs.Code.{Code as CodeOfRun, code_of};
+ghost use Rattle.scj_model.specs.Code.{code_of};
+ghost use Rattle.op_list.specs.Listed.{Listing};
 ghost use Rattle.scj_model.specs.Apply.{release_taken};
 ghost use Rattle.scj_model.specs.Arrivals.{arrivals, due_handlers, executes_since, fired, fired_handler, is_due};
 ghost use Rattle.scj_model.specs.Steps.{for_each};
 ghost use Rattle.run_plan.specs.Index.{fires_before};
-ghost use Rattle.run_state.specs.Seen.{AreAllBegun, state_of};
+ghost use Rattle.run_state.specs.Seen.{state_of};
 ghost use Rattle.run_state.specs.Steps.{IsStep};
 ghost use Rattle.unit_steps.specs.Arriving.{arrived_at, fired_in};
 
@@ -44,7 +45,7 @@ fn is_due_at(state: &RunState, place: usize) -> bool
 
 /// The handler at a place of the registry is released if it is due.
 fn arrive_if_due(state: &mut RunState, place: usize, told: &mut Vec<Event>) -> Result<(), Memory>
-    ensures { (code : CodeOfRun) → AreAllBegun code.program.nodes state.old →
+    ensures { (code : Listing) →
         IfOk result
         (λ _. IsStep code (arrived_at (state_of code state.old) place) state.new told.old.items told.new.items) }
 {
@@ -58,7 +59,7 @@ fn arrive_if_due(state: &mut RunState, place: usize, told: &mut Vec<Event>) -> R
 
 /// The handlers that are released periodically in this unit.
 fn periodic_arrivals(state: &mut RunState, told: &mut Vec<Event>) -> Result<(), Memory>
-    ensures { (code : CodeOfRun) → AreAllBegun code.program.nodes state.old →
+    ensures { (code : Listing) →
         IfOk result
         (λ _. IsStep code
         (for_each release_taken (due_handlers (state_of code state.old)) (state_of code state.old)) state.new
@@ -79,9 +80,9 @@ fn fired_handler(
     state: &RunState,
     name: &Name,
 ) -> Result<Option<u8>, Memory>
-    ensures { IfOk result
-        (λ handler. handler
-        ≡ fired_handler (code_of classes.now) (state_of (code_of classes.now) state.now) name.now) }
+    ensures { (code : Listing) → code.program ≡ classes.now →
+        IfOk result
+        (λ handler. handler ≡ fired_handler (code_of code.program) (state_of code state.now) name.now) }
 {
     if !takes_releases(state) {
         return Ok(None);
@@ -100,10 +101,10 @@ fn fired(
     fire: &Fire,
     told: &mut Vec<Event>,
 ) -> Result<(), Memory>
-    requires begun { AreAllBegun classes.now.nodes state.old }
-    ensures { IfOk result
-        (λ _. IsStep (code_of classes.now)
-        (fired (code_of classes.now) (state_of (code_of classes.now) state.old) fire.now) state.new told.old.items
+    ensures { (code : Listing) → code.program ≡ classes.now →
+        IfOk result
+        (λ _. IsStep code
+        (fired (code_of code.program) (state_of code state.old) fire.now) state.new told.old.items
         told.new.items) }
 {
     match fired_handler(classes, state, &fire.handler)? {
@@ -134,11 +135,11 @@ fn fired_in(
     fire: &Fire,
     told: &mut Vec<Event>,
 ) -> Result<(), Memory>
-    requires begun { AreAllBegun classes.now.nodes state.old }
-    ensures { IfOk result
-        (λ _. IsStep (code_of classes.now)
-        (fired_in (code_of classes.now) origin unit
-        (state_of (code_of classes.now) state.old) fire.now)
+    ensures { (code : Listing) → code.program ≡ classes.now →
+        IfOk result
+        (λ _. IsStep code
+        (fired_in (code_of code.program) origin unit
+        (state_of code state.old) fire.now)
         state.new told.old.items told.new.items) }
 {
     if !comes_in(origin, unit, fire) {
@@ -157,11 +158,11 @@ fn fires_in_order(
     fires: &[Fire],
     told: &mut Vec<Event>,
 ) -> Result<(), Memory>
-    requires begun { AreAllBegun classes.now.nodes state.old }
-    ensures { IfOk result
-        (λ _. IsStep (code_of classes.now)
-        (for_each (fired_in (code_of classes.now) origin unit) fires.now
-        (state_of (code_of classes.now) state.old))
+    ensures { (code : Listing) → code.program ≡ classes.now →
+        IfOk result
+        (λ _. IsStep code
+        (for_each (fired_in (code_of code.program) origin unit) fires.now
+        (state_of code state.old))
         state.new told.old.items told.new.items) }
 {
     let mut rest = fires;
@@ -175,7 +176,7 @@ fn fires_in_order(
 /// The origin of the mission, while it executes.
 #[tactic(auto, unfolding(scj_model::specs::Arrivals::executes_since, run_state::specs::Seen::state_of))]
 fn executes_since(state: &RunState) -> Option<u64>
-    ensures { (code : CodeOfRun) → result ≡ executes_since (state_of code state.now) }
+    ensures { (code : Listing) → result ≡ executes_since (state_of code state.now) }
 {
     if is_exec(state.phase) {
         Some(state.origin)
@@ -194,10 +195,10 @@ pub(crate) fn arrivals(
     told: &mut Vec<Event>,
 ) -> Result<(), Memory>
     requires past { past.old ≡ fires_before plan.now state.old.unit }
-    requires begun { AreAllBegun classes.now.nodes state.old }
-    ensures arrived { IfOk result
-        (λ _. IsStep (code_of classes.now)
-        (arrivals (code_of classes.now) plan.now (state_of (code_of classes.now) state.old)) state.new told.old.items
+    ensures arrived { (code : Listing) → code.program ≡ classes.now →
+        IfOk result
+        (λ _. IsStep code
+        (arrivals (code_of code.program) plan.now (state_of code state.old)) state.new told.old.items
         told.new.items) }
     ensures past { IfOk result (λ _. past.new ≡ fires_before plan.now (state.old.unit + 1)) }
 {

@@ -4,20 +4,22 @@ ghost use Rattle.std.specs.Prelude.{◌≡◌, [], IfOk, IfSome, IfNone, Some};
 ghost use Rattle.scj_model.specs.Code.{code_of};
 ghost use Rattle.scj_model.specs.Run.{frame_op};
 ghost use Rattle.scj_model.specs.State.{Activity as ActivityOfRun, activity_of};
-ghost use Rattle.work_cursor.specs.Room.{IsBegun};
-ghost use Rattle.work_cursor.specs.Works.{rest};
+ghost use Rattle.op_list.specs.Rows.{rest_at};
 ghost use Rattle.job_frames.specs.EffectsSeen.{world as environment};
-ghost use Rattle.job_frames.specs.Frames.{AreBegun};
-ghost use Rattle.run_state.specs.Seen.{AreAllBegun, job_seen, state_of};
+ghost use Rattle.run_state.specs.Seen.{job_seen, state_of};
 ghost use Rattle.run_state.specs.Standing.{HasNumbers};
 ghost use Rattle.unit_steps.specs.Led.{IsLedTry};
+ghost use Rattle.area_needs.specs.Refusals.{refused_on};
+ghost use Rattle.unit_steps.specs.Refused.{Refuses, went};
 ghost use Rattle.unit_steps.specs.Next.{IsNext, IsNextOnTop, top_rest};
 ghost use Rattle.unit_steps.specs.Standing.{JobStands};
 
-use crate::applied::apply;
+use crate::applied::apply_effect;
 use crate::places::place_of;
+use crate::refusals::Acted;
 use call_operations::{World, operate};
-use job_frames::{Code, Effect, Frame, FrameStack};
+use job_frames::{Effect, Frame, FrameStack};
+use op_list::OpList;
 use run_plan::Plan;
 use run_state::jobs::take_out;
 use run_state::{Acting, Job, RunState};
@@ -37,24 +39,22 @@ struct Done {
 /// The next operation of a frame; none if no operation is left.
 fn next_in(
     alloc: Global,
-    code: &Code<'_>,
+    code: &OpList<'_>,
     world: World<'_>,
     frame: &mut Frame,
 ) -> Result<Option<Done>, Memory>
-    requires { IsBegun code.now.nodes frame.old.works }
     ensures some { IfOk result
         (λ next. IfSome next
-        (λ done. IsNext (code_of code.now)
+        (λ done. IsNext code.now
         (environment world.entry.memory.now world.entry.plan.now.readings world.entry.unit) done.op done.effect
         frame.old frame.new)) }
-    ensures none { IfOk result (λ next. IfNone next (rest (code_of code.now) frame.old.works ≡ [])) }
-    ensures begun { IsBegun code.now.nodes frame.new.works }
+    ensures none { IfOk result (λ next. IfNone next (rest_at code.now.rows frame.old.place ≡ [])) }
 {
     match frame.next(code) {
-        Some(op) => {
-            let done = op;
-            let effect = operate(alloc, code, world, frame, op)?;
-            Ok(Some(Done { op: done, effect }))
+        Some(row) => {
+            let op = row.op;
+            let effect = operate(alloc, code, world, frame, &row)?;
+            Ok(Some(Done { op, effect }))
         }
         None => Ok(None),
     }
@@ -63,18 +63,16 @@ fn next_in(
 /// The next operation of the highest frame; none if there is no frame, or no operation is left.
 fn next_on_top(
     alloc: Global,
-    code: &Code<'_>,
+    code: &OpList<'_>,
     world: World<'_>,
     frames: &mut FrameStack,
 ) -> Result<Option<Done>, Memory>
-    requires { AreBegun code.now.nodes frames.old }
     ensures some { IfOk result
         (λ next. IfSome next
-        (λ done. IsNextOnTop (code_of code.now)
+        (λ done. IsNextOnTop code.now
         (environment world.entry.memory.now world.entry.plan.now.readings world.entry.unit) done.op done.effect
         frames.old frames.new)) }
-    ensures none { IfOk result (λ next. IfNone next (top_rest (code_of code.now) frames.old ≡ [])) }
-    ensures begun { AreBegun code.now.nodes frames.new }
+    ensures none { IfOk result (λ next. IfNone next (top_rest code.now frames.old ≡ [])) }
 {
     match frames.top_mut() {
         Some(frame) => next_in(alloc, code, world, frame),
@@ -85,24 +83,28 @@ fn next_on_top(
 /// The next operation of the highest frame of a job.
 pub(crate) fn frame_op(
     alloc: Global,
-    code: &Code<'_>,
+    code: &OpList<'_>,
     plan: &Plan,
     state: &mut RunState,
     job: Job,
     told: &mut Vec<Event>,
-) -> Result<bool, Memory>
-    requires begun { AreAllBegun code.now.nodes state.old }
+) -> Result<Acted, Memory>
     requires numbers { HasNumbers state.old.memory }
-    requires stands { JobStands (code_of code.now) plan.now.readings state.old (job_seen job) }
-    ensures { (activity : ActivityOfRun) → activity_of (state_of (code_of code.now) state.old)
+    requires stands { JobStands code.now plan.now.readings state.old (job_seen job) }
+    ensures led { (activity : ActivityOfRun) → activity_of (state_of code.now state.old)
         (job_seen job) ≡ Some activity →
         IfOk result
-        (λ answer. IsLedTry (code_of code.now)
-        (frame_op (code_of code.now) plan.now.readings (state_of (code_of code.now) state.old) (job_seen job) activity)
-        answer state.new told.old.items told.new.items) }
+        (λ acted. IsLedTry code.now
+        (frame_op (code_of code.now.program) plan.now.readings (state_of code.now state.old) (job_seen job) activity)
+        (went acted) state.new told.old.items told.new.items) }
+    ensures refused { (activity : ActivityOfRun) → activity_of (state_of code.now state.old)
+        (job_seen job) ≡ Some activity →
+        IfOk result
+        (λ acted. Refuses acted (refused_on (code_of code.now.program) plan.now.readings
+        (state_of code.now state.old) activity.frames)) }
 {
     let Some(mut activity) = take_out(alloc, state, job) else {
-        return Ok(false);
+        return Ok(Acted::Stuck);
     };
     let world = World {
         memory: &state.memory,
@@ -110,12 +112,12 @@ pub(crate) fn frame_op(
         unit: state.unit,
     };
     let Some(done) = next_on_top(alloc, code, world, &mut activity.frames)? else {
-        return Ok(false);
+        return Ok(Acted::Stuck);
     };
     let acting = Acting {
         job,
         place: place_of(code, done.op),
     };
-    let went = apply(alloc, code, state, acting, activity, done.effect, told)?;
-    Ok(went)
+    let acted = apply_effect(alloc, code, state, acting, activity, done.effect, told)?;
+    Ok(acted)
 }

@@ -6,7 +6,9 @@ mod arrivals;
 mod dues;
 mod frame_ops;
 mod places;
+pub mod refusals;
 mod turns;
 pub mod units;
 
-pub use units::{Setting, one_unit};
+pub use refusals::Acted;
+pub use units::{Setting, begin_unit, end_unit, one_unit};

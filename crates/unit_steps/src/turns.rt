@@ -3,23 +3,27 @@
 ghost use Rattle.std.specs.Prelude.{◌≡◌, ◌∷◌, ◌++◌, ◌<◌, ℕ, true, [], IfOk, OnOk, Some, option_map};
 ghost use Rattle.scj_rules.specs.Words.{holds, is_among};
 ghost use Rattle.scj_model.specs.declared.events.Event.TheVariants.{Run as RunEvent};
-ghost use Rattle.scj_model.specs.Code.{Code as CodeOfRun, code_of};
+ghost use Rattle.scj_model.specs.Code.{code_of};
+ghost use Rattle.op_list.specs.Listed.{Listing};
 ghost use Rattle.scj_model.specs.Choice.{by_priority};
 ghost use Rattle.scj_model.specs.Run.{acts, is_same_turn, ref_op, sequencer_turn, tell_turn, turn_acts, turn_taken};
 ghost use Rattle.scj_model.specs.State.{ReleaseAt, TheSequencer, TurnOf};
 ghost use Rattle.scj_model.specs.Steps.{of_release};
-ghost use Rattle.run_state.specs.Seen.{AreAllBegun, state_of, turn_seen};
+ghost use Rattle.run_state.specs.Seen.{state_of, turn_seen};
 ghost use Rattle.run_state.specs.Standing.{HasNumbers};
 ghost use Rattle.run_state.specs.Steps.{IsStep};
 ghost use Rattle.unit_steps.specs.Led.{IsLedTry};
 ghost use Rattle.unit_steps.specs.Moves.{move_at, move_by};
+ghost use Rattle.area_needs.specs.Refusals.{refused_at, refused_to_sequencer, refused_to_turn};
+ghost use Rattle.unit_steps.specs.Refused.{Refuses, went};
 ghost use Rattle.unit_steps.specs.Standing.{ActsStand, JobStands, StartStands};
 ghost use Rattle.mission_steps.specs.Standing.{IsOnLive};
 ghost use Rattle.region_heap.specs.Contents.{is_open_area, open_count};
 
 use crate::frame_ops::frame_op;
-use job_frames::Code;
+use crate::refusals::{Acted, came_to, refused_own};
 use mission_steps::{is_exec, sequencer_op, start_op};
+use op_list::OpList;
 use run_plan::Plan;
 use run_releases::{Release, ReleaseStatus};
 use run_state::told::tell;
@@ -31,28 +35,31 @@ use std::alloc::Global;
 /// The sequencer's own operation, or the next one of the body that it called.
 fn sequencer_turn(
     alloc: Global,
-    code: &Code<'_>,
+    code: &OpList<'_>,
     plan: &Plan,
     state: &mut RunState,
     told: &mut Vec<Event>,
-) -> Result<bool, Memory>
-    requires begun { AreAllBegun code.now.nodes state.old }
+) -> Result<Acted, Memory>
     requires numbers { HasNumbers state.old.memory }
     requires few { open_count state.old.memory < 1794 }
     requires live { IsOnLive state.old.memory state.old.operation }
     requires areas { (a : ℕ) → is_among a state.old.activity.areas ≡ true → is_open_area state.old.memory a ≡ true }
-    requires job { JobStands (code_of code.now) plan.now.readings state.old TheSequencer }
-    ensures { IfOk result
-        (λ answer. IsLedTry (code_of code.now)
-        (sequencer_turn (code_of code.now) plan.now.readings (state_of (code_of code.now) state.old)) answer state.new
-        told.old.items told.new.items) }
+    requires job { JobStands code.now plan.now.readings state.old TheSequencer }
+    ensures led { IfOk result
+        (λ acted. IsLedTry code.now
+        (sequencer_turn (code_of code.now.program) plan.now.readings (state_of code.now state.old)) (went acted)
+        state.new told.old.items told.new.items) }
+    ensures refused { IfOk result
+        (λ acted. Refuses acted
+        (refused_to_sequencer (code_of code.now.program) plan.now.readings (state_of code.now state.old))) }
 {
     if state.activity.frames.depth() == 0 {
+        let refusal = refused_own(alloc, code, state)?;
         let went = sequencer_op(alloc, code, state, told)?;
-        return Ok(went);
+        return Ok(came_to(went, refusal));
     }
-    let went = frame_op(alloc, code, plan, state, Job::Sequencer, told)?;
-    Ok(went)
+    let acted = frame_op(alloc, code, plan, state, Job::Sequencer, told)?;
+    Ok(acted)
 }
 
 /// How a release goes on.
@@ -92,31 +99,34 @@ fn move_at(state: &RunState, place: usize) -> Move
 /// One operation of the release at a place.
 fn release_turn(
     alloc: Global,
-    code: &Code<'_>,
+    code: &OpList<'_>,
     plan: &Plan,
     state: &mut RunState,
     place: usize,
     told: &mut Vec<Event>,
-) -> Result<bool, Memory>
-    requires begun { AreAllBegun code.now.nodes state.old }
+) -> Result<Acted, Memory>
     requires numbers { HasNumbers state.old.memory }
     requires start { StartStands state.old place }
-    requires job { JobStands (code_of code.now) plan.now.readings state.old (ReleaseAt place) }
-    ensures { IfOk result
-        (λ answer. IsLedTry (code_of code.now)
-        (ref_op (code_of code.now) plan.now.readings (state_of (code_of code.now) state.old) (ReleaseAt place)) answer
-        state.new told.old.items told.new.items) }
+    requires job { JobStands code.now plan.now.readings state.old (ReleaseAt place) }
+    ensures led { IfOk result
+        (λ acted. IsLedTry code.now
+        (ref_op (code_of code.now.program) plan.now.readings (state_of code.now state.old) (ReleaseAt place))
+        (went acted) state.new told.old.items told.new.items) }
+    ensures refused { IfOk result
+        (λ acted. Refuses acted
+        (refused_to_turn (code_of code.now.program) plan.now.readings (state_of code.now state.old)
+        (TurnOf place))) }
 {
     match move_at(state, place) {
         Move::Starts { handler } => {
             let went = start_op(alloc, code, state, place, handler, told)?;
-            Ok(went)
+            Ok(came_to(went, None))
         }
         Move::GoesOn => {
-            let went = frame_op(alloc, code, plan, state, Job::Release(place), told)?;
-            Ok(went)
+            let acted = frame_op(alloc, code, plan, state, Job::Release(place), told)?;
+            Ok(acted)
         }
-        Move::Nothing => Ok(false),
+        Move::Nothing => Ok(Acted::Stuck),
     }
 }
 
@@ -149,7 +159,7 @@ fn is_last(state: &RunState, turn: Turn) -> bool
 
 /// Tells that the release at a place acts.
 fn tell_run(state: &RunState, place: usize, told: &mut Vec<Event>) -> Result<(), Memory>
-    ensures { (code : CodeOfRun) →
+    ensures { (code : Listing) →
         OnOk result
         (told.new.items ≡ told.old.items ++ of_release (state_of code state.now) (ReleaseAt place)
         (λ r. RunEvent state.now.unit r.handler r.number ∷ [])) }
@@ -173,7 +183,7 @@ fn tell_run(state: &RunState, place: usize, told: &mut Vec<Event>) -> Result<(),
 
 /// Tells whose turn it is.
 fn tell_turn(state: &RunState, turn: Turn, told: &mut Vec<Event>) -> Result<(), Memory>
-    ensures { (code : CodeOfRun) →
+    ensures { (code : Listing) →
         OnOk result
         (told.new.items ≡ told.old.items ++ tell_turn (state_of code state.now) (turn_seen turn)) }
 {
@@ -192,7 +202,7 @@ fn tell_turn(state: &RunState, turn: Turn, told: &mut Vec<Event>) -> Result<(), 
 
 /// Tells whose turn it is where the last one was another.
 fn tell_other_turn(state: &RunState, turn: Turn, told: &mut Vec<Event>) -> Result<(), Memory>
-    ensures { (code : CodeOfRun) →
+    ensures { (code : Listing) →
         OnOk result
         (told.new.items ≡ told.old.items ++ (turn_taken (state_of code state.now) (turn_seen turn)).events) }
 {
@@ -206,7 +216,7 @@ fn tell_other_turn(state: &RunState, turn: Turn, told: &mut Vec<Event>) -> Resul
 /// A turn is told where the last one was another.
 fn turn_taken(state: &mut RunState, turn: Turn, told: &mut Vec<Event>) -> Result<(), Memory>
     ensures same { IfOk result (λ _. state.new ≡ record state.old { last_choice = Some turn }) }
-    ensures step { (code : CodeOfRun) → AreAllBegun code.program.nodes state.old →
+    ensures step { (code : Listing) →
         IfOk result
         (λ _. IsStep code (turn_taken (state_of code state.old) (turn_seen turn)) state.new told.old.items
         told.new.items) }
@@ -219,34 +229,37 @@ fn turn_taken(state: &mut RunState, turn: Turn, told: &mut Vec<Event>) -> Result
 /// The chosen release acts, if one is chosen.
 fn turn_acts(
     alloc: Global,
-    code: &Code<'_>,
+    code: &OpList<'_>,
     plan: &Plan,
     state: &mut RunState,
     turn: Turn,
     told: &mut Vec<Event>,
-) -> Result<bool, Memory>
-    requires begun { AreAllBegun code.now.nodes state.old }
+) -> Result<Acted, Memory>
     requires numbers { HasNumbers state.old.memory }
     requires start { (place : ℕ) → turn_seen turn ≡ TurnOf place → StartStands state.old place }
     requires job { (place : ℕ) → turn_seen turn ≡ TurnOf place →
-        JobStands (code_of code.now) plan.now.readings state.old (ReleaseAt place) }
-    ensures { IfOk result
-        (λ answer. IsLedTry (code_of code.now)
-        (turn_acts (code_of code.now) plan.now.readings (turn_seen turn) (state_of (code_of code.now) state.old))
-        answer state.new told.old.items told.new.items) }
+        JobStands code.now plan.now.readings state.old (ReleaseAt place) }
+    ensures led { IfOk result
+        (λ acted. IsLedTry code.now
+        (turn_acts (code_of code.now.program) plan.now.readings (turn_seen turn) (state_of code.now state.old))
+        (went acted) state.new told.old.items told.new.items) }
+    ensures refused { IfOk result
+        (λ acted. Refuses acted
+        (refused_to_turn (code_of code.now.program) plan.now.readings (state_of code.now state.old)
+        (turn_seen turn))) }
 {
     match turn {
-        Turn::Idle => Ok(true),
+        Turn::Idle => Ok(Acted::Done(None)),
         Turn::Of(place) => {
-            let went = release_turn(alloc, code, plan, state, place, told)?;
-            Ok(went)
+            let acted = release_turn(alloc, code, plan, state, place, told)?;
+            Ok(acted)
         }
     }
 }
 
 /// Whose turn it is in a unit of execution.
 fn turn_of(state: &RunState) -> Turn
-    ensures { (code : CodeOfRun) → Some (turn_seen result) ≡ by_priority (state_of code state.now) }
+    ensures { (code : Listing) → Some (turn_seen result) ≡ by_priority (state_of code state.now) }
 {
     match state.releases.chosen(state.registry.as_slice()) {
         Some(place) => Turn::Of(place),
@@ -257,24 +270,26 @@ fn turn_of(state: &RunState) -> Turn
 /// The choice and the operation: in execution a release acts or the unit is idle, else the sequencer acts.
 pub(crate) fn acts(
     alloc: Global,
-    code: &Code<'_>,
+    code: &OpList<'_>,
     plan: &Plan,
     state: &mut RunState,
     told: &mut Vec<Event>,
-) -> Result<bool, Memory>
-    requires begun { AreAllBegun code.now.nodes state.old }
-    requires stands { ActsStand (code_of code.now) plan.now.readings state.old }
-    ensures { IfOk result
-        (λ answer. IsLedTry (code_of code.now)
-        (acts (code_of code.now) plan.now.readings by_priority (state_of (code_of code.now) state.old)) answer
-        state.new told.old.items told.new.items) }
+) -> Result<Acted, Memory>
+    requires stands { ActsStand code.now plan.now.readings state.old }
+    ensures led { IfOk result
+        (λ acted. IsLedTry code.now
+        (acts (code_of code.now.program) plan.now.readings by_priority (state_of code.now state.old))
+        (went acted) state.new told.old.items told.new.items) }
+    ensures refused { IfOk result
+        (λ acted. Refuses acted
+        (refused_at (code_of code.now.program) plan.now.readings by_priority (state_of code.now state.old))) }
 {
     if !is_exec(state.phase) {
-        let went = sequencer_turn(alloc, code, plan, state, told)?;
-        return Ok(went);
+        let acted = sequencer_turn(alloc, code, plan, state, told)?;
+        return Ok(acted);
     }
     let turn = turn_of(state);
     turn_taken(state, turn, told)?;
-    let went = turn_acts(alloc, code, plan, state, turn, told)?;
-    Ok(went)
+    let acted = turn_acts(alloc, code, plan, state, turn, told)?;
+    Ok(acted)
 }

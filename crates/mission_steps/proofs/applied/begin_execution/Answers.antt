@@ -6,10 +6,9 @@ use Rattle.mission_steps.proofs.applied.begin_execution.Goals as goal
 
 pub returns : goal.returns
 unfolding seq_applied state_of
-returns c = λ code begun. record {
+returns c = λ code. record {
   state =
       ap (λ (n : ℕ). (let s : State = record (state_of code c.args.state.now) { origin = n; last_choice = None } in s))
       c.in_ok-state.ensures;
   told = c.in_ok-tell.ensures;
-  begun = record { sequencer = begun.sequencer; releases = begun.releases };
 }

@@ -6,9 +6,8 @@ use Rattle.mission_steps.proofs.applied.begin_mission.Goals as goal
 
 pub returns : goal.returns
 unfolding seq_applied state_of
-returns c = λ begun. record {
+returns c = record {
   state = refl;
   told = c.in_ok-tell.ensures ∙ ap (λ (name : List ℕ). c.args.told.now.items ++ Mission c.args.state.now.unit name ∷ [])
       c.class_name_at-class.ensures;
-  begun = begun;
 }

@@ -9,12 +9,12 @@ pub returns-in-Some : goal.returns-in-Some
 unfolding state_of
 returns-in-Some c =
     c.class_name.ensures
-    ∙ by_class (slice_get c.args.state.now.memory.objects c.args.r) [] (class_name (code_of c.args.code.now))
+    ∙ by_class (slice_get c.args.state.now.memory.objects c.args.r) [] (class_name (code_of c.args.code.now.program))
     (Some c.in-Some.class) c.in-Some.ensures
 
 pub returns-in-None : goal.returns-in-None
 unfolding state_of
 returns-in-None c =
     c.new.ensures
-    ∙ by_class (slice_get c.args.state.now.memory.objects c.args.r) [] (class_name (code_of c.args.code.now)) None
+    ∙ by_class (slice_get c.args.state.now.memory.objects c.args.r) [] (class_name (code_of c.args.code.now.program)) None
     c.in-None.ensures

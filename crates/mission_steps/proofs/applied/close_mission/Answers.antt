@@ -10,18 +10,20 @@ use Rattle.run_state.proofs.Standing.{closed_is}
 use Rattle.mission_steps.proofs.Done.{mission_left}
 use Rattle.mission_steps.proofs.applied.close_mission.Goals as goal
 
-pub returns-clause-closed : goal.returns-clause-closed
+pub returns : goal.returns
 unfolding state_of
-returns-clause-closed c = λ code.
-    ap (λ (rows : List HandlerRow). (let s : State = record (state_of code
-    (let st : RunState = record c.args.state.now { memory = c.close_opened.new.memory; mission = None } in st)) {
-      activity = record (state_of code c.args.state.now).activity { areas = c.drop_innermost.new.self };
-      registry = rows;
-    } in s)) c.clear.ensures.items
-    ∙ mission_left code c.args.state.now c.close_opened.new.memory c.drop_innermost.new.self
-    (λ s. ap (λ (area : Option ℕ). closed (with_memory s c.args.state.now.memory) area) (sym c.innermost-area.ensures)
-    ∙ (closed_is s c.args.state.now.memory c.innermost-area.result
-    ∙ ap (λ (m : Contents). with_memory s m) (sym c.close_opened.ensures))) c.drop_innermost.ensures
+returns c = record {
+  closed = λ code.
+      ap (λ (rows : List HandlerRow). (let s : State = record (state_of code
+      (let st : RunState = record c.args.state.now { memory = c.close_opened.new.memory; mission = None } in st)) {
+        activity = record (state_of code c.args.state.now).activity { areas = c.drop_innermost.new.self };
+        registry = rows;
+      } in s)) c.clear.ensures.items
+      ∙ mission_left code c.args.state.now c.close_opened.new.memory c.drop_innermost.new.self
+      (λ s. ap (λ (area : Option ℕ). closed (with_memory s c.args.state.now.memory) area) (sym c.innermost-area.ensures)
+      ∙ (closed_is s c.args.state.now.memory c.innermost-area.result
+      ∙ ap (λ (m : Contents). with_memory s m) (sym c.close_opened.ensures))) c.drop_innermost.ensures;
+}
 
 pub close_opened-requires : goal.close_opened-requires
 close_opened-requires c =

@@ -1,7 +1,6 @@
 use Rattle.std.proofs.Common.{subst}
 use Rattle.scj_base.specs.declared.faults.RunFault.TheVariants.{NullPointer}
 use Rattle.scj_base.specs.declared.places.Pos.{Pos}
-use Rattle.scj_model.specs.Code.{code_of}
 use Rattle.scj_model.specs.State.{TheSequencer}
 use Rattle.scj_model.specs.Steps.{fault_in}
 use Rattle.scj_model.specs.Sequencer.{seq_applied}
@@ -11,10 +10,9 @@ use Rattle.mission_steps.proofs.applied.lack_sequencer.Goals as goal
 
 pub returns : goal.returns
 unfolding seq_applied
-returns c = λ begun.
-    subst (λ (place : Pos). IsStep (code_of c.args.code.now)
-    (fault_in (state_of (code_of c.args.code.now) c.args.state.now) TheSequencer
-    (state_of (code_of c.args.code.now) c.args.state.now).activity place NullPointer) c.halted.new.state
+returns c =
+    subst (λ (place : Pos). IsStep c.args.code.now
+    (fault_in (state_of c.args.code.now c.args.state.now) TheSequencer
+    (state_of c.args.code.now c.args.state.now).activity place NullPointer) c.halted.new.state
     c.args.told.now.items c.halted.new.told.items) c.place_of_object-place.ensures
-    (c.in_ok-halted.ensures (code_of c.args.code.now) (state_of (code_of c.args.code.now) c.args.state.now).activity
-    begun)
+    (c.in_ok-halted.ensures c.args.code.now (state_of c.args.code.now c.args.state.now).activity)

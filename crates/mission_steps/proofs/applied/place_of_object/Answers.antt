@@ -11,10 +11,10 @@ unfolding state_of
 returns-in-Some c =
     c.class_place.ensures
     ∙ by_class (slice_get c.args.state.now.memory.objects c.args.r) nowhere
-    (class_place (code_of c.args.code.now).program) (Some c.in-Some.class) c.in-Some.ensures
+    (class_place (code_of c.args.code.now.program).program) (Some c.in-Some.class) c.in-Some.ensures
 
 pub returns-in-None : goal.returns-in-None
 unfolding state_of
 returns-in-None c =
     by_class (slice_get c.args.state.now.memory.objects c.args.r) nowhere
-    (class_place (code_of c.args.code.now).program) None c.in-None.ensures
+    (class_place (code_of c.args.code.now.program).program) None c.in-None.ensures

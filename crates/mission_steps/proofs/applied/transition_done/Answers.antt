@@ -3,5 +3,5 @@ use Rattle.mission_steps.proofs.applied.transition_done.Goals as goal
 
 pub returns : goal.returns
 unfolding state_of
-returns c = λ begun.
-    c.in_ok-seq_applied.ensures (record { sequencer = begun.sequencer; releases = begun.releases })
+returns c =
+    c.in_ok-seq_applied.ensures

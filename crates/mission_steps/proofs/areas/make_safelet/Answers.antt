@@ -11,37 +11,35 @@ use Rattle.mission_steps.proofs.Openings.{is_made, made_there, not_made}
 use Rattle.mission_steps.proofs.areas.make_safelet.Goals as goal
 
 pub returns-in-Some : goal.returns-in-Some
-returns-in-Some c = λ begun.
-    made_there (code_of c.args.code.now) c.args.state.now
-    (class_place (code_of c.args.code.now).program c.args.class) c.args.class c.args.area
+returns-in-Some c =
+    made_there c.args.code.now c.args.state.now
+    (class_place (code_of c.args.code.now.program).program c.args.class) c.args.class c.args.area
     c.in_ok-object.object.slots.items c.make_object.new.state
     c.in-Some.r c.args.told.now.items (sym c.in_ok-object.ensures.slots)
-    (is_made (code_of c.args.code.now) c.args.state.now (class_place (code_of c.args.code.now).program c.args.class)
+    (is_made c.args.code.now c.args.state.now (class_place (code_of c.args.code.now.program).program c.args.class)
     c.args.class c.args.area c.in_ok-object.object.slots.items
     c.in_ok-object.object.class c.make_object.result (Some c.in-Some.r)
-    (state_of (code_of c.args.code.now) c.make_object.new.state) c.in_ok-object.ensures.class c.in-Some.is
-    (c.make_object.ensures.made (code_of c.args.code.now) TheSequencer
-    (state_of (code_of c.args.code.now) c.args.state.now).activity
-    (class_place (code_of c.args.code.now).program c.args.class)))
-    (c.make_object.ensures.begun (code_of c.args.code.now).program.nodes begun)
+    (state_of c.args.code.now c.make_object.new.state) c.in_ok-object.ensures.class c.in-Some.is
+    (c.make_object.ensures.made c.args.code.now TheSequencer
+    (state_of c.args.code.now c.args.state.now).activity
+    (class_place (code_of c.args.code.now.program).program c.args.class)))
 
 pub returns : goal.returns
-returns c = λ begun.
-    not_made (code_of c.args.code.now) c.args.state.now
-    (class_place (code_of c.args.code.now).program c.args.class) c.args.class c.args.area
+returns c =
+    not_made c.args.code.now c.args.state.now
+    (class_place (code_of c.args.code.now.program).program c.args.class) c.args.class c.args.area
     c.in_ok-object.object.slots.items c.make_object.new.state
     c.halted.new.state c.args.told.now.items c.halted.new.told.items (sym c.in_ok-object.ensures.slots)
-    (is_made (code_of c.args.code.now) c.args.state.now (class_place (code_of c.args.code.now).program c.args.class)
+    (is_made c.args.code.now c.args.state.now (class_place (code_of c.args.code.now.program).program c.args.class)
     c.args.class c.args.area c.in_ok-object.object.slots.items
     c.in_ok-object.object.class c.make_object.result None
-    (state_of (code_of c.args.code.now) c.make_object.new.state) c.in_ok-object.ensures.class c.in-None.is
-    (c.make_object.ensures.made (code_of c.args.code.now) TheSequencer
-    (state_of (code_of c.args.code.now) c.args.state.now).activity
-    (class_place (code_of c.args.code.now).program c.args.class)))
-    (subst (λ (place : Pos). IsStep (code_of c.args.code.now)
-    (fault_in (state_of (code_of c.args.code.now) c.make_object.new.state) TheSequencer
-    (state_of (code_of c.args.code.now) c.args.state.now).activity place MemoryFull) c.halted.new.state
+    (state_of c.args.code.now c.make_object.new.state) c.in_ok-object.ensures.class c.in-None.is
+    (c.make_object.ensures.made c.args.code.now TheSequencer
+    (state_of c.args.code.now c.args.state.now).activity
+    (class_place (code_of c.args.code.now.program).program c.args.class)))
+    (subst (λ (place : Pos). IsStep c.args.code.now
+    (fault_in (state_of c.args.code.now c.make_object.new.state) TheSequencer
+    (state_of c.args.code.now c.args.state.now).activity place MemoryFull) c.halted.new.state
     c.args.told.now.items c.halted.new.told.items) c.class_place.ensures
-    (c.in_ok-halted-in-None.ensures (code_of c.args.code.now)
-    (state_of (code_of c.args.code.now) c.args.state.now).activity
-    (c.make_object.ensures.begun (code_of c.args.code.now).program.nodes begun)))
+    (c.in_ok-halted-in-None.ensures c.args.code.now
+    (state_of c.args.code.now c.args.state.now).activity))

@@ -8,26 +8,26 @@ use Rattle.mission_steps.proofs.operations.call_method.Goals as goal
 
 pub returns-in_default : goal.returns-in_default
 unfolding state_of
-returns-in_default c = λ told begun.
-    no_step (code_of c.args.code.now) c.args.state.now told told _
-    (no_method_called (code_of c.args.code.now) (state_of (code_of c.args.code.now) c.args.state.now) c.args.r
+returns-in_default c = λ told.
+    no_step c.args.code.now c.args.state.now told told _
+    (no_method_called c.args.code.now (state_of c.args.code.now c.args.state.now) c.args.r
     c.args.name.now c.in_default.ensures)
 
 pub returns-in_default-body_named : goal.returns-in_default-body_named
 unfolding state_of
-returns-in_default-body_named c = λ told begun.
-    no_step (code_of c.args.code.now) c.args.state.now told told _
-    (no_method (code_of c.args.code.now) (state_of (code_of c.args.code.now) c.args.state.now) c.args.r
+returns-in_default-body_named c = λ told.
+    no_step c.args.code.now c.args.state.now told told _
+    (no_method c.args.code.now (state_of c.args.code.now c.args.state.now) c.args.r
     c.in-Some.class c.args.name.now c.in-Some.ensures
-    (ap (λ (name : List ℕ). body_named (code_of c.args.code.now).program c.in-Some.class name) (sym c.new.ensures)
+    (ap (λ (name : List ℕ). body_named (code_of c.args.code.now.program).program c.in-Some.class name) (sym c.new.ensures)
     ∙ sym c.in_default-body_named.ensures))
 
 pub returns : goal.returns
 unfolding state_of
-returns c = λ told begun.
-    as_try (code_of c.args.code.now) c.in_ok-went.went c.call_body.new.state told told _ _
-    (method_found (code_of c.args.code.now) (state_of (code_of c.args.code.now) c.args.state.now) c.args.r
+returns c = λ told.
+    as_try c.args.code.now c.in_ok-went.went c.call_body.new.state told told _ _
+    (method_found c.args.code.now (state_of c.args.code.now c.args.state.now) c.args.r
     c.in-Some.class c.args.name.now c.in-Some-body_named.body c.in-Some.ensures
-    (ap (λ (name : List ℕ). body_named (code_of c.args.code.now).program c.in-Some.class name) (sym c.new.ensures)
+    (ap (λ (name : List ℕ). body_named (code_of c.args.code.now.program).program c.in-Some.class name) (sym c.new.ensures)
     ∙ sym c.in-Some-body_named.ensures))
-    (c.in_ok-went.ensures told begun)
+    (c.in_ok-went.ensures told)

@@ -1,7 +1,6 @@
 use Rattle.std.proofs.Common.{subst, sym}
 use Rattle.scj_base.specs.declared.places.Pos.{Pos}
 use Rattle.scj_rules.specs.ScopeRules.{immortal_scope}
-use Rattle.scj_model.specs.Code.{code_of}
 use Rattle.scj_model.specs.Sequencer.{area_opened}
 use Rattle.run_state.specs.Seen.{state_of}
 use Rattle.run_state.specs.Steps.{IsStep}
@@ -12,26 +11,26 @@ use Rattle.mission_steps.proofs.operations.open_immortal.Goals as goal
 
 pub returns-in_default : goal.returns-in_default
 unfolding state_of
-returns-in_default c = λ begun.
-    no_step (code_of c.args.code.now) c.args.state.now c.args.told.now.items c.args.told.now.items _
-    (no_safelet (code_of c.args.code.now) (state_of (code_of c.args.code.now) c.args.state.now)
+returns-in_default c =
+    no_step c.args.code.now c.args.state.now c.args.told.now.items c.args.told.now.items _
+    (no_safelet c.args.code.now (state_of c.args.code.now c.args.state.now)
     (sym c.in_default.ensures))
 
 pub returns-in_default-size_of : goal.returns-in_default-size_of
 unfolding state_of
-returns-in_default-size_of c = λ begun.
-    no_step (code_of c.args.code.now) c.args.state.now c.args.told.now.items c.args.told.now.items _
-    (no_immortal (code_of c.args.code.now) (state_of (code_of c.args.code.now) c.args.state.now) c.in-Some.class
+returns-in_default-size_of c =
+    no_step c.args.code.now c.args.state.now c.args.told.now.items c.args.told.now.items _
+    (no_immortal c.args.code.now (state_of c.args.code.now c.args.state.now) c.in-Some.class
     (sym c.in-Some.ensures)
     (sym c.in_default-size_of.ensures))
 
 pub returns : goal.returns
 unfolding state_of
-returns c = λ begun.
-    try_of (code_of c.args.code.now) c.open_inside.new.state c.args.told.now.items c.open_inside.new.told.items _ _
-    (immortal_opened (code_of c.args.code.now) (state_of (code_of c.args.code.now) c.args.state.now) c.in-Some.class
+returns c =
+    try_of c.args.code.now c.open_inside.new.state c.args.told.now.items c.open_inside.new.told.items _ _
+    (immortal_opened c.args.code.now (state_of c.args.code.now c.args.state.now) c.in-Some.class
     c.in-Some-size_of.bytes (sym c.in-Some.ensures) (sym c.in-Some-size_of.ensures))
-    (subst (λ (place : Pos). IsStep (code_of c.args.code.now)
-    (area_opened (state_of (code_of c.args.code.now) c.args.state.now) place immortal_scope c.in-Some-size_of.bytes)
+    (subst (λ (place : Pos). IsStep c.args.code.now
+    (area_opened (state_of c.args.code.now c.args.state.now) place immortal_scope c.in-Some-size_of.bytes)
     c.open_inside.new.state c.args.told.now.items c.open_inside.new.told.items) c.class_place.ensures
-    (c.in_ok-open_inside.ensures (code_of c.args.code.now) begun))
+    (c.in_ok-open_inside.ensures c.args.code.now))

@@ -1,6 +1,5 @@
 use Rattle.std.proofs.Common.{subst, sym}
 use Rattle.scj_base.specs.declared.places.Pos.{Pos}
-use Rattle.scj_model.specs.Code.{code_of}
 use Rattle.scj_model.specs.Sequencer.{area_opened}
 use Rattle.run_state.specs.Seen.{state_of}
 use Rattle.run_state.specs.Steps.{IsStep}
@@ -11,35 +10,35 @@ use Rattle.mission_steps.proofs.operations.open_mission.Goals as goal
 
 pub returns-in_default : goal.returns-in_default
 unfolding state_of
-returns-in_default c = λ begun.
-    no_step (code_of c.args.code.now) c.args.state.now c.args.told.now.items c.args.told.now.items _
-    (no_mission (code_of c.args.code.now) (state_of (code_of c.args.code.now) c.args.state.now) c.args.r
+returns-in_default c =
+    no_step c.args.code.now c.args.state.now c.args.told.now.items c.args.told.now.items _
+    (no_mission c.args.code.now (state_of c.args.code.now c.args.state.now) c.args.r
     c.in_default.ensures)
 
 pub returns-in_default-private_scope : goal.returns-in_default-private_scope
 unfolding state_of
-returns-in_default-private_scope c = λ begun.
-    no_step (code_of c.args.code.now) c.args.state.now c.args.told.now.items c.args.told.now.items _
-    (no_scope (code_of c.args.code.now) (state_of (code_of c.args.code.now) c.args.state.now) c.args.r c.in-Some.class
+returns-in_default-private_scope c =
+    no_step c.args.code.now c.args.state.now c.args.told.now.items c.args.told.now.items _
+    (no_scope c.args.code.now (state_of c.args.code.now c.args.state.now) c.args.r c.in-Some.class
     c.in-Some.ensures
     (sym c.in_default-private_scope.ensures))
 
 pub returns-in_default-size_of : goal.returns-in_default-size_of
 unfolding state_of
-returns-in_default-size_of c = λ begun.
-    no_step (code_of c.args.code.now) c.args.state.now c.args.told.now.items c.args.told.now.items _
-    (no_size (code_of c.args.code.now) (state_of (code_of c.args.code.now) c.args.state.now) c.args.r c.in-Some.class
+returns-in_default-size_of c =
+    no_step c.args.code.now c.args.state.now c.args.told.now.items c.args.told.now.items _
+    (no_size c.args.code.now (state_of c.args.code.now c.args.state.now) c.args.r c.in-Some.class
     c.in-Some-private_scope.scope c.in-Some.ensures (sym c.in-Some-private_scope.ensures)
     (sym c.in_default-size_of.ensures))
 
 pub returns : goal.returns
 unfolding state_of
-returns c = λ begun.
-    try_of (code_of c.args.code.now) c.open_inside.new.state c.args.told.now.items c.open_inside.new.told.items _ _
-    (mission_opened (code_of c.args.code.now) (state_of (code_of c.args.code.now) c.args.state.now) c.args.r
+returns c =
+    try_of c.args.code.now c.open_inside.new.state c.args.told.now.items c.open_inside.new.told.items _ _
+    (mission_opened c.args.code.now (state_of c.args.code.now c.args.state.now) c.args.r
     c.in-Some.class c.in-Some-private_scope.scope c.in-Some-size_of.bytes c.in-Some.ensures
     (sym c.in-Some-private_scope.ensures) (sym c.in-Some-size_of.ensures))
-    (subst (λ (place : Pos). IsStep (code_of c.args.code.now)
-    (area_opened (state_of (code_of c.args.code.now) c.args.state.now) place c.in-Some-private_scope.scope
+    (subst (λ (place : Pos). IsStep c.args.code.now
+    (area_opened (state_of c.args.code.now c.args.state.now) place c.in-Some-private_scope.scope
     c.in-Some-size_of.bytes) c.open_inside.new.state c.args.told.now.items c.open_inside.new.told.items)
-    c.class_place.ensures (c.in_ok-open_inside.ensures (code_of c.args.code.now) begun))
+    c.class_place.ensures (c.in_ok-open_inside.ensures c.args.code.now))

@@ -1,5 +1,4 @@
 use Rattle.std.proofs.Common.{None, refl}
-use Rattle.scj_model.specs.Code.{code_of}
 use Rattle.scj_model.specs.Sequencer.{sequencer_op}
 use Rattle.mission_steps.proofs.Going.{no_step}
 use Rattle.mission_steps.proofs.operations.operate.Goals as goal
@@ -38,13 +37,13 @@ returns-in-CleanUp c = rw c.in-CleanUp.is (c.call_method-in-CleanUp.ensures c.ar
 
 pub returns-in-Execute : goal.returns-in-Execute
 unfolding sequencer_op
-returns-in-Execute c = rw c.in-Execute.is (λ begun.
-    no_step (code_of c.args.code.now) c.args.state.now c.args.told.now.items c.args.told.now.items None refl)
+returns-in-Execute c = rw c.in-Execute.is (
+    no_step c.args.code.now c.args.state.now c.args.told.now.items c.args.told.now.items None refl)
 
 pub returns-in-Finished : goal.returns-in-Finished
 unfolding sequencer_op
-returns-in-Finished c = rw c.in-Finished.is (λ begun.
-    no_step (code_of c.args.code.now) c.args.state.now c.args.told.now.items c.args.told.now.items None refl)
+returns-in-Finished c = rw c.in-Finished.is (
+    no_step c.args.code.now c.args.state.now c.args.told.now.items c.args.told.now.items None refl)
 
 pub alloc_safelet-requires-clause-numbers : goal.alloc_safelet-requires-clause-numbers
 alloc_safelet-requires-clause-numbers c = c.requires.numbers.objects

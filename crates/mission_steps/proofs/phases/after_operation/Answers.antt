@@ -12,24 +12,24 @@ use Rattle.mission_steps.proofs.phases.after_operation.Goals as goal
 
 pub returns-in_ok-transition_done-in-Some : goal.returns-in_ok-transition_done-in-Some
 unfolding state_of
-returns-in_ok-transition_done-in-Some c = λ begun.
-    try_of (code_of c.args.code.now) c.transition_done.new.state c.args.told.now.items c.transition_done.new.told.items
+returns-in_ok-transition_done-in-Some c =
+    try_of c.args.code.now c.transition_done.new.state c.args.told.now.items c.transition_done.new.told.items
     _ _
-    (follows (code_of c.args.code.now) (state_of (code_of c.args.code.now) c.args.state.now) c.args.value
+    (follows c.args.code.now (state_of c.args.code.now c.args.state.now) c.args.value
     c.skips_execution-skips.result c.what_follows.result c.skips_execution-skips.ensures c.what_follows.ensures
     ∙ ap (λ (found : Option Transition). option_map
-    (transition_done (code_of c.args.code.now) (state_of (code_of c.args.code.now) c.args.state.now))
+    (transition_done (code_of c.args.code.now.program) (state_of c.args.code.now c.args.state.now))
     (option_map transition_seen found)) c.in-Some.is)
-    (c.in_ok-transition_done-in-Some.ensures begun)
+    (c.in_ok-transition_done-in-Some.ensures)
 
 pub returns-in-None : goal.returns-in-None
 unfolding state_of
-returns-in-None c = λ begun.
-    no_step (code_of c.args.code.now) c.args.state.now c.args.told.now.items c.args.told.now.items _
-    (follows (code_of c.args.code.now) (state_of (code_of c.args.code.now) c.args.state.now) c.args.value
+returns-in-None c =
+    no_step c.args.code.now c.args.state.now c.args.told.now.items c.args.told.now.items _
+    (follows c.args.code.now (state_of c.args.code.now c.args.state.now) c.args.value
     c.skips_execution-skips.result c.what_follows.result c.skips_execution-skips.ensures c.what_follows.ensures
     ∙ ap (λ (found : Option Transition). option_map
-    (transition_done (code_of c.args.code.now) (state_of (code_of c.args.code.now) c.args.state.now))
+    (transition_done (code_of c.args.code.now.program) (state_of c.args.code.now c.args.state.now))
     (option_map transition_seen found)) c.in-None.is)
 
 pub transition_done-requires : goal.transition_done-requires

@@ -15,44 +15,43 @@ use Rattle.mission_steps.proofs.requests.register.Goals as goal
 
 pub returns-then-not-is_init : goal.returns-then-not-is_init
 unfolding state_of
-returns-then-not-is_init c = λ r o e begun frames.
-    same_step (code_of c.args.code.now) c.fault_in.new.state c.args.told.now.items c.fault_in.new.told.items _ _
-    (registered_too_late (code_of c.args.code.now)
-    (state_of (code_of c.args.code.now) c.args.state.now)
-    (job_seen c.args.acting.job) (activity_seen (code_of c.args.code.now) c.args.activity) c.args.acting.place r o
-    (with_activity (state_of (code_of c.args.code.now) c.args.state.now) (job_seen c.args.acting.job)
-    (activity_seen (code_of c.args.code.now) c.args.activity))
-    (sym c.is_init.ensures ∙ c.if-not-is_init.true)) (c.in_ok-fault_in.ensures (code_of c.args.code.now) begun)
+returns-then-not-is_init c = λ r o e.
+    same_step c.args.code.now c.fault_in.new.state c.args.told.now.items c.fault_in.new.told.items _ _
+    (registered_too_late c.args.code.now
+    (state_of c.args.code.now c.args.state.now)
+    (job_seen c.args.acting.job) (activity_seen c.args.code.now c.args.activity) c.args.acting.place r o
+    (with_activity (state_of c.args.code.now c.args.state.now) (job_seen c.args.acting.job)
+    (activity_seen c.args.code.now c.args.activity))
+    (sym c.is_init.ensures ∙ c.if-not-is_init.true)) (c.in_ok-fault_in.ensures c.args.code.now)
 
 pub returns-then-is_some : goal.returns-then-is_some
 unfolding state_of
-returns-then-is_some c = λ r o e begun frames.
-    same_step (code_of c.args.code.now) c.put_back.new.state c.args.told.now.items c.args.told.now.items _ _
-    (registered_already (code_of c.args.code.now)
-    (state_of (code_of c.args.code.now) c.args.state.now)
-    (job_seen c.args.acting.job) (activity_seen (code_of c.args.code.now) c.args.activity) c.args.acting.place r o
-    (with_activity (state_of (code_of c.args.code.now) c.args.state.now) (job_seen c.args.acting.job)
-    (activity_seen (code_of c.args.code.now) c.args.activity))
+returns-then-is_some c = λ r o e.
+    same_step c.args.code.now c.put_back.new.state c.args.told.now.items c.args.told.now.items _ _
+    (registered_already c.args.code.now
+    (state_of c.args.code.now c.args.state.now)
+    (job_seen c.args.acting.job) (activity_seen c.args.code.now c.args.activity) c.args.acting.place r o
+    (with_activity (state_of c.args.code.now c.args.state.now) (job_seen c.args.acting.job)
+    (activity_seen c.args.code.now c.args.activity))
     (sym c.is_init.ensures ∙ c.if-not-is_init.false)
     (ap (λ (at : ℕ). is_some (handler_number c.args.state.now.registry.items at))
     (sym (ap (λ (row : HandlerRow). row.at) e))
     ∙ (ap (λ (rows : List HandlerRow). is_some (handler_number rows c.args.row.at)) (sym c.as_slice.ensures.value)
     ∙ (ap (λ (number : Option ℕ). is_some number) (sym c.in_ok-handler_number.ensures)
     ∙ (sym c.is_some.ensures ∙ c.if-is_some.true)))))
-    (quietly (code_of c.args.code.now) c.put_back.new.state c.args.told.now.items _
-    (c.in_ok-put_back.ensures.put (code_of c.args.code.now))
-    (c.in_ok-put_back.ensures.begun (code_of c.args.code.now).program.nodes begun frames))
+    (quietly c.args.code.now c.put_back.new.state c.args.told.now.items _
+    (c.in_ok-put_back.ensures.put c.args.code.now))
 
 pub returns-then-len-ge-MOST_HANDLERS : goal.returns-then-len-ge-MOST_HANDLERS
 unfolding state_of
-returns-then-len-ge-MOST_HANDLERS c = λ r o e begun frames.
-    same_step (code_of c.args.code.now) c.fault_in-then-len-ge-MOST_HANDLERS.new.state c.args.told.now.items
+returns-then-len-ge-MOST_HANDLERS c = λ r o e.
+    same_step c.args.code.now c.fault_in-then-len-ge-MOST_HANDLERS.new.state c.args.told.now.items
     c.fault_in-then-len-ge-MOST_HANDLERS.new.told.items _ _
-    (registered_too_many (code_of c.args.code.now)
-    (state_of (code_of c.args.code.now) c.args.state.now)
-    (job_seen c.args.acting.job) (activity_seen (code_of c.args.code.now) c.args.activity) c.args.acting.place r o
-    (with_activity (state_of (code_of c.args.code.now) c.args.state.now) (job_seen c.args.acting.job)
-    (activity_seen (code_of c.args.code.now) c.args.activity))
+    (registered_too_many c.args.code.now
+    (state_of c.args.code.now c.args.state.now)
+    (job_seen c.args.acting.job) (activity_seen c.args.code.now c.args.activity) c.args.acting.place r o
+    (with_activity (state_of c.args.code.now c.args.state.now) (job_seen c.args.acting.job)
+    (activity_seen c.args.code.now c.args.activity))
     (sym c.is_init.ensures ∙ c.if-not-is_init.false)
     (ap (λ (at : ℕ). is_some (handler_number c.args.state.now.registry.items at))
     (sym (ap (λ (row : HandlerRow). row.at) e))
@@ -60,17 +59,17 @@ returns-then-len-ge-MOST_HANDLERS c = λ r o e begun frames.
     ∙ (ap (λ (number : Option ℕ). is_some number) (sym c.in_ok-handler_number.ensures)
     ∙ (sym c.is_some.ensures ∙ c.if-is_some.false))))
     (le-ltb (length c.args.state.now.registry.items) 64 (omega (arith, c.len.ensures, c.if-len-ge-MOST_HANDLERS.true))))
-    (c.in_ok-fault_in-2.ensures (code_of c.args.code.now) begun)
+    (c.in_ok-fault_in-2.ensures c.args.code.now)
 
 pub returns : goal.returns
 unfolding state_of
-returns c = λ r o e begun frames.
-    same_step (code_of c.args.code.now) c.enter.new.state c.args.told.now.items c.enter.new.told.items _ _
-    (registered_newly (code_of c.args.code.now)
-    (state_of (code_of c.args.code.now) c.args.state.now)
-    (job_seen c.args.acting.job) (activity_seen (code_of c.args.code.now) c.args.activity) c.args.acting.place r o
-    (with_activity (state_of (code_of c.args.code.now) c.args.state.now) (job_seen c.args.acting.job)
-    (activity_seen (code_of c.args.code.now) c.args.activity))
+returns c = λ r o e.
+    same_step c.args.code.now c.enter.new.state c.args.told.now.items c.enter.new.told.items _ _
+    (registered_newly c.args.code.now
+    (state_of c.args.code.now c.args.state.now)
+    (job_seen c.args.acting.job) (activity_seen c.args.code.now c.args.activity) c.args.acting.place r o
+    (with_activity (state_of c.args.code.now c.args.state.now) (job_seen c.args.acting.job)
+    (activity_seen c.args.code.now c.args.activity))
     (sym c.is_init.ensures ∙ c.if-not-is_init.false)
     (ap (λ (at : ℕ). is_some (handler_number c.args.state.now.registry.items at))
     (sym (ap (λ (row : HandlerRow). row.at) e))
@@ -78,8 +77,8 @@ returns c = λ r o e begun frames.
     ∙ (ap (λ (number : Option ℕ). is_some number) (sym c.in_ok-handler_number.ensures)
     ∙ (sym c.is_some.ensures ∙ c.if-is_some.false))))
     (lt-ltb (length c.args.state.now.registry.items) 64 (omega (arith, c.len.ensures, c.if-len-ge-MOST_HANDLERS.false)))
-    ∙ ap (λ (row : HandlerRow). newly_registered (code_of c.args.code.now)
-    (state_of (code_of c.args.code.now) c.args.state.now) row
-    (with_activity (state_of (code_of c.args.code.now) c.args.state.now) (job_seen c.args.acting.job)
-    (activity_seen (code_of c.args.code.now) c.args.activity))) (sym e))
-    (c.in_ok-enter.ensures begun frames)
+    ∙ ap (λ (row : HandlerRow). newly_registered (code_of c.args.code.now.program)
+    (state_of c.args.code.now c.args.state.now) row
+    (with_activity (state_of c.args.code.now c.args.state.now) (job_seen c.args.acting.job)
+    (activity_seen c.args.code.now c.args.activity))) (sym e))
+    c.in_ok-enter.ensures

@@ -16,43 +16,40 @@ use Rattle.mission_steps.proofs.starts.started_with.Goals as goal
 
 pub returns-in_ok-put_back-in-Some : goal.returns-in_ok-put_back-in-Some
 unfolding state_of
-returns-in_ok-put_back-in-Some c = λ begun.
-    started_there (code_of c.args.code.now) c.args.state.now c.args.start.now.place c.args.start.now.row
+returns-in_ok-put_back-in-Some c =
+    started_there c.args.code.now c.args.state.now c.args.start.now.place c.args.start.now.row
     c.args.start.now.scope c.args.start.now.body
     c.open_area.new.state c.put_back.new.state c.in-Some.area c.in_ok-activity-in-Some.activity c.in_ok-areas.areas
     c.args.told.now.items
-    (is_private (code_of c.args.code.now) c.args.state.now c.args.start.now.place c.args.start.now.row
+    (is_private c.args.code.now c.args.state.now c.args.start.now.place c.args.start.now.row
     c.args.start.now.scope c.args.start.now.body
     c.innermost-parent.result c.open_area.result (Some c.in-Some.area)
-    (state_of (code_of c.args.code.now) c.open_area.new.state) c.innermost-parent.ensures c.in-Some.is
-    (c.open_area.ensures.opened (code_of c.args.code.now) (ReleaseAt c.args.start.now.place) no_activity
-    (class_place (code_of c.args.code.now).program c.args.start.now.row.class)))
+    (state_of c.args.code.now c.open_area.new.state) c.innermost-parent.ensures c.in-Some.is
+    (c.open_area.ensures.opened c.args.code.now (ReleaseAt c.args.start.now.place) no_activity
+    (class_place (code_of c.args.code.now.program).program c.args.start.now.row.class)))
     c.in_ok-areas.ensures c.in_ok-activity-in-Some.ensures.seen
-    (c.in_ok-put_back-in-Some.ensures.put (code_of c.args.code.now))
-    (c.in_ok-put_back-in-Some.ensures.begun (code_of c.args.code.now).program.nodes
-    (c.open_area.ensures.begun (code_of c.args.code.now).program.nodes begun) c.in_ok-activity-in-Some.ensures.begun)
+    (c.in_ok-put_back-in-Some.ensures.put c.args.code.now)
 
 pub returns-in_ok-fault_in-in-None : goal.returns-in_ok-fault_in-in-None
 unfolding state_of
-returns-in_ok-fault_in-in-None c = λ begun.
-    not_started (code_of c.args.code.now) c.args.state.now c.args.start.now.place c.args.start.now.row
+returns-in_ok-fault_in-in-None c =
+    not_started c.args.code.now c.args.state.now c.args.start.now.place c.args.start.now.row
     c.args.start.now.scope c.args.start.now.body
     c.open_area.new.state c.fault_in.new.state c.args.told.now.items c.fault_in.new.told.items
-    (is_private (code_of c.args.code.now) c.args.state.now c.args.start.now.place c.args.start.now.row
+    (is_private c.args.code.now c.args.state.now c.args.start.now.place c.args.start.now.row
     c.args.start.now.scope c.args.start.now.body
     c.innermost-parent.result c.open_area.result None
-    (state_of (code_of c.args.code.now) c.open_area.new.state) c.innermost-parent.ensures c.in-None.is
-    (c.open_area.ensures.opened (code_of c.args.code.now) (ReleaseAt c.args.start.now.place) no_activity
-    (class_place (code_of c.args.code.now).program c.args.start.now.row.class)))
-    (subst (λ (place : Pos). IsStep (code_of c.args.code.now)
-    (fault_in (state_of (code_of c.args.code.now) c.open_area.new.state) (ReleaseAt c.args.start.now.place) no_activity
+    (state_of c.args.code.now c.open_area.new.state) c.innermost-parent.ensures c.in-None.is
+    (c.open_area.ensures.opened c.args.code.now (ReleaseAt c.args.start.now.place) no_activity
+    (class_place (code_of c.args.code.now.program).program c.args.start.now.row.class)))
+    (subst (λ (place : Pos). IsStep c.args.code.now
+    (fault_in (state_of c.args.code.now c.open_area.new.state) (ReleaseAt c.args.start.now.place) no_activity
     place StoreFull) c.fault_in.new.state c.args.told.now.items c.fault_in.new.told.items) c.class_place.ensures
-    (subst (λ (activity : StoredActivity). IsStep (code_of c.args.code.now)
-    (fault_in (state_of (code_of c.args.code.now) c.open_area.new.state) (ReleaseAt c.args.start.now.place)
-    (activity_seen (code_of c.args.code.now) activity) c.class_place.result StoreFull) c.fault_in.new.state
+    (subst (λ (activity : StoredActivity). IsStep c.args.code.now
+    (fault_in (state_of c.args.code.now c.open_area.new.state) (ReleaseAt c.args.start.now.place)
+    (activity_seen c.args.code.now activity) c.class_place.result StoreFull) c.fault_in.new.state
     c.args.told.now.items c.fault_in.new.told.items) c.empty.ensures
-    (c.in_ok-fault_in-in-None.ensures (code_of c.args.code.now)
-    (c.open_area.ensures.begun (code_of c.args.code.now).program.nodes begun))))
+    (c.in_ok-fault_in-in-None.ensures c.args.code.now)))
 
 pub fault_in-requires : goal.fault_in-requires
 fault_in-requires c =

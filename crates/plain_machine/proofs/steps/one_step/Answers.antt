@@ -24,7 +24,7 @@ pub returns-in_err-spend-clause-stop : goal.returns-in_err-spend-clause-stop
 returns-in_err-spend-clause-stop g c =
     let p = err_from_is_err_and c.from_residual-in_err-spend.result c.from_residual-in_err-spend.ensures.1 in
     rw (p.1, p.2)
-    (breaks_before c.args.setting.code.now c.args.setting.plan.now c.args.printer.now.names c.args.at.now.state.unit _ _
+    (breaks_before c.args.setting.code.now.program c.args.setting.plan.now c.args.printer.now.names c.args.at.now.state.unit _ _
     c.requires.between.within)
 
 pub returns-in_err-put_all-clause-stop : goal.returns-in_err-put_all-clause-stop

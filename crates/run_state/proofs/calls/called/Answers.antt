@@ -15,17 +15,17 @@ use Rattle.run_state.proofs.calls.called.Goals as goal
 pub returns-then-was_full : goal.returns-then-was_full
 unfolding code_of declarations_of
 returns-then-was_full c = λ g before h.
-    let code = code_of c.args.code.now in
+    let code = c.args.code.now in
     let full : c.was_full.result ≡ true = search rules in
     same_step code c.refused.new.state c.args.told.now.items c.refused.new.told.items _ _
     (called_full code (state_of code c.args.state.now) (job_seen c.args.acting.job) (activity_seen code before)
     (frames_of code before.frames) c.args.acting.place g (sym (c.was_full.ensures.full code g before h) ∙ full))
-    (c.in_ok-refused.ensures code g before h c.requires.begun)
+    (c.in_ok-refused.ensures code g before h)
 
 pub returns-in_ok-put_back-in-None : goal.returns-in_ok-put_back-in-None
 unfolding code_of declarations_of
 returns-in_ok-put_back-in-None c = λ g before h.
-    let code = code_of c.args.code.now in
+    let code = c.args.code.now in
     let few : c.was_full.result ≡ false = search rules in
     same_step code c.put_back.new.state c.args.told.now.items c.args.told.now.items _ _
     (called_plainly code (state_of code c.args.state.now) (job_seen c.args.acting.job) (activity_seen code before)
@@ -36,13 +36,12 @@ returns-in_ok-put_back-in-None c = λ g before h.
           with_activity (state_of code c.args.state.now) (job_seen c.args.acting.job) a)
           (on_top_seen code g before c.args.activity h);
       told = sym (append-nil c.args.told.now.items);
-      begun = c.in_ok-put_back-in-None.ensures.begun code.program.nodes c.requires.begun c.requires.frames;
     })
 
 pub returns-in_ok-refused-in-Some : goal.returns-in_ok-refused-in-Some
 unfolding code_of declarations_of
 returns-in_ok-refused-in-Some c = λ g before h.
-    let code = code_of c.args.code.now in
+    let code = c.args.code.now in
     let few : c.was_full.result ≡ false = search rules in
     same_step code c.refused-then-ceiling-activity.new.state c.args.told.now.items c.refused-then-ceiling-activity.new.told.items _ _
     (called_above code (state_of code c.args.state.now) (job_seen c.args.acting.job) (activity_seen code before)
@@ -50,12 +49,12 @@ returns-in_ok-refused-in-Some c = λ g before h.
     (sym (c.was_full.ensures.full code g before h) ∙ few) (sym (c.in-Some.ensures g before h))
     (lt-ltb c.in-Some.ceiling before.priority
     (rw (sym (ap (λ (a : StoredActivity). a.priority) h.whole)) (search rules))))
-    (c.in_ok-refused-in-Some.ensures code g before h c.requires.begun)
+    (c.in_ok-refused-in-Some.ensures code g before h)
 
 pub returns-in_ok-entered-in-Some : goal.returns-in_ok-entered-in-Some
 unfolding code_of declarations_of
 returns-in_ok-entered-in-Some c = λ g before h.
-    let code = code_of c.args.code.now in
+    let code = c.args.code.now in
     let few : c.was_full.result ≡ false = search rules in
     same_step code c.entered.new.state c.args.told.now.items c.entered.new.told.items _ _
     (called_entering code (state_of code c.args.state.now) (job_seen c.args.acting.job) (activity_seen code before)
@@ -63,4 +62,4 @@ returns-in_ok-entered-in-Some c = λ g before h.
     (sym (c.was_full.ensures.full code g before h) ∙ few) (sym (c.in-Some.ensures g before h))
     (le-ltb c.in-Some.ceiling before.priority
     (rw (sym (ap (λ (a : StoredActivity). a.priority) h.whole)) (search rules))))
-    (c.in_ok-entered-in-Some.ensures code g before h c.requires.begun c.requires.frames)
+    (c.in_ok-entered-in-Some.ensures code g before h)

@@ -1,7 +1,9 @@
 use Rattle.run_state.proofs.CallLemmas.{entered_seen}
 use Rattle.run_state.proofs.calls.enter.Goals as goal
 
-pub returns-clause-entered : goal.returns-clause-entered
-returns-clause-entered c = λ code g before h.
-    entered_seen code g before c.args.activity.now c.save_priority.new.frames c.args.ceiling h
-    c.save_priority.ensures.saved
+pub returns : goal.returns
+returns c = record {
+  entered = λ code g before h.
+      entered_seen code g before c.args.activity.now c.save_priority.new.frames c.args.ceiling h
+      c.save_priority.ensures.saved;
+}

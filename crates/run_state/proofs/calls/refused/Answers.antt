@@ -14,7 +14,7 @@ fault_in-requires c =
     subst (λ (fs : List StoredFrame). CloseInOrder c.args.state.now.memory fs) (sym c.drop_top.ensures) c.requires
 
 pub returns : goal.returns
-returns c = λ code g before h begun.
+returns c = λ code g before h.
     let same : (let a : StoredActivity = record c.args.activity { frames = c.drop_top.new.self } in a) ≡ before =
     ap (λ (fs : List StoredFrame). (let a : StoredActivity = record c.args.activity { frames = fs } in a))
     c.drop_top.ensures
@@ -23,4 +23,4 @@ returns c = λ code g before h begun.
     (fault_in (state_of code c.args.state.now) (job_seen c.args.acting.job) (activity_seen code a) c.args.acting.place
     c.args.fault)
     c.fault_in.new.state c.args.told.now.items c.fault_in.new.told.items)
-    same (c.in_ok-fault_in.ensures code begun)
+    same (c.in_ok-fault_in.ensures code)

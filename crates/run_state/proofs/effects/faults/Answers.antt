@@ -6,7 +6,7 @@ use Rattle.run_state.proofs.effects.faults.Goals as goal
 
 pub returns : goal.returns
 unfolding applied
-returns c = λ code begun.
+returns c = λ code.
     applied_as code c.args.state.now c.args.acting c.args.activity (λ f. Faults c.args.fault)
     c.fault_in.new.state c.args.told.now.items c.fault_in.new.told.items _ (λ f below e. refl)
-    (c.in_ok-fault_in.ensures code begun)
+    (c.in_ok-fault_in.ensures code)

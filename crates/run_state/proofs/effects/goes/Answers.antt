@@ -8,7 +8,6 @@ use Rattle.run_state.proofs.effects.goes.Goals as goal
 
 pub returns : goal.returns
 unfolding applied
-returns c = λ code told begun frames.
+returns c = λ code told.
     applied_telling code c.args.state.now c.args.acting c.args.activity Goes c.put_back.new.state told told
     (state_of code c.args.state.now) [] (λ f below. refl) (c.in_ok-put_back.ensures.put code) (sym (append-nil told))
-    (c.in_ok-put_back.ensures.begun code.program.nodes begun frames)

@@ -9,11 +9,10 @@ use Rattle.run_state.proofs.effects.prints.Goals as goal
 
 pub returns : goal.returns
 unfolding applied state_of
-returns c = λ code begun frames.
+returns c = λ code.
     applied_telling code c.args.state.now c.args.acting c.args.activity (λ f. Prints f c.args.label c.args.value)
     c.put_back.new.state c.args.told.now.items c.tell.new.told.items
     (state_of code c.args.state.now) (Print c.args.state.now.unit c.args.label c.args.value ∷ []) (λ f below. refl)
     (c.in_ok-put_back.ensures.put code)
     (c.in_ok-tell.ensures
     ∙ ap (λ (v : ℤ). c.args.told.now.items ++ (Print c.args.state.now.unit c.args.label v ∷ [])) (search rules))
-    (c.in_ok-put_back.ensures.begun code.program.nodes begun frames)

@@ -1,5 +1,5 @@
 use Rattle.std.proofs.Common.{◌≡◌, ◌≤◌, length, reverse, take}
-use Rattle.scj_model.specs.Code.{Code}
+use Rattle.op_list.specs.Listed.{Listing}
 use Rattle.scj_model.specs.State.{State}
 use Rattle.scj_model.specs.Steps.{closed_all}
 use Rattle.job_frames.specs.Frames.{frames_of}
@@ -12,7 +12,7 @@ abbrev pub invariant-loop-left : goal.invariant-loop-left
 invariant-loop-left l = record {
   within : l.left ≤ length l.frames;
   closes : CloseInOrder l.memory (reverse (take l.left l.frames));
-  same : (code : Code) (s : State) →
+  same : (code : Listing) (s : State) →
       closed_all (with_memory s l.initial.memory) (frames_of code (reverse l.frames))
       ≡ closed_all (with_memory s l.memory) (frames_of code (reverse (take l.left l.frames)));
 }

@@ -5,8 +5,7 @@ use Rattle.run_state.proofs.ends.halted.Goals as goal
 
 pub returns : goal.returns
 unfolding fault_in state_of
-returns c = λ code activity begun. record {
+returns c = λ code activity. record {
   state = refl;
   told = c.in_ok-tell_two.ensures;
-  begun = record { sequencer = begun.sequencer; releases = begun.releases };
 }

@@ -3,6 +3,6 @@ use Rattle.run_state.proofs.EndLemmas.{release_done}
 use Rattle.run_state.proofs.ends.release_ended.Goals as goal
 
 pub returns : goal.returns
-returns c = λ code activity begun.
+returns c = λ code activity.
     release_done code c.args.state.now c.args.release c.end.new.self c.args.told.now.items c.tell_end.new.told.items
-    activity None c.end.ensures.ended (c.in_ok-tell_end.ensures code) begun
+    activity None c.end.ensures.ended (c.in_ok-tell_end.ensures code)

@@ -9,11 +9,10 @@ use Rattle.run_state.proofs.ends.sequencer_ended.Goals as goal
 
 pub returns : goal.returns
 unfolding job_ended state_of
-returns c = λ code begun frames. record {
+returns c = λ code. record {
   state = ap (λ (v : Value). (let s : State = record (state_of code c.args.state.now) {
     activity = activity_seen code c.args.activity;
     outcome = Some v;
   } in s)) c.unwrap_or.ensures;
   told = refl;
-  begun = record { sequencer = frames; releases = begun.releases };
 }

@@ -1,15 +1,14 @@
-use Rattle.std.specs.Prelude.{Option, Some, None, OnSome, IfSome, IfNone, option_map}
-use Rattle.std.proofs.Common.{◌≡◌, ◌∙◌, List, ap, refl, sym, subst}
-use Rattle.scj_tree.specs.declared.nodes.Node.{Node}
-use Rattle.scj_model.specs.Code.{Code}
+use Rattle.std.specs.Prelude.{Option, Some, None, OnSome, IfNone, option_map}
+use Rattle.std.proofs.Common.{◌≡◌, ◌∙◌, ap, refl, sym}
+use Rattle.op_list.specs.Listed.{Listing}
 use Rattle.scj_model.specs.State.{ReleaseAt, activity_of, with_activity}
 use Rattle.scj_model.specs.Run.{no_activity}
 use Rattle.job_frames.specs.declared.activities.Activity.{Activity as StoredActivity}
-use Rattle.job_frames.specs.Frames.{AreBegun, activity_seen}
+use Rattle.job_frames.specs.Frames.{activity_seen}
 use Rattle.run_releases.specs.Rows.{StoredReleases}
 use Rattle.run_state.specs.declared.states.RunState.{RunState}
-use Rattle.run_state.specs.Seen.{AreAllBegun, state_of}
-use Rattle.run_state.proofs.JobLemmas.{emptied, emptied_begun, found_activity, not_emptied, taken_begun}
+use Rattle.run_state.specs.Seen.{state_of}
+use Rattle.run_state.proofs.JobLemmas.{emptied, found_activity, not_emptied}
 use Rattle.run_state.proofs.jobs.take_out.Goals as goal
 
 pub returns-in-Sequencer-clause-taken : goal.returns-in-Sequencer-clause-taken
@@ -30,7 +29,7 @@ returns-in-Release-clause-taken c = λ code.
 pub returns-in-Release-clause-left : goal.returns-in-Release-clause-left
 returns-in-Release-clause-left c = λ code. rw c.in-Release.is (left code c.take_activity.result refl)
   where
-    left : (code : Code) (o : Option StoredActivity) → c.take_activity.result ≡ o →
+    left : (code : Listing) (o : Option StoredActivity) → c.take_activity.result ≡ o →
         OnSome o
         (state_of code (let st : RunState = record c.args.state.now { releases = c.take_activity.new.self } in st)
         ≡ with_activity (state_of code c.args.state.now) (ReleaseAt c.in-Release.place) no_activity)
@@ -52,19 +51,3 @@ returns-in-Release-clause-missing c = missing c.take_activity.result refl
         (c.take_activity.ensures.left
         ∙ not_emptied c.args.state.now.releases c.in-Release.place (sym c.take_activity.ensures.taken ∙ e))
     missing (Some a) e = tt
-
-pub returns-in-Release-clause-begun : goal.returns-in-Release-clause-begun
-returns-in-Release-clause-begun c = λ nodes h.
-    subst
-    (λ (rs : StoredReleases). AreAllBegun nodes (let st : RunState = record c.args.state.now { releases = rs } in
-    st))
-    (sym c.take_activity.ensures.left) (emptied_begun nodes c.args.state.now c.in-Release.place h)
-
-pub returns-in-Release-clause-frames : goal.returns-in-Release-clause-frames
-returns-in-Release-clause-frames c = λ nodes h. frames nodes h c.take_activity.result refl
-  where
-    frames : (nodes : List Node) → AreAllBegun nodes c.args.state.now → (o : Option StoredActivity) →
-        c.take_activity.result ≡ o → IfSome o (λ activity. AreBegun nodes activity.frames)
-    frames nodes h None e = tt
-    frames nodes h (Some a) e =
-        taken_begun nodes c.args.state.now c.in-Release.place a (sym c.take_activity.ensures.taken ∙ e) h

@@ -4,7 +4,6 @@ use Rattle.region_heap.specs.Contents.{Contents, with_memory}
 use Rattle.run_state.proofs.Standing.{closed_is, top_closes}
 use Rattle.run_state.specs.Seen.{job_seen}
 use Rattle.run_state.proofs.LeavingLemmas.{left_all}
-use Rattle.run_state.proofs.StepLemmas.{memory_begun}
 use Rattle.run_state.proofs.leaving.frame_left.Goals as goal
 
 pub close_opened-requires : goal.close_opened-requires
@@ -13,7 +12,7 @@ close_opened-requires c =
     c.requires
 
 pub returns : goal.returns
-returns c = λ code f below e begun frames.
+returns c = λ code f below e.
     left_all code c.args.state.now (job_seen c.args.job) c.args.activity c.step_down.new.activity f below c.args.value
     c.in_ok-left.left.opened c.in_ok-left.left.saved c.close_opened.new.memory c.settle.new.state
     c.args.told.now.items c.tell_priority.new.told.items c.settle.new.told.items
@@ -23,6 +22,4 @@ returns c = λ code f below e begun frames.
     (c.in_ok-left.ensures.opened f below e ∙ sym (c.in_ok-opened.ensures.opened f below e))
     ∙ (closed_is s c.args.state.now.memory c.in_ok-opened.opened
     ∙ ap (λ (m : Contents). with_memory s m) (sym c.close_opened.ensures)))
-    (λ rest count. c.in_ok-settle.ensures code rest count
-    (memory_begun code.program.nodes c.args.state.now c.close_opened.new.memory begun)
-    (c.step_down.ensures.begun code.program.nodes frames))
+    (λ rest count. c.in_ok-settle.ensures code rest count)

@@ -9,16 +9,16 @@ use Rattle.run_state.proofs.StepLemmas.{same_step}
 use Rattle.run_state.proofs.leaving.settle.Goals as goal
 
 pub returns-in_ok-job_ended : goal.returns-in_ok-job_ended
-returns-in_ok-job_ended c = λ code below count begun frames.
+returns-in_ok-job_ended c = λ code below count.
     let none : c.depth.result ≡ 0 = search rules in
     same_step code c.job_ended.new.state c.args.told.now.items c.job_ended.new.told.items _ _
     (settled_end (state_of code c.args.state.now) (job_seen c.args.job) (activity_seen code c.args.activity)
     c.args.value below
     (count ∙ (sym c.depth.ensures ∙ none)))
-    (c.in_ok-job_ended.ensures code begun frames)
+    (c.in_ok-job_ended.ensures code)
 
 pub returns-in_ok-put_back : goal.returns-in_ok-put_back
-returns-in_ok-put_back c = λ code below count begun frames.
+returns-in_ok-put_back c = λ code below count.
     let some : c.depth.result ≡ 0 → ⊥ = search rules in
     same_step code c.put_back.new.state c.args.told.now.items c.args.told.now.items
     (silently
@@ -29,5 +29,4 @@ returns-in_ok-put_back c = λ code below count begun frames.
     (record {
       state = c.in_ok-put_back.ensures.put code;
       told = sym (append-nil c.args.told.now.items);
-      begun = c.in_ok-put_back.ensures.begun code.program.nodes begun frames;
     })

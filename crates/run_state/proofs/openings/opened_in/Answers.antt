@@ -11,17 +11,17 @@ use Rattle.run_state.proofs.StepLemmas.{same_step}
 use Rattle.run_state.proofs.openings.opened_in.Goals as goal
 
 pub returns-then-is_cycle : goal.returns-then-is_cycle
-returns-then-is_cycle c = λ code g before h begun frames.
+returns-then-is_cycle c = λ code g before h.
     let cycle : c.is_cycle.result ≡ true = search rules in
     same_step code c.refused.new.state c.args.told.now.items c.refused.new.told.items _ _
     (opened_in_cycle code (state_of code c.args.state.now) (job_seen c.args.acting.job) (activity_seen code before)
     (frames_of code before.frames) c.args.acting.place g c.args.scope c.args.bytes
     (ap (λ (a : StoredActivity). is_some (area_with_scope (state_of code c.args.state.now) c.args.scope a.areas))
     (sym h.whole) ∙ (sym (c.is_cycle.ensures code) ∙ cycle)))
-    (c.in_ok-refused.ensures code g before h begun)
+    (c.in_ok-refused.ensures code g before h)
 
 pub returns-then-was_full : goal.returns-then-was_full
-returns-then-was_full c = λ code g before h begun frames.
+returns-then-was_full c = λ code g before h.
     let other : c.is_cycle.result ≡ false = search rules in
     let full : c.was_full.result ≡ true = search rules in
     same_step code c.refused-then-was_full.new.state c.args.told.now.items c.refused-then-was_full.new.told.items _ _
@@ -30,10 +30,10 @@ returns-then-was_full c = λ code g before h begun frames.
     (ap (λ (a : StoredActivity). is_some (area_with_scope (state_of code c.args.state.now) c.args.scope a.areas))
     (sym h.whole) ∙ (sym (c.is_cycle.ensures code) ∙ other))
     (sym (c.was_full.ensures.full code g before h) ∙ full))
-    (c.in_ok-refused-2.ensures code g before h begun)
+    (c.in_ok-refused-2.ensures code g before h)
 
 pub returns : goal.returns
-returns c = λ code g before h begun frames.
+returns c = λ code g before h.
     let other : c.is_cycle.result ≡ false = search rules in
     let few : c.was_full.result ≡ false = search rules in
     same_step code c.opened_on_top.new.state c.args.told.now.items c.opened_on_top.new.told.items _ _
@@ -45,7 +45,7 @@ returns c = λ code g before h begun frames.
     ∙ ap (λ (parent : Option ℕ). call_opened (state_of code c.args.state.now) (job_seen c.args.acting.job)
     (activity_seen code before) (frames_of code before.frames) c.args.acting.place g c.args.scope parent c.args.bytes)
     (sym (c.area_on_top-parent.ensures code g before h)))
-    (c.in_ok-opened_on_top.ensures code g before h begun frames)
+    (c.in_ok-opened_on_top.ensures code g before h)
 
 pub opened_on_top-requires-clause-few : goal.opened_on_top-requires-clause-few
 opened_on_top-requires-clause-few c =

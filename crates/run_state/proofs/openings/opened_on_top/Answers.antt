@@ -14,7 +14,7 @@ refused-requires c =
     (sym (c.open_area.ensures.err c.in-None.is)) c.requires.closes
 
 pub returns-in_ok-put_back-in-Some : goal.returns-in_ok-put_back-in-Some
-returns-in_ok-put_back-in-Some c = λ code g before h begun frames.
+returns-in_ok-put_back-in-Some c = λ code g before h.
     opened_step code (state_of code c.args.state.now) (job_seen c.args.acting.job) (activity_seen code before)
     (frames_of code before.frames) c.args.acting.place g c.args.area.scope c.args.area.parent c.args.area.bytes
     (state_of code c.open_area.new.state) c.put_back.new.state c.args.told.now.items c.args.told.now.items
@@ -27,16 +27,14 @@ returns-in_ok-put_back-in-Some c = λ code g before h begun frames.
           with_activity (state_of code c.open_area.new.state) (job_seen c.args.acting.job) a)
           (c.in_ok-move_in-in-Some.ensures.moved code g before h);
       told = sym (append-nil c.args.told.now.items);
-      begun = c.in_ok-put_back-in-Some.ensures.begun code.program.nodes
-          (c.open_area.ensures.begun code.program.nodes begun) (c.move_in.ensures.begun code.program.nodes frames);
     })
 
 pub returns-in_ok-refused-in-None : goal.returns-in_ok-refused-in-None
-returns-in_ok-refused-in-None c = λ code g before h begun frames.
+returns-in_ok-refused-in-None c = λ code g before h.
     unopened_step code (state_of code c.args.state.now) (job_seen c.args.acting.job) (activity_seen code before)
     (frames_of code before.frames) c.args.acting.place g c.args.area.scope c.args.area.parent c.args.area.bytes
     (state_of code c.open_area.new.state) c.refused.new.state c.args.told.now.items c.refused.new.told.items
     (rw c.in-None.is at
     (c.open_area.ensures.opened code (job_seen c.args.acting.job)
     (activity_seen code before) c.args.acting.place))
-    (c.in_ok-refused-in-None.ensures code g before h (c.open_area.ensures.begun code.program.nodes begun))
+    (c.in_ok-refused-in-None.ensures code g before h)

@@ -12,18 +12,16 @@ fault_in-requires c = c.requires c.in-None.is
 
 pub returns-in_ok-put_back-in-Some : goal.returns-in_ok-put_back-in-Some
 unfolding made_or_full
-returns-in_ok-put_back-in-Some c = λ code begun frames f below e.
+returns-in_ok-put_back-in-Some c = λ code f below e.
     rw c.in-Some.is (record {
       state = c.in_ok-put_back-in-Some.ensures.put code ∙ ap (λ (a : Activity).
           with_activity (state_of code c.args.state.now) (job_seen c.args.acting.job) a)
           (operand_on_top code c.args.activity c.push_on_top.new.self f below (At c.in-Some.r)
           c.in_ok-push_on_top-in-Some.ensures.pushed e);
       told = sym (append-nil c.args.told.now.items);
-      begun = c.in_ok-put_back-in-Some.ensures.begun code.program.nodes begun
-          (c.push_on_top.ensures.begun code.program.nodes frames);
     })
 
 pub returns-in_ok-fault_in-in-None : goal.returns-in_ok-fault_in-in-None
 unfolding made_or_full
-returns-in_ok-fault_in-in-None c = λ code begun frames f below e.
-    rw c.in-None.is (c.in_ok-fault_in-in-None.ensures code begun)
+returns-in_ok-fault_in-in-None c = λ code f below e.
+    rw c.in-None.is (c.in_ok-fault_in-in-None.ensures code)

@@ -18,10 +18,10 @@ made-requires c = λ e.
     c.requires.closes
 
 pub returns : goal.returns
-returns c = λ code begun frames.
+returns c = λ code.
     made_applied code c.args.state.now c.args.acting c.args.activity c.args.object.class c.in_ok-area.area
     c.args.object.slots.items c.make_object-found.result c.make_object-found.new.state c.made.new.state c.args.told.now.items c.made.new.told.items
     c.in_ok-area.ensures.area
     (c.make_object-found.ensures.made code (job_seen c.args.acting.job) (activity_seen code c.args.activity)
     c.args.acting.place)
-    (λ f below e. c.in_ok-made.ensures code (c.make_object-found.ensures.begun code.program.nodes begun) frames f below e)
+    (λ f below e. c.in_ok-made.ensures code f below e)

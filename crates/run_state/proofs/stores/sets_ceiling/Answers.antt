@@ -8,12 +8,12 @@ use Rattle.job_frames.specs.Frames.{activity_seen}
 use Rattle.region_heap.specs.Contents.{Contents}
 use Rattle.run_state.specs.declared.states.RunState.{RunState}
 use Rattle.run_state.specs.Seen.{job_seen, state_of}
-use Rattle.run_state.proofs.StepLemmas.{applied_as, applied_on_memory, memory_begun}
+use Rattle.run_state.proofs.StepLemmas.{applied_as, applied_on_memory}
 use Rattle.run_state.proofs.stores.sets_ceiling.Goals as goal
 
 pub returns-in_ok-put_back-in-Sequencer : goal.returns-in_ok-put_back-in-Sequencer
 unfolding applied state_of
-returns-in_ok-put_back-in-Sequencer c = λ code begun frames.
+returns-in_ok-put_back-in-Sequencer c = λ code.
     applied_on_memory code c.args.state.now c.args.acting c.args.activity (λ f. SetsCeiling f c.args.r c.args.ceiling)
     c.set_ceiling.new.self c.put_back.new.state c.args.told.now.items
     (record (state_of code c.args.state.now) {
@@ -22,14 +22,12 @@ returns-in_ok-put_back-in-Sequencer c = λ code begun frames.
     (ap (λ (m : Contents). state_of code (let st : RunState = record c.args.state.now { memory = m } in st))
     c.set_ceiling.ensures)
     (c.in_ok-put_back-in-Sequencer.ensures.put code)
-    (c.in_ok-put_back-in-Sequencer.ensures.begun code.program.nodes
-    (memory_begun code.program.nodes c.args.state.now c.set_ceiling.new.self begun) frames)
 
 pub returns-in_ok-fault_in-in-Release : goal.returns-in_ok-fault_in-in-Release
 unfolding applied
-returns-in_ok-fault_in-in-Release c = λ code begun frames.
+returns-in_ok-fault_in-in-Release c = λ code.
     applied_as code c.args.state.now c.args.acting c.args.activity (λ f. SetsCeiling f c.args.r c.args.ceiling)
     c.fault_in.new.state c.args.told.now.items c.fault_in.new.told.items
     (fault_in (state_of code c.args.state.now) (job_seen c.args.acting.job) (activity_seen code c.args.activity)
     c.args.acting.place NotInitializing)
-    (λ f below e. rw c.in-Release.is refl) (c.in_ok-fault_in-in-Release.ensures code begun)
+    (λ f below e. rw c.in-Release.is refl) (c.in_ok-fault_in-in-Release.ensures code)

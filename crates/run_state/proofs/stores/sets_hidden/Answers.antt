@@ -3,14 +3,14 @@ use Rattle.scj_model.specs.Apply.{applied, with_first}
 use Rattle.region_heap.specs.Contents.{Contents, changing_object, hidden_slots}
 use Rattle.run_state.specs.declared.states.RunState.{RunState}
 use Rattle.run_state.specs.Seen.{state_of}
-use Rattle.run_state.proofs.StepLemmas.{applied_on_memory, memory_begun}
+use Rattle.run_state.proofs.StepLemmas.{applied_on_memory}
 use Rattle.scj_model.specs.Effects.{SetsHidden}
 use Rattle.scj_model.specs.State.{changed}
 use Rattle.run_state.proofs.stores.sets_hidden.Goals as goal
 
 pub returns : goal.returns
 unfolding applied state_of
-returns c = λ code told begun frames.
+returns c = λ code told.
     applied_on_memory code c.args.state.now c.args.acting c.args.activity
     (λ f. SetsHidden f c.args.r (hidden_slots c.args.hidden.items))
     c.set_hidden.new.self c.put_back.new.state told
@@ -24,5 +24,3 @@ returns c = λ code told begun frames.
     ∙ ap (λ (ns : List ℕ). changing_object c.args.state.now.memory c.args.r (with_first (hidden_slots ns)))
     c.deref.ensures.value))
     (c.in_ok-put_back.ensures.put code)
-    (c.in_ok-put_back.ensures.begun code.program.nodes
-    (memory_begun code.program.nodes c.args.state.now c.set_hidden.new.self begun) frames)

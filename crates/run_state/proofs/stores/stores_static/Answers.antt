@@ -3,14 +3,14 @@ use Rattle.scj_model.specs.Apply.{applied}
 use Rattle.region_heap.specs.Contents.{Contents}
 use Rattle.run_state.specs.declared.states.RunState.{RunState}
 use Rattle.run_state.specs.Seen.{state_of}
-use Rattle.run_state.proofs.StepLemmas.{applied_on_memory, memory_begun}
+use Rattle.run_state.proofs.StepLemmas.{applied_on_memory}
 use Rattle.scj_model.specs.Effects.{StoresStatic}
 use Rattle.std.specs.Prelude.{slice_set}
 use Rattle.run_state.proofs.stores.stores_static.Goals as goal
 
 pub returns : goal.returns
 unfolding applied state_of
-returns c = λ code told begun frames.
+returns c = λ code told.
     applied_on_memory code c.args.state.now c.args.acting c.args.activity
     (λ f. StoresStatic f c.args.place c.args.value)
     c.set_static.new.self c.put_back.new.state told
@@ -20,5 +20,3 @@ returns c = λ code told begun frames.
     (ap (λ (m : Contents). state_of code (let st : RunState = record c.args.state.now { memory = m } in st))
     c.set_static.ensures)
     (c.in_ok-put_back.ensures.put code)
-    (c.in_ok-put_back.ensures.begun code.program.nodes
-    (memory_begun code.program.nodes c.args.state.now c.set_static.new.self begun) frames)

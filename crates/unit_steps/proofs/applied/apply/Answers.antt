@@ -1,7 +1,8 @@
 use Rattle.std.specs.Prelude.{true}
 use Rattle.std.proofs.Common.{◌≡◌, ℕ, ℤ, List, ap, rules, subst}
 use Rattle.scj_model.specs.declared.events.Event.{Event}
-use Rattle.scj_model.specs.Code.{Code, code_of}
+use Rattle.scj_model.specs.Code.{code_of}
+use Rattle.op_list.specs.Listed.{Listing}
 use Rattle.scj_model.specs.State.{Frame}
 use Rattle.scj_model.specs.Effects.{Effect, Prints}
 use Rattle.scj_model.specs.Apply.{applied}
@@ -12,20 +13,16 @@ use Rattle.run_state.specs.declared.states.Acting.{Acting}
 use Rattle.run_state.specs.declared.states.RunState.{RunState}
 use Rattle.run_state.specs.Seen.{job_seen, state_of}
 use Rattle.run_state.specs.Steps.{IsApplied, IsTry}
-use Rattle.mission_steps.proofs.FramesBegun.{frames_begun_in}
-use Rattle.mission_steps.proofs.Going.{begun_in}
 use Rattle.unit_steps.proofs.applied.apply.Goals as goal
 
 pub returns-in_ok-goes-in-Goes : goal.returns-in_ok-goes-in-Goes
 unfolding effect_seen
 returns-in_ok-goes-in-Goes c =
     rw c.in-Goes.is
-    (c.in_ok-goes-in-Goes.ensures (code_of c.args.code.now) c.args.told.now.items
-    (begun_in c.args.code.now c.args.state.now c.requires.begun)
-    (frames_begun_in c.args.code.now c.args.activity.frames c.requires.frames))
+    (c.in_ok-goes-in-Goes.ensures c.args.code.now c.args.told.now.items)
 
 -- the value that is handed on is the one of the effect
-printed_alike : (code : Code) (was : RunState) (acting : Acting) (activity : StoredActivity) (effect : Frame → Effect)
+printed_alike : (code : Listing) (was : RunState) (acting : Acting) (activity : StoredActivity) (effect : Frame → Effect)
     (st : RunState) (before after : List Event) (label : ℕ) (value : ℤ) →
     IsApplied code was acting activity effect true st before after →
     ((f : Frame) → effect f ≡ Prints f label value) →
@@ -35,7 +32,7 @@ printed_alike code was acting activity effect st before after label value h same
       subst
       (λ (x : Effect).
       IsTry code
-      (applied code (state_of code was) (job_seen acting.job) (activity_seen code activity) (frames_of code below)
+      (applied (code_of code.program) (state_of code was) (job_seen acting.job) (activity_seen code activity) (frames_of code below)
       acting.place x) true st before after)
       (same (frame_of code f)) (h.tried f below e);
 }
@@ -44,60 +41,46 @@ pub returns-in_ok-prints-in-Prints : goal.returns-in_ok-prints-in-Prints
 unfolding effect_seen
 returns-in_ok-prints-in-Prints c =
     rw c.in-Prints.is
-    (printed_alike (code_of c.args.code.now) c.args.state.now c.args.acting c.args.activity _ c.prints.new.state
+    (printed_alike c.args.code.now c.args.state.now c.args.acting c.args.activity _ c.prints.new.state
     c.args.told.now.items c.prints.new.told.items c.in-Prints.label c.in-Prints.value
-    (c.in_ok-prints-in-Prints.ensures (code_of c.args.code.now)
-    (begun_in c.args.code.now c.args.state.now c.requires.begun)
-    (frames_begun_in c.args.code.now c.args.activity.frames c.requires.frames))
+    (c.in_ok-prints-in-Prints.ensures c.args.code.now)
     (λ f. ap (λ (v : ℤ). Prints f c.in-Prints.label v) (search rules)))
 
 pub returns-in_ok-makes-in-Makes : goal.returns-in_ok-makes-in-Makes
 unfolding effect_seen
 returns-in_ok-makes-in-Makes c =
     rw c.in-Makes.is
-    (c.in_ok-makes-in-Makes.ensures (code_of c.args.code.now)
-    (begun_in c.args.code.now c.args.state.now c.requires.begun)
-    (frames_begun_in c.args.code.now c.args.activity.frames c.requires.frames))
+    (c.in_ok-makes-in-Makes.ensures c.args.code.now)
 
 pub returns-in_ok-makes_array-in-MakesArray : goal.returns-in_ok-makes_array-in-MakesArray
 unfolding effect_seen
 returns-in_ok-makes_array-in-MakesArray c =
     rw c.in-MakesArray.is
-    (c.in_ok-makes_array-in-MakesArray.ensures (code_of c.args.code.now)
-    (begun_in c.args.code.now c.args.state.now c.requires.begun)
-    (frames_begun_in c.args.code.now c.args.activity.frames c.requires.frames))
+    (c.in_ok-makes_array-in-MakesArray.ensures c.args.code.now)
 
 pub returns-in_ok-stores-in-Stores : goal.returns-in_ok-stores-in-Stores
 unfolding effect_seen
 returns-in_ok-stores-in-Stores c =
     rw c.in-Stores.is
-    (c.in_ok-stores-in-Stores.ensures (code_of c.args.code.now) c.args.told.now.items
-    (begun_in c.args.code.now c.args.state.now c.requires.begun)
-    (frames_begun_in c.args.code.now c.args.activity.frames c.requires.frames))
+    (c.in_ok-stores-in-Stores.ensures c.args.code.now c.args.told.now.items)
 
 pub returns-in_ok-stores_static-in-StoresStatic : goal.returns-in_ok-stores_static-in-StoresStatic
 unfolding effect_seen
 returns-in_ok-stores_static-in-StoresStatic c =
     rw c.in-StoresStatic.is
-    (c.in_ok-stores_static-in-StoresStatic.ensures (code_of c.args.code.now) c.args.told.now.items
-    (begun_in c.args.code.now c.args.state.now c.requires.begun)
-    (frames_begun_in c.args.code.now c.args.activity.frames c.requires.frames))
+    (c.in_ok-stores_static-in-StoresStatic.ensures c.args.code.now c.args.told.now.items)
 
 pub returns-in_ok-sets_hidden-in-SetsHidden : goal.returns-in_ok-sets_hidden-in-SetsHidden
 unfolding effect_seen
 returns-in_ok-sets_hidden-in-SetsHidden c =
     rw c.in-SetsHidden.is
-    (c.in_ok-sets_hidden-in-SetsHidden.ensures (code_of c.args.code.now) c.args.told.now.items
-    (begun_in c.args.code.now c.args.state.now c.requires.begun)
-    (frames_begun_in c.args.code.now c.args.activity.frames c.requires.frames))
+    (c.in_ok-sets_hidden-in-SetsHidden.ensures c.args.code.now c.args.told.now.items)
 
 pub returns-in_ok-sets_ceiling-in-SetsCeiling : goal.returns-in_ok-sets_ceiling-in-SetsCeiling
 unfolding effect_seen
 returns-in_ok-sets_ceiling-in-SetsCeiling c =
     rw c.in-SetsCeiling.is
-    (c.in_ok-sets_ceiling-in-SetsCeiling.ensures (code_of c.args.code.now)
-    (begun_in c.args.code.now c.args.state.now c.requires.begun)
-    (frames_begun_in c.args.code.now c.args.activity.frames c.requires.frames))
+    (c.in_ok-sets_ceiling-in-SetsCeiling.ensures c.args.code.now)
 
 pub returns-in_ok-calls-in-Calls : goal.returns-in_ok-calls-in-Calls
 unfolding effect_seen
@@ -111,16 +94,13 @@ pub returns-in_ok-leaves-in-Leaves : goal.returns-in_ok-leaves-in-Leaves
 unfolding effect_seen
 returns-in_ok-leaves-in-Leaves c =
     rw c.in-Leaves.is
-    (c.in_ok-leaves-in-Leaves.ensures (code_of c.args.code.now)
-    (begun_in c.args.code.now c.args.state.now c.requires.begun)
-    (frames_begun_in c.args.code.now c.args.activity.frames c.requires.frames))
+    (c.in_ok-leaves-in-Leaves.ensures c.args.code.now)
 
 pub returns-in_ok-faults-in-Faults : goal.returns-in_ok-faults-in-Faults
 unfolding effect_seen
 returns-in_ok-faults-in-Faults c =
     rw c.in-Faults.is
-    (c.in_ok-faults-in-Faults.ensures (code_of c.args.code.now)
-    (begun_in c.args.code.now c.args.state.now c.requires.begun))
+    (c.in_ok-faults-in-Faults.ensures c.args.code.now)
 
 pub returns-in-AsksRegistration : goal.returns-in-AsksRegistration
 unfolding effect_seen
@@ -138,7 +118,7 @@ pub returns-in-Stuck : goal.returns-in-Stuck
 unfolding effect_seen
 returns-in-Stuck c =
     rw c.in-Stuck.is
-    (c.is_stuck.ensures.applied (code_of c.args.code.now) c.args.state.now c.args.state.now c.args.acting
+    (c.is_stuck.ensures.applied c.args.code.now c.args.state.now c.args.state.now c.args.acting
     c.args.activity c.args.told.now.items
     c.args.told.now.items)
 

@@ -1,27 +1,23 @@
-use Rattle.scj_model.specs.Code.{code_of}
 use Rattle.scj_model.specs.Effects.{new_frame}
 use Rattle.job_frames.specs.Frames.{frame_called}
 use Rattle.run_state.proofs.TopEffects.{calls_applied}
 use Rattle.unit_steps.proofs.Standing.{closes_below, on_live}
 use Rattle.unit_steps.proofs.applied.calls.Goals as goal
 
-pub called-requires-clause-frames : goal.called-requires-clause-frames
-called-requires-clause-frames c = c.in_ok-put_on_top.ensures.begun c.requires.frames
-
 pub returns : goal.returns
 returns c =
-    let code = code_of c.args.code.now in
+    let code = c.args.code.now in
     let called = frame_called code c.args.call c.args.arguments.items in
     calls_applied code c.args.state.now c.args.acting c.args.activity called c.called.new.state c.args.told.now.items
     c.called.new.told.items (c.in_ok-called.ensures called c.args.activity c.in_ok-put_on_top.ensures.put)
 
 pub called-requires-clause-closes : goal.called-requires-clause-closes
 called-requires-clause-closes c =
-    closes_below (code_of c.args.code.now) (frame_called (code_of c.args.code.now) c.args.call c.args.arguments.items)
+    closes_below c.args.code.now (frame_called c.args.code.now c.args.call c.args.arguments.items)
     c.args.activity c.put_on_top.new.activity c.in_ok-put_on_top.ensures.put c.args.state.now.memory c.requires.closes
 
 pub called-requires-clause-live : goal.called-requires-clause-live
 unfolding new_frame
 called-requires-clause-live c =
-    on_live (code_of c.args.code.now) (frame_called (code_of c.args.code.now) c.args.call c.args.arguments.items)
+    on_live c.args.code.now (frame_called c.args.code.now c.args.call c.args.arguments.items)
     c.args.activity c.put_on_top.new.activity c.in_ok-put_on_top.ensures.put c.args.state.now.memory c.requires.live

@@ -5,8 +5,7 @@ use Rattle.unit_steps.proofs.turns.turn_taken.Goals as goal
 
 pub returns-clause-step : goal.returns-clause-step
 unfolding turn_taken state_of
-returns-clause-step c = λ code begun. record {
+returns-clause-step c = λ code. record {
   state = refl;
   told = c.in_ok-tell_other_turn.ensures code;
-  begun = record { sequencer = begun.sequencer; releases = begun.releases };
 }
