@@ -31,8 +31,9 @@ BODIES = "crates/call_operations/src/all_operations.rt"
 OWN = "crates/mission_steps/src/operations.rt"
 FOLLOWING = "crates/mission_steps/src/transitions.rt"
 STARTS = "crates/mission_steps/src/starts.rt"
-# Where the code finds the next operation.
-CURSOR = "crates/work_cursor/src"
+# Where the code lists the operations of a body, and files there that name them all, or one only to fill a row.
+LIST = "crates/op_list/src"
+ALL_NAMED = ("parts.rt", "resolving.rt")
 # The lemmas that say of each operation that it is never stuck and keeps the invariant, and the law for START.
 FINE = "crates/frame_sound/proofs/Acts.antt"
 OPERATES = "crates/mission_sound/proofs/SequencerOps.antt"
@@ -46,7 +47,7 @@ HEAD = """# Where each operation stands
 `docs/MACHINE.md` says what a run does, operation by operation. This page leads from an operation to its row there, to its definition, to the code that does it, to the law that it is never stuck, to wrong bodies that the proofs must refuse, and to runs that show it. `python3 .ci/operation_index.py` makes the page.
 
 - Definitions stand in a crate's `specs/`, and are named as in their files, without `.antt`. First stands what the operation does, and then what gives it to a node, or what follows it. `Apply` in the same folder does the effect to the state.
-- Of the code the function that does the operation stands first. Its contract is that it does what the definition says. Those of `work_cursor` find the next operation of a body.
+- Of the code the function that does the operation stands first. Its contract is that it does what the definition says. Those of `op_list` list the operations of a body.
 - The laws are the parts of `operations_are_fine` (`crates/frame_sound/src/operations.rt`) and of `the_sequencer_operates` (`crates/mission_sound/src/sequencer.rt`): in an accepted program the operation finds what it needs, and keeps what `docs/SAFETY.md` rests on.
 - Wrong bodies are edits in a crate's `must-fail/`.
 - The runs stand in `expected/runs`. Their traces were worked out by hand, and each is another one where the operation does nothing (of DROP, where it takes no unit: a value that stays is never seen).
@@ -126,16 +127,15 @@ def file_of(crate, function):
 
 
 def code_of(name):
-    arm = re.search(rf"Op::{name}(?:\(\w+\))? => (?:Ok\()?(\w+)::(\w+)\(", read(BODIES))
+    arm = re.search(rf"Instruction::{name}(?:\(\w+\))? => (?:{{\s*)?(?:Ok\()?(\w+)::(\w+)\(", read(BODIES))
     if not arm:
         return []
     folder = os.path.dirname(BODIES)
     path = file_of("value_operations", arm[2]) if arm[1] == "value_operations" else f"{folder}/{arm[1]}.rt"
     found = [(path, arm[2])]
-    for file in sorted(os.listdir(CURSOR)):
-        # works.rt only fills its room with one of them
-        if file != "works.rt":
-            found += named_in(f"{CURSOR}/{file}", function_begun, "//", f"Op::{name}")
+    for file in sorted(os.listdir(LIST)):
+        if file not in ALL_NAMED:
+            found += named_in(f"{LIST}/{file}", function_begun, "//", f"Op::{name}")
     return found
 
 

@@ -29,7 +29,7 @@ EDITS = {
     "value_operators/large_shift_count_clears value_operators/remainder_by_zero_passes "
     "value_operators/all_references_equal",
     "And": "value_operations/and_goes_on_where_false",
-    "Or": "work_cursor/or_as_and",
+    "Or": "op_list/or_goes_on_where_and_does",
     "Alloc": "object_slots/references_begin_as_numbers object_slots/period_begins_at_zero "
     "region_heap/full_area_one_byte_early",
     "Construct": "call_operations/reference_of_new_lost",
@@ -54,10 +54,10 @@ EDITS = {
     "If": "job_frames/condition_turned",
     "Loop": "job_frames/condition_turned",
     "LeaveWith": "value_operations/value_lost_on_return unit_steps/leaves_without_value",
-    "Leave": "work_cursor/body_not_left run_state/area_of_the_caller_closed run_state/saved_priority_stays "
+    "Leave": "op_list/body_not_left run_state/area_of_the_caller_closed run_state/saved_priority_stays "
     "region_heap/mark_not_moved_back",
-    "Drop": "work_cursor/value_of_new_stays",
-    "Init": "work_cursor/first_literal_passed_over",
+    "Drop": "op_list/value_of_new_stays",
+    "Init": "op_list/one_literal_alone",
     "Super": "call_operations/super_leaves_this",
     "Params": "call_operations/nanoseconds_are_units",
     "START": "mission_steps/starts_at_lowest_priority private_scopes/scope_of_another_class",

@@ -77,8 +77,11 @@ def hand_made(tables):
         if len(trace) > ROOM:
             tables.line("! room %d" % len(trace))
         lines = trace.splitlines()
-        tables.plan((folder / "plan.toml").read_text(), lines, status_of(lines),
-                    sources=" ".join(path.name for path in paths))
+        names = " ".join(path.name for path in paths)
+        tables.plan((folder / "plan.toml").read_text(), lines, status_of(lines), sources=names)
+        if (folder / "areas").exists():
+            areas = (folder / "areas").read_text().splitlines()
+            tables.call("areas --plan plan.toml " + names, areas, status_of(areas))
 
 
 def examples(tables):

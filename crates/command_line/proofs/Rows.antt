@@ -5,7 +5,7 @@ use Rattle.std.specs.List.{range_with_len}
 use Rattle.clap.specs.Words.{Text}
 use Rattle.clap.proofs.OnLiterals.{clap_on_literals}
 use Rattle.command_line.specs.Command.{bare_command, command, mode_rule, plan_rule, size_rule, source_rule}
-use Rattle.command_line.specs.Job.{Job, Check, Run, Show, Gen, Respond, Confirm, Faults, Audit, Migrate, Bounds, are_sources, audit_job, bounds_job, check_job, confirm_job, faults_job, gen_job, given_in, is_file_name, job_by_mode, job_in, job_of, migrate_job, only_name, only_source, plan_alone, plan_in, respond_job, run_job, show_job, size_alone, sources_alone, sources_in}
+use Rattle.command_line.specs.Job.{Job, Check, Run, Areas, Show, Gen, Respond, Confirm, Faults, Audit, Migrate, Bounds, are_sources, areas_job, audit_job, bounds_job, check_job, confirm_job, faults_job, gen_job, given_in, is_file_name, job_by_mode, job_in, job_of, migrate_job, only_name, only_source, plan_alone, plan_and_sources, plan_in, respond_job, run_job, show_job, size_alone, sources_alone, sources_in}
 use Rattle.command_line.specs.Sizes.{digit_of, first_digit, number_of, size_of, with_digit}
 
 abbrev letters : List Text
@@ -38,6 +38,8 @@ jobs =
     ∷ (codes "run" ∷ codes "--plan" ∷ codes "-" ∷ codes "A" ∷ [], Run (codes "-") (codes "A" ∷ []))
     ∷ (codes "run" ∷ codes "--plan" ∷ codes "A" ∷ codes "A" ∷ [], Run (codes "A") (codes "A" ∷ []))
     ∷ (codes "run" ∷ codes "--plan" ∷ codes "p" ∷ letters, Run (codes "p") letters)
+    ∷ (codes "areas" ∷ codes "--plan" ∷ codes "p" ∷ codes "A" ∷ codes "B" ∷ [], Areas (codes "p") (codes "A" ∷ codes "B" ∷ []))
+    ∷ (codes "areas" ∷ codes "--plan=p" ∷ letters, Areas (codes "p") letters)
     ∷ (codes "gen" ∷ codes "--size" ∷ codes "1" ∷ [], Gen 1)
     ∷ (codes "--size" ∷ codes "40" ∷ codes "gen" ∷ [], Gen 40)
     ∷ (codes "gen" ∷ codes "--size=250" ∷ [], Gen 250)
@@ -90,6 +92,10 @@ refused =
     ∷ (codes "run" ∷ codes "--plan" ∷ codes "p" ∷ codes "--plan" ∷ codes "p" ∷ codes "A" ∷ [])
     ∷ (codes "run" ∷ codes "--plan" ∷ codes "p" ∷ codes "A" ∷ codes "--size" ∷ codes "5" ∷ [])
     ∷ (codes "Run" ∷ codes "--plan" ∷ codes "p" ∷ codes "A" ∷ [])
+    ∷ (codes "areas" ∷ codes "A" ∷ [])
+    ∷ (codes "areas" ∷ codes "--plan" ∷ codes "p" ∷ [])
+    ∷ (codes "areas" ∷ codes "--plan" ∷ codes "p" ∷ codes "--size" ∷ codes "5" ∷ codes "A" ∷ [])
+    ∷ (codes "area" ∷ codes "--plan" ∷ codes "p" ∷ codes "A" ∷ [])
     ∷ (codes "gen" ∷ [])
     ∷ (codes "gen" ∷ codes "--size" ∷ [])
     ∷ (codes "gen" ∷ codes "--size=" ∷ [])
@@ -145,16 +151,16 @@ refused =
 
 job_rows : map (λ line. job_of line.0) jobs ≡ map (λ line. Some line.1) jobs
 unfolding clap_on_literals command bare_command mode_rule plan_rule size_rule source_rule job_of job_in given_in
-    job_by_mode check_job run_job show_job gen_job respond_job confirm_job faults_job audit_job migrate_job bounds_job
-    sources_in plan_in sources_alone only_source only_name plan_alone size_alone are_sources is_file_name size_of
-    number_of with_digit first_digit digit_of
+    job_by_mode check_job run_job areas_job show_job gen_job respond_job confirm_job faults_job audit_job migrate_job
+    bounds_job sources_in plan_in plan_and_sources sources_alone only_source only_name plan_alone size_alone are_sources
+    is_file_name size_of number_of with_digit first_digit digit_of
 job_rows = refl
 
 refused_rows : map job_of refused ≡ map (λ line. None) refused
 unfolding clap_on_literals command bare_command mode_rule plan_rule size_rule source_rule job_of job_in given_in
-    job_by_mode check_job run_job show_job gen_job respond_job confirm_job faults_job audit_job migrate_job bounds_job
-    sources_in plan_in sources_alone only_source only_name plan_alone size_alone are_sources is_file_name size_of
-    number_of with_digit first_digit digit_of
+    job_by_mode check_job run_job areas_job show_job gen_job respond_job confirm_job faults_job audit_job migrate_job
+    bounds_job sources_in plan_in plan_and_sources sources_alone only_source only_name plan_alone size_alone are_sources
+    is_file_name size_of number_of with_digit first_digit digit_of
 refused_rows = refl
 
 -- each size is the number whose decimal digits are given

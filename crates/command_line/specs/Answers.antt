@@ -1,6 +1,6 @@
 -- How the values of the code are seen, and what an answer must be.
 use Rattle.std.specs.Prelude.{◌≡◌, ◌≤◌, length, Result, MatchResult, Option, Some, None, List, map, option_map, string_bytes}
-use Rattle.command_line.specs.Job.{Given as GivenTexts, Job as JobOfWords, Check, Run, Show, Gen, Respond, Confirm, Faults, Audit, Migrate, Bounds}
+use Rattle.command_line.specs.Job.{Given as GivenTexts, Job as JobOfWords, Check, Run, Areas, Show, Gen, Respond, Confirm, Faults, Audit, Migrate, Bounds}
 use Rattle.command_line.specs.Sizes.{IsSize}
 use Rattle.command_line.specs.declared.given.Given.{Given}
 use Rattle.command_line.specs.declared.jobs.Job.{Job}
@@ -12,6 +12,7 @@ use Rattle.command_line.specs.declared.jobs.WordsAnswer.TheVariants as answer
 abbrev pub job_seen : Job → JobOfWords
 job_seen (job.Check sources) = Check (map string_bytes sources.items)
 job_seen (job.Run plan sources) = Run (string_bytes plan) (map string_bytes sources.items)
+job_seen (job.Areas plan sources) = Areas (string_bytes plan) (map string_bytes sources.items)
 job_seen (job.Show sources) = Show (map string_bytes sources.items)
 job_seen (job.Gen size) = Gen size
 job_seen (job.Respond plan) = Respond (string_bytes plan)
@@ -34,6 +35,7 @@ IsFew names = (1 ≤ length names) × (length names ≤ 16)
 abbrev pub KeepsLimits : Job → Type 0
 KeepsLimits (job.Check sources) = IsFew sources.items
 KeepsLimits (job.Run plan sources) = IsFew sources.items
+KeepsLimits (job.Areas plan sources) = IsFew sources.items
 KeepsLimits (job.Show sources) = IsFew sources.items
 KeepsLimits (job.Gen size) = IsSize size
 KeepsLimits (job.Respond plan) = Unit {0}

@@ -8,7 +8,8 @@ use Rattle.clap.specs.Words.{Row, Text, all_of, fault_of, first_of, matches_of}
 use Rattle.command_line.specs.Command.{command}
 use Rattle.command_line.specs.Sizes.{size_of}
 
--- check the files of these names; run their program by the plan in the file of the first name; show them; generate a
+-- check the files of these names; run their program by the plan in the file of the first name; tell what areas
+-- that run needs; show them; generate a
 -- program of this size and run it; bound the responses of the rows in the file of this name; confirm the bounds that
 -- stand beside them; list the faults of the files of these names that are certain; audit, by the plan in the file of
 -- the first name, the trace in the file of the other; print the plan in the file of this name as one of version 2; or
@@ -16,6 +17,7 @@ use Rattle.command_line.specs.Sizes.{size_of}
 pub data Job : Type 0 where
   Check : List Text → Job
   Run : Text → List Text → Job
+  Areas : Text → List Text → Job
   Show : List Text → Job
   Gen : ℕ → Job
   Respond : Text → Job
@@ -68,6 +70,11 @@ only_name _ = None
 unfoldable pub only_source : Given → Option Text
 only_source g = option_and_then only_name (sources_in g)
 
+-- the plan and the sources, where there is no size
+unfoldable pub plan_and_sources : Given → Option (Text × List Text)
+plan_and_sources g = if is_some g.size then None
+    else option_and_then (λ plan. option_map (λ sources. (plan, sources)) (sources_in g)) (plan_in g)
+
 -- the plan, where there is neither a size nor a source
 unfoldable pub plan_alone : Given → Option Text
 plan_alone g = if is_some g.size || is_some g.sources then None else plan_in g
@@ -80,8 +87,10 @@ unfoldable pub check_job : Given → Option Job
 check_job g = option_map Check (sources_alone g)
 
 unfoldable pub run_job : Given → Option Job
-run_job g = if is_some g.size then None
-    else option_and_then (λ plan. option_map (Run plan) (sources_in g)) (plan_in g)
+run_job g = option_map (λ given. Run given.0 given.1) (plan_and_sources g)
+
+unfoldable pub areas_job : Given → Option Job
+areas_job g = option_map (λ given. Areas given.0 given.1) (plan_and_sources g)
 
 unfoldable pub show_job : Given → Option Job
 show_job g = option_map Show (sources_alone g)
@@ -112,6 +121,7 @@ bounds_job g = option_map Bounds (sources_alone g)
 unfoldable pub job_by_mode : Given → Option Job
 job_by_mode g = if bytes_eq g.mode (codes "check") then check_job g
     else (if bytes_eq g.mode (codes "run") then run_job g
+    else (if bytes_eq g.mode (codes "areas") then areas_job g
     else (if bytes_eq g.mode (codes "show") then show_job g
     else (if bytes_eq g.mode (codes "gen") then gen_job g
     else (if bytes_eq g.mode (codes "respond") then respond_job g
@@ -119,7 +129,7 @@ job_by_mode g = if bytes_eq g.mode (codes "check") then check_job g
     else (if bytes_eq g.mode (codes "faults") then faults_job g
     else (if bytes_eq g.mode (codes "audit") then audit_job g
     else (if bytes_eq g.mode (codes "migrate") then migrate_job g
-    else (if bytes_eq g.mode (codes "bounds") then bounds_job g else None)))))))))
+    else (if bytes_eq g.mode (codes "bounds") then bounds_job g else None))))))))))
 
 -- ---- the job of the words
 

@@ -6,7 +6,7 @@ ghost use Rattle.std.specs.List.{list_all};
 ghost use Rattle.clap.specs.Words.{all_of, first_of, found_of, rows_of};
 ghost use Rattle.command_line.specs.Answers.{IsFew, texts_of};
 ghost use Rattle.command_line.specs.Sizes.{IsSize};
-ghost use Rattle.command_line.specs.Job.{are_sources, given_in, is_file_name, is_printable, only_name, only_source, plan_alone, plan_in, size_alone, sources_alone, sources_in};
+ghost use Rattle.command_line.specs.Job.{are_sources, given_in, is_file_name, is_printable, only_name, only_source, plan_alone, plan_and_sources, plan_in, size_alone, sources_alone, sources_in};
 
 use crate::sizes::size_of;
 use clap::ArgMatches;
@@ -76,6 +76,21 @@ pub(crate) fn only_source<'w>(given: &Given<'_, 'w>) -> Option<&'w str>
         [name] => Some(name),
         _ => None,
     }
+}
+
+/// The plan and the sources, where they are the names of files and no size stands beside them.
+#[tactic(auto, unfolding(crate::specs::Job::plan_and_sources))]
+pub(crate) fn plan_and_sources<'m, 'w>(given: &Given<'m, 'w>) -> Option<(&'w str, &'m [&'w str])>
+    ensures both { option_map (λ both. (both.0.now, map (λ s. s.now) both.1.now)) result
+        ≡ plan_and_sources (texts_of given.now) }
+    ensures few { IfSome result (λ both. IsFew both.1.now) }
+{
+    if given.size.is_some() {
+        return None;
+    }
+    let plan = plan_in(given)?;
+    let sources = sources_in(given)?;
+    Some((plan, sources))
 }
 
 /// The plan, where it is the name of a file and neither a size nor a source stands beside it.

@@ -11,6 +11,8 @@ pub enum Job {
     Check { sources: Vec<String> },
     /// Run the program of the files of these names, 1 to 16, by the plan in the file of its name.
     Run { plan: String, sources: Vec<String> },
+    /// Run the same, and tell what the run needs of memory areas.
+    Areas { plan: String, sources: Vec<String> },
     /// Print the files of these names, 1 to 16, in canonical form.
     Show { sources: Vec<String> },
     /// Generate a program of this size, 1 to 250, and run it.

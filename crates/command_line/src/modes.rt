@@ -2,10 +2,10 @@
 
 ghost use Rattle.std.specs.Prelude.{◌≡◌, IfOk, map, string_bytes};
 ghost use Rattle.command_line.specs.Answers.{AnswersJob, KeepsLimits, texts_of};
-ghost use Rattle.command_line.specs.Job.{audit_job, bounds_job, check_job, confirm_job, faults_job, gen_job, job_by_mode, migrate_job, respond_job, run_job, show_job};
+ghost use Rattle.command_line.specs.Job.{areas_job, audit_job, bounds_job, check_job, confirm_job, faults_job, gen_job, job_by_mode, migrate_job, respond_job, run_job, show_job};
 
 use crate::given::{
-    Given, only_source, plan_alone, plan_in, size_alone, sources_alone, sources_in,
+    Given, only_source, plan_alone, plan_and_sources, plan_in, size_alone, sources_alone,
 };
 use crate::jobs::{Job, WordsAnswer};
 use std::alloc::{AllocError, Global};
@@ -19,6 +19,7 @@ pub(crate) fn job_by_mode(alloc: Global, given: &Given<'_, '_>) -> Result<Job, W
     match given.mode {
         "check" => check_job(alloc, given),
         "run" => run_job(alloc, given),
+        "areas" => areas_job(alloc, given),
         "show" => show_job(alloc, given),
         "gen" => gen_job(given),
         "respond" => respond_job(alloc, given),
@@ -50,18 +51,26 @@ fn run_job(alloc: Global, given: &Given<'_, '_>) -> Result<Job, WordsAnswer>
     ensures job { AnswersJob (run_job (texts_of given.now)) result }
     ensures limits { IfOk result KeepsLimits }
 {
-    if given.size.is_some() {
-        return Err(WordsAnswer::Usage);
-    }
-    let Some(plan) = plan_in(given) else {
-        return Err(WordsAnswer::Usage);
-    };
-    let Some(sources) = sources_in(given) else {
+    let Some((plan, sources)) = plan_and_sources(given) else {
         return Err(WordsAnswer::Usage);
     };
     let plan = String::from_str(alloc, plan)?;
     let sources = to_strings(alloc, sources)?;
     Ok(Job::Run { plan, sources })
+}
+
+/// `areas`: a plan and sources.
+#[tactic(auto, unfolding(crate::specs::Job::areas_job))]
+fn areas_job(alloc: Global, given: &Given<'_, '_>) -> Result<Job, WordsAnswer>
+    ensures job { AnswersJob (areas_job (texts_of given.now)) result }
+    ensures limits { IfOk result KeepsLimits }
+{
+    let Some((plan, sources)) = plan_and_sources(given) else {
+        return Err(WordsAnswer::Usage);
+    };
+    let plan = String::from_str(alloc, plan)?;
+    let sources = to_strings(alloc, sources)?;
+    Ok(Job::Areas { plan, sources })
 }
 
 /// `show`: sources alone.

@@ -9,11 +9,12 @@ use Rattle.clap.specs.Walk.{is_empty}
 use Rattle.clap.specs.Words.{fault_of, matches_of}
 use Rattle.command_line.specs.Command.{command}
 use Rattle.command_line.specs.Sizes.{number_of, size_of}
-use Rattle.command_line.specs.Job.{Job, Check, Run, Show, Gen, Respond, Confirm, Faults, Audit, Migrate, Bounds, Given, is_file_name, are_sources, sources_in, plan_in, sources_alone, only_source, plan_alone, size_alone, check_job, run_job, show_job, gen_job, respond_job, confirm_job, faults_job, audit_job, migrate_job, bounds_job, job_by_mode, given_in, job_in, job_of}
+use Rattle.command_line.specs.Job.{Job, Check, Run, Areas, Show, Gen, Respond, Confirm, Faults, Audit, Migrate, Bounds, Given, is_file_name, are_sources, sources_in, plan_in, plan_and_sources, sources_alone, only_source, plan_alone, size_alone, check_job, run_job, areas_job, show_job, gen_job, respond_job, confirm_job, faults_job, audit_job, migrate_job, bounds_job, job_by_mode, given_in, job_in, job_of}
 
 unfoldable pub IsWithin : Job → Type 0
 IsWithin (Check names) = length names ≤ 16
 IsWithin (Run plan names) = length names ≤ 16
+IsWithin (Areas plan names) = length names ≤ 16
 IsWithin (Gen size) = size ≤ 250
 IsWithin (Faults names) = length names ≤ 16
 IsWithin (Bounds names) = length names ≤ 16
@@ -86,6 +87,16 @@ module _ (g : Given) where
       chosen_sound AtMost (is_some g.plan || is_some g.size) None (sources_in g) (λ e. none_sound AtMost)
       (λ e. sources_few)
 
+  abbrev WithFew : List ℕ × List (List ℕ) → Type 0
+  WithFew given = AtMost given.1
+
+  planned_few : Sound WithFew (plan_and_sources g)
+  unfolding plan_and_sources
+  planned_few =
+      chosen_sound WithFew (is_some g.size) _ _ (λ e. none_sound WithFew)
+      (λ e. followed_sound WithFew (λ plan. option_map (λ sources. (plan, sources)) (sources_in g)) (plan_in g)
+      (λ plan. mapped_sound WithFew (λ sources. (plan, sources)) (sources_in g) sources_few))
+
   size_small : Sound (λ n. n ≤ 250) (size_alone g)
   unfolding size_alone size_of
   size_small =
@@ -100,15 +111,15 @@ module _ (g : Given) where
   -- ---- the modes
 
   mode_within : Sound IsWithin (job_by_mode g)
-  unfolding job_by_mode check_job run_job show_job gen_job respond_job confirm_job faults_job audit_job migrate_job
-      bounds_job IsWithin AtMost
+  unfolding job_by_mode check_job run_job areas_job show_job gen_job respond_job confirm_job faults_job audit_job
+      migrate_job bounds_job IsWithin AtMost
   mode_within =
       chosen_sound IsWithin (bytes_eq g.mode (codes "check")) _ _
       (λ e. mapped_sound IsWithin Check (sources_alone g) alone_few)
       (λ e. chosen_sound IsWithin (bytes_eq g.mode (codes "run")) _ _
-      (λ e. chosen_sound IsWithin (is_some g.size) _ _ (λ e. none_sound IsWithin)
-      (λ e. followed_sound IsWithin (λ plan. option_map (Run plan) (sources_in g)) (plan_in g)
-      (λ plan. mapped_sound IsWithin (Run plan) (sources_in g) sources_few)))
+      (λ e. mapped_sound IsWithin (λ given. Run given.0 given.1) (plan_and_sources g) planned_few)
+      (λ e. chosen_sound IsWithin (bytes_eq g.mode (codes "areas")) _ _
+      (λ e. mapped_sound IsWithin (λ given. Areas given.0 given.1) (plan_and_sources g) planned_few)
       (λ e. chosen_sound IsWithin (bytes_eq g.mode (codes "show")) _ _
       (λ e. mapped_sound IsWithin Show (sources_alone g) (any_sound _ _ (λ a. tt)))
       (λ e. chosen_sound IsWithin (bytes_eq g.mode (codes "gen")) _ _
@@ -127,7 +138,7 @@ module _ (g : Given) where
       (λ e. mapped_sound IsWithin Migrate (plan_alone g) (any_sound _ _ (λ a. tt)))
       (λ e. chosen_sound IsWithin (bytes_eq g.mode (codes "bounds")) _ _
       (λ e. mapped_sound IsWithin Bounds (sources_alone g) alone_few)
-      (λ e. none_sound IsWithin))))))))))
+      (λ e. none_sound IsWithin)))))))))))
 
 pub job_within : (words : List (List ℕ)) (job : Job) → job_of words ≡ Some job → IsWithin job
 unfolding job_of job_in Sound

@@ -12,10 +12,10 @@ use Rattle.scj_model.specs.Plan.{Plan}
 use Rattle.scj_model.specs.Safety.{IsSafe}
 use Rattle.source_gen.specs.Generated.{source_of}
 use Rattle.source_gen.proofs.Lengths.{source_is_short}
-use Rattle.command_line.specs.Job.{Job, Check, Run, Gen, Faults, Bounds, job_of}
+use Rattle.command_line.specs.Job.{Job, Check, Run, Areas, Gen, Faults, Bounds, job_of}
 use Rattle.scj_cli.specs.Jobs.{files_of, sources_among, limits_of, one_limit}
 use Rattle.scj_cli.specs.Outcomes.{Outcome, Reported, Unplanned, Ran, ComesTo, breaks_rules, has_no_plan, runs, run_status}
-use Rattle.scj_cli.specs.Answers.{Answer, refused, accepted, ran, generated, faults_of_none, faults_listed, bounds_of_none, bounds_listed}
+use Rattle.scj_cli.specs.Answers.{Answer, refused, accepted, ran, needed, generated, faults_of_none, faults_listed, bounds_of_none, bounds_listed}
 use Rattle.scj_cli.specs.Endings.{Call, call_of, MayStand, none, next, Comes, answered, unread, overlong, out_of_memory, Ends, whole, fault_of_out, fault_of_err, cut_short, cut_short_untold, IsUnanswered}
 use Rattle.safe_texts.specs.SafeCalls.{sources_of, Accepts, HasSafeProgram}
 use Rattle.safe_texts.specs.SafePrograms.{AreShort, AreWithinLimits}
@@ -46,6 +46,8 @@ empty_report (Some (Check names)) contents Refused out err (refused l r) a = abs
 empty_report (Some (Check names)) contents Done out err (accepted r) a = r
 empty_report (Some (Run plan names)) contents status out err (ran {outcome = outcome} comes) a =
     unbroken (Some (Run plan names)) (sources_among names contents) _ outcome (λ x. x) (λ x. x) comes a
+empty_report (Some (Areas plan names)) contents status out err (needed {outcome = outcome} comes) a =
+    unbroken (Some (Areas plan names)) (sources_among names contents) _ outcome (λ x. x) (λ x. x) comes a
 empty_report (Some (Gen size)) contents status out err (generated {outcome = outcome} comes) a =
     unbroken (Some (Gen size)) (source_of size ∷ []) _ outcome (λ x. x) (λ x. x) comes a
 empty_report (Some (Faults names)) contents Refused out err (faults_of_none l r) a = absurd a
@@ -102,6 +104,11 @@ sources_within shelf (Run plan names) contents status few stand a =
       few = omega (arith, few, taken_few (length names) contents);
       short = taken_short (length names) contents (all_short shelf (names ++ plan ∷ []) contents stand);
     }
+sources_within shelf (Areas plan names) contents status few stand a =
+    record {
+      few = omega (arith, few, taken_few (length names) contents);
+      short = taken_short (length names) contents (all_short shelf (names ++ plan ∷ []) contents stand);
+    }
 sources_within shelf (Gen size) contents status small stand a =
     record { few = omega arith; short = (source_is_short size small, tt) }
 sources_within shelf job contents status w stand a = absurd a
@@ -113,6 +120,8 @@ unfolding Accepts
 never_unanswered (Some (Check names)) Done a u = u
 never_unanswered (Some (Run plan names)) Done a u = u
 never_unanswered (Some (Run plan names)) Halted a u = u
+never_unanswered (Some (Areas plan names)) Done a u = u
+never_unanswered (Some (Areas plan names)) Halted a u = u
 never_unanswered (Some (Gen size)) Done a u = u
 never_unanswered (Some (Gen size)) Halted a u = u
 never_unanswered (Some (Faults names)) Done a u = u

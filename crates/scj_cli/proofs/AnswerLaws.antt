@@ -15,7 +15,8 @@ use Rattle.certain_faults.specs.Report.{IsFaultReport}
 use Rattle.certain_faults.proofs.Reports.{one_fault_report}
 use Rattle.command_line.specs.Job.{Job, Migrate}
 use Rattle.scj_cli.specs.Answers.{Answer, IsSameAnswer, IsSameText, shown_text}
-use Rattle.scj_cli.specs.Answers.Answer.{no_job, refused, accepted, ran, show_unreadable, shown, generated, responded, confirmed, faults_of_none, faults_listed, audited, not_migrated, migrated, bounds_of_none, bounds_listed}
+use Rattle.scj_cli.specs.Answers.Answer.{no_job, refused, accepted, ran, show_unreadable, shown, generated, responded, confirmed, faults_of_none, faults_listed, audited, not_migrated, migrated, bounds_of_none, bounds_listed, needed}
+use Rattle.scj_cli.specs.AreaOutcomes.{areas_out}
 use Rattle.scj_cli.specs.Answers.IsSameText.{same, spellings}
 use Rattle.scj_cli.specs.Outcomes.{Outcome, Reported, Unplanned, ComesTo, breaks_rules, has_no_plan, runs, run_status, run_out, run_err, gen_out, plan_line}
 use Rattle.scj_cli.specs.FaultLists.{fault_list}
@@ -114,6 +115,8 @@ one_answer_of (accepted none) (refused some report) = some_found _ some (one_rep
 one_answer_of (accepted none) (accepted none_again) = same_text refl
 one_answer_of (ran {names = names} comes) (ran comes_again) =
     same_outcome (one_outcome comes comes_again) (run_out names)
+one_answer_of (needed {names = names} comes) (needed comes_again) =
+    same_outcome (one_outcome comes comes_again) (areas_out names)
 one_answer_of (show_unreadable {names = names} breaks) (show_unreadable breaks_again) =
     same_text (ap (λ (found : Found). report_text names (found ∷ [])) (one_found _ _ _ breaks breaks_again))
 one_answer_of (show_unreadable breaks) (shown reads) = not_both _ _ _ reads breaks

@@ -1,4 +1,5 @@
 pub mod AnswerLaws
+pub mod AreaRunLaws
 pub mod AuditLaws
 pub mod BoundLaws
 pub mod CauseLaws

@@ -8,7 +8,7 @@ use Rattle.scj_rules.specs.Syntax.{Reads, BreaksSyntax}
 use Rattle.scj_rules.specs.Verdicts.{IsReportOf}
 use Rattle.scj_show.specs.Symbols.{text_of_file}
 use Rattle.source_gen.specs.Generated.{source_of, plan_of}
-use Rattle.command_line.specs.Job.{Job, Check, Run, Show, Gen, Respond, Confirm, Faults, Audit, Migrate, Bounds}
+use Rattle.command_line.specs.Job.{Job, Check, Run, Areas, Show, Gen, Respond, Confirm, Faults, Audit, Migrate, Bounds}
 use Rattle.scj_model.specs.Code.{code_of}
 use Rattle.scj_model.specs.Plan.{Plan}
 use Rattle.certain_faults.specs.declared.found.CertainFault.{CertainFault}
@@ -16,6 +16,7 @@ use Rattle.certain_faults.specs.Report.{IsFaultReport}
 use Rattle.response_times.specs.DeclaredOf.{declared_of_text}
 use Rattle.run_plan.specs.PlanOf.{Refusal, meaning_of_text, plan as means_plan, refused as means_none}
 use Rattle.run_plan.specs.NewTable.{IsTextOf, new_table}
+use Rattle.scj_cli.specs.AreaOutcomes.{areas_out}
 use Rattle.scj_cli.specs.Audits.{audit_status, audit_out, audit_err}
 use Rattle.scj_cli.specs.BoundLists.{IsBoundList}
 use Rattle.scj_cli.specs.DeclaredRows.{declared_status, respond_out, confirm_out, declared_err}
@@ -52,6 +53,9 @@ pub data Answer : Option Job → List (List ℕ) → Status → List ℕ → Lis
   ran : {plan : List ℕ} {names contents : List (List ℕ)} {outcome : Outcome} →
       ComesTo (sources_among names contents) (plan_among names contents) outcome →
       Answer (Some (Run plan names)) contents (run_status outcome) (run_out names outcome) (run_err outcome)
+  needed : {plan : List ℕ} {names contents : List (List ℕ)} {outcome : Outcome} →
+      ComesTo (sources_among names contents) (plan_among names contents) outcome →
+      Answer (Some (Areas plan names)) contents (run_status outcome) (areas_out names outcome) (run_err outcome)
   show_unreadable : {names contents : List (List ℕ)} {found : Found} →
       BreaksSyntax contents found →
       Answer (Some (Show names)) contents Refused (report_text names (found ∷ [])) []

@@ -1,13 +1,14 @@
 -- The files that a call reads.
 use Rattle.std.specs.Prelude.{ℕ, List, [], ◌∷◌, ◌++◌, length, take, slice_index_or, Option, Some, None, if◌then◌else◌}
 use Rattle.std.specs.Str.{bytes_eq}
-use Rattle.command_line.specs.Job.{Job, Check, Run, Show, Gen, Respond, Confirm, Faults, Audit, Migrate, Bounds}
+use Rattle.command_line.specs.Job.{Job, Check, Run, Areas, Show, Gen, Respond, Confirm, Faults, Audit, Migrate, Bounds}
 
 -- the names of the files that a call reads, in this order: beside others the plan's comes last
 abbrev pub files_of : Option Job → List (List ℕ)
 files_of None = []
 files_of (Some (Check names)) = names
 files_of (Some (Run plan names)) = names ++ plan ∷ []
+files_of (Some (Areas plan names)) = names ++ plan ∷ []
 files_of (Some (Show names)) = names
 files_of (Some (Gen size)) = []
 files_of (Some (Respond plan)) = plan ∷ []

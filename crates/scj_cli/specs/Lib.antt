@@ -1,4 +1,5 @@
 pub mod Answers
+pub mod AreaOutcomes
 pub mod Audits
 pub mod BoundLists
 pub mod DeclaredRows

@@ -7,6 +7,7 @@ ghost use Rattle.command_line.specs.Job.{job_of};
 ghost use Rattle.scj_cli.specs.Modes.{IsAnswered, Stops, Tells};
 ghost use Rattle.scj_cli.specs.Endings.{Ends, call_of, IsExact, IsLongExactly, IsNeverAbsent};
 
+use crate::areas::areas;
 use crate::audits::audit;
 use crate::bounds::bounds;
 use crate::checks::check;
@@ -97,6 +98,7 @@ fn answer<H: Shelf, K: Sink>(
     match read_words(alloc, words) {
         Ok(Job::Check { sources }) => check(alloc, &sources, shelf, out),
         Ok(Job::Run { plan, sources }) => run(alloc, &plan, &sources, shelf, out),
+        Ok(Job::Areas { plan, sources }) => areas(alloc, &plan, &sources, shelf, out),
         Ok(Job::Show { sources }) => show(alloc, &sources, shelf, out),
         Ok(Job::Gen { size }) => {
             let status = run_generated(alloc, size, out)?;

@@ -1,6 +1,7 @@
 //! The top call of the checker: words in, text on two sinks and a status out.
 #![tactic(auto)]
 
+mod areas;
 mod audits;
 mod bound_lists;
 mod bounds;

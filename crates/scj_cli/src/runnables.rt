@@ -95,7 +95,7 @@ fn files_of(alloc: Global, names: &[String]) -> Result<Files, Memory>
 }
 
 /// The status of a run that ended so.
-fn status_of(end: RunEnd) -> Status
+pub(crate) fn status_of(end: RunEnd) -> Status
     ensures { result ≡ status_of_end (Some end) }
 {
     match end {

@@ -12,6 +12,16 @@ returns-in-Ok-Run-clause-stop g c =
     let job = rw c.in-Ok-Run.field-0-is at c.in-Ok-Run.ensures.job in
     rw job (rw (c.deref-in-Ok-Run.ensures, c.deref-in-Ok-Run-2.ensures.value) at c.run.ensures.stop)
 
+pub returns-in-Ok-Areas-clause-ok : goal.returns-in-Ok-Areas-clause-ok
+returns-in-Ok-Areas-clause-ok g c =
+    let job = rw c.in-Ok-Areas.field-0-is at c.in-Ok-Areas.ensures.job in
+    rw job (rw (c.deref-in-Ok-Areas.ensures, c.deref-in-Ok-Areas-2.ensures.value) at c.areas.ensures.ok)
+
+pub returns-in-Ok-Areas-clause-stop : goal.returns-in-Ok-Areas-clause-stop
+returns-in-Ok-Areas-clause-stop g c =
+    let job = rw c.in-Ok-Areas.field-0-is at c.in-Ok-Areas.ensures.job in
+    rw job (rw (c.deref-in-Ok-Areas.ensures, c.deref-in-Ok-Areas-2.ensures.value) at c.areas.ensures.stop)
+
 pub returns-in_err-status-in-Ok-Gen-clause-stop : goal.returns-in_err-status-in-Ok-Gen-clause-stop
 returns-in_err-status-in-Ok-Gen-clause-stop g c =
     let p = err_from_is_err_and c.from_residual.result c.from_residual.ensures.1 in
